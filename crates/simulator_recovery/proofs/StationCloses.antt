@@ -53,12 +53,12 @@ use Rattle.simulator_run_links.specs.Events.{anew_events, contact_events, delive
 use Rattle.simulator_run_links.specs.HasLinks.{links_in}
 use Rattle.simulator_run_links.specs.Nodes.{MayComeWith}
 use Rattle.simulator_headline.specs.Reached.{IsReached}
-use Rattle.simulator_recovery.specs.ClientCloses.{ClientsStayOpen, GivesNoMoreAt, LeavesClientOpen}
 use Rattle.simulator_recovery.specs.ClientSaid.{ClientHasSaid, ClientTalks, commanded}
+use Rattle.simulator_recovery.specs.Closes.{LeavesClientOpen}
 use Rattle.simulator_recovery.specs.Counts.{EachClient}
 use Rattle.simulator_recovery.specs.Expected.{GivesNoMore}
 use Rattle.simulator_recovery.proofs.Addressed.{partners_length}
-use Rattle.simulator_recovery.proofs.AlwaysExpected.{EachIsExpected, ExpectedLaws, Stands, begun_of, detector_changes, each_detector, each_point, each_signal, signal_changes, stands_first, stands_on}
+use Rattle.simulator_recovery.proofs.AlwaysExpected.{EachIsExpected, ExpectedLaws, Stands, begun_of, detector_changes, each_detector, each_point, each_signal, gives_no_more, signal_changes, stands_first, stands_on}
 use Rattle.simulator_recovery.proofs.AlwaysOnLinks.{CanBe, HasHeld, always_held}
 use Rattle.simulator_recovery.proofs.ClientCloses.{ByWindow, ComesNext, IsFew, commanding_closes, hearing_closes, ticking_closes}
 use Rattle.simulator_recovery.proofs.ClientLinks.{ClockedStands, clocked_peer, clocked_stands}
@@ -121,10 +121,8 @@ module _ (laws : CloseLaws) (site : Site) (table : Table) (station : IsStation s
     abbrev link_of : Node → LinkState
     link_of node = (network.ends (link_at site node)).client.link
 
-    -- the point of a node gives no more
-    abbrev IsAllowed : Node → Type 0
-    IsAllowed (Point place) = GivesNoMore (seen (point_link site place) network)
-    IsAllowed _ = Unit {0}
+    no_more : (place : ℕ) → place < length site.points → GivesNoMore (seen (point_link site place) network)
+    no_more place there = let many = s.whole.points in let c = at_place world.points place (omega (arith, there, many)) in gives_no_more laws.expected site table station once is_table world network s place c.0 c.1
 
     -- how the client of a node hears
     abbrev HearsAt : Node → PeerState → Type 0
@@ -157,7 +155,7 @@ module _ (laws : CloseLaws) (site : Site) (table : Table) (station : IsStation s
 
       -- and behind each part
       abbrev Holds : Node → ClientState → List LinkCall → Type 0
-      Holds node client calls = IsAllowed node → Each ByWindow calls
+      Holds node client calls = Each ByWindow calls
 
       settles : (node : Node) (client : ClientState) → Before node client → Settled node (clocked now client) []
       settles node client b = record {
@@ -173,7 +171,7 @@ module _ (laws : CloseLaws) (site : Site) (table : Table) (station : IsStation s
 
       -- ---- a datagram
 
-      module _ (node : Node) (bytes : List ℕ) (is_input : input ≡ ixl.Datagram bytes) (client : ClientState) (calls : List LinkCall) (c : Settled node client calls) (allowed : IsAllowed node) where
+      module _ (node : Node) (bytes : List ℕ) (is_input : input ≡ ixl.Datagram bytes) (client : ClientState) (calls : List LinkCall) (c : Settled node client calls) where
         abbrev here : ℕ
         here = link_at site node
 
@@ -200,12 +198,12 @@ module _ (laws : CloseLaws) (site : Site) (table : Table) (station : IsStation s
         goes_on opened = subst GoesOn items_are (of_client laws.next (names_at site here) (named.each here below) (seen here network) (timely.each here below) (s.ordered here below) bytes connection may_come
             (ap (λ (l : LinkState). is_open l.phase) (sym c.link_is) ∙ opened))
 
-        hears_so : (n : Node) → HearsAt n client.peer → IsAllowed n → ClientHasSaid site n client.peer client.stage (length (network.ends (link_at site n)).client.taken) (network.ends (link_at site n)).client.given
+        hears_so : (n : Node) → HearsAt n client.peer → IsNodeOf site n → ClientHasSaid site n client.peer client.stage (length (network.ends (link_at site n)).client.taken) (network.ends (link_at site n)).client.given
             → (last : ℕ) → (network.ends (link_at site n)).client.connection ≡ Some last → (network.ends (link_at site n)).server.connection ≡ Some last
             → IsTrue (reports_changes client.peer.protocol) ⊎ IsFew client.peer (given_at n) client.stage (length (network.ends (link_at site n)).client.taken)
-        hears_so (Signal place) hears may_report said last of_client_so of_server_so = inl hears
-        hears_so (Point place) hears may_report said last of_client_so of_server_so = inr (few_at site place client.peer hears _ client.stage _ _ (may_report last of_client_so of_server_so) said)
-        hears_so (Detector place) hears may_report said last of_client_so of_server_so = inl hears
+        hears_so (Signal place) hears there said last of_client_so of_server_so = inl hears
+        hears_so (Point place) hears there said last of_client_so of_server_so = inr (few_at site place client.peer hears _ client.stage _ _ (no_more place there last of_client_so of_server_so) said)
+        hears_so (Detector place) hears there said last of_client_so of_server_so = inl hears
 
         -- what comes goes on where the client stands
         next_at : is_open client.link.phase ≡ true → is_up (receiving now bytes client.link).link.phase ≡ true
@@ -220,7 +218,7 @@ module _ (laws : CloseLaws) (site : Site) (table : Table) (station : IsStation s
           stands = record {
             acted = c.talks.acted opened;
             begun = begun_of site node client.peer client.stage _ _ (c.talks.said opened);
-            hears = hears_so node c.hears allowed (c.talks.said opened) on.last on.of_client on.of_server;
+            hears = hears_so node c.hears c.there (c.talks.said opened) on.last on.of_client on.of_server;
           };
         }
 
@@ -246,11 +244,11 @@ module _ (laws : CloseLaws) (site : Site) (table : Table) (station : IsStation s
       keep : SoFarKeeps now Any IsInput Before Settled Holds
       keep = record {
         clock = settles;
-        weaker = λ node client calls c allowed. subst (Each ByWindow) (sym c.none) tt;
-        hears = λ node bytes client outbox calls is_input c allowed. heard node bytes is_input client calls c allowed outbox;
-        aspects = λ place aspect client outbox calls gives ready h allowed. each_both ByWindow calls (commanding now (client_commands.Indicate aspect) (begun client outbox)).calls (h allowed) (commanding_closes now (client_commands.Indicate aspect) client outbox);
-        moves = λ place side client outbox calls available h allowed. each_both ByWindow calls (commanding now (client_commands.Move side) (begun client outbox)).calls (h allowed) (commanding_closes now (client_commands.Move side) client outbox);
-        ticks = λ node client outbox calls h allowed. each_both ByWindow calls (ticking now (begun client outbox)).calls (h allowed) (ticking_closes now client outbox);
+        weaker = λ node client calls c. subst (Each ByWindow) (sym c.none) tt;
+        hears = λ node bytes client outbox calls is_input c. heard node bytes is_input client calls c outbox;
+        aspects = λ place aspect client outbox calls gives ready h. each_both ByWindow calls (commanding now (client_commands.Indicate aspect) (begun client outbox)).calls h (commanding_closes now (client_commands.Indicate aspect) client outbox);
+        moves = λ place side client outbox calls available h. each_both ByWindow calls (commanding now (client_commands.Move side) (begun client outbox)).calls h (commanding_closes now (client_commands.Move side) client outbox);
+        ticks = λ node client outbox calls h. each_both ByWindow calls (ticking now (begun client outbox)).calls h (ticking_closes now client outbox);
       }
 
       all_before : EachClient IsBefore world.station.ixl
@@ -285,44 +283,32 @@ module _ (laws : CloseLaws) (site : Site) (table : Table) (station : IsStation s
       stays = step_stays now table (key_of site) (begun_with world.station.ixl empty_outbox) input
 
       -- at each node
-      at_each : (node : Node) → IsNodeOf site node → Each (λ call. IsAllowed node → ByWindow call) (at_node node done.calls)
-      at_each node there = spread (at_node node done.calls) (closes node there)
-        where
-          spread : {P : Type 0} (calls : List LinkCall) → (P → Each ByWindow calls) → Each (λ call. P → ByWindow call) calls
-          spread [] each = tt
-          spread (first ∷ others) each = (λ p. (each p).0, spread others (λ p. (each p).1))
-
-          closes : (n : Node) → IsNodeOf site n → IsAllowed n → Each ByWindow (at_node n done.calls)
-          closes (Signal place) below = let many = s.whole.clients.known_signals in let same = stays.signals in let known = at_place done.ixl.known_signals place (omega (arith, below, many, same)) in held.signals place known.0 known.1
-          closes (Point place) below = let many = s.whole.clients.known_points in let same = stays.points in let known = at_place done.ixl.known_points place (omega (arith, below, many, same)) in held.points place known.0 known.1
-          closes (Detector place) below = let many = s.whole.clients.detectors in let same = stays.detectors in let known = at_place done.ixl.detectors place (omega (arith, below, many, same)) in held.detectors place known.0 known.1
+      at_each : (node : Node) → IsNodeOf site node → Each ByWindow (at_node node done.calls)
+      at_each (Signal place) below = let many = s.whole.clients.known_signals in let same = stays.signals in let known = at_place done.ixl.known_signals place (omega (arith, below, many, same)) in held.signals place known.0 known.1
+      at_each (Point place) below = let many = s.whole.clients.known_points in let same = stays.points in let known = at_place done.ixl.known_points place (omega (arith, below, many, same)) in held.points place known.0 known.1
+      at_each (Detector place) below = let many = s.whole.clients.detectors in let same = stays.detectors in let known = at_place done.ixl.detectors place (omega (arith, below, many, same)) in held.detectors place known.0 known.1
 
       called_nodes : AreOfNodes site done.calls
       called_nodes = laws.expected.talked.talk.nodes site table input connection world network named s.whole timely are comes
 
-      allowed_at : (node : Node) → IsNodeOf site node → GivesNoMoreAt site network (link_at site node) → IsAllowed node
-      allowed_at (Signal place) there most = tt
-      allowed_at (Point place) there most = most place there refl
-      allowed_at (Detector place) there most = tt
+      one_leaves : (node : Node) (call : LinkCall) → ByWindow call → LeavesClientOpen (CallsOn (link_at site node) role.Client (as_call connection call))
+      one_leaves node Opens closes = tt
+      one_leaves node Ticks closes = tt
+      one_leaves node (Closes why) closes = closes
+      one_leaves node (Sends item) closes = tt
+      one_leaves node (Receives bytes) closes = tt
 
-      one_leaves : (node : Node) (call : LinkCall) → IsNodeOf site node → (IsAllowed node → ByWindow call) → LeavesClientOpen site network (CallsOn (link_at site node) role.Client (as_call connection call))
-      one_leaves node Opens there closes = tt
-      one_leaves node Ticks there closes = tt
-      one_leaves node (Closes why) there closes = λ most. closes (allowed_at node there most)
-      one_leaves node (Sends item) there closes = tt
-      one_leaves node (Receives bytes) there closes = tt
+      all_leave : (calls : List (Node × LinkCall)) → Each (λ made. ByWindow made.1) calls → Each LeavesClientOpen (calls_of role.Client (map (node_call site connection) calls))
+      all_leave [] each = tt
+      all_leave (first ∷ others) each = (one_leaves first.0 first.1 each.0, all_leave others each.1)
 
-      all_leave : (calls : List (Node × LinkCall)) → AreOfNodes site calls → Each (λ made. IsAllowed made.0 → ByWindow made.1) calls → Each (LeavesClientOpen site network) (calls_of role.Client (map (node_call site connection) calls))
-      all_leave [] of each = tt
-      all_leave (first ∷ others) of each = (one_leaves first.0 first.1 of.0 each.0, all_leave others of.1 each.1)
-
-      pub step_leaves : Each (LeavesClientOpen site network) (interlocking_events site table input connection world.station)
-      step_leaves = all_leave done.calls called_nodes (each_at_nodes site (λ node call. IsAllowed node → ByWindow call) done.calls called_nodes at_each)
+      pub step_leaves : Each LeavesClientOpen (interlocking_events site table input connection world.station)
+      step_leaves = all_leave done.calls (each_at_nodes site (λ node call. ByWindow call) done.calls called_nodes at_each)
 
     -- ---- an event
 
     abbrev Leaves : List LinksEvent → Type 0
-    Leaves = Each (LeavesClientOpen site network)
+    Leaves = Each LeavesClientOpen
 
     host_leaves : {Object : Type 0} (does : Behaviour Object) (input : HostInput) (connection link : ℕ) (found : Option (ClockedControllerState Object)) → Leaves (host_events does input connection link found)
     host_leaves does input connection link None = tt
@@ -390,8 +376,8 @@ module _ (laws : CloseLaws) (site : Site) (table : Table) (station : IsStation s
 
   -- ---- every event
 
-  pub stay_open : (world : WorldState) → IsReached site table world → ClientsStayOpen site table world
-  stay_open world reached = record { has = held.has; stay = λ happening may. event_leaves world network named timely held.has.are held.holds happening (can_be happening may) }
+  pub stay_open : (world : WorldState) → IsReached site table world → (happening : Event) → refusal site happening world ≡ None → Each LeavesClientOpen (events_of site table happening world)
+  stay_open world reached happening may = event_leaves world network named timely held.has.are held.holds happening can_be
     where
       held : HasHeld laws.expected.talked.links site table station once StandsSo (stands_first laws.expected site table station once is_table) (stands_on laws.expected site table station once is_table) world
       held = always_held laws.expected.talked.links site table station once StandsSo (stands_first laws.expected site table station once is_table) (stands_on laws.expected site table station once is_table) world reached
@@ -405,8 +391,8 @@ module _ (laws : CloseLaws) (site : Site) (table : Table) (station : IsStation s
       timely : AreTimely (links site) (names_at site) network
       timely = laws.expected.talked.links.time (links site) (names_at site) held.has.events (begun_links (names_at site) starts_at_zero) named (laws.expected.talked.links.begins (links site) (names_at site) starts_at_zero named) held.has.may
 
-      can_be : (happening : Event) → refusal site happening world ≡ None → CanBe site table happening world network
-      can_be happening may = record {
+      can_be : CanBe site table happening world network
+      can_be = record {
         named = named;
         whole = held.holds.whole;
         timely = timely;

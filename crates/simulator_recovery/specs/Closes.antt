@@ -1,9 +1,16 @@
--- That no controller of a station closes its link.
+-- That no node of a station closes a link, but a client for its own full window.
+use Rattle.std.specs.Prelude.{◌≡◌}
 use Rattle.simulator_run.specs.rasta_core.Ends.{Closes}
 use Rattle.simulator_run.specs.rasta_core.Links.{CallsOn, LinksEvent}
 use Rattle.simulator_run.specs.rasta_core.identity.Role.TheVariants as role
+use Rattle.simulator_run.specs.rasta_core.reason.Reason.TheVariants.{Window}
 
 -- It isn't a controller that closes a link by this.
 abbrev pub LeavesServerOpen : LinksEvent → Type 0
 LeavesServerOpen (CallsOn link role.Server (Closes why)) = ⊥
 LeavesServerOpen _ = Unit {0}
+
+-- If it is a client that closes a link by this, its own window is full.
+abbrev pub LeavesClientOpen : LinksEvent → Type 0
+LeavesClientOpen (CallsOn link role.Client (Closes why)) = why ≡ Window
+LeavesClientOpen _ = Unit {0}

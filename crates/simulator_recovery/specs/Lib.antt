@@ -10,4 +10,3 @@ pub mod Told
 pub mod NextItems
 pub mod Expected
 pub mod Closes
-pub mod ClientCloses

@@ -1,4 +1,4 @@
-//! That no controller of a station closes its link.
+//! That no node of a station closes a link, but a client for its own full window.
 
 ghost use Rattle.std.specs.Prelude.{◌≡◌, None};
 ghost use Rattle.ixl_table.specs.Table.{IsTableOf};
@@ -12,7 +12,7 @@ ghost use Rattle.simulator_run.specs.Refusals.{refusal};
 ghost use Rattle.simulator_run.specs.State.{WorldState};
 ghost use Rattle.simulator_run_links.specs.Events.{events_of};
 ghost use Rattle.simulator_headline.specs.Reached.{IsReached};
-ghost use Rattle.simulator_recovery.specs.Closes.{LeavesServerOpen};
+ghost use Rattle.simulator_recovery.specs.Closes.{LeavesClientOpen, LeavesServerOpen};
 
 use crate::items_go_on;
 use object_host_theorem::step_takes_and_gives;
@@ -20,8 +20,8 @@ use simulator_machine_links::{a_client_of_many_makes_a_step, a_node_of_one_link_
 use simulator_run::a_station_begins_its_links;
 use simulator_run::ixl_rules::control_table::sci_telegram::written_is_read;
 use simulator_run::ixl_rules::rasta_core::{
-    a_node_makes_a_step, items_are_counted, links_keep_order, links_keep_time, one_connection,
-    order_is_safe,
+    a_node_makes_a_step, each_link_sees_its_events, every_event_keeps_order, items_are_counted,
+    links_keep_order, links_keep_time, one_connection, order_is_safe,
 };
 use simulator_run::object_host::{step_is_calls, steps_keep_a_host};
 use simulator_run::point_ctl::Point;
@@ -48,6 +48,39 @@ pub fn controllers_close_no_link()
     interlockings_call_their_nodes();
     items_are_counted();
     items_go_on();
+    layouts_name_their_links();
+    links_keep_order();
+    links_keep_time();
+    one_connection();
+    order_is_safe();
+    stations_have_links();
+    steps_keep_a_host::<Signal>();
+    steps_keep_a_host::<Point>();
+    steps_keep_a_host::<Detection>();
+    step_is_calls::<Signal>();
+    step_is_calls::<Point>();
+    step_is_calls::<Detection>();
+    step_takes_and_gives::<Signal>();
+    step_takes_and_gives::<Point>();
+    step_takes_and_gives::<Detection>();
+    written_is_read();
+}
+
+/// Nor is there one in which a client closes its link but for its own full window: what comes to it is always what it expects, each item
+/// of a datagram in its turn. A point's client that awaits no report is told nothing.
+pub fn clients_close_by_their_window_alone()
+    ensures { (site : Site) (table : Table) (world : WorldState) (happening : Event) → IsStation site → Once site → IsTableOf site table → IsReached site table world
+        → refusal site happening world ≡ None → Each LeavesClientOpen (events_of site table happening world) }
+{
+    a_client_of_many_makes_a_step();
+    a_node_makes_a_step();
+    a_node_of_one_link_makes_a_step();
+    a_station_begins_its_links();
+    deliveries_may_come();
+    each_link_sees_its_events();
+    events_are_those_of_the_links();
+    every_event_keeps_order();
+    interlockings_call_their_nodes();
     layouts_name_their_links();
     links_keep_order();
     links_keep_time();

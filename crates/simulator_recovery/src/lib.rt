@@ -3,7 +3,6 @@
 //! is no code here but laws.
 #![tactic(auto)]
 
-mod client_closes;
 mod clients;
 mod closes;
 mod controllers;
@@ -15,9 +14,8 @@ mod links;
 mod matched;
 mod silence;
 
-pub use client_closes::clients_close_by_their_window_alone;
 pub use clients::clients_have_said_what_their_stages_tell;
-pub use closes::controllers_close_no_link;
+pub use closes::{clients_close_by_their_window_alone, controllers_close_no_link};
 pub use controllers::controllers_keep_to_their_conversations;
 pub use conversation::{
     clients_act_on_what_they_expect, clients_count_what_they_act_on, clients_expect_what_hosts_say,

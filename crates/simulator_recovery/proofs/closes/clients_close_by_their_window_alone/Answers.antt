@@ -1,9 +1,9 @@
 use Rattle.simulator_run.specs.rasta_core.identity.Role.TheVariants as role
 use Rattle.simulator_recovery.proofs.StationCloses.{stay_open}
-use Rattle.simulator_recovery.proofs.client_closes.clients_close_by_their_window_alone.Goals as goal
+use Rattle.simulator_recovery.proofs.closes.clients_close_by_their_window_alone.Goals as goal
 
 pub returns : goal.returns
-returns c = λ site table world station once is_table reached. stay_open (record {
+returns c = λ site table world happening station once is_table reached may. stay_open (record {
   expected = record {
     talked = record {
       links = record {
@@ -71,4 +71,4 @@ returns c = λ site table world station once is_table reached. stay_open (record
     some = c.one_connection.ensures.some;
   };
   may_happen = c.each_link_sees_its_events.ensures.may_happen;
-}) site table station once is_table world reached
+}) site table station once is_table world reached happening may
