@@ -11,6 +11,7 @@ mod Sends
 mod Arrives
 mod LinkRounds
 mod AtWork
+pub mod StaysOpen
 mod ComeUp
 mod HostConversation
 mod ClientConversation

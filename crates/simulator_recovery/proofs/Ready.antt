@@ -30,6 +30,7 @@ use Rattle.simulator_recovery.proofs.ComeUp.{BehindRounds, Begun, ComeUpLaws, be
 use Rattle.simulator_recovery.proofs.LinkRounds.{are_links}
 use Rattle.simulator_recovery.proofs.Moments.{Moment, Passes, client_is_ready, host_is_ready}
 use Rattle.simulator_recovery.proofs.Rounds.{rounds_reached}
+use Rattle.simulator_recovery.proofs.StaysOpen.{rounds_stay}
 
 -- ---- lists by their last
 
@@ -228,7 +229,7 @@ module _ (laws : ReadyLaws) (sited : SitedTable) (station : IsStation sited.site
       → IsReadyOn sited.site link (world_at rounds)
   ready_behind rounds works can long open_so below =
       let b = behind_rounds laws.up sited station once is_table link there first flowing work_first start rounds works can
-      in let whole : IsUpBehind rounds = record { behind = b; opens = rounds_open link rounds next start.before works open_so; below = b.below below; long = omega (arith, long) }
+      in let whole : IsUpBehind rounds = record { behind = b; opens = rounds_open link rounds next start.before works (rounds_stay laws.up.stays sited station once is_table link rounds next start.is open_so); below = b.below below; long = omega (arith, long) }
       in let b3 = goes_back rounds works can (omega (arith, long)) whole
       in let b2 = goes_back b3.front b3.works b3.can (omega (arith, long, b3.one_less)) b3.stage
       in let b1 = goes_back b2.front b2.works b2.can (omega (arith, long, b3.one_less, b2.one_less)) b2.stage

@@ -116,7 +116,7 @@ pub record IsAt (sited : SitedTable) (world : Played) : Type 0 where
   pub reached : IsReached sited.site sited.table world.run
 
 module _ (laws : ReachLaws) (sited : SitedTable) where
-  tried_reached : (world : Played) (one : Event) → IsAt sited world → IsAt sited (after world one)
+  pub tried_reached : (world : Played) (one : Event) → IsAt sited world → IsAt sited (after world one)
   tried_reached world one is = tried_keeps (IsAt sited) world one is (λ none. record {
     same = is.same;
     reached = subst (λ (s : SitedTable). refusal s.site one world.run ≡ None → IsReached sited.site sited.table (happens s.site s.table one world.run)) (sym is.same)

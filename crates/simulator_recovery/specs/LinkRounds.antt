@@ -8,6 +8,8 @@ use Rattle.simulator_run.specs.rasta_core.Ends.{Closes, reading_of}
 use Rattle.simulator_run.specs.rasta_core.Events.{Event as LinkEvent}
 use Rattle.simulator_run.specs.rasta_core.Links.{CallsOn, Links, LinksEvent, happened_to, of_link, run_links, run_on, seen}
 use Rattle.simulator_run.specs.rasta_core.State.{LinkState, is_up}
+use Rattle.simulator_run.specs.rasta_core.identity.Role.TheVariants as role
+use Rattle.simulator_run.specs.rasta_core.reason.Reason.TheVariants.{Window}
 use Rattle.simulator_run.specs.simulator_event.declared.event.Event.{Event}
 use Rattle.simulator_run.specs.simulator_event.refused.Refused.{Refused}
 use Rattle.simulator_run.specs.declared.round.RoundEvent.{RoundEvent}
@@ -80,9 +82,9 @@ pub record IsAtWorkOn (site : Site) (link : ℕ) (between : List Event) (old new
 
 -- ---- premises on a link
 
--- a call that doesn't close this link
+-- It isn't this link that a client closes by this for its own full window.
 abbrev pub LeavesOpenOn : ℕ → LinksEvent → Type 0
-LeavesOpenOn link (CallsOn at who (Closes why)) = link ≢ at
+LeavesOpenOn link (CallsOn at role.Client (Closes why)) = why ≡ Window → link ≢ at
 LeavesOpenOn link _ = Unit {0}
 
 -- an end of this link that is in a connection has sent fewer PDUs in it than the limit

@@ -21,7 +21,9 @@ ghost use Rattle.simulator_recovery.specs.LinkRounds.{AreInOne, IsAtWorkOn, IsUp
 ghost use Rattle.simulator_recovery.specs.Ready.{IsReadyOn, ready_rounds};
 ghost use Rattle.simulator_recovery.specs.Rounds.{AllCome, HasTime, IsWork, LeavesFresh, all_tried, clocks_of, good_rounds, hold_rounds, rounds_later};
 
-use crate::stations_stand_by_their_counts;
+use crate::{
+    clients_close_by_their_window_alone, controllers_close_no_link, stations_stand_by_their_counts,
+};
 use rasta_core_recovery::{two_ends_at_work_come_up, two_ends_at_work_hand_over};
 use simulator_headline::reached_worlds_are_safe;
 use simulator_run::ixl_rules::rasta_core::{
@@ -100,7 +102,8 @@ pub fn good_rounds_are_at_work_on_links()
 
 /// The links of a station come up: after any list of events, and behind each good round from the 1602nd on, the link between the
 /// interlocking and each controller is up at both ends, whatever requests and occupancies come between the rounds. So it is
-/// where neither of its ends closes it behind the first of these rounds, and none comes to the limit of PDUs in a connection.
+/// where behind the first of these rounds its client doesn't close it for its own full window, and neither end comes to the limit of
+/// PDUs in a connection.
 pub fn links_come_up()
     ensures { (between : List Event) (later : List (List Event)) (flowing : Flowing Played) (link : ℕ) → Once flowing.state.sited.site → IsStation flowing.state.sited.site
         → IsTableOf flowing.state.sited.site flowing.state.sited.table → IsReached flowing.state.sited.site flowing.state.sited.table flowing.state.run
@@ -109,6 +112,8 @@ pub fn links_come_up()
         → StaysBelowLimit flowing.state.sited.site link later (all_tried between (round stations flowing))
         → IsUpOn link (good_rounds (between ∷ later) flowing).state.run }
 {
+    clients_close_by_their_window_alone();
+    controllers_close_no_link();
     reached_worlds_are_safe();
     stations_have_links();
     layouts_name_their_links();
@@ -121,8 +126,8 @@ pub fn links_come_up()
 
 /// The links of a station are ready: after any list of events, and behind each good round from the 1606th on, the link between the
 /// interlocking and each controller is ready at both ends, whatever requests and occupancies come between the rounds: both
-/// ends are up, and the initialisation of their connection is completed at both. So it is where neither of its ends closes it
-/// behind the first of these rounds, and none comes to the limit of PDUs in a connection.
+/// ends are up, and the initialisation of their connection is completed at both. So it is where behind the first of these rounds
+/// its client doesn't close it for its own full window, and neither end comes to the limit of PDUs in a connection.
 pub fn links_are_ready()
     ensures { (between : List Event) (later : List (List Event)) (flowing : Flowing Played) (link : ℕ) → Once flowing.state.sited.site → IsStation flowing.state.sited.site
         → IsTableOf flowing.state.sited.site flowing.state.sited.table → IsReached flowing.state.sited.site flowing.state.sited.table flowing.state.run
@@ -131,6 +136,8 @@ pub fn links_are_ready()
         → StaysBelowLimit flowing.state.sited.site link later (all_tried between (round stations flowing))
         → IsReadyOn flowing.state.sited.site link (good_rounds (between ∷ later) flowing).state.run }
 {
+    clients_close_by_their_window_alone();
+    controllers_close_no_link();
     reached_worlds_are_safe();
     stations_have_links();
     layouts_name_their_links();
