@@ -41,9 +41,9 @@ ClosesNone part = Each ByWindow part.calls
 
 -- ---- what is said
 
-posting_closes : (now : ℕ) (told : Message) (part : ClientSoFar) → ClosesNone part → ClosesNone (posting now told part)
+posting_closes_none : (now : ℕ) (told : Message) (part : ClientSoFar) → ClosesNone part → ClosesNone (posting now told part)
 unfolding posting calling
-posting_closes now told part none = choose (is_refused_by_window (answer_to_send now part.client.link))
+posting_closes_none now told part none = choose (is_refused_by_window (answer_to_send now part.client.link))
   where
     item : List ℕ
     item = writing (telegram_to part.client.peer told)
@@ -58,32 +58,32 @@ posting_closes now told part none = choose (is_refused_by_window (answer_to_send
     choose true = each_both ByWindow sent.calls (Closes reason.Window ∷ []) none_sent (refl, tt)
     choose false = none_sent
 
-rising_closes : (now : ℕ) (part : ClientSoFar) → ClosesNone part → ClosesNone (rising now part)
+rising_closes_none : (now : ℕ) (part : ClientSoFar) → ClosesNone part → ClosesNone (rising now part)
 unfolding rising
-rising_closes now part none = choose (is_outside part.client.stage && is_up part.client.link.phase)
+rising_closes_none now part none = choose (is_outside part.client.stage && is_up part.client.link.phase)
   where
     choose : (b : Bool) → ClosesNone (if b then at_stage stage.AwaitsAnswer (saying now (VersionCheck part.client.peer.version) part) else part)
-    choose true = posting_closes now _ part none
+    choose true = posting_closes_none now _ part none
     choose false = none
 
 -- a command
-pub commanding_closes : (now : ℕ) (command : Command) (client : ClientState) (outbox : OutboxState) → ClosesNone (commanding now command (begun client outbox))
+pub commanding_closes_none : (now : ℕ) (command : Command) (client : ClientState) (outbox : OutboxState) → ClosesNone (commanding now command (begun client outbox))
 unfolding commanding
-commanding_closes now command client outbox = posting_closes now (message_of command) (begun client outbox) tt
+commanding_closes_none now command client outbox = posting_closes_none now (message_of command) (begun client outbox) tt
 
 -- a tick
-pub ticking_closes : (now : ℕ) (client : ClientState) (outbox : OutboxState) → ClosesNone (ticking now (begun client outbox))
-ticking_closes now client outbox = subst (Each ByWindow) (sym (ticking_calls now client outbox)) (tt, (tt, tt))
+pub ticking_closes_none : (now : ℕ) (client : ClientState) (outbox : OutboxState) → ClosesNone (ticking now (begun client outbox))
+ticking_closes_none now client outbox = subst (Each ByWindow) (sym (ticking_calls now client outbox)) (tt, (tt, tt))
 
 -- ---- what is heard
 
--- a position in the list, where the front ends
+-- what stands where the front of a list ends
 at_end : {X : Type 0} (front rest : List X) (x : X) → slice_get (front ++ x ∷ rest) (length front) ≡ Some x
 at_end [] rest x = refl
 at_end (first ∷ front) rest x = at_end front rest x
 
 module _ (peer : PeerState) (given : List (List ℕ)) where
-  -- so few items are given that a client is told nothing that it awaits no more
+  -- so few items were given that none comes which the client doesn't await
   abbrev pub IsFew : Stage → ℕ → Type 0
   IsFew stage.Completed count = length given ≤ count
   IsFew stage.AwaitsReport count = length given ≤ count + 1
@@ -128,7 +128,7 @@ module _ (peer : PeerState) (given : List (List ℕ)) where
         more (inl hears) = inl hears
         more (inr few) = goes_few on few
 
-  -- a client that is inside, behind so many items and none of its links closed but by its window
+  -- A client that is inside has acted on so many items, and has closed its link for its own full window at most.
   pub record Walks (count : ℕ) (part : ClientSoFar) : Type 0 where
     pub peer_is : part.client.peer ≡ peer
     pub stands : Stands part.client.stage count
@@ -162,7 +162,7 @@ module _ (peer : PeerState) (given : List (List ℕ)) where
           (subst (λ (p : PeerState). ClientHasActedOn p done.client.stage (count + counts.more)) w.peer_is
           (counts.on count (subst (λ (p : PeerState). ClientHasActedOn p part.client.stage count) (sym w.peer_is) w.stands.acted)))
 
-      -- what closes the link is acted on no more
+      -- an item that closes the link isn't acted on
       none_acted : (why : Reason) → done ≡ calling now (Closes why) part → length done.acted ≡ length part.acted
       unfolding calling
       none_acted why e = ap (λ (p : ClientSoFar). length p.acted) e
@@ -172,7 +172,7 @@ module _ (peer : PeerState) (given : List (List ℕ)) where
         peer_is = posted_at now (message.Initialisation part.client.peer.protocol InitialisationRequest) stage.AwaitsStart (acted_on item part) ∙ w.peer_is;
         stands = record { acted = let none = subst (λ (x : Stage). ClientHasActedOn peer x count) is w.stands.acted in omega (arith, none); begun = tt; hears = more w.stands.hears };
         inside = refl;
-        none = posting_closes now (message.Initialisation part.client.peer.protocol InitialisationRequest) (acted_on item part) w.none;
+        none = posting_closes_none now (message.Initialisation part.client.peer.protocol InitialisationRequest) (acted_on item part) w.none;
       }
         where
           more : IsTrue (reports_changes peer.protocol) ⊎ IsFew part.client.stage count → IsTrue (reports_changes peer.protocol) ⊎ IsFew stage.AwaitsStart (count + 1)
@@ -226,7 +226,7 @@ module _ (peer : PeerState) (given : List (List ℕ)) where
           peer_is = posted_at now told stage.AwaitsAnswer part ∙ same;
           stands = record { acted = subst (λ (x : Stage). ClientHasActedOn peer x count) is stands.acted; begun = tt; hears = more stands.hears };
           inside = refl;
-          none = posting_closes now told part none;
+          none = posting_closes_none now told part none;
         }
           where
             more : IsTrue (reports_changes peer.protocol) ⊎ IsFew part.client.stage count → IsTrue (reports_changes peer.protocol) ⊎ IsFew stage.AwaitsAnswer count
@@ -243,9 +243,9 @@ module _ (peer : PeerState) (given : List (List ℕ)) where
 
 module _ (now : ℕ) where
   -- a client whose link isn't open acts on nothing
-  shut_closes : (items : List (List ℕ)) (part : ClientSoFar) → is_open part.client.link.phase ≡ false → ClosesNone part → ClosesNone (acting_all now items (rising now part))
+  shut_closes_none : (items : List (List ℕ)) (part : ClientSoFar) → is_open part.client.link.phase ≡ false → ClosesNone part → ClosesNone (acting_all now items (rising now part))
   unfolding acting_all rising
-  shut_closes items part shut none = subst (λ (p : ClientSoFar). ClosesNone (acting_all now items p)) (sym (stays (is_outside part.client.stage) (is_up part.client.link.phase) refl)) (acts_on_none items)
+  shut_closes_none items part shut none = subst (λ (p : ClientSoFar). ClosesNone (acting_all now items p)) (sym (stays (is_outside part.client.stage) (is_up part.client.link.phase) refl)) (acts_on_none items)
     where
       then_at : ClientSoFar
       then_at = at_stage stage.AwaitsAnswer (saying now (VersionCheck part.client.peer.version) part)
@@ -270,10 +270,10 @@ module _ (now : ℕ) where
     pub stands : Stands client.peer given client.stage (length front)
 
   -- a datagram
-  pub hearing_closes : (bytes : List ℕ) (client : ClientState) (outbox : OutboxState)
+  pub hearing_closes_none : (bytes : List ℕ) (client : ClientState) (outbox : OutboxState)
       → (is_open (receiving now bytes client.link).link.phase ≡ true → ((receiving now bytes client.link).items ≡ []) ⊎ ComesNext bytes client) → ClosesNone (hearing now bytes (begun client outbox))
   unfolding hearing calling acting_all
-  hearing_closes bytes client outbox comes = choose (is_open (receiving now bytes client.link).link.phase) refl
+  hearing_closes_none bytes client outbox comes = choose (is_open (receiving now bytes client.link).link.phase) refl
     where
       received : ClientSoFar
       received = calling now (Receives bytes) (begun client outbox)
@@ -282,9 +282,9 @@ module _ (now : ℕ) where
       items = (receiving now bytes client.link).items
 
       by_items : (items ≡ []) ⊎ ComesNext bytes client → ClosesNone (acting_all now items (rising now received))
-      by_items (inl none) = subst (λ (list : List (List ℕ)). ClosesNone (acting_all now list (rising now received))) (sym none) (rising_closes now received (tt, tt))
+      by_items (inl none) = subst (λ (list : List (List ℕ)). ClosesNone (acting_all now list (rising now received))) (sym none) (rising_closes_none now received (tt, tt))
       by_items (inr c) = all_walk client.peer c.given c.expected now items c.front c.rest (rising now received) c.are (rising_walks client.peer c.given c.expected now (length c.front) received refl c.stands c.up (tt, tt))
 
       choose : (b : Bool) → is_open (receiving now bytes client.link).link.phase ≡ b → ClosesNone (acting_all now items (rising now received))
       choose true opened = by_items (comes opened)
-      choose false shut = shut_closes items received shut (tt, tt)
+      choose false shut = shut_closes_none items received shut (tt, tt)

@@ -1,4 +1,4 @@
--- No event of a station closes a client's link but by its own full window.
+-- No event of a station closes a client's link but for its own full window.
 use Rattle.std.proofs.Common.{◌≡◌, ◌⊎◌, inl, inr, ℕ, ◌+◌, ◌<◌, ◌≤◌, ◌∙◌, Bool, true, false, List, [], ◌∷◌, ◌++◌, length, map, Option, Some, None, slice_get, if◌then◌else◌, refl, sym, ap, subst, arith}
 use Rattle.std.specs.Prelude.{IsTrue}
 use Rattle.ixl_table.specs.Table.{IsTableOf}
@@ -60,7 +60,7 @@ use Rattle.simulator_recovery.specs.Expected.{GivesNoMore}
 use Rattle.simulator_recovery.proofs.Addressed.{partners_length}
 use Rattle.simulator_recovery.proofs.AlwaysExpected.{EachIsExpected, ExpectedLaws, Stands, begun_of, detector_changes, each_detector, each_point, each_signal, gives_no_more, signal_changes, stands_first, stands_on}
 use Rattle.simulator_recovery.proofs.AlwaysOnLinks.{CanBe, HasHeld, always_held}
-use Rattle.simulator_recovery.proofs.ClientCloses.{ByWindow, ComesNext, IsFew, commanding_closes, hearing_closes, ticking_closes}
+use Rattle.simulator_recovery.proofs.ClientCloses.{ByWindow, ComesNext, IsFew, commanding_closes_none, hearing_closes_none, ticking_closes_none}
 use Rattle.simulator_recovery.proofs.ClientLinks.{ClockedStands, clocked_peer, clocked_stands}
 use Rattle.simulator_recovery.proofs.IxlSoFar.{All, SoFarKeeps, at_node, is_itself, is_node, same_place, step_held}
 use Rattle.simulator_recovery.proofs.Lists.{at_place, each_both, map_length}
@@ -124,7 +124,7 @@ module _ (laws : CloseLaws) (site : Site) (table : Table) (station : IsStation s
     no_more : (place : ℕ) → place < length site.points → GivesNoMore (seen (point_link site place) network)
     no_more place there = let many = s.whole.points in let c = at_place world.points place (omega (arith, there, many)) in gives_no_more laws.expected site table station once is_table world network s place c.0 c.1
 
-    -- how the client of a node hears
+    -- a point's client hears of one object, and each other of changes
     abbrev HearsAt : Node → PeerState → Type 0
     HearsAt (Point place) peer = length peer.objects ≡ 1
     HearsAt _ peer = IsTrue (reports_changes peer.protocol)
@@ -231,7 +231,7 @@ module _ (laws : CloseLaws) (site : Site) (table : Table) (station : IsStation s
             choose was (inr up) (inr on) = inr (next_at was up on)
 
         heard : (outbox : OutboxState) → Each ByWindow (calls ++ (hearing now bytes (begun client outbox)).calls)
-        heard outbox = each_both ByWindow calls (hearing now bytes (begun client outbox)).calls (subst (Each ByWindow) (sym c.none) tt) (hearing_closes now bytes client outbox comes_so)
+        heard outbox = each_both ByWindow calls (hearing now bytes (begun client outbox)).calls (subst (Each ByWindow) (sym c.none) tt) (hearing_closes_none now bytes client outbox comes_so)
 
       -- ---- the step
 
@@ -246,9 +246,9 @@ module _ (laws : CloseLaws) (site : Site) (table : Table) (station : IsStation s
         clock = settles;
         weaker = λ node client calls c. subst (Each ByWindow) (sym c.none) tt;
         hears = λ node bytes client outbox calls is_input c. heard node bytes is_input client calls c outbox;
-        aspects = λ place aspect client outbox calls gives ready h. each_both ByWindow calls (commanding now (client_commands.Indicate aspect) (begun client outbox)).calls h (commanding_closes now (client_commands.Indicate aspect) client outbox);
-        moves = λ place side client outbox calls available h. each_both ByWindow calls (commanding now (client_commands.Move side) (begun client outbox)).calls h (commanding_closes now (client_commands.Move side) client outbox);
-        ticks = λ node client outbox calls h. each_both ByWindow calls (ticking now (begun client outbox)).calls h (ticking_closes now client outbox);
+        aspects = λ place aspect client outbox calls gives ready h. each_both ByWindow calls (commanding now (client_commands.Indicate aspect) (begun client outbox)).calls h (commanding_closes_none now (client_commands.Indicate aspect) client outbox);
+        moves = λ place side client outbox calls available h. each_both ByWindow calls (commanding now (client_commands.Move side) (begun client outbox)).calls h (commanding_closes_none now (client_commands.Move side) client outbox);
+        ticks = λ node client outbox calls h. each_both ByWindow calls (ticking now (begun client outbox)).calls h (ticking_closes_none now client outbox);
       }
 
       all_before : EachClient IsBefore world.station.ixl

@@ -82,7 +82,7 @@ pub record IsAtWorkOn (site : Site) (link : ℕ) (between : List Event) (old new
 
 -- ---- premises on a link
 
--- It isn't this link that a client closes by this for its own full window.
+-- A client doesn't close this link by this call for its own full window.
 abbrev pub LeavesOpenOn : ℕ → LinksEvent → Type 0
 LeavesOpenOn link (CallsOn at role.Client (Closes why)) = why ≡ Window → link ≢ at
 LeavesOpenOn link _ = Unit {0}
