@@ -132,7 +132,7 @@ module _ (names : Names) (who : Role) (start own_start : ℕ) (tuned other_tuned
   }
 
   -- what the round makes of this end, where it stays
-  turn : is_open (end_round (l.clock + 10) ps l).link.phase ≡ true → Turn x bounds tuned l (end_round (l.clock + 10) ps l)
+  pub turn : is_open (end_round (l.clock + 10) ps l).link.phase ≡ true → Turn x bounds tuned l (end_round (l.clock + 10) ps l)
   turn is_in = choose (turns x bounds ghost_now l refl refl there.is refl hearing_now)
     where
       choose : Either (l.clock + 10) (end_round (l.clock + 10) ps l).link (Turn x bounds tuned l (end_round (l.clock + 10) ps l)) → Turn x bounds tuned l (end_round (l.clock + 10) ps l)

@@ -16,7 +16,7 @@ use Rattle.rasta_core_run.specs.pdu.Pdu.{Pdu}
 use Rattle.rasta_core_run.specs.body.Body.{Body}
 use Rattle.rasta_core_run.specs.body.Body.TheVariants.{ConnectionRequest, ConnectionResponse, RetransmissionRequest, RetransmissionResponse, DisconnectionRequest, Heartbeat, Data, RetransmittedData}
 use Rattle.rasta_core_recovery.proofs.Healthy.{is_reading, waits}
-use Rattle.rasta_core_recovery.proofs.Words.{IsTalk, IsPlain, IsSimple, Says, says_then, says_again}
+use Rattle.rasta_core_recovery.proofs.Words.{IsTalk, IsPlain, IsSpeech, IsSimple, Says, says_then, says_again}
 
 -- an end stays in its connection
 pub record Stays (l k : LinkState) : Type 0 where
@@ -64,6 +64,7 @@ pub record Taken (p : Pdu) (l k : LinkState) (ps : List Pdu) : Type 0 where
   pub sent_at : ((ps ≡ []) × (k.sent_at ≡ l.sent_at)) ⊎ ((k.sent_at ≡ l.clock) × (ps ≡ [] → ⊥))
   pub calm : IsPlain p.body → ps ≡ []
   pub turn : (p.body ≡ RetransmissionResponse) ⊎ InTurn p l
+  pub speech : IsSpeech p.body
   -- no item is given by it, and none waits again
   pub given : k.given ≡ l.given
   pub waiting : IsPlain p.body → k.waiting ≡ still_waiting (l.sent - 1 - behind p l) l.waiting
@@ -104,6 +105,7 @@ module _ (l : LinkState) (p : Pdu) (connected_is : is_open l.phase ≡ true) (jo
     sent_at = inr (refl, λ e. absurd (some_said e));
     calm = λ plain. absurd (subst IsPlain is plain);
     turn = inr turn;
+    speech = subst IsSpeech (sym is) tt;
     given = refl;
     waiting = λ plain. absurd (subst IsPlain is plain);
   })
@@ -120,9 +122,9 @@ module _ (l : LinkState) (p : Pdu) (connected_is : is_open l.phase ≡ true) (jo
       one : (body : Body) → IsPlain body → (n : ℕ) → Says IsPlain h n (pdu_of h n body ∷ []) (n + 1)
       one body plain n = says_one h body plain n
 
-  handed : (items : List (List ℕ)) → IsPlain p.body → InTurn p l → Deed p l (handing items (record (taking p l) { phase = phase.Up })).link []
+  handed : (items : List (List ℕ)) → IsSpeech p.body → InTurn p l → Deed p l (handing items (record (taking p l) { phase = phase.Up })).link []
   unfolding handing taking
-  handed items plain turn = takes passes (record {
+  handed items speech turn = takes passes (record {
     stays = record { identity = refl; clock = refl; own_first = refl; partner_first = refl; connected = refl; joined = refl };
     reading = refl;
     expected = refl;
@@ -133,13 +135,14 @@ module _ (l : LinkState) (p : Pdu) (connected_is : is_open l.phase ≡ true) (jo
     sent_at = inl (refl, refl);
     calm = λ is. refl;
     turn = inr turn;
+    speech = speech;
     given = refl;
     waiting = λ is. refl;
   })
 
-  handed_again : (items : List (List ℕ)) → is_reading l.phase ≡ true → InTurn p l → Deed p l (handing items (taking p l)).link []
+  handed_again : (items : List (List ℕ)) → is_reading l.phase ≡ true → IsSpeech p.body → InTurn p l → Deed p l (handing items (taking p l)).link []
   unfolding handing taking
-  handed_again items reading turn = takes passes (record {
+  handed_again items reading speech turn = takes passes (record {
     stays = record { identity = refl; clock = refl; own_first = refl; partner_first = refl; connected = connected_is; joined = joined };
     reading = reading;
     expected = refl;
@@ -150,13 +153,14 @@ module _ (l : LinkState) (p : Pdu) (connected_is : is_open l.phase ≡ true) (jo
     sent_at = inl (refl, refl);
     calm = λ is. refl;
     turn = inr turn;
+    speech = speech;
     given = refl;
     waiting = λ is. refl;
   })
 
-  comes_up : InTurn p l → Deed p l (record (taking p l) { phase = phase.Up }) []
+  comes_up : IsSpeech p.body → InTurn p l → Deed p l (record (taking p l) { phase = phase.Up }) []
   unfolding taking
-  comes_up turn = takes passes (record {
+  comes_up speech turn = takes passes (record {
     stays = record { identity = refl; clock = refl; own_first = refl; partner_first = refl; connected = refl; joined = refl };
     reading = refl;
     expected = refl;
@@ -167,6 +171,7 @@ module _ (l : LinkState) (p : Pdu) (connected_is : is_open l.phase ≡ true) (jo
     sent_at = inl (refl, refl);
     calm = λ is. refl;
     turn = inr turn;
+    speech = speech;
     given = refl;
     waiting = λ is. refl;
   })
@@ -184,6 +189,7 @@ module _ (l : LinkState) (p : Pdu) (connected_is : is_open l.phase ≡ true) (jo
     sent_at = inl (refl, refl);
     calm = λ plain. refl;
     turn = inl is;
+    speech = subst IsSpeech (sym is) tt;
     given = refl;
     waiting = λ plain. refl;
   })
@@ -204,23 +210,23 @@ module _ (l : LinkState) (p : Pdu) (connected_is : is_open l.phase ≡ true) (jo
   abbrev Does : Receipt → Type 0
   Does r = Deed p l r.link r.pdus
 
-  brings : (body : Body) → p.body ≡ body → (IsTalk p.body) → (body ≡ RetransmissionRequest → is_reading l.phase ≡ true) → ((items : List (List ℕ)) → body ≡ RetransmittedData items → is_reading l.phase ≡ true) → InTurn p l → Does (bringing body (taking p l))
+  brings : (body : Body) → p.body ≡ body → (IsSpeech p.body) → (body ≡ RetransmissionRequest → is_reading l.phase ≡ true) → ((items : List (List ℕ)) → body ≡ RetransmittedData items → is_reading l.phase ≡ true) → InTurn p l → Does (bringing body (taking p l))
   unfolding bringing handing
-  brings (ConnectionRequest o) e talk asks_in again_in turn = absurd (subst IsTalk e talk)
-  brings (ConnectionResponse o) e talk asks_in again_in turn = absurd (subst IsTalk e talk)
-  brings RetransmissionRequest e talk asks_in again_in turn = answers_it (asks_in refl) e turn
-  brings RetransmissionResponse e talk asks_in again_in turn = comes_up turn
-  brings (DisconnectionRequest d r) e talk asks_in again_in turn = comes_up turn
-  brings Heartbeat e talk asks_in again_in turn = comes_up turn
-  brings (Data items) e talk asks_in again_in turn = handed items (subst IsPlain (sym e) tt) turn
-  brings (RetransmittedData items) e talk asks_in again_in turn = handed_again items (again_in items refl) turn
+  brings (ConnectionRequest o) e speech asks_in again_in turn = absurd (subst IsSpeech e speech)
+  brings (ConnectionResponse o) e speech asks_in again_in turn = absurd (subst IsSpeech e speech)
+  brings RetransmissionRequest e speech asks_in again_in turn = answers_it (asks_in refl) e turn
+  brings RetransmissionResponse e speech asks_in again_in turn = comes_up speech turn
+  brings (DisconnectionRequest d r) e speech asks_in again_in turn = absurd (subst IsSpeech e speech)
+  brings Heartbeat e speech asks_in again_in turn = comes_up speech turn
+  brings (Data items) e speech asks_in again_in turn = handed items speech turn
+  brings (RetransmittedData items) e speech asks_in again_in turn = handed_again items (again_in items refl) speech turn
 
-  turns : (body : Body) → p.body ≡ body → (IsTalk p.body) → (body ≡ RetransmissionRequest → is_reading l.phase ≡ true) → ((items : List (List ℕ)) → body ≡ RetransmittedData items → is_reading l.phase ≡ true) → waits l.phase ≡ false → Does (in_turn p l)
+  turns : (body : Body) → p.body ≡ body → (IsSpeech p.body) → (body ≡ RetransmissionRequest → is_reading l.phase ≡ true) → ((items : List (List ℕ)) → body ≡ RetransmittedData items → is_reading l.phase ≡ true) → waits l.phase ≡ false → Does (in_turn p l)
   unfolding in_turn
-  turns body e talk asks_in again_in free = choose (ahead p l == 0) refl
+  turns body e speech asks_in again_in free = choose (ahead p l == 0) refl
     where
       choose : (b : Bool) → (ahead p l == 0) ≡ b → Does (if b then bringing p.body (taking p l) else missing l)
-      choose true at = subst (λ (x : Body). Does (bringing x (taking p l))) (sym e) (brings body e talk asks_in again_in (at, free))
+      choose true at = subst (λ (x : Body). Does (bringing x (taking p l))) (sym e) (brings body e speech asks_in again_in (at, free))
       choose false at = asked at free
 
   discards_it : waits l.phase ≡ true → Does (refusing verdict.Discarded l)
@@ -235,9 +241,9 @@ module _ (l : LinkState) (p : Pdu) (connected_is : is_open l.phase ≡ true) (jo
   admits (ConnectionResponse o) e at f = violated (λ s. subst IsSimple e s)
   admits RetransmissionRequest e phase.Closed f = no_phase f
   admits RetransmissionRequest e phase.Start f = violated (λ s. subst IsSimple e s)
-  admits RetransmissionRequest e phase.Up f = turns RetransmissionRequest e (subst IsTalk (sym e) tt) (λ is. ap is_reading f) (λ items is. ap is_reading f) (ap waits f)
+  admits RetransmissionRequest e phase.Up f = turns RetransmissionRequest e (subst IsSpeech (sym e) tt) (λ is. ap is_reading f) (λ items is. ap is_reading f) (ap waits f)
   admits RetransmissionRequest e phase.RetransmissionRequested f = discards_it (ap waits f)
-  admits RetransmissionRequest e phase.RetransmissionRunning f = turns RetransmissionRequest e (subst IsTalk (sym e) tt) (λ is. ap is_reading f) (λ items is. ap is_reading f) (ap waits f)
+  admits RetransmissionRequest e phase.RetransmissionRunning f = turns RetransmissionRequest e (subst IsSpeech (sym e) tt) (λ is. ap is_reading f) (λ items is. ap is_reading f) (ap waits f)
   admits RetransmissionResponse e phase.Closed f = no_phase f
   admits RetransmissionResponse e phase.Start f = violated (λ s. subst IsSimple e s)
   admits RetransmissionResponse e phase.Up f = violated (λ s. subst IsSimple e s)
@@ -245,20 +251,20 @@ module _ (l : LinkState) (p : Pdu) (connected_is : is_open l.phase ≡ true) (jo
   admits RetransmissionResponse e phase.RetransmissionRunning f = violated (λ s. subst IsSimple e s)
   admits (DisconnectionRequest d r) e at f = closes_by (λ s. subst IsSimple e s)
   admits Heartbeat e phase.Closed f = no_phase f
-  admits Heartbeat e phase.Start f = turns Heartbeat e (subst IsTalk (sym e) tt) (λ is. absurd (cc is)) (λ items is. absurd (cc is)) (ap waits f)
-  admits Heartbeat e phase.Up f = turns Heartbeat e (subst IsTalk (sym e) tt) (λ is. absurd (cc is)) (λ items is. absurd (cc is)) (ap waits f)
+  admits Heartbeat e phase.Start f = turns Heartbeat e (subst IsSpeech (sym e) tt) (λ is. absurd (cc is)) (λ items is. absurd (cc is)) (ap waits f)
+  admits Heartbeat e phase.Up f = turns Heartbeat e (subst IsSpeech (sym e) tt) (λ is. absurd (cc is)) (λ items is. absurd (cc is)) (ap waits f)
   admits Heartbeat e phase.RetransmissionRequested f = discards_it (ap waits f)
-  admits Heartbeat e phase.RetransmissionRunning f = turns Heartbeat e (subst IsTalk (sym e) tt) (λ is. absurd (cc is)) (λ items is. absurd (cc is)) (ap waits f)
+  admits Heartbeat e phase.RetransmissionRunning f = turns Heartbeat e (subst IsSpeech (sym e) tt) (λ is. absurd (cc is)) (λ items is. absurd (cc is)) (ap waits f)
   admits (Data x) e phase.Closed f = no_phase f
-  admits (Data x) e phase.Start f = turns (Data x) e (subst IsTalk (sym e) tt) (λ is. absurd (cc is)) (λ items is. absurd (cc is)) (ap waits f)
-  admits (Data x) e phase.Up f = turns (Data x) e (subst IsTalk (sym e) tt) (λ is. absurd (cc is)) (λ items is. absurd (cc is)) (ap waits f)
+  admits (Data x) e phase.Start f = turns (Data x) e (subst IsSpeech (sym e) tt) (λ is. absurd (cc is)) (λ items is. absurd (cc is)) (ap waits f)
+  admits (Data x) e phase.Up f = turns (Data x) e (subst IsSpeech (sym e) tt) (λ is. absurd (cc is)) (λ items is. absurd (cc is)) (ap waits f)
   admits (Data x) e phase.RetransmissionRequested f = discards_it (ap waits f)
-  admits (Data x) e phase.RetransmissionRunning f = turns (Data x) e (subst IsTalk (sym e) tt) (λ is. absurd (cc is)) (λ items is. absurd (cc is)) (ap waits f)
+  admits (Data x) e phase.RetransmissionRunning f = turns (Data x) e (subst IsSpeech (sym e) tt) (λ is. absurd (cc is)) (λ items is. absurd (cc is)) (ap waits f)
   admits (RetransmittedData x) e phase.Closed f = no_phase f
   admits (RetransmittedData x) e phase.Start f = violated (λ s. subst IsSimple e s)
   admits (RetransmittedData x) e phase.Up f = violated (λ s. subst IsSimple e s)
   admits (RetransmittedData x) e phase.RetransmissionRequested f = discards_it (ap waits f)
-  admits (RetransmittedData x) e phase.RetransmissionRunning f = turns (RetransmittedData x) e (subst IsTalk (sym e) tt) (λ is. ap is_reading f) (λ items is. ap is_reading f) (ap waits f)
+  admits (RetransmittedData x) e phase.RetransmissionRunning f = turns (RetransmittedData x) e (subst IsSpeech (sym e) tt) (λ is. ap is_reading f) (λ items is. ap is_reading f) (ap waits f)
 
 -- ---- the tests
 

@@ -1,24 +1,29 @@
 -- What is so of two ends at any moment, and is used of good rounds: from the invariants of time and of order.
-use Rattle.std.proofs.Common.{◌≡◌, ◌≢◌, ℕ, zero, suc, ◌∙◌, ◌+◌, ◌*◌, ◌/◌, ◌^◌, ◌≤◌, ◌<◌, Bool, true, false, ◌&&◌, not, nat_le, if◌then◌else◌, List, [], ◌∷◌, drop, Some, refl, sym, ap, subst, arith, leb-true}
+use Rattle.std.proofs.Common.{◌≡◌, ◌≢◌, ℕ, zero, suc, ◌∙◌, ◌+◌, ◌*◌, ◌/◌, ◌^◌, ◌≤◌, ◌<◌, Bool, true, false, ◌&&◌, not, nat_le, if◌then◌else◌, List, [], ◌∷◌, drop, Some, Ok, refl, sym, ap, subst, arith, leb-true, leb-false}
 use Rattle.rasta_core_run.specs.Sequence.{stamp}
 use Rattle.rasta_core_run.specs.State.{LinkState, is_open, is_asking}
 use Rattle.rasta_core_run.specs.identity.Role.{Role}
 use Rattle.rasta_core_run.specs.identity.Role.TheVariants as role
 use Rattle.rasta_core_run.specs.key.Key.{Key}
 use Rattle.rasta_core_run.specs.pdu.Pdu.{Pdu}
+use Rattle.rasta_core_run.specs.body.Body.{Body}
+use Rattle.rasta_core_run.specs.body.Body.TheVariants.{ConnectionRequest, ConnectionResponse, RetransmissionRequest, RetransmissionResponse, DisconnectionRequest, Heartbeat, Data, RetransmittedData}
+use Rattle.rasta_core_run.specs.PduRead.{reading}
 use Rattle.rasta_core_run.specs.Bag.{lifetime}
 use Rattle.rasta_core_run.specs.Each.{Each}
 use Rattle.rasta_core_run.specs.Ends.{Sent}
 use Rattle.rasta_core_run.specs.Run.{Ends}
 use Rattle.rasta_core_run.specs.Names.{Names, identity_of}
 use Rattle.rasta_core.specs.TimedEnds.{Inside, Outside, IsInside, IsOutside, HasHeard, own_stamp, heard_stamp, closed_at, standing, Times, times_of}
-use Rattle.rasta_core.specs.Timely.{IsKnown}
+use Rattle.rasta_core.specs.Timely.{IsKnown, IsAnswering}
 use Rattle.rasta_core.specs.Invariant.{InFlight, Timely}
 use Rattle.rasta_core.specs.Ordered.{AreTogether, Ordered, unbegun, alone, together}
 use Rattle.rasta_core.specs.EndFlow.{EndFlow}
 use Rattle.rasta_core.specs.LinkAndFlow.{Plays, joined, asking, left, HasJoined}
 use Rattle.rasta_core_recovery.proofs.Links.{Pair}
-use Rattle.rasta_core_recovery.proofs.Mirror.{Mirrors, AreRead, arriving, pending, bytes_from}
+use Rattle.rasta_core_recovery.proofs.Mirror.{Mirrors, AreRead, arriving, pending, bytes_from, chosen}
+use Rattle.rasta_core_recovery.proofs.Words.{IsSpeech}
+use Rattle.rasta_core_recovery.proofs.Returned.{IsReturned}
 use Rattle.rasta_core_recovery.specs.Rounds.{Flow, can_come}
 
 -- an end inside, by its clock: its own stamp isn't younger than its clock, and not too old
@@ -41,6 +46,10 @@ pub record Shares (l m : LinkState) : Type 0 where
   pub fits : l.sent < 2 ^ 31
   pub kept : Kept l m
 
+-- an end that is outside left a short time ago, whatever the PDU
+abbrev pub IsLately : LinkState → Pdu → Type 0
+IsLately l p = l.clock ≤ l.closed_at + 1804
+
 pub record Facts (names : Names) (p : Pair) : Type 0 where
   pub client : p.client.identity ≡ identity_of role.Client names
   pub server : p.server.identity ≡ identity_of role.Server names
@@ -49,6 +58,10 @@ pub record Facts (names : Names) (p : Pair) : Type 0 where
   pub shares : is_open p.client.phase ≡ true → is_asking p.client ≡ false → is_open p.server.phase ≡ true → Shares p.client p.server × Shares p.server p.client
   -- a client that has joined a connection is left alone for a short time only
   pub alone : is_open p.client.phase ≡ true → is_asking p.client ≡ false → is_open p.server.phase ≡ false → p.server.clock ≤ p.server.closed_at + 1804
+  -- nor is one that asks, to which something comes
+  pub called : is_open p.client.phase ≡ true → is_open p.server.phase ≡ false → Each (IsLately p.server) p.to_client
+  -- what comes to a server inside returns no reading of its clock that is still to come
+  pub returned : is_open p.server.phase ≡ true → Each (IsReturned p.server.clock) p.to_server
   -- a client that is outside for so long has a server that is outside, and nothing is under way
   pub waited : is_open p.client.phase ≡ false → p.client.closed_at + 5990 ≤ p.client.clock → (is_open p.server.phase ≡ false) × (p.to_client ≡ []) × (p.to_server ≡ [])
 
@@ -84,6 +97,49 @@ are_together names ends timely ordered client_in server_in = of_order ordered
     of_order (unbegun e) = absurd (cc (e, newest_client))
     of_order (alone a) = absurd (a.not_of_server (newest_server ∙ sym newest_client ∙ a.of_client))
     of_order (together t) = t
+
+each_drop : {X : Type 0} (P : X → Type 0) (n : ℕ) (xs : List X) → Each P xs → Each P (drop n xs)
+each_drop P zero xs each = each
+each_drop P (suc n) [] each = tt
+each_drop P (suc n) (x ∷ xs) each = each_drop P n xs each.1
+
+each_map : {X : Type 0} (P Q : X → Type 0) → ((x : X) → P x → Q x) → (xs : List X) → Each P xs → Each Q xs
+each_map P Q f [] each = tt
+each_map P Q f (x ∷ xs) each = (f x each.0, each_map P Q f xs each.1)
+
+-- what holds of what each datagram of an end that can come is read as, holds of each PDU that comes
+each_read : (key : Key) (Q : Pdu → Type 0) (who : Role) (time : ℕ) (ds : List Sent) (ps : List Pdu) → Each (λ d. d.sender ≡ who → can_come time d ≡ true → (pdu : Pdu) → reading key d.bytes ≡ Ok pdu → Q pdu) ds
+    → AreRead key (bytes_from who (arriving time ds)) ps → Each Q ps
+each_read key Q who time [] [] each are = tt
+each_read key Q who time [] (p ∷ ps) each are = absurd are
+each_read key Q who time (d ∷ ds) ps each are = by_coming (λ qs more. each_read key Q who time ds qs each.1 more) (can_come time d) refl are
+  where
+    Others : Type 0
+    Others = (qs : List Pdu) → AreRead key (bytes_from who (arriving time ds)) qs → Each Q qs
+
+    taken : Others → (qs : List Pdu) → d.sender ≡ who → can_come time d ≡ true → AreRead key (d.bytes ∷ bytes_from who (arriving time ds)) qs → Each Q qs
+    taken others [] same can more = absurd more
+    taken others (q ∷ qs) same can more = (each.0 same can q more.0, others qs more.1)
+
+    by_sender : Others → (one other : Role) → one ≡ who → d.sender ≡ other → can_come time d ≡ true → AreRead key (chosen one other d.bytes (bytes_from who (arriving time ds))) ps → Each Q ps
+    by_sender others role.Client role.Client e f can more = taken others ps (f ∙ e) can more
+    by_sender others role.Server role.Server e f can more = taken others ps (f ∙ e) can more
+    by_sender others role.Client role.Server e f can more = others ps more
+    by_sender others role.Server role.Client e f can more = others ps more
+
+    by_coming : Others → (b : Bool) → can_come time d ≡ b → AreRead key (bytes_from who (if b then d ∷ arriving time ds else arriving time ds)) ps → Each Q ps
+    by_coming others false e more = others ps more
+    by_coming others true e more = by_sender others who d.sender refl refl e more
+
+answering : (body : Body) → IsSpeech body → IsAnswering role.Client body
+answering (ConnectionRequest o) is = is
+answering (ConnectionResponse o) is = absurd is
+answering RetransmissionRequest is = tt
+answering RetransmissionResponse is = tt
+answering (DisconnectionRequest d r) is = is
+answering Heartbeat is = tt
+answering (Data items) is = tt
+answering (RetransmittedData items) is = tt
 
 module _ (names : Names) (f : Flow) (p : Pair) (m : Mirrors names f p) (ordered : Ordered names f.ends) where
   abbrev timely : Timely names f.ends
@@ -194,15 +250,17 @@ module _ (names : Names) (f : Flow) (p : Pair) (m : Mirrors names f p) (ordered 
             },
           )
 
-  left_alone : is_open c.phase ≡ true → is_asking c ≡ false → is_open s.phase ≡ false → s.clock ≤ s.closed_at + 1804
-  left_alone client_in client_joined server_out =
-      let heard = has_heard c client_in client_joined in
+  left_in_newest : is_open c.phase ≡ true → is_open s.phase ≡ false → f.ends.server.connection ≡ Some timely.newest → s.clock ≤ s.closed_at + 1804
+  left_in_newest client_in server_out entered =
       let t = client_time client_in in
-      let lone = timely.ends_timed.client_alone (is_inside c client_in) (is_outside s server_out) (timely.ends_timed.joined heard) in
+      let lone = timely.ends_timed.client_alone (is_inside c client_in) (is_outside s server_out) entered in
       let apart = timely.ends_timed.server.apart (is_outside s server_out) in
       let closed = timely.ends_timed.server.closed (is_outside s server_out) ∙ ap closed_at (standing_out s server_out) in
       let at = timely.server.clock in
       omega (arith, t.2, lone, apart, closed, at)
+
+  left_alone : is_open c.phase ≡ true → is_asking c ≡ false → is_open s.phase ≡ false → s.clock ≤ s.closed_at + 1804
+  left_alone client_in client_joined server_out = left_in_newest client_in server_out (timely.ends_timed.joined (has_heard c client_in client_joined))
 
   -- how long ago a client that is outside left, by true time
   long_ago : is_open c.phase ≡ false → c.closed_at + 5990 ≤ c.clock → timely.of_client.left_at + 5983000 ≤ f.ends.time
@@ -252,15 +310,61 @@ module _ (names : Names) (f : Flow) (p : Pair) (m : Mirrors names f p) (ordered 
       none [] each = refl
       none (d ∷ ds) each = ap (λ (b : Bool). if b then d ∷ arriving (f.ends.time + 10000) ds else arriving (f.ends.time + 10000) ds) (old d each.0) ∙ none ds each.1
 
-      each_drop : {X : Type 0} (P : X → Type 0) (n : ℕ) (xs : List X) → Each P xs → Each P (drop n xs)
-      each_drop P zero xs each = each
-      each_drop P (suc n) [] each = tt
-      each_drop P (suc n) (x ∷ xs) each = each_drop P n xs each.1
-
   none_read : (key : Key) (bs : List (List ℕ)) (ps : List Pdu) → bs ≡ [] → AreRead key bs ps → ps ≡ []
   none_read key [] [] e are = refl
   none_read key [] (q ∷ ps) e are = absurd are
   none_read key (b ∷ bs) ps e are = cc
+
+  -- a datagram that can come is of the newest connection
+  in_newest : (d : Sent) → InFlight names times d → can_come (f.ends.time + 10000) d ≡ true → (d.connection ≡ timely.newest) × (f.ends.time + 10000 ≤ d.at + lifetime)
+  in_newest d flies e = (choose (nat_le d.connection timely.newest) (nat_le timely.newest d.connection) refl refl, late)
+    where
+      both_true : (a b : Bool) → (a && b) ≡ true → b ≡ true
+      both_true true b e = e
+      both_true false b e = cc
+
+      late : f.ends.time + 10000 ≤ d.at + lifetime
+      late = leb-true _ _ (both_true (not d.is_lost) (nat_le (f.ends.time + 10000) (d.at + lifetime)) e)
+
+      alive : (d.connection ≢ timely.newest) → d.connection ≡ timely.newest
+      alive other = let i = flies.known.dead other in absurd (omega (arith, late, i))
+
+      choose : (a b : Bool) → nat_le d.connection timely.newest ≡ a → nat_le timely.newest d.connection ≡ b → d.connection ≡ timely.newest
+      choose true true e f = omega (arith, leb-true _ _ e, leb-true _ _ f)
+      choose true false e f = alive (λ same. omega (arith, leb-false _ _ f, same))
+      choose false b e f = alive (λ same. omega (arith, leb-false _ _ e, same))
+
+  -- a server that is outside, but has said something that comes
+  server_called : is_open c.phase ≡ true → is_open s.phase ≡ false → (d : Sent) → InFlight names times d → d.sender ≡ role.Server → can_come (f.ends.time + 10000) d ≡ true → (pdu : Pdu) → reading names.key d.bytes ≡ Ok pdu → IsLately s pdu
+  server_called client_in server_out d flies sender can pdu read = of_sender d.sender sender flies.known
+    where
+      of_sender : (who : Role) → who ≡ role.Server → IsKnown times who d.at d.connection flies.pdu flies.back → s.clock ≤ s.closed_at + 1804
+      of_sender role.Client e known = absurd (cc e)
+      of_sender role.Server e known = left_in_newest client_in server_out (known.entered (in_newest d flies can).0 tt)
+
+  calls_client : is_open c.phase ≡ true → is_open s.phase ≡ false → Each (IsLately s) p.to_client
+  calls_client client_in server_out = each_read names.key (IsLately s) role.Server (f.ends.time + 10000) (drop f.passed f.ends.sent) p.to_client
+      (each_map (InFlight names times) _ (λ d flies. server_called client_in server_out d flies) (drop f.passed f.ends.sent) (each_drop (InFlight names times) f.passed f.ends.sent timely.datagrams)) m.to_client
+
+  -- what comes to a server
+  returned_to_server : is_open s.phase ≡ true → (d : Sent) → InFlight names times d → d.sender ≡ role.Client → can_come (f.ends.time + 10000) d ≡ true → (pdu : Pdu) → reading names.key d.bytes ≡ Ok pdu → IsReturned p.server.clock pdu
+  returned_to_server server_in d flies sender can pdu read speech = of_sender d.sender sender flies.known
+    where
+      same : flies.pdu ≡ pdu
+      same = cc (flies.read, read)
+
+      of_sender : (who : Role) → who ≡ role.Client → IsKnown times who d.at d.connection flies.pdu flies.back → (q : ℕ) × (pdu.confirmed_time_stamp ≡ stamp q) × (q ≤ p.server.clock) × (p.server.clock < q + 10000)
+      of_sender role.Server e known = absurd (cc e)
+      of_sender role.Client e known =
+          let newest = in_newest d flies can in
+          let answers : IsAnswering role.Client flies.pdu.body = answering flies.pdu.body (subst (λ (x : Pdu). IsSpeech x.body) (sym same) speech) in
+          let then_read = known.returns newest.0 answers (is_inside s server_in) in
+          let least = then_read.least in let most = then_read.most in let prompt = known.promptly answers in let back = known.heard_before in let before = known.sent_before in let soon = newest.1 in
+          (known.returned, sym (ap (λ (x : Pdu). x.confirmed_time_stamp) same) ∙ known.returned_is answers, omega (arith, least, back, before, server_clock), omega (arith, most, prompt, soon, server_clock))
+
+  returns_to_server : is_open s.phase ≡ true → Each (IsReturned p.server.clock) p.to_server
+  returns_to_server server_in = each_read names.key (IsReturned p.server.clock) role.Client (f.ends.time + 10000) (drop f.passed f.ends.sent) p.to_server
+      (each_map (InFlight names times) _ (λ d flies. returned_to_server server_in d flies) (drop f.passed f.ends.sent) (each_drop (InFlight names times) f.passed f.ends.sent timely.datagrams)) m.to_server
 
   pub facts : Facts names p
   facts = record {
@@ -272,6 +376,9 @@ module _ (names : Names) (f : Flow) (p : Pair) (m : Mirrors names f p) (ordered 
         (subst (λ (k : LinkState). is_open c.phase ≡ true → is_asking c ≡ false → is_open k.phase ≡ true → Shares c k × Shares k c) m.server both_share);
     alone = subst (λ (l : LinkState). is_open l.phase ≡ true → is_asking l ≡ false → is_open p.server.phase ≡ false → p.server.clock ≤ p.server.closed_at + 1804) m.client
         (subst (λ (k : LinkState). is_open c.phase ≡ true → is_asking c ≡ false → is_open k.phase ≡ false → k.clock ≤ k.closed_at + 1804) m.server left_alone);
+    called = λ client_in server_out. subst (λ (l : LinkState). Each (IsLately l) p.to_client) m.server
+        (calls_client (ap (λ (l : LinkState). is_open l.phase) m.client ∙ client_in) (ap (λ (l : LinkState). is_open l.phase) m.server ∙ server_out));
+    returned = λ server_in. returns_to_server (ap (λ (l : LinkState). is_open l.phase) m.server ∙ server_in);
     waited = subst (λ (l : LinkState). is_open l.phase ≡ false → l.closed_at + 5990 ≤ l.clock → (is_open p.server.phase ≡ false) × (p.to_client ≡ []) × (p.to_server ≡ [])) m.client
         (λ client_out long. (
           ap (λ (l : LinkState). is_open l.phase) (sym m.server) ∙ server_gone client_out long,

@@ -15,11 +15,11 @@ use Rattle.rasta_core_recovery.proofs.Opens.{Left, resting_link, asking_link, re
 use Rattle.rasta_core_recovery.proofs.Stays.{left_of, out_is, both_down, new_is_healthy, quiet_stays, quiet_works}
 use Rattle.rasta_core_recovery.proofs.Course.{Joined}
 use Rattle.rasta_core_recovery.proofs.Turn.{Either, gone, so}
-use Rattle.rasta_core_recovery.proofs.Asks.{Asks, AsksOn, InIt, IsTalkPdu, asking_is, in_round, alone_round, server_talks}
-use Rattle.rasta_core_recovery.proofs.Facts.{Young, Facts}
+use Rattle.rasta_core_recovery.proofs.Asks.{Asks, AsksOn, InIt, IsTalkPdu, asks_asking, asking_is, in_round, alone_round, server_talks}
+use Rattle.rasta_core_recovery.proofs.Facts.{Young, IsLately, Facts}
 use Rattle.rasta_core_recovery.proofs.Pasts.{Past}
-use Rattle.rasta_core_recovery.proofs.Seen.{Seen, BothIn, Stay, round_first, rounds_add, seen_on, seen_later, joined_of}
-use Rattle.rasta_core_recovery.proofs.Early.{early_healthy}
+use Rattle.rasta_core_recovery.proofs.Seen.{Seen, BothIn, Rows, Stay, rows_after, rows_joining, round_first, rounds_add, seen_on, seen_later, joined_of, server_not_asking, lives_through}
+use Rattle.rasta_core_recovery.proofs.Early.{HealthyOrOld, soon_healthy, ever_old, early_healthy}
 
 -- healthy after so many rounds at most
 pub record Comes (names : Names) (most : ℕ) (p : Pair) : Type 0 where
@@ -218,7 +218,7 @@ record OutAt (most : ℕ) (p : Pair) : Type 0 where
 -- a client that went out in the last round
 record JustOut (l : LinkState) : Type 0 where
   is_out : is_open l.phase ≡ false
-  lately : l.clock ≤ l.closed_at + 10
+  lately : l.clock < l.closed_at + 10
 
 -- and its server was outside before
 record OutAlone (most : ℕ) (p : Pair) : Type 0 where
@@ -244,6 +244,37 @@ stuck_out names (suc fuel) n p seen stuck late = choose (λ s k e. stuck_out nam
         record { rounds = suc r.rounds; soon = omega (arith, r.soon); is_out = subst (λ (q : Pair). is_open q.client.phase ≡ false) (round_first r.rounds p) r.is_out }
 
 -- ---- a client that is left alone
+
+-- an end that had joined, and is outside after a round
+just_out : (ps : List Pdu) (l : LinkState) → Joined l.clock l → is_open (end_round (l.clock + 10) ps l).link.phase ≡ false → JustOut (end_round (l.clock + 10) ps l).link
+just_out ps l is shut = choose (in_round (l.clock + 10) ps l (inl is) refl)
+  where
+    k : LinkState
+    k = (end_round (l.clock + 10) ps l).link
+
+    choose : Either (l.clock + 10) k (Joined (l.clock + 10) k ⊎ AsksOn (l.clock + 10) l (end_round (l.clock + 10) ps l)) → JustOut k
+    choose (gone left) = record { is_out = left.is_out; lately = omega (arith, left.clock, left.lately) }
+    choose (so (inl j)) = absurd (cc (j.connected, shut))
+    choose (so (inr a)) = absurd (cc (a.asked, is.joined))
+
+-- an end whose own stamp is too old in the next round
+late_out : (ps : List Pdu) (l : LinkState) → Joined l.clock l → l.own_stamp + 1800 ≤ l.clock + 10 → JustOut (end_round (l.clock + 10) ps l).link
+late_out ps l is late = choose (is_open (end_round (l.clock + 10) ps l).link.phase) refl
+  where
+    choose : (b : Bool) → is_open (end_round (l.clock + 10) ps l).link.phase ≡ b → JustOut (end_round (l.clock + 10) ps l).link
+    choose false e = just_out ps l is e
+    choose true e = let y = lives_through l ps is.connected (record { own = is.own; young = is.young }) e in absurd (omega (arith, y, late))
+
+server_late : (p : Pair) → Joined p.server.clock p.server → p.server.own_stamp + 1800 ≤ p.server.clock + 10 → JustOut (pair_round p).server
+unfolding pair_round
+server_late p is late = late_out p.to_server p.server is late
+
+server_leaves_now : (p : Pair) → Joined p.server.clock p.server → is_open (pair_round p).server.phase ≡ false → JustOut (pair_round p).server
+unfolding pair_round
+server_leaves_now p is shut = just_out p.to_server p.server is shut
+
+server_joined : (names : Names) (p : Pair) → Facts names p → is_open p.server.phase ≡ true → Joined p.server.clock p.server
+server_joined names p facts is_in = joined_of p.server is_in (server_not_asking names p.server facts.server) (facts.server_young is_in)
 
 -- a client inside that has joined goes out, or stays so
 joined_step : (p : Pair) → Joined p.client.clock p.client → JustOut (pair_round p).client ⊎ Joined (pair_round p).client.clock (pair_round p).client
@@ -329,28 +360,37 @@ pub mute_quiet : (p : Pair) → is_open p.client.phase ≡ false → p.client.cl
 unfolding pair_round
 mute_quiet p shut quiet = ap (λ (s : Step). s.pdus) (quiet_stays (p.client.clock + 10) p.to_client p.client shut quiet)
 
-opens_quickly : (names : Names) (fuel n : ℕ) (p : Pair) → Seen names (fuel + n) p → is_open p.client.phase ≡ false → is_open p.server.phase ≡ false → (p.to_server ≡ []) ⊎ (p.server.clock + 10 < p.server.closed_at + 6000)
-    → p.server.closed_at + p.client.clock ≤ p.client.closed_at + p.server.clock → p.client.closed_at + 6000 ≤ p.client.clock + 10 + 10 * fuel → Comes names (fuel + 4) p
-opens_quickly names zero n p seen shut server_shut rests_or before over = let r = quick names p (seen.facts 0) shut (omega (arith, over)) (omega (arith, over, before)) in record { rounds = r.rounds; soon = omega (arith, r.soon); healthy = r.healthy }
-opens_quickly names (suc fuel) n p seen shut server_shut rests_or before over =
-    choose (λ s a b d e f. opens_quickly names fuel n (pair_round p) s a b d e f) (nat_le (p.client.closed_at + 6000) (p.client.clock + 10)) refl
+-- the client isn't ready for so many rounds yet, and the server is ready behind them
+opens_quickly : (names : Names) (fuel n j : ℕ) (p : Pair) → Seen names (fuel + n) p → is_open p.client.phase ≡ false → is_open p.server.phase ≡ false → (p.to_server ≡ []) ⊎ (p.server.clock + 10 < p.server.closed_at + 6000)
+    → p.client.clock + 10 * j < p.client.closed_at + 6000 → p.server.closed_at + 6000 ≤ p.server.clock + 20 + 10 * j → p.client.closed_at + 6000 ≤ p.client.clock + 10 + 10 * fuel → Comes names (fuel + 4) p
+opens_quickly names zero n j p seen shut server_shut rests_or quiet before over = let r = quick names p (seen.facts 0) shut (omega (arith, over)) (omega (arith, over, quiet, before)) in record { rounds = r.rounds; soon = omega (arith, r.soon); healthy = r.healthy }
+opens_quickly names (suc fuel) n j p seen shut server_shut rests_or quiet before over =
+    choose (λ s a b d e f g. opens_quickly names fuel n (j - 1) (pair_round p) s a b d e f g) (nat_le (p.client.closed_at + 6000) (p.client.clock + 10)) refl
   where
     Again : Type 0
     Again = Seen names (fuel + n) (pair_round p) → is_open (pair_round p).client.phase ≡ false → is_open (pair_round p).server.phase ≡ false
         → ((pair_round p).to_server ≡ []) ⊎ ((pair_round p).server.clock + 10 < (pair_round p).server.closed_at + 6000)
-        → (pair_round p).server.closed_at + (pair_round p).client.clock ≤ (pair_round p).client.closed_at + (pair_round p).server.clock
+        → (pair_round p).client.clock + 10 * (j - 1) < (pair_round p).client.closed_at + 6000
+        → (pair_round p).server.closed_at + 6000 ≤ (pair_round p).server.clock + 20 + 10 * (j - 1)
         → (pair_round p).client.closed_at + 6000 ≤ (pair_round p).client.clock + 10 + 10 * fuel → Comes names (fuel + 4) (pair_round p)
 
     choose : Again → (b : Bool) → nat_le (p.client.closed_at + 6000) (p.client.clock + 10) ≡ b → Comes names (suc fuel + 4) p
-    choose again true e = let g = leb-true _ _ e in let r = quick names p (seen.facts 0) shut g (omega (arith, g, before)) in record { rounds = r.rounds; soon = omega (arith, r.soon); healthy = r.healthy }
+    choose again true e = let g = leb-true _ _ e in let r = quick names p (seen.facts 0) shut g (omega (arith, g, quiet, before)) in record { rounds = r.rounds; soon = omega (arith, r.soon); healthy = r.healthy }
     choose again false e =
-        let on = client_quiet p shut (leb-false _ _ e) in
+        let still = leb-false _ _ e in
+        let on = client_quiet p shut still in
         let server_on = server_stays names p (seen.facts 0) server_shut rests_or in
         let c = ap (λ (l : LinkState). l.closed_at) on in let d = ap (λ (l : LinkState). l.clock) on in
         let g = ap (λ (l : LinkState). l.closed_at) server_on in let h = ap (λ (l : LinkState). l.clock) server_on in
-        let r = again (seen_on names (fuel + n) p (subst (λ (k : ℕ). Seen names k p) (omega arith) seen)) (ap (λ (l : LinkState). is_open l.phase) on ∙ shut) (ap (λ (l : LinkState). is_open l.phase) server_on ∙ server_shut)
-        (inl (mute_quiet p shut (leb-false _ _ e))) (omega (arith, before, c, d, g, h)) (omega (arith, over, c, d)) in
-        record { rounds = suc r.rounds; soon = omega (arith, r.soon); healthy = subst (Healthy names 1) (round_first r.rounds p) r.healthy }
+        comes_later names 1 (fuel + 4) (suc fuel + 4) p (omega arith) (again (seen_on names (fuel + n) p (subst (λ (k : ℕ). Seen names k p) (omega arith) seen))
+        (ap (λ (l : LinkState). is_open l.phase) on ∙ shut) (ap (λ (l : LinkState). is_open l.phase) server_on ∙ server_shut)
+        (inl (mute_quiet p shut still)) (omega (arith, quiet, still, c, d)) (omega (arith, before, g, h)) (omega (arith, over, c, d)))
+
+-- both are outside, and haven't been for long
+both_left : (names : Names) (n : ℕ) (p : Pair) → 599 ≤ n → Seen names n p → is_open p.client.phase ≡ false → is_open p.server.phase ≡ false
+    → p.client.clock < p.client.closed_at + 20 → p.server.clock < p.server.closed_at + 20 → Comes names 603 p
+both_left names n p long seen shut server_shut lately server_lately = opens_quickly names 599 (n - 599) 598 p (subst (λ (k : ℕ). Seen names k p) (omega (arith, long)) seen) shut server_shut
+    (inr (omega (arith, server_lately))) (omega (arith, lately)) (omega (arith, (seen.server_past 0).closed server_shut)) (omega (arith, (seen.client_past 0).closed shut))
 
 -- ---- the sum
 
@@ -369,10 +409,9 @@ record Stays (n : ℕ) (p : Pair) : Type 0 where
   stay : Stay n p
   joined : Joined (pair_rounds n p).client.clock (pair_rounds n p).client
 
--- the server after the last of these rounds
-last_server : (n : ℕ) (p : Pair) → Joined (pair_rounds n p).client.clock (pair_rounds n p).client → ((k : ℕ) → k < n → BothIn (pair_rounds k p)) → (b : Bool) → is_open (pair_rounds n p).server.phase ≡ b → Leaves n p ⊎ Stays n p
-last_server n p j before false e = inl (server_leaves n (omega arith) j e)
-last_server n p j before true e = inr (record { stay = record { both = both }; joined = j })
+-- both stayed until these rounds, and are inside after the last
+all_stay : (n : ℕ) (p : Pair) → Joined (pair_rounds n p).client.clock (pair_rounds n p).client → ((k : ℕ) → k < n → BothIn (pair_rounds k p)) → is_open (pair_rounds n p).server.phase ≡ true → Stays n p
+all_stay n p j before e = record { stay = record { both = both }; joined = j }
   where
     both : (k : ℕ) → k ≤ n → BothIn (pair_rounds k p)
     both k most = pick (nat_le n k) refl
@@ -380,6 +419,14 @@ last_server n p j before true e = inr (record { stay = record { both = both }; j
         pick : (b : Bool) → nat_le n k ≡ b → BothIn (pair_rounds k p)
         pick false f = before k (leb-false _ _ f)
         pick true f = let g = leb-true _ _ f in let h : n ≡ k = omega (arith, g, most) in subst (λ (i : ℕ). BothIn (pair_rounds i p)) h (record { client = j.connected; server = e })
+
+stays_on : (n : ℕ) (p : Pair) → Stays n p → Joined (pair_rounds (suc n) p).client.clock (pair_rounds (suc n) p).client → is_open (pair_rounds (suc n) p).server.phase ≡ true → Stays (suc n) p
+stays_on n p s j e = all_stay (suc n) p j (λ k lt. s.stay.both k (omega (arith, lt))) e
+
+-- the server after the last of these rounds
+last_server : (n : ℕ) (p : Pair) → Joined (pair_rounds n p).client.clock (pair_rounds n p).client → ((k : ℕ) → k < n → BothIn (pair_rounds k p)) → (b : Bool) → is_open (pair_rounds n p).server.phase ≡ b → Leaves n p ⊎ Stays n p
+last_server n p j before false e = inl (server_leaves n (omega arith) j e)
+last_server n p j before true e = inr (all_stay n p j before e)
 
 leaves_later : (n : ℕ) (p : Pair) → Leaves n p → Leaves (suc n) p
 leaves_later n p (client_leaves o) = client_leaves (record { rounds = o.rounds; soon = omega (arith, o.soon); is_out = o.is_out })
@@ -392,20 +439,24 @@ search_on n p s = client_on (joined_step (pair_rounds n p) s.joined)
     client_on (inl j) = inl (client_leaves (record { rounds = suc n; soon = omega arith; is_out = j.is_out }))
     client_on (inr j) = last_server (suc n) p j (λ k lt. s.stay.both k (omega (arith, lt))) (is_open (pair_rounds (suc n) p).server.phase) refl
 
+search_then : (n : ℕ) (p : Pair) → Leaves n p ⊎ Stays n p → Leaves (suc n) p ⊎ Stays (suc n) p
+search_then n p (inl l) = inl (leaves_later n p l)
+search_then n p (inr s) = search_on n p s
+
 search : (n : ℕ) (p : Pair) → Joined p.client.clock p.client → Leaves n p ⊎ Stays n p
 search zero p j = last_server zero p j (λ k lt. absurd (omega (arith, lt))) (is_open p.server.phase) refl
-search (suc n) p j = follow (search n p j)
-  where
-    follow : Leaves n p ⊎ Stays n p → Leaves (suc n) p ⊎ Stays (suc n) p
-    follow (inl l) = inl (leaves_later n p l)
-    follow (inr s) = search_on n p s
+search (suc n) p j = search_then n p (search n p j)
+
+search_from : (fuel m n : ℕ) (p : Pair) → n ≡ m + fuel → Stays m p → Leaves n p ⊎ Stays n p
+search_from zero m n p e s = inr (subst (λ (k : ℕ). Stays k p) (omega (arith, e)) s)
+search_from (suc fuel) m n p e s = subst (λ (k : ℕ). Leaves k p ⊎ Stays k p) (omega (arith, e)) (search_then (m + fuel) p (search_from fuel m (m + fuel) p refl s))
 
 -- the server is outside, and the client has joined its connection
 alone_comes : (names : Names) (n : ℕ) (p : Pair) → 780 ≤ n → Seen names n p → Joined p.client.clock p.client → is_open p.server.phase ≡ false → Comes names 784 p
 alone_comes names n p long seen joined shut =
     comes_later names o.rounds 603 784 p (omega (arith, o.soon))
-    (opens_quickly names 599 (n - o.rounds - 599) q (subst (λ (k : ℕ). Seen names k q) (omega (arith, long, o.soon)) seen_q) o.client.is_out o.server (inr (omega (arith, o.closed, o.clock, o.soon, lately)))
-    (omega (arith, o.closed, o.clock, o.some, o.client.lately, closed)) (omega (arith, (seen.client_past o.rounds).closed o.client.is_out)))
+    (opens_quickly names 599 (n - o.rounds - 599) 598 q (subst (λ (k : ℕ). Seen names k q) (omega (arith, long, o.soon)) seen_q) o.client.is_out o.server (inr (omega (arith, o.closed, o.clock, o.soon, lately)))
+    (omega (arith, o.client.lately)) (omega (arith, o.closed, o.clock, closed)) (omega (arith, (seen.client_past o.rounds).closed o.client.is_out)))
   where
     closed : p.server.closed_at ≤ p.server.clock
     closed = (seen.server_past 0).closed shut
@@ -422,18 +473,102 @@ alone_comes names n p long seen joined shut =
     seen_q : Seen names (n - o.rounds) q
     seen_q = seen_later names o.rounds (n - o.rounds) p (subst (λ (k : ℕ). Seen names k p) (omega (arith, long, o.soon)) seen)
 
-joined_comes : (names : Names) (n : ℕ) (p : Pair) → 1000 ≤ n → Seen names n p → Joined p.client.clock p.client → Comes names 1565 p
-joined_comes names n p long seen joined = choose (search 182 p joined)
-  where
-    seen_narrow : Seen names 182 p
-    seen_narrow = record { facts = seen.facts; client_clock = seen.client_clock; server_clock = seen.server_clock; client_past = seen.client_past; server_past = seen.server_past; room = λ k most. seen.room k (omega (arith, most, long)) }
+-- Both have stayed for so many rounds, and the server knows no own stamp that is younger than 10 ms after the beginning: so time
+-- is over for it, and where the client leaves first, the server isn't quiet any more as the client asks.
+module _ (names : Names) (n : ℕ) (p : Pair) (long : 1000 ≤ n) (seen : Seen names n p) (s : Stays 179 p) (rows : Rows p (pair_round p)) where
+  abbrev before : Pair
+  before = pair_rounds 179 p
 
-    choose : Leaves 182 p ⊎ Stays 182 p → Comes names 1565 p
-    choose (inr s) = let r = early_healthy names p seen_narrow s.stay joined.joined in record { rounds = r.0; soon = omega (arith, r.1); healthy = r.2 }
-    choose (inl (client_leaves o)) = out_at_comes names 182 n p (omega (arith, long)) seen o
-    choose (inl (server_leaves k most j shut)) =
-        comes_later names k 784 1565 p (omega (arith, most))
-        (alone_comes names (n - k) (pair_rounds k p) (omega (arith, long, most)) (seen_later names k (n - k) p (subst (λ (i : ℕ). Seen names i p) (omega (arith, long, most)) seen)) j shut)
+  abbrev next : Pair
+  next = pair_rounds 180 p
+
+  abbrev last : Pair
+  last = pair_rounds 181 p
+
+  seen_at : (k : ℕ) → k ≤ 181 → Seen names (n - k) (pair_rounds k p)
+  seen_at k most = seen_later names k (n - k) p (subst (λ (i : ℕ). Seen names i p) (omega (arith, most, long)) seen)
+
+  seen_narrow : (k : ℕ) → k ≤ 181 → Seen names k p
+  seen_narrow k most = record { facts = seen.facts; client_clock = seen.client_clock; server_clock = seen.server_clock; client_past = seen.client_past; server_past = seen.server_past; room = λ i le. seen.room i (omega (arith, le, most, long)) }
+
+  -- the client has left, and its server leaves a round later at the latest
+  client_first : (is_open next.server.phase ≡ true → next.server.own_stamp ≤ p.server.clock + 10) → JustOut next.client → (b : Bool) → is_open next.server.phase ≡ b → Comes names 1562 p
+  client_first old left false e =
+      let out = server_leaves_now before (server_joined names before (seen.facts 179) (s.stay.both 179 (omega arith)).server) e in
+      comes_later names 180 603 1562 p (omega arith) (both_left names (n - 180) next (omega (arith, long)) (seen_at 180 (omega arith)) left.is_out e (omega (arith, left.lately)) (omega (arith, out.lately)))
+  client_first old left true e =
+      let out = server_late next (server_joined names next (seen.facts 180) e) (omega (arith, old e, seen.server_clock 180)) in
+      let on = client_quiet next left.is_out (omega (arith, left.lately)) in
+      comes_later names 181 603 1562 p (omega arith) (both_left names (n - 181) last (omega (arith, long)) (seen_at 181 (omega arith)) (ap (λ (l : LinkState). is_open l.phase) on ∙ left.is_out) out.is_out
+      (omega (arith, left.lately, ap (λ (l : LinkState). l.clock) on, ap (λ (l : LinkState). l.closed_at) on)) (omega (arith, out.lately)))
+
+  -- both stay for a round more, and then the server leaves
+  server_first : JustOut last.server → JustOut last.client ⊎ Joined last.client.clock last.client → Comes names 1562 p
+  server_first out (inl left) = comes_later names 181 603 1562 p (omega arith) (both_left names (n - 181) last (omega (arith, long)) (seen_at 181 (omega arith)) left.is_out out.is_out (omega (arith, left.lately)) (omega (arith, out.lately)))
+  server_first out (inr j) = comes_later names 181 784 1562 p (omega arith) (alone_comes names (n - 181) last (omega (arith, long)) (seen_at 181 (omega arith)) j out.is_out)
+
+  both_last : Stays 180 p → HealthyOrOld names 180 p → Comes names 1562 p
+  both_last more (soon_healthy k le h) = record { rounds = k; soon = omega (arith, le); healthy = h }
+  both_last more (ever_old d then_d) =
+      server_first (server_late next (server_joined names next (seen.facts 180) (more.stay.both 180 (omega arith)).server) (omega (arith, d, seen.server_clock 180))) (joined_step next more.joined)
+
+  stays_comes : Comes names 1562 p
+  stays_comes = choose (early_healthy names 179 p (omega arith) (omega arith) (seen_narrow 179 (omega arith)) s.stay rows)
+    where
+      both_stay : (b : Bool) → is_open next.server.phase ≡ b → Joined next.client.clock next.client → Comes names 1562 p
+      both_stay false e j = comes_later names 180 784 1562 p (omega arith) (alone_comes names (n - 180) next (omega (arith, long)) (seen_at 180 (omega arith)) j e)
+      both_stay true e j = let more = stays_on 179 p s j e in both_last more (early_healthy names 180 p (omega arith) (omega arith) (seen_narrow 180 (omega arith)) more.stay rows)
+
+      choose : HealthyOrOld names 179 p → Comes names 1562 p
+      choose (soon_healthy k le h) = record { rounds = k; soon = omega (arith, le); healthy = h }
+      choose (ever_old d then_d) = follow (joined_step before s.joined)
+        where
+          follow : JustOut next.client ⊎ Joined next.client.clock next.client → Comes names 1562 p
+          follow (inl left) = client_first then_d left (is_open next.server.phase) refl
+          follow (inr j) = both_stay (is_open next.server.phase) refl j
+
+-- the client has joined, now or in the first round
+rows_come : (names : Names) (n : ℕ) (p : Pair) → 1000 ≤ n → Seen names n p → (BothIn p → BothIn (pair_round p) → Rows p (pair_round p)) → Leaves 179 p ⊎ Stays 179 p → Comes names 1562 p
+rows_come names n p long seen rows (inr s) = stays_comes names n p long seen s (rows (s.stay.both 0 (omega arith)) (s.stay.both 1 (omega arith)))
+rows_come names n p long seen rows (inl (client_leaves o)) = out_at_comes names 179 n p (omega (arith, long)) seen o
+rows_come names n p long seen rows (inl (server_leaves k most j shut)) =
+    comes_later names k 784 1562 p (omega (arith, most))
+    (alone_comes names (n - k) (pair_rounds k p) (omega (arith, long, most)) (seen_later names k (n - k) p (subst (λ (i : ℕ). Seen names i p) (omega (arith, long, most)) seen)) j shut)
+
+joined_comes : (names : Names) (n : ℕ) (p : Pair) → 1000 ≤ n → Seen names n p → Joined p.client.clock p.client → Comes names 1562 p
+joined_comes names n p long seen joined = rows_come names n p long seen (λ now_in then_in. rows_after p joined (server_joined names p (seen.facts 0) now_in.server) then_in) (search 179 p joined)
+
+-- a client that asks, and joins in this round: where its server is outside it left lately, for it has said something that comes
+called_lately : (names : Names) (p : Pair) → Facts names p → Asks p.client.clock p.client → Joined (pair_round p).client.clock (pair_round p).client → is_open p.server.phase ≡ false → p.server.clock ≤ p.server.closed_at + 1804
+unfolding pair_round
+called_lately names p facts is j shut = choose p.to_client refl (facts.called (ap is_open is.starts) shut)
+  where
+    mute : Either (p.client.clock + 10) (end_round (p.client.clock + 10) p.to_client p.client).link (AsksOn (p.client.clock + 10) p.client (end_round (p.client.clock + 10) p.to_client p.client)) → ⊥
+    mute (gone left) = cc (left.is_out, j.connected)
+    mute (so a) = cc (asks_asking (p.client.clock + 10) (end_round (p.client.clock + 10) p.to_client p.client).link a.asks, j.joined)
+
+    choose : (ps : List Pdu) → p.to_client ≡ ps → Each (IsLately p.server) ps → p.server.clock ≤ p.server.closed_at + 1804
+    choose [] e each = absurd (mute (alone_round (p.client.clock + 10) p.to_client p.client is (subst (Each IsTalkPdu) (sym e) tt) refl))
+    choose (q ∷ qs) e each = each.0
+
+joining_comes : (names : Names) (n : ℕ) (p : Pair) → 1000 ≤ n → Seen names n p → Asks p.client.clock p.client → Joined (pair_round p).client.clock (pair_round p).client → Comes names 1562 p
+joining_comes names n p long seen is j = by_server (is_open p.server.phase) refl
+  where
+    left_alone : is_open (pair_round p).server.phase ≡ false → Comes names 1562 p
+    left_alone shut = comes_later names 1 784 1562 p (omega arith) (alone_comes names (n - 1) (pair_round p) (omega (arith, long)) (seen_on names (n - 1) p (subst (λ (k : ℕ). Seen names k p) (omega (arith, long)) seen)) j shut)
+
+    first_in : is_open p.server.phase ≡ true → (k : ℕ) → k < 1 → BothIn (pair_rounds k p)
+    first_in e zero lt = record { client = ap is_open is.starts; server = e }
+    first_in e (suc k) lt = absurd (omega (arith, lt))
+
+    both_in : (b : Bool) → is_open (pair_round p).server.phase ≡ b → is_open p.server.phase ≡ true → Comes names 1562 p
+    both_in false f e = left_alone f
+    both_in true f e = rows_come names n p long seen (λ now_in then_in. rows_joining p is (server_joined names p (seen.facts 0) now_in.server) j.joined then_in)
+        (search_from 178 1 179 p (omega arith) (all_stay 1 p j (first_in e) f))
+
+    by_server : (b : Bool) → is_open p.server.phase ≡ b → Comes names 1562 p
+    by_server true e = both_in (is_open (pair_round p).server.phase) refl e
+    by_server false e = left_alone (ap (λ (l : LinkState). is_open l.phase) (server_quiet p e (omega (arith, called_lately names p (seen.facts 0) is j e))) ∙ e)
 
 -- an end inside has joined, or asks
 in_it_of : (l : LinkState) → is_open l.phase ≡ true → Young l → InIt l.clock l
@@ -447,7 +582,7 @@ in_it_of l is_in young = choose (is_asking l) refl
 data Asking (p : Pair) : Type 0 where
   goes_out : is_open (pair_round p).client.phase ≡ false → Asking p
   joins : Joined (pair_round p).client.clock (pair_round p).client → Asking p
-  asks_on : Asks (pair_round p).client.clock (pair_round p).client → (pair_round p).to_server ≡ [] → Asking p
+  asks_on : Asks (pair_round p).client.clock (pair_round p).client → (pair_round p).to_server ≡ [] → (pair_round p).client.own_stamp ≡ p.client.own_stamp → Asking p
 
 asking_step : (p : Pair) → Asks p.client.clock p.client → Asking p
 unfolding pair_round
@@ -459,46 +594,46 @@ asking_step p is = choose (in_round (p.client.clock + 10) p.to_client p.client (
     choose : Either (p.client.clock + 10) c.link (Joined (p.client.clock + 10) c.link ⊎ AsksOn (p.client.clock + 10) p.client c) → Asking p
     choose (gone left) = goes_out left.is_out
     choose (so (inl j)) = joins (subst (λ (n : ℕ). Joined n c.link) (sym j.clock) j)
-    choose (so (inr a)) = asks_on (subst (λ (n : ℕ). Asks n c.link) (sym a.asks.clock) a.asks) a.silent
+    choose (so (inr a)) = asks_on (subst (λ (n : ℕ). Asks n c.link) (sym a.asks.clock) a.asks) a.silent a.own
 
 no_opening : (names : Names) (p : Pair) → Facts names p → p.to_server ≡ [] → Each IsTalkPdu (pair_round p).to_client
 unfolding pair_round
 no_opening names p facts none = subst (λ (ps : List Pdu). Each IsTalkPdu (end_round (p.server.clock + 10) ps p.server).pdus) (sym none) (server_talks (p.server.clock + 10) p.server (to_role names p.server facts.server))
 
--- a client that asks, and said nothing in the last round
-asks_twice : (names : Names) (n : ℕ) (p : Pair) → 1500 ≤ n → Seen names n p → Asks p.client.clock p.client → p.to_server ≡ [] → Comes names 1566 p
-asks_twice names n p long seen is none = choose (asking_step p is)
+-- a client that asks, and has asked and said nothing in the last round
+asks_twice : (names : Names) (n : ℕ) (p : Pair) → 1500 ≤ n → Seen names n p → Asks p.client.clock p.client → p.client.own_stamp + 10 ≤ p.client.clock → p.to_server ≡ [] → Comes names 1562 p
+asks_twice names n p long seen is asked none = choose (asking_step p is)
   where
     seen1 : Seen names (n - 1) (pair_round p)
     seen1 = seen_on names (n - 1) p (subst (λ (k : ℕ). Seen names k p) (omega (arith, long)) seen)
 
-    choose : Asking p → Comes names 1566 p
-    choose (goes_out shut) = comes_later names 1 1383 1566 p (omega arith) (out_comes names (n - 1) (pair_round p) (omega (arith, long)) seen1 shut)
-    choose (joins j) = comes_later names 1 1565 1566 p (omega arith) (joined_comes names (n - 1) (pair_round p) (omega (arith, long)) seen1 j)
-    choose (asks_on a mute) = comes_later names 1 1563 1566 p (omega arith)
-        (out_at_comes names 180 (n - 1) (pair_round p) (omega (arith, long)) seen1
-        (stuck_out names 180 (n - 181) (pair_round p) (subst (λ (k : ℕ). Seen names k (pair_round p)) (omega (arith, long)) seen1)
-        (record { asks = a; mute = mute; talk = no_opening names p (seen.facts 0) none }) (omega (arith, a.own))))
+    choose : Asking p → Comes names 1562 p
+    choose (goes_out shut) = comes_later names 1 1383 1562 p (omega arith) (out_comes names (n - 1) (pair_round p) (omega (arith, long)) seen1 shut)
+    choose (joins j) = joining_comes names n p (omega (arith, long)) seen is j
+    choose (asks_on a mute own) = comes_later names 1 1561 1562 p (omega arith)
+        (out_at_comes names 178 (n - 1) (pair_round p) (omega (arith, long)) seen1
+        (stuck_out names 178 (n - 179) (pair_round p) (subst (λ (k : ℕ). Seen names k (pair_round p)) (omega (arith, long)) seen1)
+        (record { asks = a; mute = mute; talk = no_opening names p (seen.facts 0) none }) (omega (arith, own, asked, seen.client_clock 1))))
 
 -- two ends, whatever has happened before
-pub all_comes : (names : Names) (n : ℕ) (p : Pair) → 1567 ≤ n → Seen names n p → Comes names 1567 p
+pub all_comes : (names : Names) (n : ℕ) (p : Pair) → 1563 ≤ n → Seen names n p → Comes names 1563 p
 all_comes names n p long seen = by_phase (is_open p.client.phase) refl
   where
     seen1 : Seen names (n - 1) (pair_round p)
     seen1 = seen_on names (n - 1) p (subst (λ (k : ℕ). Seen names k p) (omega (arith, long)) seen)
 
-    wide : (most : ℕ) → most ≤ 1567 → Comes names most p → Comes names 1567 p
+    wide : (most : ℕ) → most ≤ 1563 → Comes names most p → Comes names 1563 p
     wide most le c = record { rounds = c.rounds; soon = omega (arith, le, c.soon); healthy = c.healthy }
 
-    asked : Asking p → Comes names 1567 p
-    asked (goes_out shut) = comes_later names 1 1383 1567 p (omega arith) (out_comes names (n - 1) (pair_round p) (omega (arith, long)) seen1 shut)
-    asked (joins j) = comes_later names 1 1565 1567 p (omega arith) (joined_comes names (n - 1) (pair_round p) (omega (arith, long)) seen1 j)
-    asked (asks_on a mute) = comes_later names 1 1566 1567 p (omega arith) (asks_twice names (n - 1) (pair_round p) (omega (arith, long)) seen1 a mute)
+    asked : Asks p.client.clock p.client → Asking p → Comes names 1563 p
+    asked is (goes_out shut) = comes_later names 1 1383 1563 p (omega arith) (out_comes names (n - 1) (pair_round p) (omega (arith, long)) seen1 shut)
+    asked is (joins j) = wide 1562 (omega arith) (joining_comes names n p (omega (arith, long)) seen is j)
+    asked is (asks_on a mute own) = comes_later names 1 1562 1563 p (omega arith) (asks_twice names (n - 1) (pair_round p) (omega (arith, long)) seen1 a (omega (arith, own, is.own, seen.client_clock 1)) mute)
 
-    inside : InIt p.client.clock p.client → Comes names 1567 p
-    inside (inl j) = wide 1565 (omega arith) (joined_comes names n p (omega (arith, long)) seen j)
-    inside (inr a) = asked (asking_step p a)
+    inside : InIt p.client.clock p.client → Comes names 1563 p
+    inside (inl j) = wide 1562 (omega arith) (joined_comes names n p (omega (arith, long)) seen j)
+    inside (inr a) = asked a (asking_step p a)
 
-    by_phase : (b : Bool) → is_open p.client.phase ≡ b → Comes names 1567 p
+    by_phase : (b : Bool) → is_open p.client.phase ≡ b → Comes names 1563 p
     by_phase false e = wide 1383 (omega arith) (out_comes names n p (omega (arith, long)) seen e)
     by_phase true e = inside (in_it_of p.client e ((seen.facts 0).client_young e))

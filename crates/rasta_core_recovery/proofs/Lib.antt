@@ -14,6 +14,8 @@ pub mod Course
 pub mod TunedEnds
 pub mod Turn
 pub mod Asks
+pub mod Joins
+pub mod Returned
 pub mod Pasts
 -- Both ends, and the datagrams between them.
 pub mod Bridge
@@ -47,3 +49,9 @@ pub mod HandOver
 pub mod WorkGood
 -- Rounds that go wrong.
 pub mod Wrong
+-- How few of a client's items wait.
+pub mod WindowNumbers
+pub mod StaysIn
+pub mod Confirmed
+pub mod ConfirmingEvents
+pub mod ClientLeft

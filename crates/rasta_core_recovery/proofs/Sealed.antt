@@ -1,5 +1,5 @@
 -- Two ends that have joined a connection and stay in it: soon each takes what the other says, or one of them never will.
-use Rattle.std.proofs.Common.{◌≡◌, ℕ, zero, suc, ◌∙◌, ◌+◌, ◌*◌, ◌-◌, ◌≤◌, ◌<◌, ◌⊎◌, inl, inr, Bool, true, false, List, [], ◌∷◌, refl, sym, ap, subst, arith}
+use Rattle.std.proofs.Common.{◌≡◌, ℕ, zero, suc, ◌∙◌, ◌+◌, ◌*◌, ◌-◌, ◌^◌, ◌≤◌, ◌<◌, ◌⊎◌, inl, inr, Bool, true, false, List, [], ◌∷◌, refl, sym, ap, subst, arith}
 use Rattle.rasta_core_run.specs.State.{LinkState, is_open, is_up, is_asking}
 use Rattle.rasta_core_run.specs.identity.Role.TheVariants as role
 use Rattle.rasta_core_run.specs.phase.Phase.{Phase}
@@ -7,12 +7,12 @@ use Rattle.rasta_core_run.specs.phase.Phase.TheVariants as phase
 use Rattle.rasta_core_run.specs.pdu.Pdu.{Pdu}
 use Rattle.rasta_core_run.specs.Each.{Each}
 use Rattle.rasta_core_run.specs.Names.{Names}
-use Rattle.rasta_core_recovery.proofs.Links.{Pair, pair_rounds}
+use Rattle.rasta_core_recovery.proofs.Links.{Pair, end_round, pair_round, pair_rounds}
 use Rattle.rasta_core_recovery.proofs.Healthy.{waits}
 use Rattle.rasta_core_recovery.proofs.Words.{Voice, Chain, chain_ends}
-use Rattle.rasta_core_recovery.proofs.TunedEnds.{IsPlainPdu, IsNoAnswerPdu, Round, Reached, unheard, waiting, off, low, Deaf, far_off, missed, stuck, nothing}
-use Rattle.rasta_core_recovery.proofs.Turn.{Notes}
-use Rattle.rasta_core_recovery.proofs.Converse.{Way, Talk, client_round, server_round, Goes, tuned_by_then}
+use Rattle.rasta_core_recovery.proofs.TunedEnds.{IsPlainPdu, IsNoAnswerPdu, Round, Bounds, Reached, unheard, waiting, off, low, Deaf, far_off, missed, stuck, nothing}
+use Rattle.rasta_core_recovery.proofs.Turn.{Notes, EndMode, Turn}
+use Rattle.rasta_core_recovery.proofs.Converse.{Way, Talk, Are, bounds, turn, client_round, server_round, Goes}
 use Rattle.rasta_core_recovery.proofs.Seen.{Seen, Stay, talk_step, tuned_up}
 
 -- ---- an end that isn't tuned, and what it has heard of a partner that isn't either
@@ -62,6 +62,11 @@ none_ends : (v : Voice) (n c r end d q : ℕ) (ps : List Pdu) → Chain v n c r 
 none_ends v n c r end d q [] chain e = chain.0
 none_ends v n c r end d q (p ∷ ps) chain e = absurd (cc e)
 
+-- an end that isn't tuned
+way_old : (start own_start : ℕ) (tuned : Bool) (kept other_kept : ℕ) (l m : LinkState) (ps : List Pdu) → Way start own_start tuned kept other_kept l m ps → tuned ≡ false → (kept ≤ start) × (m.own_stamp ≤ start)
+way_old start own_start false kept other_kept l m ps w e = w.mode
+way_old start own_start true kept other_kept l m ps w e = absurd (cc e)
+
 -- a tuned end
 way_level : (start own_start : ℕ) (tuned : Bool) (kept other_kept : ℕ) (l m : LinkState) (ps : List Pdu) (w : Way start own_start tuned kept other_kept l m ps) → tuned ≡ true → l.expected ≡ w.number
 way_level start own_start true kept other_kept l m ps w e = w.mode.0.expected
@@ -94,18 +99,18 @@ joined_up l client connected joined = by l.phase refl
 
 -- ---- both, round by round
 
-module _ (names : Names) (n : ℕ) (p : Pair) (seen : Seen names n p) (stay : Stay n p) (short : n ≤ 9000) where
+module _ (names : Names) (n : ℕ) (p : Pair) (of_client of_server : ℕ) (seen : Seen names n p) (stay : Stay n p) (short : n ≤ 9000) (client_start : p.client.clock ≤ of_client + 1000) (server_start : p.server.clock ≤ of_server + 1000) where
   abbrev at : ℕ → Pair
   at k = pair_rounds k p
 
   record Held (k : ℕ) : Type 0 where
     client_tuned : Bool
     server_tuned : Bool
-    talk : Talk names p.client.clock p.server.clock client_tuned server_tuned (at k)
+    talk : Talk names of_client of_server client_tuned server_tuned (at k)
 
-  goes : (k : ℕ) → k < n → (h : Held k) → Goes names p.client.clock p.server.clock h.client_tuned h.server_tuned (at k) h.talk
-  goes k most h = talk_step names p.client.clock p.server.clock h.client_tuned h.server_tuned (at k) h.talk (seen.room k (omega (arith, most))) (stay.both k (omega (arith, most))) (stay.both (suc k) (omega (arith, most)))
-      (omega (arith, seen.client_clock k, most, short)) (omega (arith, seen.server_clock k, most, short))
+  goes : (k : ℕ) → k < n → (h : Held k) → Goes names of_client of_server h.client_tuned h.server_tuned (at k) h.talk
+  goes k most h = talk_step names of_client of_server h.client_tuned h.server_tuned (at k) h.talk (seen.room k (omega (arith, most))) (stay.both k (omega (arith, most))) (stay.both (suc k) (omega (arith, most)))
+      (omega (arith, seen.client_clock k, most, short, client_start)) (omega (arith, seen.server_clock k, most, short, server_start))
 
   abbrev next : (k : ℕ) → k < n → Held k → Held (suc k)
   next k most h = let g = goes k most h in record { client_tuned = g.then_client; server_tuned = g.then_server; talk = g.talk }
@@ -148,7 +153,7 @@ module _ (names : Names) (n : ℕ) (p : Pair) (seen : Seen names n p) (stay : St
       (g.server_notes.hush u) (g.client_notes.hush t)
   kind_on k most h (server_mute e f none mute v) = server_mute t y.0 (g.server_notes.mute y.0 shut_up) shut_up (still v)
     where
-      g : Goes names p.client.clock p.server.clock h.client_tuned h.server_tuned (at k) h.talk
+      g : Goes names of_client of_server h.client_tuned h.server_tuned (at k) h.talk
       g = goes k most h
 
       t : g.then_client ≡ false
@@ -165,13 +170,20 @@ module _ (names : Names) (n : ℕ) (p : Pair) (seen : Seen names n p) (stay : St
       still (inl u) = inl (omega (arith, u, (g.client_still t).0, (g.server_still y.0).1))
       still (inr u) = inr (omega (arith, u, (g.client_notes.deaf t).expected, (g.server_notes.deaf y.0).confirmed))
 
-  not_both : (k : ℕ) (h : Held k) → Kind k h → h.client_tuned ≡ true → h.server_tuned ≡ true → ⊥
-  not_both k h (client_far e f) c s = cc (e, c)
-  not_both k h (client_stuck e w na pl) c s = cc (e, c)
-  not_both k h (server_far e f) c s = cc (e, s)
-  not_both k h (server_stuck e w na pl) c s = cc (e, s)
-  not_both k h (both_missed e f a b na nb) c s = cc (e, c)
-  not_both k h (server_mute e f none mute v) c s = cc (e, c)
+  -- so the server knows no own stamp that is younger than the reading at the beginning
+  old_client : (k : ℕ) (h : Held k) → h.client_tuned ≡ false → (h.talk.client_kept ≤ of_server) × ((at k).server.own_stamp ≤ of_server)
+  old_client k h e = way_old _ _ _ _ _ _ _ _ h.talk.to_client e
+
+  old_server : (k : ℕ) (h : Held k) → h.server_tuned ≡ false → (at k).server.own_stamp ≤ of_server
+  old_server k h e = (h.talk.to_server.deaf e).1
+
+  is_old : (k : ℕ) (h : Held k) → Kind k h → (at k).server.own_stamp ≤ of_server
+  is_old k h (client_far e f) = (old_client k h e).1
+  is_old k h (client_stuck e w na pl) = (old_client k h e).1
+  is_old k h (server_far e f) = old_server k h e
+  is_old k h (server_stuck e w na pl) = old_server k h e
+  is_old k h (both_missed e f a b na nb) = (old_client k h e).1
+  is_old k h (server_mute e f none mute v) = (old_client k h e).1
 
   record Sealed (k : ℕ) : Type 0 where
     held : Held k
@@ -182,17 +194,45 @@ module _ (names : Names) (n : ℕ) (p : Pair) (seen : Seen names n p) (stay : St
   sealed_to (suc j) k m e le s = let lt : k < n = omega (arith, e, le) in
       sealed_to j (suc k) m (omega (arith, e)) le (record { held = next k lt s.held; kind = kind_on k lt s.held s.kind })
 
-  -- nobody stays so for 1800 ms
-  never_sealed : 180 ≤ n → Sealed 180 → ⊥
-  never_sealed long s = not_both 180 s.held s.kind
-      (tuned_by_then p.server.clock p.client.clock s.held.client_tuned s.held.talk.client_kept s.held.talk.server_kept (at 180).client (at 180).server (at 180).to_client w v.is.young (omega (arith, seen.server_clock 180)))
-      (tuned_by_then p.client.clock p.server.clock s.held.server_tuned s.held.talk.server_kept s.held.talk.client_kept (at 180).server (at 180).client (at 180).to_server v w.is.young (omega (arith, seen.client_clock 180)))
-    where
-      w : Way p.server.clock p.client.clock s.held.client_tuned s.held.talk.client_kept s.held.talk.server_kept (at 180).client (at 180).server (at 180).to_client
-      w = s.held.talk.to_client
+  -- nor does it where it stays in the next round, in which its client may leave
+  module _ (k : ℕ) (most : k ≤ n) (h : Held k) (then_in : is_open (pair_round (at k)).server.phase ≡ true) where
+    abbrev last : Round
+    last = server_round names of_client of_server h.client_tuned h.server_tuned (at k) h.talk
 
-      v : Way p.client.clock p.server.clock s.held.server_tuned s.held.talk.server_kept s.held.talk.client_kept (at 180).server (at 180).client (at 180).to_server
-      v = s.held.talk.to_server
+    fits : (at k).client.sent < 2 ^ 31
+    fits = let r = (seen.room k most).client (stay.both k most).client in omega (arith, r)
+
+    server_short : (at k).server.clock ≤ of_server + 100000
+    server_short = omega (arith, seen.server_clock k, most, short, server_start)
+
+    abbrev server_are : Are names role.Server (at k).server (at k).client
+    server_are = record { own = h.talk.server; other = h.talk.client }
+
+    abbrev server_bounds : Bounds last
+    server_bounds = bounds names role.Server of_client of_server h.server_tuned h.client_tuned h.talk.server_kept h.talk.client_kept (at k).server (at k).client (at k).to_server (at k).to_client
+        server_are h.talk.to_server h.talk.to_client fits server_short
+
+    server_turn : Turn last server_bounds h.server_tuned (at k).server (end_round ((at k).server.clock + 10) (at k).to_server (at k).server)
+    unfolding pair_round
+    server_turn = turn names role.Server of_client of_server h.server_tuned h.client_tuned h.talk.server_kept h.talk.client_kept (at k).server (at k).client (at k).to_server (at k).to_client
+        server_are h.talk.to_server h.talk.to_client fits server_short then_in
+
+    then_old : (tuned : Bool) (kept : ℕ) (l : LinkState) → EndMode last server_bounds tuned kept l → (tuned ≡ false) ⊎ (h.talk.client_kept ≤ of_server) → (at k).server.own_stamp ≤ of_server → l.own_stamp ≤ of_server
+    then_old false kept l m why old = omega (arith, m.1, old)
+    then_old true kept l (t, how) (inl e) old = absurd (cc e)
+    then_old true kept l (t, how) (inr e) old = omega (arith, t.own, e)
+
+    why_old : Kind k h → (server_turn.then_tuned ≡ false) ⊎ (h.talk.client_kept ≤ of_server)
+    why_old (client_far e f) = inr (old_client k h e).0
+    why_old (client_stuck e w na pl) = inr (old_client k h e).0
+    why_old (server_far e f) = inl (server_turn.notes.shut (e, far_off f))
+    why_old (server_stuck e w na pl) = inl (server_turn.notes.shut (e, stuck w na))
+    why_old (both_missed e f a b na nb) = inr (old_client k h e).0
+    why_old (server_mute e f none mute v) = inr (old_client k h e).0
+
+    server_old : Kind k h → (pair_round (at k)).server.own_stamp ≤ of_server
+    unfolding pair_round
+    server_old kind = then_old server_turn.then_tuned server_turn.says.kept _ server_turn.mode (why_old kind) (is_old k h kind)
 
   -- ---- neither is tuned yet
 
@@ -245,7 +285,7 @@ module _ (names : Names) (n : ℕ) (p : Pair) (seen : Seen names n p) (stay : St
 
   -- a round after which neither is tuned
   module _ (k : ℕ) (most : k < n) (h : Held k) (t : (goes k most h).then_client ≡ false) (u : (goes k most h).then_server ≡ false) where
-    abbrev g : Goes names p.client.clock p.server.clock h.client_tuned h.server_tuned (at k) h.talk
+    abbrev g : Goes names of_client of_server h.client_tuned h.server_tuned (at k) h.talk
     g = goes k most h
 
     was_client : h.client_tuned ≡ false
@@ -276,7 +316,7 @@ module _ (names : Names) (n : ℕ) (p : Pair) (seen : Seen names n p) (stay : St
         → Ear ws h.talk.server_kept (at k).client (at k).server h.talk.to_client.number (at k).to_client
         → Ear ws g.talk.server_kept (at (suc k)).client (at (suc k)).server g.talk.to_client.number (at (suc k)).to_client
     client_hears ws reading count ear = subst (λ (m : ℕ). Ear ws g.talk.server_kept (at (suc k)).client (at (suc k)).server m (at (suc k)).to_client) (sym g.client_way.0)
-        (ear_on (client_round names p.client.clock p.server.clock h.client_tuned h.server_tuned (at k) h.talk) (at (suc k)).client (at k).server (at (suc k)).server ws h.talk.server_kept g.talk.server_kept
+        (ear_on (client_round names of_client of_server h.client_tuned h.server_tuned (at k) h.talk) (at (suc k)).client (at k).server (at (suc k)).server ws h.talk.server_kept g.talk.server_kept
         (at (suc k)).to_client (at (suc k)).to_server g.then_client t refl (h.talk.to_client.deaf was_client).0 reading count g.client_notes (g.client_still t).1 (g.server_still u).0 (g.server_notes.deaf u).expected
         (client_ends k h) (client_some k h) (client_none k h) g.server_spoken ear)
 
@@ -284,7 +324,7 @@ module _ (names : Names) (n : ℕ) (p : Pair) (seen : Seen names n p) (stay : St
         → Ear wc h.talk.client_kept (at k).server (at k).client h.talk.to_server.number (at k).to_server
         → Ear wc g.talk.client_kept (at (suc k)).server (at (suc k)).client g.talk.to_server.number (at (suc k)).to_server
     server_hears wc reading count ear = subst (λ (m : ℕ). Ear wc g.talk.client_kept (at (suc k)).server (at (suc k)).client m (at (suc k)).to_server) (sym g.server_way.0)
-        (ear_on (server_round names p.client.clock p.server.clock h.client_tuned h.server_tuned (at k) h.talk) (at (suc k)).server (at k).client (at (suc k)).client wc h.talk.client_kept g.talk.client_kept
+        (ear_on (server_round names of_client of_server h.client_tuned h.server_tuned (at k) h.talk) (at (suc k)).server (at k).client (at (suc k)).client wc h.talk.client_kept g.talk.client_kept
         (at (suc k)).to_server (at (suc k)).to_client g.then_server u refl (h.talk.to_server.deaf was_server).0 reading count g.server_notes (g.server_still u).1 (g.client_still t).0 (g.client_notes.deaf t).expected
         (server_ends k h) (server_some k h) (server_none k h) g.client_spoken ear)
 
@@ -342,7 +382,7 @@ module _ (names : Names) (n : ℕ) (p : Pair) (seen : Seen names n p) (stay : St
       → (h.talk.to_server.number < (at k).client.sent) ⊎ (((at k).server.expected < h.talk.to_server.number) × Closed h.talk.client_kept (at k).server (at k).client h.talk.to_server.number)
       → ((at (suc k)).server.expected < (at k).client.sent) × Closed (goes k most h).talk.client_kept (at (suc k)).server (at (suc k)).client (at k).client.sent
   server_closed k most h t u wc ws b heard = let g = goes k most h in
-      ear_heard (server_round names p.client.clock p.server.clock h.client_tuned h.server_tuned (at k) h.talk) (at (suc k)).server (at k).client (at (suc k)).client wc h.talk.client_kept g.talk.client_kept
+      ear_heard (server_round names of_client of_server h.client_tuned h.server_tuned (at k) h.talk) (at (suc k)).server (at k).client (at (suc k)).client wc h.talk.client_kept g.talk.client_kept
       (at (suc k)).to_server (at (suc k)).to_client g.then_server u refl (h.talk.to_server.deaf b.server_deaf).0 b.server_reading b.server_count g.server_notes (g.server_still u).1 (g.client_still t).0 (g.client_notes.deaf t).expected
       (server_ends k h) (server_none k h) heard
 
@@ -459,7 +499,7 @@ module _ (names : Names) (n : ℕ) (p : Pair) (seen : Seen names n p) (stay : St
     calm = g.server_calm (way_up _ _ _ _ _ _ _ _ g.talk.to_server (g.server_keeps other));
   }
     where
-      g : Goes names p.client.clock p.server.clock h.client_tuned h.server_tuned (at k) h.talk
+      g : Goes names of_client of_server h.client_tuned h.server_tuned (at k) h.talk
       g = goes k most h
 
       was : h.client_tuned ≡ false
@@ -491,13 +531,13 @@ module _ (names : Names) (n : ℕ) (p : Pair) (seen : Seen names n p) (stay : St
       choose true e = record { round = suc k; soon = omega arith; done = client_both (next k lt h) e ((goes k lt h).server_keeps l.other) }
       choose false e = by d.reached
         where
-          g : Goes names p.client.clock p.server.clock h.client_tuned h.server_tuned (at k) h.talk
+          g : Goes names of_client of_server h.client_tuned h.server_tuned (at k) h.talk
           g = goes k lt h
 
-          d : Deaf (client_round names p.client.clock p.server.clock h.client_tuned h.server_tuned (at k) h.talk) (at (suc k)).client (at k).server.sent []
+          d : Deaf (client_round names of_client of_server h.client_tuned h.server_tuned (at k) h.talk) (at (suc k)).client (at k).server.sent []
           d = g.client_notes.deaf e
 
-          by : Reached (client_round names p.client.clock p.server.clock h.client_tuned h.server_tuned (at k) h.talk) (at (suc k)).client (at k).server.sent [] → Soon (k + fuel + 3)
+          by : Reached (client_round names of_client of_server h.client_tuned h.server_tuned (at k) h.talk) (at (suc k)).client (at k).server.sent [] → Soon (k + fuel + 3)
           by (unheard u) = absurd (omega (arith, client_none k h u, heard))
           by (waiting u) = sooner (suc k + 2) (k + fuel + 3) (omega arith) (client_asked (suc k) (omega (arith, room)) (next k lt h) (g.server_keeps l.other) u)
           by (off u) = record { round = suc k; soon = omega arith; done = shut (record { held = next k lt h; kind = client_far e (omega (arith, u, g.client_way.0)) }) }
@@ -557,7 +597,7 @@ module _ (names : Names) (n : ℕ) (p : Pair) (seen : Seen names n p) (stay : St
     calm = g.client_calm (way_up _ _ _ _ _ _ _ _ g.talk.to_client (g.client_keeps other));
   }
     where
-      g : Goes names p.client.clock p.server.clock h.client_tuned h.server_tuned (at k) h.talk
+      g : Goes names of_client of_server h.client_tuned h.server_tuned (at k) h.talk
       g = goes k most h
 
       was : h.server_tuned ≡ false
@@ -589,13 +629,13 @@ module _ (names : Names) (n : ℕ) (p : Pair) (seen : Seen names n p) (stay : St
       choose true e = record { round = suc k; soon = omega arith; done = server_both (next k lt h) e ((goes k lt h).client_keeps l.other) }
       choose false e = by d.reached
         where
-          g : Goes names p.client.clock p.server.clock h.client_tuned h.server_tuned (at k) h.talk
+          g : Goes names of_client of_server h.client_tuned h.server_tuned (at k) h.talk
           g = goes k lt h
 
-          d : Deaf (server_round names p.client.clock p.server.clock h.client_tuned h.server_tuned (at k) h.talk) (at (suc k)).server (at k).client.sent []
+          d : Deaf (server_round names of_client of_server h.client_tuned h.server_tuned (at k) h.talk) (at (suc k)).server (at k).client.sent []
           d = g.server_notes.deaf e
 
-          by : Reached (server_round names p.client.clock p.server.clock h.client_tuned h.server_tuned (at k) h.talk) (at (suc k)).server (at k).client.sent [] → Soon (k + fuel + 3)
+          by : Reached (server_round names of_client of_server h.client_tuned h.server_tuned (at k) h.talk) (at (suc k)).server (at k).client.sent [] → Soon (k + fuel + 3)
           by (unheard u) = absurd (omega (arith, server_none k h u, heard))
           by (waiting u) = sooner (suc k + 2) (k + fuel + 3) (omega arith) (server_asked (suc k) (omega (arith, room)) (next k lt h) (g.client_keeps l.other) u)
           by (off u) = record { round = suc k; soon = omega arith; done = shut (record { held = next k lt h; kind = server_far e (omega (arith, u, g.server_way.0)) }) }
@@ -653,12 +693,20 @@ module _ (names : Names) (n : ℕ) (p : Pair) (seen : Seen names n p) (stay : St
       by (inl s) = record { round = 34; soon = omega arith; done = shut s }
       by (inr o) = flags o.held o.counts o.held.client_tuned o.held.server_tuned refl refl o.some
 
-  pub both_by_then : 180 ≤ n → Talk names p.client.clock p.server.clock false false p → (k : ℕ) × (k ≤ 68) × Talk names p.client.clock p.server.clock true true (pair_rounds k p)
-  both_by_then long talk = finish (outcome (omega (arith, long)) (record { client_tuned = false; server_tuned = false; talk = talk }))
+  -- both are tuned soon, or the server never knows a younger own stamp
+  pub data Fate : Type 0 where
+    tuned_soon : (k : ℕ) → k ≤ 68 → Talk names of_client of_server true true (pair_rounds k p) → Fate
+    old_ever : (pair_rounds n p).server.own_stamp ≤ of_server → (is_open (pair_rounds (suc n) p).server.phase ≡ true → (pair_rounds (suc n) p).server.own_stamp ≤ of_server) → Fate
+
+  pub fate_of_both : 68 ≤ n → Talk names of_client of_server false false p → Fate
+  fate_of_both long talk = finish (outcome long (record { client_tuned = false; server_tuned = false; talk = talk }))
     where
-      finish : Soon 68 → (k : ℕ) × (k ≤ 68) × Talk names p.client.clock p.server.clock true true (pair_rounds k p)
-      finish s = by s.round s.soon s.done
-        where
-          by : (k : ℕ) → k ≤ 68 → Done k → (k : ℕ) × (k ≤ 68) × Talk names p.client.clock p.server.clock true true (pair_rounds k p)
-          by k le (both_up h e f) = (k, le, subst (λ (b : Bool). Talk names p.client.clock p.server.clock true b (at k)) f (subst (λ (b : Bool). Talk names p.client.clock p.server.clock b h.server_tuned (at k)) e h.talk))
-          by k le (shut s) = absurd (never_sealed long (sealed_to (180 - k) k 180 (omega (arith, le)) long s))
+      ever : Sealed n → Fate
+      ever s = old_ever (is_old n s.held s.kind) (λ then_in. server_old n (omega arith) s.held then_in s.kind)
+
+      done : (k : ℕ) → k ≤ 68 → Done k → Fate
+      done k le (both_up h e f) = tuned_soon k le (subst (λ (b : Bool). Talk names of_client of_server true b (at k)) f (subst (λ (b : Bool). Talk names of_client of_server b h.server_tuned (at k)) e h.talk))
+      done k le (shut s) = ever (sealed_to (n - k) k n (omega (arith, le, long)) (omega arith) s)
+
+      finish : Soon 68 → Fate
+      finish s = done s.round s.soon s.done

@@ -13,6 +13,10 @@ use Rattle.rasta_core_recovery.proofs.Fold.{Begins, late, on, begins, stays_out}
 use Rattle.rasta_core_recovery.proofs.TunedEnds.{Round}
 use Rattle.rasta_core_recovery.proofs.Turn.{Either, gone, so, Numbers, numbers, Spoke, loosely}
 use Rattle.rasta_core_recovery.proofs.Converse.{Way, Talk, Goes, talks_on}
+use Rattle.rasta_core_recovery.proofs.Asks.{Asks}
+use Rattle.rasta_core_recovery.proofs.Joins.{joins_row}
+use Rattle.rasta_core_recovery.proofs.Returned.{IsReturned, IsBehind, own_behind}
+use Rattle.rasta_core_run.specs.Each.{Each}
 use Rattle.rasta_core_recovery.proofs.Facts.{Young, Kept, Shares, Facts}
 use Rattle.rasta_core_recovery.proofs.Pasts.{Past}
 use Rattle.rasta_core_recovery.proofs.Health.{reading_up, near_kept, client_due, server_due, client_steady, server_steady, client_said, server_said, health_kept}
@@ -75,9 +79,18 @@ pub record Rows (p q : Pair) : Type 0 where
   pub client : Row (IsNumbered (voice_of q.client)) p.client.sent q.to_server q.client.sent
   pub server : Row (IsNumbered (voice_of q.server)) p.server.sent q.to_client q.server.sent
 
+server_says : (p : Pair) → Joined p.server.clock p.server → BothIn (pair_round p) → Numbers (p.server.clock + 10) p.server (end_round (p.server.clock + 10) p.to_server p.server)
+unfolding pair_round
+server_says p s then_in = choose (numbers (p.server.clock + 10) p.to_server p.server s refl)
+  where
+    choose : Either (p.server.clock + 10) (end_round (p.server.clock + 10) p.to_server p.server).link (Numbers (p.server.clock + 10) p.server (end_round (p.server.clock + 10) p.to_server p.server))
+        → Numbers (p.server.clock + 10) p.server (end_round (p.server.clock + 10) p.to_server p.server)
+    choose (gone left) = absurd (cc (left.is_out, then_in.server))
+    choose (so n) = n
+
 pub rows_after : (p : Pair) → Joined p.client.clock p.client → Joined p.server.clock p.server → BothIn (pair_round p) → Rows p (pair_round p)
 unfolding pair_round
-rows_after p c s then_in = record { joined = x.is.joined; client = x.row; server = y.row }
+rows_after p c s then_in = record { joined = x.is.joined; client = x.row; server = (server_says p s then_in).row }
   where
     x : Numbers (p.client.clock + 10) p.client (end_round (p.client.clock + 10) p.to_client p.client)
     x = choose (numbers (p.client.clock + 10) p.to_client p.client c refl)
@@ -87,13 +100,10 @@ rows_after p c s then_in = record { joined = x.is.joined; client = x.row; server
         choose (gone left) = absurd (cc (left.is_out, then_in.client))
         choose (so n) = n
 
-    y : Numbers (p.server.clock + 10) p.server (end_round (p.server.clock + 10) p.to_server p.server)
-    y = choose (numbers (p.server.clock + 10) p.to_server p.server s refl)
-      where
-        choose : Either (p.server.clock + 10) (end_round (p.server.clock + 10) p.to_server p.server).link (Numbers (p.server.clock + 10) p.server (end_round (p.server.clock + 10) p.to_server p.server))
-            → Numbers (p.server.clock + 10) p.server (end_round (p.server.clock + 10) p.to_server p.server)
-        choose (gone left) = absurd (cc (left.is_out, then_in.server))
-        choose (so n) = n
+-- the same of a client that asks before the round, and joins in it
+pub rows_joining : (p : Pair) → Asks p.client.clock p.client → Joined p.server.clock p.server → is_asking (pair_round p).client ≡ false → BothIn (pair_round p) → Rows p (pair_round p)
+unfolding pair_round
+rows_joining p c s joined then_in = record { joined = joined; client = joins_row (p.client.clock + 10) p.to_client p.client c refl then_in.client joined; server = (server_says p s then_in).row }
 
 -- a round in which the numbers of what comes go on
 abbrev pub loose_round : ℕ → LinkState → LinkState → List Pdu → Round
@@ -107,39 +117,60 @@ loose_says l m n ps k is shares fits row then_in = choose (loosely (loose_round 
     choose (gone left) = absurd (cc (left.is_out, then_in))
     choose (so says) = says
 
-pub first_way : (l m : LinkState) (ps qs : List Pdu) (s r : Step) (k : Kept l m) (j : Kept m l) → Spoke (loose_round k.reading l m ps) l s → Spoke (loose_round j.reading m l qs) m r → (t : Spoke (loose_round k.reading l m ps) l s) → (u : Spoke (loose_round j.reading m l qs) m r)
-    → Shares s.link r.link → Young r.link → Past r.link → is_open r.link.phase ≡ true → Way r.link.clock s.link.clock false t.kept u.kept s.link r.link r.pdus
-first_way l m ps qs s r k j a b t u shares young past partner_in = record {
+-- one direction after such a round, since readings of the clocks that no end has taken more than
+pub way_from : (partner_start own_start : ℕ) (l m : LinkState) (ps qs : List Pdu) (s r : Step) (k : Kept l m) (j : Kept m l) → (t : Spoke (loose_round k.reading l m ps) l s) → (u : Spoke (loose_round j.reading m l qs) m r)
+    → Shares s.link r.link → m.clock ≤ partner_start → partner_start ≤ r.link.clock → own_start ≤ s.link.clock → r.link.own_stamp ≤ partner_start → s.link.own_stamp ≤ own_start → Past r.link → is_open r.link.phase ≡ true
+    → Way partner_start own_start false t.kept u.kept s.link r.link r.pdus
+way_from partner_start own_start l m ps qs s r k j t u shares from later own_later partner_old own_old past partner_in = record {
   is = record { clock = refl; connected = t.is.connected; joined = t.is.joined; young = omega (arith, t.is.young, t.is.clock); own = omega (arith, t.is.own, t.is.clock) };
   first = shares.first;
   some = shares.some;
   most = shares.most;
   kept_is = t.kept_is;
   before = omega (arith, t.kept_before, u.is.clock);
-  low = omega (arith, u.is.clock, k.recent, t.since);
+  low = omega (arith, u.is.clock, k.recent, t.since, later);
   sent_before = past.said partner_in;
   number = m.sent;
   count = m.expected - 1;
   reading = j.reading;
   chain = u.chain;
-  since = omega (arith, t.is.clock, j.recent);
-  mode = (omega (arith, t.kept_before, u.is.clock), young.own);
-  later = omega arith;
+  since = omega (arith, t.is.clock, j.recent, own_later);
+  mode = (omega (arith, t.kept_before, from), partner_old);
+  later = later;
   young = λ e. absurd (cc e);
-  deaf = λ e. (t.most, omega (arith, t.is.own, t.is.clock));
+  deaf = λ e. (t.most, own_old);
 }
+
+pub first_way : (l m : LinkState) (ps qs : List Pdu) (s r : Step) (k : Kept l m) (j : Kept m l) → (t : Spoke (loose_round k.reading l m ps) l s) → (u : Spoke (loose_round j.reading m l qs) m r)
+    → Shares s.link r.link → Young r.link → Past r.link → is_open r.link.phase ≡ true → Way r.link.clock s.link.clock false t.kept u.kept s.link r.link r.pdus
+first_way l m ps qs s r k j t u shares young past partner_in =
+    way_from r.link.clock s.link.clock l m ps qs s r k j t u shares (omega (arith, u.is.clock)) (omega arith) (omega arith) young.own (omega (arith, t.is.own, t.is.clock)) past partner_in
+
+-- the server knows no own stamp that is younger than before a round in which nothing younger is returned to it
+server_behind : (p : Pair) → Joined p.server.clock p.server → Each (IsReturned p.server.clock) p.to_server → is_open (pair_round p).server.phase ≡ true → (pair_round p).server.own_stamp ≤ p.server.clock
+unfolding pair_round
+server_behind p is each then_in = choose (own_behind p.server.clock (p.server.clock + 10) refl p.to_server p.server refl is each)
+  where
+    s : Step
+    s = end_round (p.server.clock + 10) p.to_server p.server
+
+    choose : Either (p.server.clock + 10) s.link (IsBehind p.server.clock (p.server.clock + 10) s.link) → s.link.own_stamp ≤ p.server.clock
+    choose (gone left) = absurd (cc (left.is_out, then_in))
+    choose (so b) = b.own
 
 pub talk_begins : (names : Names) (p : Pair) (n m : ℕ) → Facts names p → Facts names (pair_round p) → Past (pair_round p).client → Past (pair_round p).server → BothIn p → is_asking p.client ≡ false → BothIn (pair_round p)
     → p.client.sent < 2 ^ 31 → p.server.sent < 2 ^ 31 → Row (IsNumbered (voice_of p.client)) n p.to_server p.client.sent → Row (IsNumbered (voice_of p.server)) m p.to_client p.server.sent
-    → Talk names (pair_round p).client.clock (pair_round p).server.clock false false (pair_round p)
+    → Talk names (pair_round p).client.clock p.server.clock false false (pair_round p)
 unfolding pair_round
 talk_begins names p n m facts then_facts client_past server_past now_in joined then_in client_fits server_fits client_row server_row = record {
   client = then_facts.client;
   server = then_facts.server;
   client_kept = x.kept;
   server_kept = y.kept;
-  to_client = first_way p.client p.server p.to_client p.to_server c s now.0.kept now.1.kept x y x y later.0 (then_facts.server_young then_in.server) server_past then_in.server;
-  to_server = first_way p.server p.client p.to_server p.to_client s c now.1.kept now.0.kept y x y x later.1 (then_facts.client_young then_in.client) client_past then_in.client;
+  to_client = way_from p.server.clock c.link.clock p.client p.server p.to_client p.to_server c s now.0.kept now.1.kept x y later.0
+      (omega arith) (omega (arith, y.is.clock)) (omega arith) behind (omega (arith, x.is.own, x.is.clock)) server_past then_in.server;
+  to_server = way_from c.link.clock p.server.clock p.server p.client p.to_server p.to_client s c now.1.kept now.0.kept y x later.1
+      (omega (arith, x.is.clock)) (omega arith) (omega (arith, y.is.clock)) (omega (arith, x.is.own, x.is.clock)) behind client_past then_in.client;
 }
   where
     c : Step
@@ -165,6 +196,9 @@ talk_begins names p n m facts then_facts client_past server_past now_in joined t
 
     later : Shares c.link s.link × Shares s.link c.link
     later = then_facts.shares then_in.client x.is.joined then_in.server
+
+    behind : s.link.own_stamp ≤ p.server.clock
+    behind = server_behind p server_is (facts.returned now_in.server) then_in.server
 
 -- while both stay
 pub record Stay (n : ℕ) (p : Pair) : Type 0 where
@@ -308,7 +342,7 @@ record NearAt (names : Names) (client_start server_start : ℕ) (p : Pair) : Typ
   server : Awaits client_start of_client p.server p.client
 
 -- an end that stays through a round lives through it
-lives_through : (l : LinkState) (ps : List Pdu) → is_open l.phase ≡ true → Young l → is_open (end_round (l.clock + 10) ps l).link.phase ≡ true → l.clock + 10 < l.own_stamp + 1800
+pub lives_through : (l : LinkState) (ps : List Pdu) → is_open l.phase ≡ true → Young l → is_open (end_round (l.clock + 10) ps l).link.phase ≡ true → l.clock + 10 < l.own_stamp + 1800
 lives_through l ps is_in young then_in = choose (begins (l.clock + 10) l refl is_in young.young)
   where
     choose : Begins (l.clock + 10) l → l.clock + 10 < l.own_stamp + 1800

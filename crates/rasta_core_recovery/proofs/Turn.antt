@@ -44,7 +44,7 @@ pub spoken_joined : (now : ℕ) (b : Bool) (k : LinkState) → Joined now k → 
 spoken_joined now false k is = is
 spoken_joined now true k is = record { clock = is.clock; connected = is.connected; joined = is.joined; young = is.young; own = is.own }
 
-spoken_goes : (now : ℕ) (b : Bool) (k : LinkState) → Joined now k → Goes now k (beats b (spoken b k)) (spoken b k)
+pub spoken_goes : (now : ℕ) (b : Bool) (k : LinkState) → Joined now k → Goes now k (beats b (spoken b k)) (spoken b k)
 spoken_goes now false k is = goes_none now k
 spoken_goes now true k is = record { identity = refl; own_first = refl; partner_first = refl; clock = refl; sent_at = inr is.clock; spoken = λ e. absurd (some_said e) }
   where
@@ -62,7 +62,7 @@ spoken_chain now true k kept is some fits kept_is = says_chain IsPlain plain_tal
     (record { joined = is.joined; voice = refl; some = omega (arith, some); fits = omega (arith, fits); kept_is = kept_is })
     (ap (λ (n : ℕ). pdu_of (header_of (spoken true k)) n Heartbeat) (one_less k.sent), tt, refl)
 
-spoken_row : (b : Bool) (k : LinkState) → Row (IsNumbered (voice_of k)) k.sent (beats b (spoken b k)) (spoken b k).sent
+pub spoken_row : (b : Bool) (k : LinkState) → Row (IsNumbered (voice_of k)) k.sent (beats b (spoken b k)) (spoken b k).sent
 unfolding pdu_of
 spoken_row false k = refl
 spoken_row true k = says_row IsPlain plain_talk (voice_of k) (spoken true k) k.sent (k.sent + 1) (beats true (spoken true k)) refl (ap (λ (n : ℕ). pdu_of (header_of (spoken true k)) n Heartbeat) (one_less k.sent), tt, refl)
@@ -103,7 +103,7 @@ module _ (now : ℕ) where
     row = row_then (IsNumbered (voice_of l)) l.sent k.sent j.sent ps qs a.row (subst (λ (v : Voice). Row (IsNumbered v) k.sent qs j.sent) (voice_goes now l k ps a.goes) b.row);
   }
 
-  rows_one : (p : Pdu) (l k : LinkState) (qs : List Pdu) → Joined now l → Deed p l k qs → Out now k ⊎ (Joined now k × Rowed 0 l qs 0 k)
+  pub rows_one : (p : Pdu) (l k : LinkState) (qs : List Pdu) → Joined now l → Deed p l k qs → Out now k ⊎ (Joined now k × Rowed 0 l qs 0 k)
   unfolding taking header_of pdu_of
   rows_one p l k qs is (leaves why left) = inl (record { clock = left.clock ∙ is.clock; is_out = left.is_out; quiet = omega (arith, left.closed_at, is.clock); lately = omega (arith, left.closed_at, is.clock) })
   rows_one p l k qs is (keeps b same none) = inr (subst (Joined now) (sym same) is, subst (λ (j : LinkState). Rowed 0 l qs 0 j) (sym same) (subst (λ (rs : List Pdu). Rowed 0 l rs 0 l) (sym none) (record { goes = goes_none now l; row = refl })))

@@ -23,6 +23,13 @@ IsPlain (ConnectionResponse opening) = ⊥
 IsPlain RetransmissionRequest = ⊥
 IsPlain _ = Unit {0}
 
+-- and nothing that opens or closes
+abbrev pub IsSpeech : Body → Type 0
+IsSpeech (ConnectionRequest opening) = ⊥
+IsSpeech (ConnectionResponse opening) = ⊥
+IsSpeech (DisconnectionRequest detail reason) = ⊥
+IsSpeech _ = Unit {0}
+
 pub plain_talk : (body : Body) → IsPlain body → IsTalk body
 plain_talk (ConnectionRequest opening) is = is
 plain_talk (ConnectionResponse opening) is = is

@@ -54,8 +54,8 @@ talk_begins_at_work names p r n m facts then_facts client_past server_past now_i
   server = then_facts.server;
   client_kept = x.kept;
   server_kept = y.kept;
-  to_client = first_way p.client p.server p.to_client p.to_server c s now.0.kept now.1.kept x y x y later.0 (then_facts.server_young then_in.server) server_past then_in.server;
-  to_server = first_way p.server p.client p.to_server p.to_client s c now.1.kept now.0.kept y x y x later.1 (then_facts.client_young then_in.client) client_past then_in.client;
+  to_client = first_way p.client p.server p.to_client p.to_server c s now.0.kept now.1.kept x y later.0 (then_facts.server_young then_in.server) server_past then_in.server;
+  to_server = first_way p.server p.client p.to_server p.to_client s c now.1.kept now.0.kept y x later.1 (then_facts.client_young then_in.client) client_past then_in.client;
 }
   where
     c : Step

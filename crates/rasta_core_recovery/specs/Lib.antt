@@ -1,3 +1,4 @@
 pub mod Rounds
 pub mod WrongRounds
 pub mod Work
+pub mod Confirming

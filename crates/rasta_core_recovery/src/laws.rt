@@ -2,17 +2,22 @@
 
 ghost use Rattle.std.specs.Prelude.{◌≡◌, ℕ, ◌+◌, ◌≤◌, ◌<◌, List, ◌++◌, drop, length};
 ghost use Rattle.rasta_core_run.specs.Each.{Each};
-ghost use Rattle.rasta_core_run.specs.Events.{Event, MayRun, Start, run, started};
+ghost use Rattle.rasta_core_run.specs.Events.{Event, May, MayRun, Start, happened, run, started};
 ghost use Rattle.rasta_core_run.specs.Names.{AreNames, Names};
-ghost use Rattle.rasta_core_run.specs.Run.{later};
+ghost use Rattle.rasta_core_run.specs.Run.{Ends, later};
+ghost use Rattle.rasta_core.specs.Invariant.{Timely};
+ghost use Rattle.rasta_core.specs.Ordered.{Ordered};
+ghost use Rattle.rasta_core_recovery.specs.Confirming.{Answers, AreIn, Confirming, FewLeft, FewWait, HasLeft, Owes};
 ghost use Rattle.rasta_core_recovery.specs.Rounds.{AreUp, Flow, StayBelowLimit, calm_rounds, comings, events_of, flow_after, gap_rounds, good_round, good_rounds, own_work, recovery_rounds};
 ghost use Rattle.rasta_core_recovery.specs.Work.{AreAtWork, HandOver, HaveRoom, IsAtWork, LeavesOpen, StayBelow, recovery_rounds_at_work, work_round, work_rounds};
 ghost use Rattle.rasta_core_recovery.specs.WrongRounds.{NeverUp, RestsFor, asks_in_vain, asks_once, ends_at_limit, rounds_where};
 
 use rasta_core::{
-    calls_hand_out_pdus, every_event_keeps_order, every_event_keeps_time, starts_in_time,
+    calls_hand_out_pdus, connection_begins, every_event_keeps_order, every_event_keeps_time,
+    links_are_settled, one_connection, opening_is_new, outside_until_it_enters, own_connection,
+    starts_in_time, what_is_taken,
 };
-use rasta_core_run::written_is_read;
+use rasta_core_run::{read_was_written, written_is_read};
 
 /// Good rounds are events that may happen to two ends, one after another. So whatever is true after every list of events is true
 /// behind good rounds.
@@ -21,8 +26,8 @@ pub fn good_rounds_may_happen()
     ensures lead { (n : ℕ) (f : Flow) → (good_rounds n f).ends ≡ run (events_of n f) f.ends }
 {}
 
-/// Two ends come up whatever has happened to them before: after each good round from the 1567th on both are up, so for
-/// good 15.67 s after the good rounds began. That is where no end comes to the limit of PDUs in a connection till then.
+/// Two ends come up whatever has happened to them before: after each good round from the 1563rd on both are up, so for
+/// good 15.63 s after the good rounds began. That is where no end comes to the limit of PDUs in a connection till then.
 /// What was sent before the good rounds may come in the first of them, or never.
 pub fn two_ends_come_up()
     ensures { (names : Names) (start : Start) (events : List Event) (passed n : ℕ) → AreNames names → MayRun names events (started names start)
@@ -37,7 +42,7 @@ pub fn two_ends_come_up()
 }
 
 /// Two ends that have come up are up again 6040 ms later at the latest, whenever one of them comes to the limit of PDUs in a
-/// connection: so from a good round from the 1567th on, till which no end came to it, each good round is one of two that are up,
+/// connection: so from a good round from the 1563rd on, till which no end came to it, each good round is one of two that are up,
 /// or has such a one at most 604 rounds behind it.
 pub fn gaps_are_short()
     ensures { (names : Names) (start : Start) (events : List Event) (passed m n : ℕ) → AreNames names → MayRun names events (started names start)
@@ -51,7 +56,7 @@ pub fn gaps_are_short()
     calls_hand_out_pdus();
 }
 
-/// And gaps are rare. Where an end isn't up after a good round from the 1567th on, both are up after each round from 604 to
+/// And gaps are rare. Where an end isn't up after a good round from the 1563rd on, both are up after each round from 604 to
 /// 64,000,000,000 behind it: for more than 20 years.
 pub fn gaps_are_rare()
     ensures { (names : Names) (start : Start) (events : List Event) (passed m n k : ℕ) → AreNames names → MayRun names events (started names start)
@@ -113,3 +118,30 @@ pub fn wrong_clients_never_come_up()
     ensures once { (names : Names) → NeverUp names asks_once asks_in_vain }
     ensures limit { (n : ℕ) (f : Flow) → RestsFor ends_at_limit f → RestsFor ends_at_limit (rounds_where ends_at_limit n f) }
 {}
+
+/// What an end takes confirms what its partner had taken when it gave that. So where a server never gives more items in its connection
+/// than it has taken and so many to spare, the items that wait of its client are no more than those that this has given beyond what it has
+/// taken, and as many to spare, while both are in the connection (*few*). It is so at the beginning (*starts*), and every event keeps
+/// it (*kept*), where the server keeps to that behind the event. Where the server leaves and the client stays, all that the server gave
+/// may still be taken: so what it gave and the client hadn't taken then, and as many to spare, bounds what waits from then on (*left*).
+pub fn what_is_taken_confirms()
+    ensures starts { (names : Names) (start : Start) (spare : ℕ) → Confirming names spare (started names start) }
+    ensures kept { (names : Names) (event : Event) (ends : Ends) (spare : ℕ) → AreNames names → Timely names ends → Ordered names ends → May names event ends → Confirming names spare ends
+        → (AreIn (happened event ends) → Answers spare (happened event ends)) → Confirming names spare (happened event ends) }
+    ensures few { (names : Names) (ends : Ends) (spare : ℕ) → Confirming names spare ends → AreIn ends → FewWait spare ends }
+    ensures left { (names : Names) (event : Event) (ends : Ends) (spare owed : ℕ) → AreNames names → Timely names ends → Ordered names ends → May names event ends → Confirming names spare ends → FewLeft (spare + owed) ends
+        → (AreIn ends → HasLeft (happened event ends) → Owes owed (happened event ends)) → FewLeft (spare + owed) (happened event ends) }
+{
+    every_event_keeps_time();
+    every_event_keeps_order();
+    written_is_read();
+    read_was_written();
+    calls_hand_out_pdus();
+    links_are_settled();
+    one_connection();
+    own_connection();
+    opening_is_new();
+    what_is_taken();
+    outside_until_it_enters();
+    connection_begins();
+}

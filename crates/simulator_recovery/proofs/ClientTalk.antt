@@ -927,12 +927,12 @@ module _ (now connection : ℕ) where
   all_made_behind [] other l = refl
   all_made_behind (first ∷ one) other l = all_made_behind one other (made_by now first l).link
 
-  all_gave_behind : (one other : List Call) (l : LinkState) (given : List (List ℕ)) → given_after now (one ++ other) l given ≡ given_after now other (all_made now one l).link (given_after now one l given)
+  pub all_gave_behind : (one other : List Call) (l : LinkState) (given : List (List ℕ)) → given_after now (one ++ other) l given ≡ given_after now other (all_made now one l).link (given_after now one l given)
   unfolding all_made given_after
   all_gave_behind [] other l given = refl
   all_gave_behind (first ∷ one) other l given = all_gave_behind one other (made_by now first l).link (given_by now first l given)
 
-  all_took_behind : (one other : List Call) (l : LinkState) (taken : List (List ℕ)) → taken_after now (one ++ other) l taken ≡ taken_after now other (all_made now one l).link (taken_after now one l taken)
+  pub all_took_behind : (one other : List Call) (l : LinkState) (taken : List (List ℕ)) → taken_after now (one ++ other) l taken ≡ taken_after now other (all_made now one l).link (taken_after now one l taken)
   unfolding all_made taken_after
   all_took_behind [] other l taken = refl
   all_took_behind (first ∷ one) other l taken = all_took_behind one other (made_by now first l).link (taken_by now first l taken)

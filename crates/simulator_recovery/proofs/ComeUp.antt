@@ -25,7 +25,8 @@ use Rattle.simulator_run.specs.rasta_core.State.{is_up}
 use Rattle.simulator_run.specs.Tried.{Played, after}
 use Rattle.simulator_run_links.specs.HasLinks.{IsStanding}
 use Rattle.simulator_headline.specs.Reached.{IsReached}
-use Rattle.simulator_recovery.specs.LinkRounds.{HasRoomOn, HaveRoomOn, IsAtWorkOn, IsUpOn, LeavesOpenOn, StayBelowOn, StaysBelowLimit, all_events_tried, behind_time, calls_of_round, calls_of_rounds, calls_on, event_of, flow_of, links_behind, time_of_round}
+use Rattle.simulator_recovery.specs.Closes.{LeavesOpenOn}
+use Rattle.simulator_recovery.specs.LinkRounds.{HasRoomOn, HaveRoomOn, IsAtWorkOn, IsUpOn, StayBelowOn, StaysBelowLimit, all_events_tried, behind_time, calls_of_round, calls_on, event_of, flow_of, links_behind, time_of_round}
 use Rattle.simulator_recovery.specs.Rounds.{HasTime, IsWork, LeavesFresh, all_tried, clocks_of, good_rounds}
 use Rattle.simulator_recovery.proofs.Addressed.{partners_length}
 use Rattle.simulator_recovery.proofs.Arrives.{ArrivalLaws, none_refused}
@@ -36,7 +37,7 @@ use Rattle.simulator_recovery.proofs.LinkRounds.{Followed, HasThese, LinkLaws, a
 use Rattle.simulator_recovery.proofs.Lists.{at_place, each_both}
 use Rattle.simulator_recovery.proofs.Rounds.{IsAt, each_can, each_later, has_all, one_round, round_reached, work_reached}
 use Rattle.simulator_recovery.proofs.Sends.{leaves_fresh}
-use Rattle.simulator_recovery.proofs.StaysOpen.{OpenLaws, StaysOpenOn, rounds_stay}
+use Rattle.simulator_recovery.proofs.StaysOpen.{OpenLaws, calls_of_rounds, rounds_stay}
 
 -- ---- what closes no link, as the link sees it
 
@@ -50,7 +51,7 @@ not_same a b differ = choose (a == b) refl
     choose true e = absurd (differ (same e))
     choose false e = refl
 
-one_open : (link : ℕ) (one : LinksEvent) (before : Links) → IsCallOn one → StaysOpenOn link one → Each LeavesOpen (events_on link one before)
+one_open : (link : ℕ) (one : LinksEvent) (before : Links) → IsCallOn one → LeavesOpenOn link one → Each LeavesOpen (events_on link one before)
 one_open link (CallsOn at who (Closes why)) before is open_so = subst (λ (b : Bool). Each LeavesOpen (if b then Calls who (Closes why) ∷ [] else Elsewhere (length (sent_by who (Closes why) (seen at before))) ∷ [])) (sym (not_same link at open_so)) (tt, tt)
 one_open link (CallsOn at who Ticks) before is open_so = choose (link == at)
   where
@@ -76,7 +77,7 @@ one_open link (PassesFor elapsed of_clients of_servers) before is open_so = absu
 one_open link (LosesAny bytes) before is open_so = absurd is
 one_open link (RestartsOn at who clock first) before is open_so = absurd is
 
-all_open : (link : ℕ) (events : List LinksEvent) (before : Links) → Each IsCallOn events → Each (StaysOpenOn link) events → Each LeavesOpen (run_on link events before)
+all_open : (link : ℕ) (events : List LinksEvent) (before : Links) → Each IsCallOn events → Each (LeavesOpenOn link) events → Each LeavesOpen (run_on link events before)
 all_open link [] before each open_so = tt
 all_open link (first ∷ others) before each open_so =
     each_both LeavesOpen (events_on link first before) (run_on link others (happened_to first before)) (one_open link first before each.0 open_so.0) (all_open link others (happened_to first before) each.1 open_so.1)
@@ -121,7 +122,7 @@ pub lists_length : (link : ℕ) (rounds : List (List Event)) (flowing : Flowing 
 lists_length link [] flowing before = refl
 lists_length link (between ∷ later) flowing before = ap suc (lists_length link later (all_tried between (round stations flowing)) (links_behind between flowing before))
 
-pub rounds_open : (link : ℕ) (rounds : List (List Event)) (flowing : Flowing Played) (before : Links) → Each (Each IsWork) rounds → Each (Each (StaysOpenOn link)) (calls_of_rounds rounds flowing) → Each (Each LeavesOpen) (lists_on link rounds flowing before)
+pub rounds_open : (link : ℕ) (rounds : List (List Event)) (flowing : Flowing Played) (before : Links) → Each (Each IsWork) rounds → Each (Each (LeavesOpenOn link)) (calls_of_rounds rounds flowing) → Each (Each LeavesOpen) (lists_on link rounds flowing before)
 rounds_open link [] flowing before work open_so = tt
 rounds_open link (between ∷ later) flowing before work open_so = (
   all_open link (calls_of_round between flowing) (run_links (time_of_round flowing) before) (round_called between flowing (after flowing.state (round_of_time flowing.state.sited.site)) work.0) open_so.0,
@@ -304,13 +305,12 @@ module _ (laws : ComeUpLaws) (sited : SitedTable) (station : IsStation sited.sit
 pub come_up : ComeUpLaws → (between : List Event) (later_rounds : List (List Event)) (flowing : Flowing Played) (link : ℕ) → Once flowing.state.sited.site → IsStation flowing.state.sited.site
     → IsTableOf flowing.state.sited.site flowing.state.sited.table → IsReached flowing.state.sited.site flowing.state.sited.table flowing.state.run → Each IsWork between → Each (Each IsWork) later_rounds
     → HasTime (suc (length later_rounds)) flowing.state.run → link < links flowing.state.sited.site → 1602 ≤ suc (length later_rounds)
-    → Each (Each (LeavesOpenOn link)) (calls_of_rounds later_rounds (all_tried between (round stations flowing)))
     → StaysBelowLimit flowing.state.sited.site link later_rounds (all_tried between (round stations flowing)) → IsUpOn link (good_rounds (between ∷ later_rounds) flowing).state.run
-come_up laws between later_rounds flowing link once station is_table reached work works can there long open_so below =
+come_up laws between later_rounds flowing link once station is_table reached work works can there long below =
     let sited = flowing.state.sited
     in let start = begun_so laws sited station once is_table link there between flowing refl reached work
     in let next = all_tried between (round stations flowing)
     in let b = behind_rounds laws sited station once is_table link there between flowing work start later_rounds works (start.later_can (length later_rounds) can)
     in let many = lists_length link later_rounds next start.before
     in up_on laws sited station once is_table link there (good_rounds later_rounds next).state.run b.after b.are
-    (up_then laws sited station once is_table link there between flowing work start later_rounds b (rounds_open link later_rounds next start.before works (rounds_stay laws.stays sited station once is_table link later_rounds next start.is open_so)) (b.below below) (omega (arith, long, many)))
+    (up_then laws sited station once is_table link there between flowing work start later_rounds b (rounds_open link later_rounds next start.before works (rounds_stay laws.stays sited station once is_table link there later_rounds next start.is)) (b.below below) (omega (arith, long, many)))

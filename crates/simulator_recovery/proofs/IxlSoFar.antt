@@ -56,7 +56,7 @@ is_itself (Signal place) = same_place place
 is_itself (Point place) = same_place place
 is_itself (Detector place) = same_place place
 
-at_itself : (node : Node) (before : List (Node × LinkCall)) (more : List LinkCall) → at_node node (before ++ map (λ call. (node, call)) more) ≡ at_node node before ++ more
+pub at_itself : (node : Node) (before : List (Node × LinkCall)) (more : List LinkCall) → at_node node (before ++ map (λ call. (node, call)) more) ≡ at_node node before ++ more
 unfolding at_node
 at_itself node [] [] = refl
 at_itself node [] (first ∷ more) = ap (λ (b : Bool). if b then first ∷ at_node node (map (λ call. (node, call)) more) else at_node node (map (λ call. (node, call)) more)) (is_itself node)
@@ -70,7 +70,7 @@ at_itself node (first ∷ before) more = choose (is_node node first.0) (at_itsel
     choose true e = ap (λ (l : List LinkCall). first.1 ∷ l) e
     choose false e = e
 
-at_other : (node other : Node) → is_node node other ≡ false → (before : List (Node × LinkCall)) (more : List LinkCall) → at_node node (before ++ map (λ call. (other, call)) more) ≡ at_node node before
+pub at_other : (node other : Node) → is_node node other ≡ false → (before : List (Node × LinkCall)) (more : List LinkCall) → at_node node (before ++ map (λ call. (other, call)) more) ≡ at_node node before
 unfolding at_node
 at_other node other differ [] [] = refl
 at_other node other differ [] (first ∷ more) = ap (λ (b : Bool). if b then first ∷ at_node node (map (λ call. (other, call)) more) else at_node node (map (λ call. (other, call)) more)) differ ∙ at_other node other differ [] more
@@ -84,7 +84,7 @@ at_other node other differ (first ∷ before) more = choose (is_node node first.
     choose false e = e
 
 -- what stands at a place of a list of which one was set
-set_at : {X : Type 0} (place : ℕ) (new : X) (list : List X) (k : ℕ) (y : X) → slice_get (changed (λ old. new) place list) k ≡ Some y → ((k ≡ place) × (y ≡ new)) ⊎ ((k ≢ place) × (slice_get list k ≡ Some y))
+pub set_at : {X : Type 0} (place : ℕ) (new : X) (list : List X) (k : ℕ) (y : X) → slice_get (changed (λ old. new) place list) k ≡ Some y → ((k ≡ place) × (y ≡ new)) ⊎ ((k ≢ place) × (slice_get list k ≡ Some y))
 set_at place new [] k y e = absurd (none-some y e)
 set_at zero new (x ∷ xs) zero y e = inl (refl, sym (same_Some new y e))
 set_at zero new (x ∷ xs) (suc k) y e = inr (λ same. absurd (cc same), e)
@@ -95,15 +95,15 @@ set_at (suc place) new (x ∷ xs) (suc k) y e = choose (set_at place new xs k y 
     choose (inl (f, g)) = inl (ap suc f, g)
     choose (inr (f, g)) = inr (λ same. f (omega (arith, same)), g)
 
-test_of : {A : Type 0} (list : List A) (place : ℕ) (test : A → Bool) (one : A) → slice_get list place ≡ Some one → at list place test ≡ true → test one ≡ true
+pub test_of : {A : Type 0} (list : List A) (place : ℕ) (test : A → Bool) (one : A) → slice_get list place ≡ Some one → at list place test ≡ true → test one ≡ true
 unfolding at
 test_of list place test one e holds = ap (passes test) (sym e) ∙ holds
 
-first_true : (a b : Bool) → (a && b) ≡ true → a ≡ true
+pub first_true : (a b : Bool) → (a && b) ≡ true → a ≡ true
 first_true true b e = refl
 first_true false b e = absurd (false≢true e)
 
-last_true : (a b : Bool) → (a && b) ≡ true → b ≡ true
+pub last_true : (a b : Bool) → (a && b) ≡ true → b ≡ true
 last_true true b e = e
 last_true false b e = absurd (false≢true e)
 

@@ -32,7 +32,7 @@ use Rattle.simulator_recovery.specs.Counts.{HasCounted}
 stops_twice : (n m : ℕ) → stops_at_greatest (stops_at_greatest n + m) ≡ stops_at_greatest (n + m)
 stops_twice n m = grind arith
 
-count_push : {X : Type 0} (list : List X) (one : X) → length (list ++ one ∷ []) ≡ length list + 1
+pub count_push : {X : Type 0} (list : List X) (one : X) → length (list ++ one ∷ []) ≡ length list + 1
 count_push [] one = omega arith
 count_push (first ∷ list) one = let e = count_push list one in omega (arith, e)
 
@@ -225,6 +225,9 @@ record Comes (taken given : ℕ) (l : LinkState) (r : Receipt) : Type 0 where
   counts : HasCounted (taken + length r.items) given r.link
   up : (r.items ≡ []) ⊎ (is_up r.link.phase ≡ true)
   stays_up : is_up l.phase ≡ true → is_up r.link.phase ≡ true
+  -- it gives nothing, and no more items wait
+  same : r.link.given ≡ l.given
+  fewer : length r.link.waiting ≤ length l.waiting
 
 module _ (taken given : ℕ) (p : Pdu) (l : LinkState) (has : HasCounted taken given l) (connected_is : is_open l.phase ≡ true) where
   abbrev Fine : Receipt → Type 0
@@ -242,6 +245,8 @@ module _ (taken given : ℕ) (p : Pdu) (l : LinkState) (has : HasCounted taken g
     };
     up = inl none;
     stays_up = λ u. ap (λ (x : LinkState). is_up x.phase) e ∙ up u;
+    same = ap (λ (x : LinkState). x.given) e ∙ g;
+    fewer = let as_many = ap (λ (x : LinkState). length x.waiting) e in omega (arith, w, as_many);
   }
 
   refused : (r : Receipt) → r.link ≡ l → r.items ≡ [] → Fine r
@@ -277,6 +282,8 @@ module _ (taken given : ℕ) (p : Pdu) (l : LinkState) (has : HasCounted taken g
     };
     up = inr up;
     stays_up = λ u. up;
+    same = g;
+    fewer = w;
   }
 
   answered : Fine (accepting (answering (taking p l)))
@@ -428,9 +435,9 @@ module _ (taken given : ℕ) (p : Pdu) (l : LinkState) (has : HasCounted taken g
 
 -- ---- an end outside
 
--- a connection that is entered has counted nothing
+-- a connection that is entered has counted nothing, and isn't up
 abbrev Enters : Receipt → Type 0
-Enters r = is_open r.link.phase ≡ true → (r.items ≡ []) × HasCounted 0 0 r.link
+Enters r = is_open r.link.phase ≡ true → (r.items ≡ []) × HasCounted 0 0 r.link × (is_up r.link.phase ≡ false)
 
 module _ (p : Pdu) (l : LinkState) (outside : is_open l.phase ≡ false) where
   shut : (r : Receipt) → r.link ≡ l → Enters r
@@ -444,7 +451,7 @@ module _ (p : Pdu) (l : LinkState) (outside : is_open l.phase ≡ false) where
       met = meeting p (beginning l)
 
       choose : (a b : Bool) → Enters (accepting (if a then (if b then sending (ConnectionResponse own_opening) met else telling reason.Window met) else telling reason.Version met))
-      choose true true = λ f. (refl, record { taken_is = refl; given_is = refl; waiting = omega arith })
+      choose true true = λ f. (refl, record { taken_is = refl; given_is = refl; waiting = omega arith }, refl)
       choose true false = λ f. absurd (false≢true f)
       choose false b = λ f. absurd (false≢true f)
 
@@ -542,29 +549,42 @@ entry now l = choose (is_open (settled now l).phase) refl (nat_le connection_lim
     choose true e false f = let so = settled_open now l e in inside (rw (e, f) (ap silent so.0)) so.1 so.2
     choose false e b f = outside e (rw e refl)
 
+-- a datagram that is read at an end which it finds inside, outside, or full
+module _ (now taken given : ℕ) (l : LinkState) where
+  of_inside : (read : Result Pdu PduFault) → (entered now l).link ≡ record l { clock = now } → is_open l.phase ≡ true → now < deadline l → HasCounted taken given l
+      → is_open (hearing_bytes read (entered now l).link).link.phase ≡ true → Comes taken given (record l { clock = now }) (hearing_bytes read (entered now l).link)
+  unfolding hearing_bytes deadline
+  of_inside (Err fault) e is_in lives had = subst (λ (k : LinkState). is_open (hearing_bytes (Err fault) k).link.phase ≡ true → Comes taken given (record l { clock = now }) (hearing_bytes (Err fault) k)) (sym e)
+      (λ f. record { counts = record { taken_is = had.taken_is ∙ ap stops_at_greatest (omega arith); given_is = had.given_is; waiting = had.waiting }; up = inl refl; stays_up = λ u. u; same = refl; fewer = omega arith })
+  of_inside (Ok p) e is_in lives had = subst (λ (k : LinkState). is_open (hearing_bytes (Ok p) k).link.phase ≡ true → Comes taken given (record l { clock = now }) (hearing_bytes (Ok p) k)) (sym e)
+      (hears taken given p (record l { clock = now }) (record { taken_is = had.taken_is; given_is = had.given_is; waiting = had.waiting }) is_in lives)
+
+of_outside : (read : Result Pdu PduFault) (k : LinkState) → is_open k.phase ≡ false → Enters (hearing_bytes read k)
+unfolding hearing_bytes
+of_outside (Err fault) k out = λ f. absurd (false≢true (sym out ∙ f))
+of_outside (Ok p) k out = hears_outside p k out
+
+of_full : (read : Result Pdu PduFault) (k : LinkState) → is_open k.phase ≡ false → k.clock < k.closed_at + 6000 → is_open (hearing_bytes read k).link.phase ≡ false
+unfolding hearing_bytes
+of_full (Err fault) k out quiet = out
+of_full (Ok p) k out quiet = quiet_hears p k out quiet
+
 pub receipt_counts : (now : ℕ) (bytes : List ℕ) (taken given : ℕ) (l : LinkState) → is_open (receiving now bytes l).link.phase ≡ true → (is_open l.phase ≡ true → HasCounted taken given l) → AfterReceipt now bytes taken given l
-unfolding receiving hearing_bytes deadline
+unfolding receiving
 receipt_counts now bytes taken given l open_then has = by_entry (entry now l)
   where
-    r : Receipt
-    r = hearing_bytes (reading l.identity.key bytes) (entered now l).link
-
-    of_inside : (read : Result Pdu PduFault) → (entered now l).link ≡ record l { clock = now } → is_open l.phase ≡ true → now < deadline l → HasCounted taken given l
-        → is_open (hearing_bytes read (entered now l).link).link.phase ≡ true → Comes taken given (record l { clock = now }) (hearing_bytes read (entered now l).link)
-    of_inside (Err fault) e is_in lives had = subst (λ (k : LinkState). is_open (hearing_bytes (Err fault) k).link.phase ≡ true → Comes taken given (record l { clock = now }) (hearing_bytes (Err fault) k)) (sym e)
-        (λ f. record { counts = record { taken_is = had.taken_is ∙ ap stops_at_greatest (omega arith); given_is = had.given_is; waiting = had.waiting }; up = inl refl; stays_up = λ u. u })
-    of_inside (Ok p) e is_in lives had = subst (λ (k : LinkState). is_open (hearing_bytes (Ok p) k).link.phase ≡ true → Comes taken given (record l { clock = now }) (hearing_bytes (Ok p) k)) (sym e)
-        (hears taken given p (record l { clock = now }) (record { taken_is = had.taken_is; given_is = had.given_is; waiting = had.waiting }) is_in lives)
-
-    of_outside : (read : Result Pdu PduFault) (k : LinkState) → is_open k.phase ≡ false → Enters (hearing_bytes read k)
-    of_outside (Err fault) k out = λ f. absurd (false≢true (sym out ∙ f))
-    of_outside (Ok p) k out = hears_outside p k out
-
-    of_full : (read : Result Pdu PduFault) (k : LinkState) → is_open k.phase ≡ false → k.clock < k.closed_at + 6000 → is_open (hearing_bytes read k).link.phase ≡ false
-    of_full (Err fault) k out quiet = out
-    of_full (Ok p) k out quiet = quiet_hears p k out quiet
-
     by_entry : Entry now l → AfterReceipt now bytes taken given l
-    by_entry (inside e is_in lives) = let c = of_inside (reading l.identity.key bytes) (ap (λ (s : Step). s.link) e) is_in lives (has is_in) open_then in stays_in is_in c.counts c.up c.stays_up
+    by_entry (inside e is_in lives) = let c = of_inside now taken given l (reading l.identity.key bytes) (ap (λ (s : Step). s.link) e) is_in lives (has is_in) open_then in stays_in is_in c.counts c.up c.stays_up
     by_entry (outside out same) = let c = of_outside (reading l.identity.key bytes) (entered now l).link (ap (λ (k : LinkState). is_open k.phase) same ∙ out) open_then in comes_in out c.0 c.1
+    by_entry (full out quiet) = absurd (false≢true (sym (of_full (reading l.identity.key bytes) (entered now l).link out quiet) ∙ open_then))
+
+-- at an end that is up behind it a datagram has given nothing, and no more items wait
+pub receipt_window : (now : ℕ) (bytes : List ℕ) (taken given : ℕ) (l : LinkState) → is_open (receiving now bytes l).link.phase ≡ true → is_up (receiving now bytes l).link.phase ≡ true → (is_open l.phase ≡ true → HasCounted taken given l)
+    → ((receiving now bytes l).link.given ≡ l.given) × (length (receiving now bytes l).link.waiting ≤ length l.waiting)
+unfolding receiving
+receipt_window now bytes taken given l open_then up has = by_entry (entry now l)
+  where
+    by_entry : Entry now l → ((receiving now bytes l).link.given ≡ l.given) × (length (receiving now bytes l).link.waiting ≤ length l.waiting)
+    by_entry (inside e is_in lives) = let c = of_inside now taken given l (reading l.identity.key bytes) (ap (λ (s : Step). s.link) e) is_in lives (has is_in) open_then in (c.same, c.fewer)
+    by_entry (outside out same) = let c = of_outside (reading l.identity.key bytes) (entered now l).link (ap (λ (k : LinkState). is_open k.phase) same ∙ out) open_then in absurd (false≢true (sym c.2 ∙ up))
     by_entry (full out quiet) = absurd (false≢true (sym (of_full (reading l.identity.key bytes) (entered now l).link out quiet) ∙ open_then))

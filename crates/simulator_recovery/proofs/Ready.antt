@@ -22,7 +22,7 @@ use Rattle.simulator_run.specs.Tried.{Played}
 use Rattle.simulator_run_links.specs.HasLinks.{IsStanding}
 use Rattle.simulator_headline.specs.Reached.{IsReached}
 use Rattle.simulator_recovery.specs.Counts.{AllStandByCounts}
-use Rattle.simulator_recovery.specs.LinkRounds.{LeavesOpenOn, StaysBelowLimit, calls_of_rounds, calls_on, links_behind}
+use Rattle.simulator_recovery.specs.LinkRounds.{StaysBelowLimit, calls_on, links_behind}
 use Rattle.simulator_recovery.specs.Ready.{HostIsAt, IsReadyOn}
 use Rattle.simulator_recovery.specs.Rounds.{HasTime, IsWork, all_tried, clocks_of, good_rounds}
 use Rattle.simulator_recovery.proofs.AtLink.{AtLink, at_link, told_once}
@@ -50,7 +50,7 @@ each_front : {X : Type 0} (P : X → Type 0) (front : List X) (last : X) → Eac
 each_front P [] last each = (tt, each.0)
 each_front P (x ∷ front) last each = let more = each_front P front last each.1 in ((each.0, more.0), more.1)
 
-count_front : {X : Type 0} (front : List X) (last : X) → length (front ++ last ∷ []) ≡ length front + 1
+pub count_front : {X : Type 0} (front : List X) (last : X) → length (front ++ last ∷ []) ≡ length front + 1
 count_front [] last = omega arith
 count_front (x ∷ front) last = let more = count_front front last in omega (arith, more)
 
@@ -97,29 +97,29 @@ passes_so old new h = record { to_server = h.to_server.counts; server_few = h.to
 
 module _ (laws : ReadyLaws) (sited : SitedTable) (station : IsStation sited.site) (once : Once sited.site) (is_table : IsTableOf sited.site sited.table) (link : ℕ) (there : link < links sited.site)
     (first : List Event) (flowing : Flowing Played) (work_first : Each IsWork first) (start : Begun laws.up sited station once is_table link there first flowing) where
-  abbrev next : Flowing Played
+  abbrev pub next : Flowing Played
   next = all_tried first (round stations flowing)
 
-  abbrev lists : List (List Event) → List (List LinkEvent)
+  abbrev pub lists : List (List Event) → List (List LinkEvent)
   lists rounds = lists_on link rounds next start.before
 
-  abbrev flow : Flow
+  abbrev pub flow : Flow
   flow = flow_then laws.up sited station once is_table link there first flowing work_first start
 
-  abbrev Behind : List (List Event) → Type 0
+  abbrev pub Behind : List (List Event) → Type 0
   Behind rounds = BehindRounds laws.up sited station once is_table link there first flowing work_first start rounds
 
   -- What is so behind rounds that are enough for the link to be up.
-  record IsUpBehind (rounds : List (List Event)) : Type 0 where
-    behind : Behind rounds
-    opens : Each (Each LeavesOpen) (lists rounds)
-    below : StayBelow (lists rounds) flow
-    long : 1601 ≤ length rounds
+  pub record IsUpBehind (rounds : List (List Event)) : Type 0 where
+    pub behind : Behind rounds
+    pub opens : Each (Each LeavesOpen) (lists rounds)
+    pub below : StayBelow (lists rounds) flow
+    pub long : 1601 ≤ length rounds
 
   many : (rounds : List (List Event)) → length (lists rounds) ≡ length rounds
   many rounds = lists_length link rounds next start.before
 
-  ups : (rounds : List (List Event)) → (s : IsUpBehind rounds) → AreUp (seen link s.behind.after)
+  pub ups : (rounds : List (List Event)) → (s : IsUpBehind rounds) → AreUp (seen link s.behind.after)
   ups rounds s = up_then laws.up sited station once is_table link there first flowing work_first start rounds s.behind s.opens s.below (let l = s.long in omega (arith, l, many rounds))
 
   abbrev world_at : List (List Event) → WorldState
@@ -138,7 +138,7 @@ module _ (laws : ReadyLaws) (sited : SitedTable) (station : IsStation sited.site
   at_moment rounds s = at_link sited.site station (world_at rounds) (standing_at rounds).whole (laws.stand sited.site sited.table (world_at rounds) station (reached_at rounds)) link s.behind.after there s.behind.are (ups rounds s)
 
   -- from one round to the next
-  hand_over : (front : List (List Event)) (last : List Event) → (s : IsUpBehind front) → (t : IsUpBehind (front ++ last ∷ [])) → Passes (s.behind.after.ends link).client.link (s.behind.after.ends link).server.link (t.behind.after.ends link).client.link (t.behind.after.ends link).server.link
+  pub hand_over : (front : List (List Event)) (last : List Event) → (s : IsUpBehind front) → (t : IsUpBehind (front ++ last ∷ [])) → Passes (s.behind.after.ends link).client.link (s.behind.after.ends link).server.link (t.behind.after.ends link).client.link (t.behind.after.ends link).server.link
   hand_over front last s t = passes_so (seen link s.behind.after) (seen link t.behind.after) (subst (λ (old : Ends). HandOver old (seen link t.behind.after)) (sym s.behind.ends) (subst (HandOver (work_rounds (lists front) flow).ends) (sym then_is) over))
     where
       calls : (calls : List LinkEvent) × (lists (front ++ last ∷ []) ≡ lists front ++ calls ∷ [])
@@ -161,7 +161,7 @@ module _ (laws : ReadyLaws) (sited : SitedTable) (station : IsStation sited.site
           work.0 opened.0 room.0 (let l = s.long in omega (arith, l, many front)) work.1 opened.1 room.1
 
   -- the rounds but for the last
-  front_of : (front : List (List Event)) (last : List Event) → Each (Each IsWork) (front ++ last ∷ []) → HasTime (length (front ++ last ∷ [])) next.state.run → IsUpBehind (front ++ last ∷ []) → 1601 ≤ length front → IsUpBehind front
+  pub front_of : (front : List (List Event)) (last : List Event) → Each (Each IsWork) (front ++ last ∷ []) → HasTime (length (front ++ last ∷ [])) next.state.run → IsUpBehind (front ++ last ∷ []) → 1601 ≤ length front → IsUpBehind front
   front_of front last works can t long = record {
     behind = behind_rounds laws.up sited station once is_table link there first flowing work_first start front (each_front (Each IsWork) front last works).0 (fewer_time (length front) (length (front ++ last ∷ [])) (clocks_of next.state.run) (let n = count_front front last in omega (arith, n)) can);
     opens = (each_front (Each LeavesOpen) (lists front) calls.0 (subst (Each (Each LeavesOpen)) calls.1 t.opens)).0;
@@ -225,11 +225,11 @@ module _ (laws : ReadyLaws) (sited : SitedTable) (station : IsStation sited.site
       by_last l = subst GoesBack (sym l.are) (of_last l.front l.last)
 
   -- the rounds behind the first, in which the link comes up, and four more
-  ready_behind : (rounds : List (List Event)) → Each (Each IsWork) rounds → HasTime (length rounds) next.state.run → 1605 ≤ length rounds → Each (Each (LeavesOpenOn link)) (calls_of_rounds rounds next) → StaysBelowLimit sited.site link rounds next
+  ready_behind : (rounds : List (List Event)) → Each (Each IsWork) rounds → HasTime (length rounds) next.state.run → 1605 ≤ length rounds → StaysBelowLimit sited.site link rounds next
       → IsReadyOn sited.site link (world_at rounds)
-  ready_behind rounds works can long open_so below =
+  ready_behind rounds works can long below =
       let b = behind_rounds laws.up sited station once is_table link there first flowing work_first start rounds works can
-      in let whole : IsUpBehind rounds = record { behind = b; opens = rounds_open link rounds next start.before works (rounds_stay laws.up.stays sited station once is_table link rounds next start.is open_so); below = b.below below; long = omega (arith, long) }
+      in let whole : IsUpBehind rounds = record { behind = b; opens = rounds_open link rounds next start.before works (rounds_stay laws.up.stays sited station once is_table link there rounds next start.is); below = b.below below; long = omega (arith, long) }
       in let b3 = goes_back rounds works can (omega (arith, long)) whole
       in let b2 = goes_back b3.front b3.works b3.can (omega (arith, long, b3.one_less)) b3.stage
       in let b1 = goes_back b2.front b2.works b2.can (omega (arith, long, b3.one_less, b2.one_less)) b2.stage
@@ -239,8 +239,7 @@ module _ (laws : ReadyLaws) (sited : SitedTable) (station : IsStation sited.site
 pub links_ready : ReadyLaws → (between : List Event) (later_rounds : List (List Event)) (flowing : Flowing Played) (link : ℕ) → Once flowing.state.sited.site → IsStation flowing.state.sited.site
     → IsTableOf flowing.state.sited.site flowing.state.sited.table → IsReached flowing.state.sited.site flowing.state.sited.table flowing.state.run → Each IsWork between → Each (Each IsWork) later_rounds
     → HasTime (suc (length later_rounds)) flowing.state.run → link < links flowing.state.sited.site → 1606 ≤ suc (length later_rounds)
-    → Each (Each (LeavesOpenOn link)) (calls_of_rounds later_rounds (all_tried between (round stations flowing)))
     → StaysBelowLimit flowing.state.sited.site link later_rounds (all_tried between (round stations flowing)) → IsReadyOn flowing.state.sited.site link (good_rounds (between ∷ later_rounds) flowing).state.run
-links_ready laws between later_rounds flowing link once station is_table reached work works can there long open_so below =
+links_ready laws between later_rounds flowing link once station is_table reached work works can there long below =
     let start = begun_so laws.up flowing.state.sited station once is_table link there between flowing refl reached work
-    in ready_behind laws flowing.state.sited station once is_table link there between flowing work start later_rounds works (start.later_can (length later_rounds) can) (omega (arith, long)) open_so below
+    in ready_behind laws flowing.state.sited station once is_table link there between flowing work start later_rounds works (start.later_can (length later_rounds) can) (omega (arith, long)) below

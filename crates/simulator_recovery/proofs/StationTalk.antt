@@ -121,7 +121,7 @@ module _ (p : Pdu) (l : LinkState) (outside : is_open l.phase ≡ false) (asks :
       choose true true = by_clock (is_open l.phase) outside (nat_lt l.clock (deadline l)) (nat_lt l.clock (deadline l + 6000))
 
 module _ (now : ℕ) (bytes : List ℕ) where
-  stays_shut : (l : LinkState) → is_open l.phase ≡ false → is_client l.identity.role ≡ true → is_open (receiving now bytes l).link.phase ≡ false
+  pub stays_shut : (l : LinkState) → is_open l.phase ≡ false → is_client l.identity.role ≡ true → is_open (receiving now bytes l).link.phase ≡ false
   unfolding receiving hearing_bytes
   stays_shut l outside asks = ap (λ (s : Step). is_open (hearing_bytes (reading l.identity.key bytes) s.link).link.phase) (entered_closed now l outside) ∙ by_reading (reading l.identity.key bytes)
     where
@@ -134,10 +134,10 @@ module _ (now : ℕ) (bytes : List ℕ) where
 
 -- ---- the clients' ends
 
-abbrev gave : Links → ℕ → List (List ℕ)
+abbrev pub gave : Links → ℕ → List (List ℕ)
 gave network link = (network.ends link).client.given
 
-abbrev took : Links → ℕ → List (List ℕ)
+abbrev pub took : Links → ℕ → List (List ℕ)
 took network link = (network.ends link).client.taken
 
 -- they have given and taken the same
@@ -210,7 +210,7 @@ host_same laws does input connection link (Some c) network = record { given = λ
 
 -- ---- the calls at one link
 
-at_link_is : (site : Site) (connection : ℕ) (node : Node) → IsNodeOf site node → (calls : List (Node × LinkCall)) → AreOfNodes site calls
+pub at_link_is : (site : Site) (connection : ℕ) (node : Node) → IsNodeOf site node → (calls : List (Node × LinkCall)) → AreOfNodes site calls
     → at_link (link_at site node) (map (node_call site connection) calls) ≡ map (as_call connection) (at_node node calls)
 unfolding at_node
 at_link_is site connection node of [] are = refl

@@ -1,5 +1,5 @@
--- That no node of a station closes a link, but a client for its own full window.
-use Rattle.std.specs.Prelude.{◌≡◌}
+-- That no node of a station closes a link.
+use Rattle.std.specs.Prelude.{◌≡◌, ◌≢◌, ℕ}
 use Rattle.simulator_run.specs.rasta_core.Ends.{Closes}
 use Rattle.simulator_run.specs.rasta_core.Links.{CallsOn, LinksEvent}
 use Rattle.simulator_run.specs.rasta_core.identity.Role.TheVariants as role
@@ -14,3 +14,13 @@ LeavesServerOpen _ = Unit {0}
 abbrev pub LeavesClientOpen : LinksEvent → Type 0
 LeavesClientOpen (CallsOn link role.Client (Closes why)) = why ≡ Window
 LeavesClientOpen _ = Unit {0}
+
+-- It isn't a client that closes this link by this for its own full window.
+abbrev pub FillsNoWindowOn : ℕ → LinksEvent → Type 0
+FillsNoWindowOn link (CallsOn at role.Client (Closes why)) = why ≡ Window → link ≢ at
+FillsNoWindowOn link _ = Unit {0}
+
+-- This closes another link, or none.
+abbrev pub LeavesOpenOn : ℕ → LinksEvent → Type 0
+LeavesOpenOn link (CallsOn at who (Closes why)) = link ≢ at
+LeavesOpenOn link _ = Unit {0}

@@ -10,3 +10,5 @@ pub mod Told
 pub mod NextItems
 pub mod Expected
 pub mod Closes
+pub mod HandedOver
+pub mod Lamps

@@ -4,12 +4,10 @@ use Rattle.rasta_core_recovery.specs.Rounds.{Flow}
 use Rattle.rasta_core_recovery.specs.Work.{HasRoom, IsAtWork, work_round}
 use Rattle.simulator_run.specs.layout.Entries.{Site}
 use Rattle.simulator_run.specs.rasta_core.Clock.{settled}
-use Rattle.simulator_run.specs.rasta_core.Ends.{Closes, reading_of}
+use Rattle.simulator_run.specs.rasta_core.Ends.{reading_of}
 use Rattle.simulator_run.specs.rasta_core.Events.{Event as LinkEvent}
 use Rattle.simulator_run.specs.rasta_core.Links.{CallsOn, Links, LinksEvent, happened_to, of_link, run_links, run_on, seen}
 use Rattle.simulator_run.specs.rasta_core.State.{LinkState, is_up}
-use Rattle.simulator_run.specs.rasta_core.identity.Role.TheVariants as role
-use Rattle.simulator_run.specs.rasta_core.reason.Reason.TheVariants.{Window}
 use Rattle.simulator_run.specs.simulator_event.declared.event.Event.{Event}
 use Rattle.simulator_run.specs.simulator_event.refused.Refused.{Refused}
 use Rattle.simulator_run.specs.declared.round.RoundEvent.{RoundEvent}
@@ -53,11 +51,6 @@ abbrev pub calls_of_round : List Event → Flowing Played → List LinksEvent
 calls_of_round between flowing =
     all_events_tried (map event_of (behind_time flowing) ++ between) (after flowing.state (round_of_time flowing.state.sited.site))
 
--- those of many rounds
-abbrev pub calls_of_rounds : List (List Event) → Flowing Played → List (List LinksEvent)
-calls_of_rounds [] flowing = []
-calls_of_rounds (between ∷ later) flowing = calls_of_round between flowing ∷ calls_of_rounds later (all_tried between (round stations flowing))
-
 -- the links behind a round
 abbrev pub links_behind : List Event → Flowing Played → Links → Links
 links_behind between flowing before = run_links (calls_of_round between flowing) (run_links (time_of_round flowing) before)
@@ -81,11 +74,6 @@ pub record IsAtWorkOn (site : Site) (link : ℕ) (between : List Event) (old new
   pub leads : seen link (links_behind between new before) ≡ (work_round (calls_on link between new before) (flow_of link (length (of_link link old.state.run.sent)) before)).ends
 
 -- ---- premises on a link
-
--- A client doesn't close this link by this call for its own full window.
-abbrev pub LeavesOpenOn : ℕ → LinksEvent → Type 0
-LeavesOpenOn link (CallsOn at role.Client (Closes why)) = why ≡ Window → link ≢ at
-LeavesOpenOn link _ = Unit {0}
 
 -- an end of this link that is in a connection has sent fewer PDUs in it than the limit
 abbrev pub HasRoomOn : ℕ → Links → Type 0

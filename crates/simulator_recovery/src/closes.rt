@@ -1,6 +1,6 @@
-//! That no node of a station closes a link, but a client for its own full window.
+//! That no node of a station closes a link.
 
-ghost use Rattle.std.specs.Prelude.{◌≡◌, None};
+ghost use Rattle.std.specs.Prelude.{◌≡◌, ◌<◌, ℕ, None};
 ghost use Rattle.ixl_table.specs.Table.{IsTableOf};
 ghost use Rattle.simulator_run.specs.layout.Entries.{Site};
 ghost use Rattle.simulator_run.specs.layout.Once.{Once};
@@ -8,13 +8,17 @@ ghost use Rattle.simulator_run.specs.layout.Station.{IsStation};
 ghost use Rattle.simulator_run.specs.rasta_core.Each.{Each};
 ghost use Rattle.simulator_run.specs.ixl_rules.Table.{Table};
 ghost use Rattle.simulator_run.specs.simulator_event.declared.event.Event.{Event};
+ghost use Rattle.simulator_run.specs.Nodes.{links};
 ghost use Rattle.simulator_run.specs.Refusals.{refusal};
 ghost use Rattle.simulator_run.specs.State.{WorldState};
 ghost use Rattle.simulator_run_links.specs.Events.{events_of};
 ghost use Rattle.simulator_headline.specs.Reached.{IsReached};
-ghost use Rattle.simulator_recovery.specs.Closes.{LeavesClientOpen, LeavesServerOpen};
+ghost use Rattle.simulator_recovery.specs.Closes.{LeavesClientOpen, LeavesOpenOn, LeavesServerOpen};
 
-use crate::items_go_on;
+use crate::{
+    detectors_never_fill_their_windows, items_go_on, points_never_fill_their_windows,
+    signals_never_fill_their_windows,
+};
 use object_host_theorem::step_takes_and_gives;
 use simulator_machine_links::{a_client_of_many_makes_a_step, a_node_of_one_link_makes_a_step};
 use simulator_run::a_station_begins_its_links;
@@ -97,4 +101,17 @@ pub fn clients_close_by_their_window_alone()
     step_takes_and_gives::<Point>();
     step_takes_and_gives::<Detection>();
     written_is_read();
+}
+
+/// So no event closes a link, after every list of events of a station, on any network: no telegram does, and no client's window is full.
+/// A link closes by its own clock alone, by the limit of PDUs in a connection, or by what the other end of it says.
+pub fn events_close_no_link()
+    ensures { (site : Site) (table : Table) (world : WorldState) (happening : Event) (link : ℕ) → IsStation site → Once site → IsTableOf site table → IsReached site table world
+        → refusal site happening world ≡ None → link < links site → Each (LeavesOpenOn link) (events_of site table happening world) }
+{
+    clients_close_by_their_window_alone();
+    controllers_close_no_link();
+    detectors_never_fill_their_windows();
+    points_never_fill_their_windows();
+    signals_never_fill_their_windows();
 }

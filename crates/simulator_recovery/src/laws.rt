@@ -17,13 +17,11 @@ ghost use Rattle.simulator_run.specs.Nodes.{links};
 ghost use Rattle.simulator_run.specs.State.{WorldState};
 ghost use Rattle.simulator_run.specs.Tried.{Played};
 ghost use Rattle.simulator_headline.specs.Reached.{IsReached};
-ghost use Rattle.simulator_recovery.specs.LinkRounds.{AreInOne, IsAtWorkOn, IsUpOn, LeavesOpenOn, StaysBelowLimit, calls_of_rounds, link_rounds};
+ghost use Rattle.simulator_recovery.specs.LinkRounds.{AreInOne, IsAtWorkOn, IsUpOn, StaysBelowLimit, link_rounds};
 ghost use Rattle.simulator_recovery.specs.Ready.{IsReadyOn, ready_rounds};
 ghost use Rattle.simulator_recovery.specs.Rounds.{AllCome, HasTime, IsWork, LeavesFresh, all_tried, clocks_of, good_rounds, hold_rounds, rounds_later};
 
-use crate::{
-    clients_close_by_their_window_alone, controllers_close_no_link, stations_stand_by_their_counts,
-};
+use crate::{events_close_no_link, stations_stand_by_their_counts};
 use rasta_core_recovery::{two_ends_at_work_come_up, two_ends_at_work_hand_over};
 use simulator_headline::reached_worlds_are_safe;
 use simulator_run::ixl_rules::rasta_core::{
@@ -102,18 +100,15 @@ pub fn good_rounds_are_at_work_on_links()
 
 /// The links of a station come up: after any list of events, and behind each good round from the 1602nd on, the link between the
 /// interlocking and each controller is up at both ends, whatever requests and occupancies come between the rounds. So it is
-/// where behind the first of these rounds its client doesn't close it for its own full window, and neither end comes to the limit of
-/// PDUs in a connection.
+/// where neither of its ends comes to the limit of PDUs in a connection.
 pub fn links_come_up()
     ensures { (between : List Event) (later : List (List Event)) (flowing : Flowing Played) (link : ℕ) → Once flowing.state.sited.site → IsStation flowing.state.sited.site
         → IsTableOf flowing.state.sited.site flowing.state.sited.table → IsReached flowing.state.sited.site flowing.state.sited.table flowing.state.run
         → Each IsWork between → Each (Each IsWork) later → HasTime (suc (length later)) flowing.state.run → link < links flowing.state.sited.site → link_rounds ≤ suc (length later)
-        → Each (Each (LeavesOpenOn link)) (calls_of_rounds later (all_tried between (round stations flowing)))
         → StaysBelowLimit flowing.state.sited.site link later (all_tried between (round stations flowing))
         → IsUpOn link (good_rounds (between ∷ later) flowing).state.run }
 {
-    clients_close_by_their_window_alone();
-    controllers_close_no_link();
+    events_close_no_link();
     reached_worlds_are_safe();
     stations_have_links();
     layouts_name_their_links();
@@ -126,18 +121,16 @@ pub fn links_come_up()
 
 /// The links of a station are ready: after any list of events, and behind each good round from the 1606th on, the link between the
 /// interlocking and each controller is ready at both ends, whatever requests and occupancies come between the rounds: both
-/// ends are up, and the initialisation of their connection is completed at both. So it is where behind the first of these rounds
-/// its client doesn't close it for its own full window, and neither end comes to the limit of PDUs in a connection.
+/// ends are up, and the initialisation of their connection is completed at both. So it is where neither of its ends comes to the
+/// limit of PDUs in a connection.
 pub fn links_are_ready()
     ensures { (between : List Event) (later : List (List Event)) (flowing : Flowing Played) (link : ℕ) → Once flowing.state.sited.site → IsStation flowing.state.sited.site
         → IsTableOf flowing.state.sited.site flowing.state.sited.table → IsReached flowing.state.sited.site flowing.state.sited.table flowing.state.run
         → Each IsWork between → Each (Each IsWork) later → HasTime (suc (length later)) flowing.state.run → link < links flowing.state.sited.site → ready_rounds ≤ suc (length later)
-        → Each (Each (LeavesOpenOn link)) (calls_of_rounds later (all_tried between (round stations flowing)))
         → StaysBelowLimit flowing.state.sited.site link later (all_tried between (round stations flowing))
         → IsReadyOn flowing.state.sited.site link (good_rounds (between ∷ later) flowing).state.run }
 {
-    clients_close_by_their_window_alone();
-    controllers_close_no_link();
+    events_close_no_link();
     reached_worlds_are_safe();
     stations_have_links();
     layouts_name_their_links();

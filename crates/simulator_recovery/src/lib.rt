@@ -9,13 +9,18 @@ mod controllers;
 mod conversation;
 mod counts;
 mod expected;
+mod lamps;
 mod laws;
 mod links;
 mod matched;
+mod signals;
 mod silence;
+mod windows;
 
 pub use clients::clients_have_said_what_their_stages_tell;
-pub use closes::{clients_close_by_their_window_alone, controllers_close_no_link};
+pub use closes::{
+    clients_close_by_their_window_alone, controllers_close_no_link, events_close_no_link,
+};
 pub use controllers::controllers_keep_to_their_conversations;
 pub use conversation::{
     clients_act_on_what_they_expect, clients_count_what_they_act_on, clients_expect_what_hosts_say,
@@ -31,6 +36,12 @@ pub use counts::{
 pub use expected::{
     clients_expect_what_comes_next, hosts_expect_what_comes_next, points_answer_each_move_once,
 };
+pub use lamps::{
+    authority_ends_where_stop_is_confirmed, authority_ends_with_the_confirmation,
+    cancels_leave_no_aspect, lamps_fall_behind_a_cancel, lamps_follow_what_was_given,
+    links_hand_over, rounds_give_no_aspect, stop_comes, stop_is_given_last,
+    withdrawn_routes_stand_alone,
+};
 pub use laws::{
     each_round_delivers_what_the_last_one_left, good_rounds_are_at_work_on_links,
     good_rounds_are_events, good_rounds_leave_fresh_datagrams, good_rounds_take_their_time,
@@ -38,4 +49,6 @@ pub use laws::{
 };
 pub use links::items_go_on;
 pub use matched::stations_are_matched;
+pub use signals::signals_never_fill_their_windows;
 pub use silence::{connections_end_in_silence, lamps_fall_in_silence, points_rest_in_silence};
+pub use windows::{detectors_never_fill_their_windows, points_never_fill_their_windows};

@@ -42,8 +42,8 @@ const TRAINS: usize = 4;
 /// nodes drift, and where the trains are.
 #[derive(Drop)]
 pub(crate) struct Hostile {
-    chance: Chance,
-    delivered: usize,
+    pub(crate) chance: Chance,
+    pub(crate) delivered: usize,
     ticked: usize,
     drifts: u64,
     trains: [Option<Train>; TRAINS],
@@ -61,7 +61,7 @@ pub(crate) fn node_count(layout: &Layout) -> usize {
 }
 
 /// The node that a datagram is for: the interlocking is the client of every link.
-fn receiver(sent: &SentOn<'_>) -> NodeId {
+pub(crate) fn receiver(sent: &SentOn<'_>) -> NodeId {
     match sent.sender {
         Role::Client => NodeId(sent.link.saturating_add(1)),
         Role::Server => NodeId(0),
@@ -289,6 +289,15 @@ impl Hostile {
         match world.network().get(place) {
             Some(sent) => Ok(Event::Lose(RawDatagram::of(Vec::from_slice(alloc, sent.bytes)?))),
             None => Ok(Event::Lose(self.noise(alloc)?)),
+        }
+    }
+
+    /// A command, or a section that is occupied or cleared.
+    pub(crate) fn incident(&mut self, table: &Checked) -> Event {
+        if self.chance.once_in(2) {
+            self.command(table)
+        } else {
+            self.occupy(table)
         }
     }
 

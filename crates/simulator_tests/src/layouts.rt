@@ -239,3 +239,123 @@ route = [
 name = "LOOP"
 id = 7
 "#;
+
+/// A passing station on a single line: two tracks, of which one is entered slowly and ends at both sides in a trap point.
+pub(crate) const HALDEN: &str = r#"section = ["GBW", "GAW", "GW1", "G1", "G2", "GW2", "GAE", "GBE"]
+border = ["West", "East"]
+joint = [
+  ["West.end", "BW.a"],
+  ["BW.b", "AW.a"],
+  ["AW.b", "W1.tip"],
+  ["W1.left", "T1.a"],
+  ["W1.right", "W3.right"],
+  ["W3.tip", "T2.a"],
+  ["T1.b", "W2.right"],
+  ["T2.b", "W4.tip"],
+  ["W4.left", "W2.left"],
+  ["W2.tip", "AE.a"],
+  ["AE.b", "BE.a"],
+  ["BE.b", "East.end"],
+]
+track = [
+  { name = "BW", section = "GBW" },
+  { name = "AW", section = "GAW" },
+  { name = "T1", section = "G1" },
+  { name = "T2", section = "G2" },
+  { name = "AE", section = "GAE" },
+  { name = "BE", section = "GBE" },
+]
+point = [
+  { name = "W1", id = 21, section = "GW1" },
+  { name = "W2", id = 22, section = "GW2" },
+  { name = "W3", id = 23, section = "GW1" },
+  { name = "W4", id = 24, section = "GW2" },
+]
+signal = [
+  { name = "A", id = 11, at = "AW.b" },
+  { name = "F", id = 12, at = "AE.a" },
+  { name = "N1", id = 13, at = "T1.b" },
+  { name = "N2", id = 14, at = "T2.b" },
+  { name = "P1", id = 15, at = "T1.a" },
+  { name = "P2", id = 16, at = "T2.a" },
+]
+detector = [
+  { name = "D1", id = 31, sections = ["GBW", "GAW", "GW1", "G1", "G2", "GW2", "GAE", "GBE"] },
+]
+
+[[route]]
+name = "A-N1"
+entry = "A"
+exit = "N1"
+path = ["W1.left", "T1.b"]
+points = { W1 = "left" }
+flank = { W3 = "left" }
+approach = ["GBW", "GAW"]
+
+[[route]]
+name = "A-N2"
+entry = "A"
+exit = "N2"
+path = ["W1.right", "W3.tip", "T2.b"]
+points = { W1 = "right", W3 = "right" }
+approach = ["GBW", "GAW"]
+aspect = "slow"
+
+[[route]]
+name = "F-P1"
+entry = "F"
+exit = "P1"
+path = ["W2.right", "T1.a"]
+points = { W2 = "right" }
+flank = { W4 = "right" }
+approach = ["GBE", "GAE"]
+
+[[route]]
+name = "F-P2"
+entry = "F"
+exit = "P2"
+path = ["W2.left", "W4.tip", "T2.a"]
+points = { W2 = "left", W4 = "left" }
+approach = ["GBE", "GAE"]
+aspect = "slow"
+
+[[route]]
+name = "N1-East"
+entry = "N1"
+exit = "East"
+path = ["W2.tip", "AE.b", "BE.b"]
+points = { W2 = "right" }
+flank = { W4 = "right" }
+approach = ["G1"]
+
+[[route]]
+name = "N2-East"
+entry = "N2"
+exit = "East"
+path = ["W4.left", "W2.tip", "AE.b", "BE.b"]
+points = { W4 = "left", W2 = "left" }
+approach = ["G2"]
+aspect = "slow"
+
+[[route]]
+name = "P1-West"
+entry = "P1"
+exit = "West"
+path = ["W1.tip", "AW.a", "BW.a"]
+points = { W1 = "left" }
+flank = { W3 = "left" }
+approach = ["G1"]
+
+[[route]]
+name = "P2-West"
+entry = "P2"
+exit = "West"
+path = ["W3.right", "W1.tip", "AW.a", "BW.a"]
+points = { W3 = "right", W1 = "right" }
+approach = ["G2"]
+aspect = "slow"
+
+[station]
+name = "HALDEN"
+id = 1
+"#;

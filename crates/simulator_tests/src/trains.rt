@@ -21,7 +21,7 @@ fn section_at(table: &Checked, route: RouteId, place: usize) -> Option<SectionId
 }
 
 /// How many moves a train makes on a route: each section is occupied and then cleared.
-fn moves_on(table: &Checked, route: RouteId) -> usize {
+pub(crate) fn moves_on(table: &Checked, route: RouteId) -> usize {
     match table.layout().routes().get(route.0) {
         Some(_) => table
             .sections(route)

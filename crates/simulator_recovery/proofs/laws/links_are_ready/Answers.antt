@@ -13,7 +13,7 @@ returns c = links_ready (record {
       sees = c.each_link_sees_its_events.ensures.run;
       may = c.each_link_sees_its_events.ensures.may_run;
     };
-    stays = record { reach = record { on = c.reached_worlds_are_safe.ensures.on }; clients = c.clients_close_by_their_window_alone.ensures; servers = c.controllers_close_no_link.ensures };
+    stays = record { reach = record { on = c.reached_worlds_are_safe.ensures.on }; closes = c.events_close_no_link.ensures };
     arriving = record {
       standing = c.stations_have_links.ensures.run;
       are_links = c.layouts_name_their_links.ensures;
