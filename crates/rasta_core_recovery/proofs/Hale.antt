@@ -136,10 +136,10 @@ module _ (names : Names) (p : Pair) (r : WorkRound p) (c : Closely names p) (cli
   abbrev talk : Talk names c.server_kept c.client_kept true true p
   talk = record { client = c.client; server = c.server; client_kept = c.client_kept; server_kept = c.server_kept; to_client = c.to_client.way; to_server = c.to_server.way }
 
-  client_on : settled (p.client.clock + 10) p.client ≡ at_reading (p.client.clock + 10) p.client
+  pub client_on : settled (p.client.clock + 10) p.client ≡ at_reading (p.client.clock + 10) p.client
   client_on = settled_in (p.client.clock + 10) p.client c.to_client.way.is.connected client_young
 
-  server_on : settled (p.server.clock + 10) p.server ≡ at_reading (p.server.clock + 10) p.server
+  pub server_on : settled (p.server.clock + 10) p.server ≡ at_reading (p.server.clock + 10) p.server
   server_on = settled_in (p.server.clock + 10) p.server c.to_server.way.is.connected server_young
 
   client_room : Roomy (p.client.clock + 10) r.client_acts (at_reading (p.client.clock + 10) p.client)
@@ -148,10 +148,10 @@ module _ (names : Names) (p : Pair) (r : WorkRound p) (c : Closely names p) (cli
   server_room : Roomy (p.server.clock + 10) r.server_acts (at_reading (p.server.clock + 10) p.server)
   server_room = subst (Roomy (p.server.clock + 10) r.server_acts) server_on r.server_room
 
-  client_fits : p.client.sent < 2 ^ 31
+  pub client_fits : p.client.sent < 2 ^ 31
   client_fits = let room = room_first (p.client.clock + 10) r.client_acts (at_reading (p.client.clock + 10) p.client) client_room c.to_client.way.is.connected in omega (arith, room)
 
-  server_fits : p.server.sent < 2 ^ 31
+  pub server_fits : p.server.sent < 2 ^ 31
   server_fits = let room = room_first (p.server.clock + 10) r.server_acts (at_reading (p.server.clock + 10) p.server) server_room c.to_server.way.is.connected in omega (arith, room)
 
   client_short : p.client.clock ≤ c.server_kept + 100000

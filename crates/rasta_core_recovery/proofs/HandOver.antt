@@ -52,7 +52,7 @@ count_both : {X : Type 0} (xs ys : List X) → length xs ≤ length (xs ++ ys)
 count_both [] ys = omega arith
 count_both (x ∷ xs) ys = let more = count_both xs ys in omega (arith, more)
 
-fits_in : (n : ℕ) → n < 2 ^ 31 → stops_at_greatest n ≡ n
+pub fits_in : (n : ℕ) → n < 2 ^ 31 → stops_at_greatest n ≡ n
 fits_in n few = grind (arith, few)
 
 -- ---- one direction

@@ -55,3 +55,6 @@ pub mod StaysIn
 pub mod Confirmed
 pub mod ConfirmingEvents
 pub mod ClientLeft
+-- What comes back confirms.
+pub mod InTurn
+pub mod Replies

@@ -65,7 +65,7 @@ did_grows now (Gives item) l is room simple = let u = own_utters now (Gives item
 
 -- ---- all of them
 
-each_split : {X : Type 0} (P : X → Type 0) (xs ys : List X) → Each P (xs ++ ys) → Each P xs × Each P ys
+pub each_split : {X : Type 0} (P : X → Type 0) (xs ys : List X) → Each P (xs ++ ys) → Each P xs × Each P ys
 each_split P [] ys each = (tt, each)
 each_split P (x ∷ xs) ys each = let more = each_split P xs ys each.1 in ((each.0, more.0), more.1)
 
@@ -80,7 +80,7 @@ all_grow now (first ∷ others) l is room simple =
 
 -- ---- what comes in a round
 
-brought_both : (one other : List Act) → all_brought (one ++ other) ≡ all_brought one ++ all_brought other
+pub brought_both : (one other : List Act) → all_brought (one ++ other) ≡ all_brought one ++ all_brought other
 brought_both [] other = refl
 brought_both (first ∷ one) other = ap (λ (ps : List Pdu). brought first ++ ps) (brought_both one other) ∙ sym (append_assoc (brought first) (all_brought one) (all_brought other))
 

@@ -57,7 +57,7 @@ no_act_closes key why Asks is = is
 no_act_closes key why (Hears pdu) is = is
 no_act_closes key why (Gives item) is = is
 
-one_client : (call : Call) (act : Act) (ends : Ends) → ActsAs ends.client.link.identity.key call act
+pub one_client : (call : Call) (act : Act) (ends : Ends) → ActsAs ends.client.link.identity.key call act
     → ((called role.Client call ends).client.link ≡ (did (reading_of ends.client.clock) act ends.client.link).link) × ((outcome call ends.moment ends.client).pdus ≡ (did (reading_of ends.client.clock) act ends.client.link).pdus)
 unfolding called end_after outcome did
 one_client Ticks Beats ends is = (refl, refl)
@@ -81,7 +81,7 @@ one_client (Receives bytes connection) Beats ends is = absurd is
 one_client (Receives bytes connection) Asks ends is = absurd is
 one_client (Receives bytes connection) (Gives item) ends is = absurd is
 
-one_server : (call : Call) (act : Act) (ends : Ends) → ActsAs ends.server.link.identity.key call act
+pub one_server : (call : Call) (act : Act) (ends : Ends) → ActsAs ends.server.link.identity.key call act
     → ((called role.Server call ends).server.link ≡ (did (reading_of ends.server.clock) act ends.server.link).link) × ((outcome call ends.moment ends.server).pdus ≡ (did (reading_of ends.server.clock) act ends.server.link).pdus)
 unfolding called end_after outcome did
 one_server Ticks Beats ends is = (refl, refl)
@@ -227,7 +227,7 @@ server_continues : (call : Call) (ends : Ends) → Joined (reading_of ends.serve
 unfolding called
 server_continues call ends in_it room = call_continues call ends.moment ends.server in_it room
 
-key_of : (names : Names) (who : Role) (l : LinkState) (call : Call) (act : Act) → l.identity ≡ identity_of who names → ActsAs names.key call act → ActsAs l.identity.key call act
+pub key_of : (names : Names) (who : Role) (l : LinkState) (call : Call) (act : Act) → l.identity ≡ identity_of who names → ActsAs names.key call act → ActsAs l.identity.key call act
 key_of names who l call act identity so_is = subst (λ (i : Identity). ActsAs i.key call act) (sym identity) so_is
 
 all_done : KeepsTime → HandsOut → (names : Names) → AreNames names → (calls : List Event) (ends : Ends) (tc ts : List Pdu) → Timely names ends → Each IsCall calls → Each IsNoClose (calls_in role.Client calls) → Each IsNoClose (calls_in role.Server calls)
@@ -424,12 +424,22 @@ due_server time (d ∷ ds) = choose (can_come time d) d.sender refl (due_server 
 
 -- ---- a round
 
+-- an end as its round begins
+pub record Begins (end : EndState) (l : LinkState) : Type 0 where
+  pub now : reading_of end.clock ≡ l.clock + 10
+  pub link : end.link ≡ settled (l.clock + 10) l
+
 -- the round of two links that one of two ends is
 pub record Follows (names : Names) (f : Flow) (p : Pair) (calls : List Event) : Type 0 where
   pub round : WorkRound p
   pub mirrors : Mirrors names (work_round calls f) (behind p round)
   pub client_on : Within (p.client.clock + 10) round.client_acts (settled (p.client.clock + 10) p.client) → Continues f.ends.client (work_round calls f).ends.client
   pub server_on : Within (p.server.clock + 10) round.server_acts (settled (p.server.clock + 10) p.server) → Continues f.ends.server (work_round calls f).ends.server
+  -- how it begins, and what is done in it
+  pub client_begins : Begins (later 10000 10000 10000 f.ends).client p.client
+  pub server_begins : Begins (later 10000 10000 10000 f.ends).server p.server
+  pub client_as : AllAct names.key (calls_in role.Client calls) round.client_acts
+  pub server_as : AllAct names.key (calls_in role.Server calls) round.server_acts
 
 later_continues : (ends : Ends) → Continues ends.client (later 10000 10000 10000 ends).client × Continues ends.server (later 10000 10000 10000 ends).server
 unfolding later end_later
@@ -452,6 +462,10 @@ follows keeps written hands names are f p calls m w opens room = record {
       (d.client_on (subst (λ (n : ℕ). Within n d.client_acts passed.client.link) (sym client_now) (subst (λ (l : LinkState). Within nowc d.client_acts l) (sym settled_client) in_it)));
   server_on = λ in_it. continues_then f.ends.server passed.server (run calls passed).server (later_continues f.ends).1
       (d.server_on (subst (λ (n : ℕ). Within n d.server_acts passed.server.link) (sym server_now) (subst (λ (l : LinkState). Within nows d.server_acts l) (sym settled_server) in_it)));
+  client_begins = record { now = client_now; link = settled_client };
+  server_begins = record { now = server_now; link = settled_server };
+  client_as = d.client_as;
+  server_as = d.server_as;
 }
   where
     passed : Ends

@@ -1,4 +1,5 @@
 pub mod Rounds
 pub mod WrongRounds
 pub mod Work
+pub mod Replies
 pub mod Confirming

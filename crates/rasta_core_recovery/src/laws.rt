@@ -5,9 +5,11 @@ ghost use Rattle.rasta_core_run.specs.Each.{Each};
 ghost use Rattle.rasta_core_run.specs.Events.{Event, May, MayRun, Start, happened, run, started};
 ghost use Rattle.rasta_core_run.specs.Names.{AreNames, Names};
 ghost use Rattle.rasta_core_run.specs.Run.{Ends, later};
+ghost use Rattle.rasta_core_run.specs.State.{confirmed_items};
 ghost use Rattle.rasta_core.specs.Invariant.{Timely};
 ghost use Rattle.rasta_core.specs.Ordered.{Ordered};
 ghost use Rattle.rasta_core_recovery.specs.Confirming.{Answers, AreIn, Confirming, FewLeft, FewWait, HasLeft, Owes};
+ghost use Rattle.rasta_core_recovery.specs.Replies.{Accepts, StaysAtWork, in_round, with_reply};
 ghost use Rattle.rasta_core_recovery.specs.Rounds.{AreUp, Flow, StayBelowLimit, calm_rounds, comings, events_of, flow_after, gap_rounds, good_round, good_rounds, own_work, recovery_rounds};
 ghost use Rattle.rasta_core_recovery.specs.Work.{AreAtWork, HandOver, HaveRoom, IsAtWork, LeavesOpen, StayBelow, recovery_rounds_at_work, work_round, work_rounds};
 ghost use Rattle.rasta_core_recovery.specs.WrongRounds.{NeverUp, RestsFor, asks_in_vain, asks_once, ends_at_limit, rounds_where};
@@ -97,6 +99,26 @@ pub fn two_ends_at_work_hand_over()
         → IsAtWork names (work_rounds rounds (flow_after names start events passed)) calls → Each LeavesOpen calls
         → HaveRoom calls (later 10000 10000 10000 (work_rounds rounds (flow_after names start events passed)).ends)
         → HandOver (work_rounds rounds (flow_after names start events passed)).ends (work_round calls (work_rounds rounds (flow_after names start events passed))).ends }
+{
+    starts_in_time();
+    every_event_keeps_time();
+    every_event_keeps_order();
+    written_is_read();
+    calls_hand_out_pdus();
+}
+
+/// And what the other end has taken is confirmed to the client, where the server says something: whatever has happened to them before,
+/// where in a round at work from the 1602nd on the server accepts an item, then behind the next round the client's link holds for
+/// confirmed all that the server had taken as it accepted that.
+pub fn two_ends_at_work_confirm()
+    ensures { (names : Names) (start : Start) (events : List Event) (passed : ℕ) (rounds : List (List Event)) (front : List Event) (item : List ℕ) (rest calls : List Event) → AreNames names
+        → MayRun names events (started names start) → AreAtWork names rounds (flow_after names start events passed) → Each (Each LeavesOpen) rounds
+        → StayBelow rounds (flow_after names start events passed) → recovery_rounds_at_work ≤ length rounds
+        → StaysAtWork names (work_rounds rounds (flow_after names start events passed)) (with_reply front item rest)
+        → StaysAtWork names (work_round (with_reply front item rest) (work_rounds rounds (flow_after names start events passed))) calls
+        → Accepts (in_round front (work_rounds rounds (flow_after names start events passed))).server
+        → (in_round front (work_rounds rounds (flow_after names start events passed))).server.link.taken
+        ≤ confirmed_items (work_round calls (work_round (with_reply front item rest) (work_rounds rounds (flow_after names start events passed)))).ends.client.link }
 {
     starts_in_time();
     every_event_keeps_time();

@@ -129,6 +129,11 @@ rounds_open link (between ∷ later) flowing before work open_so = (
   rounds_open link later (all_tried between (round stations flowing)) (links_behind between flowing before) work.1 open_so.1,
 )
 
+-- the links behind these rounds
+abbrev pub links_after : List (List Event) → Flowing Played → Links → Links
+links_after [] flowing before = before
+links_after (between ∷ later) flowing before = links_after later (all_tried between (round stations flowing)) (links_behind between flowing before)
+
 -- A link goes through rounds at work, one for each good round of the station.
 record RoundsOn (site : Site) (link : ℕ) (rounds : List (List Event)) (f : Flow) (new : Flowing Played) (before : Links) : Type 0 where
   after : Links
@@ -136,6 +141,7 @@ record RoundsOn (site : Site) (link : ℕ) (rounds : List (List Event)) (f : Flo
   work : AreAtWork (names_at site link) (lists_on link rounds new before) f
   ends : seen link after ≡ (work_rounds (lists_on link rounds new before) f).ends
   below : StayBelowOn link rounds new before → StayBelow (lists_on link rounds new before) f
+  after_is : after ≡ links_after rounds new before
 
 abbrev flow_with : Ends → ℕ → Flow
 flow_with ends passed = record { ends = ends; passed = passed }
@@ -165,6 +171,7 @@ module _ (laws : ComeUpLaws) (sited : SitedTable) (station : IsStation sited.sit
           (all_room laws.sees_one link (calls_of_round between new) (run_links (time_of_round new) before) (round_called between new (after new.state (round_of_time new.state.sited.site)) work) stay.0),
       more.below stay.1,
     );
+    after_is = more.after_is;
   }
     where
       next : Flow
@@ -181,7 +188,7 @@ module _ (laws : ComeUpLaws) (sited : SitedTable) (station : IsStation sited.sit
 
   through : (rounds : List (List Event)) (old new : Flowing Played) (leaves : LeavesFresh old new) (before : Links) → HasThese sited new.state before → IsAt sited new.state → Each (Each IsWork) rounds → HasTime (length rounds) new.state.run
       → RoundsOn sited.site link rounds (flow_of link (length (of_link link old.state.run.sent)) before) new before
-  through [] old new leaves before has is work can = record { after = before; are = has.are; work = tt; ends = refl; below = λ stay. tt }
+  through [] old new leaves before has is work can = record { after = before; are = has.are; work = tt; ends = refl; below = λ stay. tt; after_is = refl }
   through (between ∷ later_rounds) old new leaves before has is work can =
       let same = is.same
       in let all = has_all laws.link.times sited new.state.run station once is.reached
@@ -285,6 +292,7 @@ module _ (laws : ComeUpLaws) (sited : SitedTable) (station : IsStation sited.sit
       pub work : AreAtWork (names_at sited.site link) (lists_of rounds) flow_then
       pub ends : seen link after ≡ (work_rounds (lists_of rounds) flow_then).ends
       pub below : StaysBelowLimit sited.site link rounds next → StayBelow (lists_of rounds) flow_then
+      pub after_is : after ≡ links_after rounds next start.before
 
     pub behind_rounds : (rounds : List (List Event)) → Each (Each IsWork) rounds → HasTime (length rounds) next.state.run → BehindRounds rounds
     behind_rounds rounds work can = record {
@@ -293,6 +301,7 @@ module _ (laws : ComeUpLaws) (sited : SitedTable) (station : IsStation sited.sit
       work = subst (AreAtWork (names_at sited.site link) (lists_of rounds)) is_flow goes.work;
       ends = goes.ends ∙ ap (λ (f : Flow). (work_rounds (lists_of rounds) f).ends) is_flow;
       below = λ below. subst (StayBelow (lists_of rounds)) is_flow (goes.below (below start.before start.has.are));
+      after_is = goes.after_is;
     }
       where
         goes : RoundsOn sited.site link rounds (flow_of link passed_then start.before) next start.before

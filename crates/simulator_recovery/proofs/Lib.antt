@@ -96,3 +96,5 @@ pub mod WaitingItems
 pub mod AspectWindows
 pub mod AlwaysFew
 pub mod SignalWindows
+pub mod SignalReplies
+pub mod ConfirmedLinks

@@ -46,7 +46,7 @@ last_of zero (x ∷ []) long = record { front = []; last = x; are = refl; long =
 last_of zero (x ∷ (y ∷ list)) long = absurd (omega (arith, long))
 last_of (suc count) (x ∷ list) long = let more = last_of count list (omega (arith, long)) in record { front = x ∷ more.front; last = more.last; are = ap (λ l. x ∷ l) more.are; long = omega (arith, more.long) }
 
-each_front : {X : Type 0} (P : X → Type 0) (front : List X) (last : X) → Each P (front ++ last ∷ []) → Each P front × P last
+pub each_front : {X : Type 0} (P : X → Type 0) (front : List X) (last : X) → Each P (front ++ last ∷ []) → Each P front × P last
 each_front P [] last each = (tt, each.0)
 each_front P (x ∷ front) last each = let more = each_front P front last each.1 in ((each.0, more.0), more.1)
 
@@ -56,25 +56,25 @@ count_front (x ∷ front) last = let more = count_front front last in omega (ari
 
 -- ---- rounds at work by their last
 
-rounds_both : (front : List (List LinkEvent)) (last : List LinkEvent) (f : Flow) → work_rounds (front ++ last ∷ []) f ≡ work_round last (work_rounds front f)
+pub rounds_both : (front : List (List LinkEvent)) (last : List LinkEvent) (f : Flow) → work_rounds (front ++ last ∷ []) f ≡ work_round last (work_rounds front f)
 rounds_both [] last f = refl
 rounds_both (first ∷ front) last f = rounds_both front last (work_round first f)
 
-work_front : (names : Names) (front : List (List LinkEvent)) (last : List LinkEvent) (f : Flow) → AreAtWork names (front ++ last ∷ []) f → AreAtWork names front f × IsAtWork names (work_rounds front f) last
+pub work_front : (names : Names) (front : List (List LinkEvent)) (last : List LinkEvent) (f : Flow) → AreAtWork names (front ++ last ∷ []) f → AreAtWork names front f × IsAtWork names (work_rounds front f) last
 work_front names [] last f work = (tt, work.0)
 work_front names (first ∷ front) last f work = let more = work_front names front last (work_round first f) work.1 in ((work.0, more.0), more.1)
 
-below_front : (front : List (List LinkEvent)) (last : List LinkEvent) (f : Flow) → StayBelow (front ++ last ∷ []) f → StayBelow front f × HaveRoom last (later 10000 10000 10000 (work_rounds front f).ends)
+pub below_front : (front : List (List LinkEvent)) (last : List LinkEvent) (f : Flow) → StayBelow (front ++ last ∷ []) f → StayBelow front f × HaveRoom last (later 10000 10000 10000 (work_rounds front f).ends)
 below_front [] last f below = (tt, below.0)
 below_front (first ∷ front) last f below = let more = below_front front last (work_round first f) below.1 in ((below.0, more.0), more.1)
 
-lists_front : (link : ℕ) (front : List (List Event)) (last : List Event) (flowing : Flowing Played) (before : Links) → (calls : List LinkEvent) × (lists_on link (front ++ last ∷ []) flowing before ≡ lists_on link front flowing before ++ calls ∷ [])
+pub lists_front : (link : ℕ) (front : List (List Event)) (last : List Event) (flowing : Flowing Played) (before : Links) → (calls : List LinkEvent) × (lists_on link (front ++ last ∷ []) flowing before ≡ lists_on link front flowing before ++ calls ∷ [])
 lists_front link [] last flowing before = (calls_on link last flowing before, refl)
 lists_front link (first ∷ front) last flowing before =
     let more = lists_front link front last (all_tried first (round stations flowing)) (links_behind first flowing before)
     in (more.0, ap (λ (l : List (List LinkEvent)). calls_on link first flowing before ∷ l) more.1)
 
-fewer_time : (n m : ℕ) (clocks : List ℕ) → n ≤ m → Each (λ clock. clock + 10000 * m ≤ 9000000000000000) clocks → Each (λ clock. clock + 10000 * n ≤ 9000000000000000) clocks
+pub fewer_time : (n m : ℕ) (clocks : List ℕ) → n ≤ m → Each (λ clock. clock + 10000 * m ≤ 9000000000000000) clocks → Each (λ clock. clock + 10000 * n ≤ 9000000000000000) clocks
 fewer_time n m [] few each = tt
 fewer_time n m (clock ∷ clocks) few each = (omega (arith, few, each.0), fewer_time n m clocks few each.1)
 

@@ -12,3 +12,5 @@ pub mod Expected
 pub mod Closes
 pub mod HandedOver
 pub mod Lamps
+pub mod Replies
+pub mod RepliesOn

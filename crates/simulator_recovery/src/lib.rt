@@ -13,6 +13,7 @@ mod lamps;
 mod laws;
 mod links;
 mod matched;
+mod replies;
 mod signals;
 mod silence;
 mod windows;
@@ -49,6 +50,7 @@ pub use laws::{
 };
 pub use links::items_go_on;
 pub use matched::stations_are_matched;
+pub use replies::{links_confirm, signals_report_at_once};
 pub use signals::signals_never_fill_their_windows;
 pub use silence::{connections_end_in_silence, lamps_fall_in_silence, points_rest_in_silence};
 pub use windows::{detectors_never_fill_their_windows, points_never_fill_their_windows};
