@@ -24,7 +24,7 @@ use Rattle.rasta_core_run.specs.body.Body.TheVariants.{ConnectionRequest, Connec
 use Rattle.rasta_core_run.specs.Each.{Each}
 use Rattle.rasta_core_recovery.proofs.Links.{heard, all_heard, worked, end_round}
 use Rattle.rasta_core_recovery.proofs.Calls.{at_reading}
-use Rattle.rasta_core_recovery.proofs.Words.{IsTalk, Row, voice_of, IsNumbered, says_row}
+use Rattle.rasta_core_recovery.proofs.Words.{IsTalk, IsSimple, Says, Row, voice_of, IsNumbered, says_row}
 use Rattle.rasta_core_recovery.proofs.Deed.{Deed, Leaves, leaves, keeps, asks, takes, hears, lives_state}
 use Rattle.rasta_core_recovery.proofs.Fold.{Out, Lively, heard_case, Next, gone_next, stays_next, all_hear, Work, gone_work, calm_work, beats_work, works, Begins, late, on, begins, stays_out, works_out, round_on}
 use Rattle.rasta_core_recovery.proofs.Course.{Joined, lively, taken_joined, asked_joined}
@@ -36,11 +36,18 @@ IsTalkPdu p = IsTalk p.body
 
 -- ---- a PDU at an end that has asked
 
+-- what it takes of the response by which it joins, and says at once
+pub record Met (p : Pdu) (l k : LinkState) (ps : List Pdu) : Type 0 where
+  pub expected : k.expected ≡ 1
+  pub first : k.partner_first ≡ p.sequence_number
+  pub heard : k.partner_stamp ≡ p.time_stamp
+  pub says : Says IsSimple (header_of k) l.sent ps k.sent
+
 -- it has left, or stands as before, or has joined the connection
 pub data AskDeed (p : Pdu) (l k : LinkState) (ps : List Pdu) : Type 0 where
   ask_leaves : Leaves l k → AskDeed p l k ps
   ask_keeps : k ≡ l → ps ≡ [] → AskDeed p l k ps
-  ask_joins : (IsTalk p.body → ⊥) → k.clock ≡ l.clock → is_open k.phase ≡ true → is_asking k ≡ false → k.own_stamp ≡ l.own_stamp → k.sent_at ≡ l.clock → k.confirmed ≡ l.confirmed → k.sent ≡ l.sent + 1 → Row (IsNumbered (voice_of k)) l.sent ps k.sent → AskDeed p l k ps
+  ask_joins : (IsTalk p.body → ⊥) → k.clock ≡ l.clock → is_open k.phase ≡ true → is_asking k ≡ false → k.own_stamp ≡ l.own_stamp → k.sent_at ≡ l.clock → k.confirmed ≡ l.confirmed → k.sent ≡ l.sent + 1 → Row (IsNumbered (voice_of k)) l.sent ps k.sent → Met p l k ps → AskDeed p l k ps
 
 asks_violating : (p : Pdu) (l : LinkState) → AskDeed p l (violating l).link (violating l).pdus
 unfolding telling sending
@@ -55,6 +62,7 @@ asks_joining p o l opens = choose (pointwise nat_eq o.version own_version) (o.wi
 
     choose : (a b : Bool) → let s = (if a then (if b then sending Heartbeat met else telling reason.Window met) else telling reason.Version met) in AskDeed p l s.link s.pdus
     choose true true = ask_joins opens refl refl refl refl refl refl refl (says_row IsTalk (λ b t. t) (voice_of met) met l.sent (l.sent + 1) (pdu_of (header_of met) l.sent Heartbeat ∷ []) refl (refl, tt, refl))
+        (record { expected = refl; first = refl; heard = refl; says = (refl, tt, refl) })
     choose true false = ask_leaves (record { clock = refl; is_out = refl; closed_at = refl })
     choose false b = ask_leaves (record { clock = refl; is_out = refl; closed_at = refl })
 
@@ -169,7 +177,7 @@ module _ (now : ℕ) where
   ask_deed : (p : Pdu) (l k : LinkState) (qs : List Pdu) → Asks now l → AskDeed p l k qs → Out now k ⊎ (InIt now k × Mute 0 l qs 0 k)
   ask_deed p l k qs is (ask_leaves left) = inl (record { clock = left.clock ∙ is.clock; is_out = left.is_out; quiet = omega (arith, left.closed_at, is.clock); lately = omega (arith, left.closed_at, is.clock) })
   ask_deed p l k qs is (ask_keeps same none) = inr (inr (subst (Asks now) (sym same) is), λ e. (asks_asking now l is, ap (λ (j : LinkState). j.own_stamp) same, none))
-  ask_deed p l k qs is (ask_joins opens clock in_it joined own said confirmed sent row) = inr (inl (record { clock = clock ∙ is.clock; connected = in_it; joined = joined; young = omega (arith, is.young, own); own = omega (arith, is.own, own) }), λ e. absurd (cc (e, joined)))
+  ask_deed p l k qs is (ask_joins opens clock in_it joined own said confirmed sent row met) = inr (inl (record { clock = clock ∙ is.clock; connected = in_it; joined = joined; young = omega (arith, is.young, own); own = omega (arith, is.own, own) }), λ e. absurd (cc (e, joined)))
 
   pub in_step : (g : ℕ) (p : Pdu) (ps : List Pdu) (l : LinkState) → InIt now l → Next ℕ now (λ g ps l. InIt now l) Mute g l ps (heard now p l)
   in_step g p ps l is = choose (heard_case now p l (in_lively l is))
@@ -260,7 +268,7 @@ module _ (now : ℕ) where
   alone_deed : (p : Pdu) (ps : List Pdu) (l k : LinkState) (qs : List Pdu) → Asks now l → Each IsTalkPdu (p ∷ ps) → AskDeed p l k qs → Out now k ⊎ (Alone 0 ps k × Same 0 l qs 0 k)
   alone_deed p ps l k qs is talk (ask_leaves left) = inl (record { clock = left.clock ∙ is.clock; is_out = left.is_out; quiet = omega (arith, left.closed_at, is.clock); lately = omega (arith, left.closed_at, is.clock) })
   alone_deed p ps l k qs is talk (ask_keeps same none) = inr ((subst (Asks now) (sym same) is, talk.1), (ap (λ (j : LinkState). j.own_stamp) same, none))
-  alone_deed p ps l k qs is talk (ask_joins opens clock in_it joined own said confirmed sent row) = absurd (opens talk.0)
+  alone_deed p ps l k qs is talk (ask_joins opens clock in_it joined own said confirmed sent row met) = absurd (opens talk.0)
 
   pub alone_step : (g : ℕ) (p : Pdu) (ps : List Pdu) (l : LinkState) → Alone g (p ∷ ps) l → Next ℕ now Alone Same g l ps (heard now p l)
   alone_step g p ps l (is, talk) = choose (heard_case now p l (asks_lively now l is))

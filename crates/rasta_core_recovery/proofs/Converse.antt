@@ -219,32 +219,30 @@ abbrev pub server_round : (names : Names) (of_client of_server : ℕ) (client_tu
 server_round names of_client of_server client_tuned server_tuned p talk =
     round_of server_tuned talk.server_kept talk.client_kept p.server p.client p.to_server talk.to_server.number talk.to_server.count talk.to_server.reading
 
--- what a round makes of both: a tuned end says nothing that asks; and where what came to it didn't ask either, it says a heartbeat
--- at most; and it has heard its partner lately, where this wasn't silent for long
-pub record Goes (names : Names) (of_client of_server : ℕ) (client_tuned server_tuned : Bool) (p : Pair) (before : Talk names of_client of_server client_tuned server_tuned p) : Type 0 where
+-- What a round makes of both, which leads from one pair to another: a tuned end says nothing that asks, and it has heard its partner
+-- lately, where this wasn't silent for long.
+pub record Goes (names : Names) (of_client of_server : ℕ) (client_tuned server_tuned : Bool) (p q : Pair) (before : Talk names of_client of_server client_tuned server_tuned p) : Type 0 where
   pub then_client : Bool
   pub then_server : Bool
   pub client_keeps : client_tuned ≡ true → then_client ≡ true
   pub server_keeps : server_tuned ≡ true → then_server ≡ true
-  pub talk : Talk names of_client of_server then_client then_server (pair_round p)
-  pub client_plain : client_tuned ≡ true → Each IsPlainPdu (pair_round p).to_server
-  pub server_plain : server_tuned ≡ true → Each IsPlainPdu (pair_round p).to_client
-  pub client_beats : client_tuned ≡ true → Each IsPlainPdu p.to_client → (b : Bool) × ((pair_round p).to_server ≡ beats b (pair_round p).client) × (b ≡ true → (pair_round p).client.sent_at ≡ (pair_round p).client.clock)
-  pub server_beats : server_tuned ≡ true → Each IsPlainPdu p.to_server → (b : Bool) × ((pair_round p).to_client ≡ beats b (pair_round p).server) × (b ≡ true → (pair_round p).server.sent_at ≡ (pair_round p).server.clock)
-  pub client_calm : is_up (pair_round p).client.phase ≡ true → (pair_round p).client.clock < (pair_round p).client.sent_at + 300
-  pub server_calm : is_up (pair_round p).server.phase ≡ true → (pair_round p).server.clock < (pair_round p).server.sent_at + 300
-  pub client_near : client_tuned ≡ true → p.server.clock < p.server.sent_at + 300 → (pair_round p).server.clock ≤ talk.client_kept + 309
-  pub server_near : server_tuned ≡ true → p.client.clock < p.client.sent_at + 300 → (pair_round p).client.clock ≤ talk.server_kept + 309
-  pub client_notes : Notes (client_round names of_client of_server client_tuned server_tuned p before) then_client (record { link = (pair_round p).client; pdus = (pair_round p).to_server })
-  pub server_notes : Notes (server_round names of_client of_server client_tuned server_tuned p before) then_server (record { link = (pair_round p).server; pdus = (pair_round p).to_client })
-  pub client_still : then_client ≡ false → (talk.client_kept ≡ before.client_kept) × ((pair_round p).client.own_stamp ≡ p.client.own_stamp)
-  pub server_still : then_server ≡ false → (talk.server_kept ≡ before.server_kept) × ((pair_round p).server.own_stamp ≡ p.server.own_stamp)
-  pub client_spoken : (pair_round p).to_server ≡ [] → (pair_round p).client.sent_at ≡ p.client.sent_at
-  pub server_spoken : (pair_round p).to_client ≡ [] → (pair_round p).server.sent_at ≡ p.server.sent_at
+  pub talk : Talk names of_client of_server then_client then_server q
+  pub client_plain : client_tuned ≡ true → Each IsPlainPdu q.to_server
+  pub server_plain : server_tuned ≡ true → Each IsPlainPdu q.to_client
+  pub client_calm : is_up q.client.phase ≡ true → q.client.clock < q.client.sent_at + 300
+  pub server_calm : is_up q.server.phase ≡ true → q.server.clock < q.server.sent_at + 300
+  pub client_near : client_tuned ≡ true → p.server.clock < p.server.sent_at + 300 → q.server.clock ≤ talk.client_kept + 309
+  pub server_near : server_tuned ≡ true → p.client.clock < p.client.sent_at + 300 → q.client.clock ≤ talk.server_kept + 309
+  pub client_notes : Notes (client_round names of_client of_server client_tuned server_tuned p before) then_client (record { link = q.client; pdus = q.to_server })
+  pub server_notes : Notes (server_round names of_client of_server client_tuned server_tuned p before) then_server (record { link = q.server; pdus = q.to_client })
+  pub client_still : then_client ≡ false → (talk.client_kept ≡ before.client_kept) × (q.client.own_stamp ≡ p.client.own_stamp)
+  pub server_still : then_server ≡ false → (talk.server_kept ≡ before.server_kept) × (q.server.own_stamp ≡ p.server.own_stamp)
+  pub client_spoken : q.to_server ≡ [] → q.client.sent_at ≡ p.client.sent_at
+  pub server_spoken : q.to_client ≡ [] → q.server.sent_at ≡ p.server.sent_at
   pub client_way : (talk.to_client.number ≡ p.server.sent) × (talk.to_client.count ≡ p.server.expected - 1) × (talk.to_client.reading ≡ before.server_kept)
   pub server_way : (talk.to_server.number ≡ p.client.sent) × (talk.to_server.count ≡ p.client.expected - 1) × (talk.to_server.reading ≡ before.client_kept)
-  pub client_clock : (pair_round p).client.clock ≡ p.client.clock + 10
-  pub server_clock : (pair_round p).server.clock ≡ p.server.clock + 10
+  pub client_clock : q.client.clock ≡ p.client.clock + 10
+  pub server_clock : q.server.clock ≡ p.server.clock + 10
 
 pub near_after : (start own_start : ℕ) (tuned : Bool) (kept other_kept : ℕ) (l m : LinkState) (ps : List Pdu) (s : Step) (there : Way start own_start tuned kept other_kept l m ps)
     → (b : Bounds (round_of tuned kept other_kept l m ps there.number there.count there.reading)) (t : Heeds (round_of tuned kept other_kept l m ps there.number there.count there.reading) b tuned l s)
@@ -264,63 +262,89 @@ still : (x : Round) (b : Bounds x) (kept : ℕ) (k : LinkState) (y : Bool) → y
 still x b kept k true e mode = absurd (cc e)
 still x b kept k false e mode = mode
 
-pub talks_on : (names : Names) (of_client of_server : ℕ) (client_tuned server_tuned : Bool) (p : Pair) → (talk : Talk names of_client of_server client_tuned server_tuned p)
-    → p.client.sent < 2 ^ 31 → p.server.sent < 2 ^ 31 → p.client.clock ≤ of_client + 100000 → p.server.clock ≤ of_server + 100000
-    → is_open (pair_round p).client.phase ≡ true → is_open (pair_round p).server.phase ≡ true → Goes names of_client of_server client_tuned server_tuned p talk
-unfolding pair_round way_goes
-talks_on names of_client of_server client_tuned server_tuned p talk client_fits server_fits client_short server_short client_in server_in = record {
-  then_client = t.then_tuned;
-  then_server = u.then_tuned;
-  client_keeps = t.keeps;
-  server_keeps = u.keeps;
+-- what a round makes of one of them
+pub record Part (x : Round) (b : Bounds x) (tuned : Bool) (l : LinkState) (s : Step) : Type 0 where
+  pub heeds : Heeds x b tuned l s
+  pub plain : tuned ≡ true → Each IsPlainPdu s.pdus
+  pub notes : Notes x heeds.then_tuned s
+
+abbrev pub pair_of : Step → Step → Pair
+pair_of c s = record { client = c.link; server = s.link; to_client = s.pdus; to_server = c.pdus }
+
+-- and so of both
+pub goes_by : (names : Names) (of_client of_server : ℕ) (client_tuned server_tuned : Bool) (p : Pair) (talk : Talk names of_client of_server client_tuned server_tuned p) (c s : Step)
+    (bc : Bounds (client_round names of_client of_server client_tuned server_tuned p talk)) (bs : Bounds (server_round names of_client of_server client_tuned server_tuned p talk))
+    → Part (client_round names of_client of_server client_tuned server_tuned p talk) bc client_tuned p.client c → Part (server_round names of_client of_server client_tuned server_tuned p talk) bs server_tuned p.server s
+    → Goes names of_client of_server client_tuned server_tuned p (pair_of c s) talk
+unfolding way_goes
+goes_by names of_client of_server client_tuned server_tuned p talk c s bc bs t u = record {
+  then_client = t.heeds.then_tuned;
+  then_server = u.heeds.then_tuned;
+  client_keeps = t.heeds.keeps;
+  server_keeps = u.heeds.keeps;
   talk = record {
-    client = t.says.identity ∙ talk.client;
-    server = u.says.identity ∙ talk.server;
-    client_kept = t.says.kept;
-    server_kept = u.says.kept;
-    to_client = way_goes of_server of_client client_tuned server_tuned talk.client_kept talk.server_kept p.client p.server p.to_client p.to_server c s talk.to_client talk.to_server bc bs (heeds_of _ bc client_tuned p.client c t) (heeds_of _ bs server_tuned p.server s u);
-    to_server = way_goes of_client of_server server_tuned client_tuned talk.server_kept talk.client_kept p.server p.client p.to_server p.to_client s c talk.to_server talk.to_client bs bc (heeds_of _ bs server_tuned p.server s u) (heeds_of _ bc client_tuned p.client c t);
+    client = t.heeds.says.identity ∙ talk.client;
+    server = u.heeds.says.identity ∙ talk.server;
+    client_kept = t.heeds.says.kept;
+    server_kept = u.heeds.says.kept;
+    to_client = way_goes of_server of_client client_tuned server_tuned talk.client_kept talk.server_kept p.client p.server p.to_client p.to_server c s talk.to_client talk.to_server bc bs t.heeds u.heeds;
+    to_server = way_goes of_client of_server server_tuned client_tuned talk.server_kept talk.client_kept p.server p.client p.to_server p.to_client s c talk.to_server talk.to_client bs bc u.heeds t.heeds;
   };
   client_plain = t.plain;
   server_plain = u.plain;
-  client_beats = λ e f. let g = t.beating e f in (g.0, g.1, λ h. g.2 h ∙ sym t.says.is.clock);
-  server_beats = λ e f. let g = u.beating e f in (g.0, g.1, λ h. g.2 h ∙ sym u.says.is.clock);
-  client_calm = λ e. omega (arith, t.says.calm e, t.says.is.clock);
-  server_calm = λ e. omega (arith, u.says.calm e, u.says.is.clock);
-  client_near = λ e f. omega (arith, near_after of_server of_client client_tuned talk.client_kept talk.server_kept p.client p.server p.to_client c talk.to_client bc (heeds_of _ bc client_tuned p.client c t) e f, u.says.is.clock);
-  server_near = λ e f. omega (arith, near_after of_client of_server server_tuned talk.server_kept talk.client_kept p.server p.client p.to_server s talk.to_server bs (heeds_of _ bs server_tuned p.server s u) e f, t.says.is.clock);
+  client_calm = λ e. omega (arith, t.heeds.says.calm e, t.heeds.says.is.clock);
+  server_calm = λ e. omega (arith, u.heeds.says.calm e, u.heeds.says.is.clock);
+  client_near = λ e f. omega (arith, near_after of_server of_client client_tuned talk.client_kept talk.server_kept p.client p.server p.to_client c talk.to_client bc t.heeds e f, u.heeds.says.is.clock);
+  server_near = λ e f. omega (arith, near_after of_client of_server server_tuned talk.server_kept talk.client_kept p.server p.client p.to_server s talk.to_server bs u.heeds e f, t.heeds.says.is.clock);
   client_notes = t.notes;
   server_notes = u.notes;
-  client_still = λ e. still _ bc t.says.kept c.link t.then_tuned e t.mode;
-  server_still = λ e. still _ bs u.says.kept s.link u.then_tuned e u.mode;
-  client_spoken = t.says.spoken;
-  server_spoken = u.says.spoken;
+  client_still = λ e. still _ bc t.heeds.says.kept c.link t.heeds.then_tuned e t.heeds.mode;
+  server_still = λ e. still _ bs u.heeds.says.kept s.link u.heeds.then_tuned e u.heeds.mode;
+  client_spoken = t.heeds.says.spoken;
+  server_spoken = u.heeds.says.spoken;
   client_way = (refl, refl, refl);
   server_way = (refl, refl, refl);
-  client_clock = t.says.is.clock;
-  server_clock = u.says.is.clock;
+  client_clock = t.heeds.says.is.clock;
+  server_clock = u.heeds.says.is.clock;
 }
-  where
-    c : Step
-    c = end_round (p.client.clock + 10) p.to_client p.client
 
-    s : Step
-    s = end_round (p.server.clock + 10) p.to_server p.server
+-- where they are given no items, each says a heartbeat at most, if what came to it didn't ask
+pub record GoesQuietly (names : Names) (of_client of_server : ℕ) (client_tuned server_tuned : Bool) (p : Pair) (before : Talk names of_client of_server client_tuned server_tuned p) : Type 0 where
+  pub goes : Goes names of_client of_server client_tuned server_tuned p (pair_round p) before
+  pub client_beats : client_tuned ≡ true → Each IsPlainPdu p.to_client → (b : Bool) × ((pair_round p).to_server ≡ beats b (pair_round p).client) × (b ≡ true → (pair_round p).client.sent_at ≡ (pair_round p).client.clock)
+  pub server_beats : server_tuned ≡ true → Each IsPlainPdu p.to_server → (b : Bool) × ((pair_round p).to_client ≡ beats b (pair_round p).server) × (b ≡ true → (pair_round p).server.sent_at ≡ (pair_round p).server.clock)
 
-    bc : Bounds (client_round names of_client of_server client_tuned server_tuned p talk)
-    bc = bounds names role.Client of_server of_client client_tuned server_tuned talk.client_kept talk.server_kept p.client p.server p.to_client p.to_server (record { own = talk.client; other = talk.server }) talk.to_client talk.to_server server_fits client_short
+module _ (names : Names) (of_client of_server : ℕ) (client_tuned server_tuned : Bool) (p : Pair) (talk : Talk names of_client of_server client_tuned server_tuned p) where
+  abbrev pub server_bounds_of : p.client.sent < 2 ^ 31 → p.server.clock ≤ of_server + 100000 → Bounds (server_round names of_client of_server client_tuned server_tuned p talk)
+  server_bounds_of client_fits server_short = bounds names role.Server of_client of_server server_tuned client_tuned talk.server_kept talk.client_kept p.server p.client p.to_server p.to_client (record { own = talk.server; other = talk.client }) talk.to_server talk.to_client client_fits server_short
 
-    bs : Bounds (server_round names of_client of_server client_tuned server_tuned p talk)
-    bs = bounds names role.Server of_client of_server server_tuned client_tuned talk.server_kept talk.client_kept p.server p.client p.to_server p.to_client (record { own = talk.server; other = talk.client }) talk.to_server talk.to_client client_fits server_short
+  -- what a round makes of the server where it stays, whether its client does or not
+  pub server_turn : (fits : p.client.sent < 2 ^ 31) (short : p.server.clock ≤ of_server + 100000) → is_open (pair_round p).server.phase ≡ true
+      → Turn (server_round names of_client of_server client_tuned server_tuned p talk) (server_bounds_of fits short) server_tuned p.server (end_round (p.server.clock + 10) p.to_server p.server)
+  unfolding pair_round
+  server_turn fits short server_in = turn names role.Server of_client of_server server_tuned client_tuned talk.server_kept talk.client_kept p.server p.client p.to_server p.to_client (record { own = talk.server; other = talk.client }) talk.to_server talk.to_client fits short server_in
 
-    t : Turn (client_round names of_client of_server client_tuned server_tuned p talk) bc client_tuned p.client c
-    t = turn names role.Client of_server of_client client_tuned server_tuned talk.client_kept talk.server_kept p.client p.server p.to_client p.to_server (record { own = talk.client; other = talk.server }) talk.to_client talk.to_server server_fits client_short client_in
+  pub talks_on : p.client.sent < 2 ^ 31 → p.server.sent < 2 ^ 31 → p.client.clock ≤ of_client + 100000 → p.server.clock ≤ of_server + 100000
+      → is_open (pair_round p).client.phase ≡ true → is_open (pair_round p).server.phase ≡ true → GoesQuietly names of_client of_server client_tuned server_tuned p talk
+  unfolding pair_round
+  talks_on client_fits server_fits client_short server_short client_in server_in = record {
+    goes = goes_by names of_client of_server client_tuned server_tuned p talk c s bc (server_bounds_of client_fits server_short)
+        (record { heeds = heeds_of _ bc client_tuned p.client c t; plain = t.plain; notes = t.notes }) (record { heeds = heeds_of _ (server_bounds_of client_fits server_short) server_tuned p.server s u; plain = u.plain; notes = u.notes });
+    client_beats = λ e f. let g = t.beating e f in (g.0, g.1, λ h. g.2 h ∙ sym t.says.is.clock);
+    server_beats = λ e f. let g = u.beating e f in (g.0, g.1, λ h. g.2 h ∙ sym u.says.is.clock);
+  }
+    where
+      c : Step
+      c = end_round (p.client.clock + 10) p.to_client p.client
 
-    u : Turn (server_round names of_client of_server client_tuned server_tuned p talk) bs server_tuned p.server s
-    u = turn names role.Server of_client of_server server_tuned client_tuned talk.server_kept talk.client_kept p.server p.client p.to_server p.to_client (record { own = talk.server; other = talk.client }) talk.to_server talk.to_client client_fits server_short server_in
+      s : Step
+      s = end_round (p.server.clock + 10) p.to_server p.server
 
--- an end that wasn't tuned for 1800 ms has a partner that is outside
-pub tuned_by_then : (partner_start own_start : ℕ) (tuned : Bool) (kept other_kept : ℕ) (l m : LinkState) (ps : List Pdu) → Way partner_start own_start tuned kept other_kept l m ps
-    → m.clock < m.own_stamp + 1800 → partner_start + 1800 ≤ m.clock → tuned ≡ true
-tuned_by_then partner_start own_start true kept other_kept l m ps way young long = refl
-tuned_by_then partner_start own_start false kept other_kept l m ps way young long = absurd (omega (arith, way.mode.1, young, long))
+      bc : Bounds (client_round names of_client of_server client_tuned server_tuned p talk)
+      bc = bounds names role.Client of_server of_client client_tuned server_tuned talk.client_kept talk.server_kept p.client p.server p.to_client p.to_server (record { own = talk.client; other = talk.server }) talk.to_client talk.to_server server_fits client_short
+
+      t : Turn (client_round names of_client of_server client_tuned server_tuned p talk) bc client_tuned p.client c
+      t = turn names role.Client of_server of_client client_tuned server_tuned talk.client_kept talk.server_kept p.client p.server p.to_client p.to_server (record { own = talk.client; other = talk.server }) talk.to_client talk.to_server server_fits client_short client_in
+
+      u : Turn (server_round names of_client of_server client_tuned server_tuned p talk) (server_bounds_of client_fits server_short) server_tuned p.server s
+      u = server_turn client_fits server_short server_in

@@ -1,68 +1,130 @@
 -- A connection that both ends stay in becomes healthy soon, or its server never hears of a stamp of the good rounds.
-use Rattle.std.proofs.Common.{◌≡◌, ℕ, suc, ◌∙◌, ◌+◌, ◌-◌, ◌≤◌, false, true, ap, subst, arith}
-use Rattle.rasta_core_run.specs.State.{is_open}
+use Rattle.std.proofs.Common.{◌≡◌, ℕ, suc, ◌∙◌, ◌+◌, ◌-◌, ◌^◌, ◌≤◌, ◌<◌, Bool, false, true, [], ap, subst, arith}
+use Rattle.rasta_core_run.specs.State.{is_open, is_asking}
 use Rattle.rasta_core_run.specs.Names.{Names}
-use Rattle.rasta_core_recovery.proofs.Links.{Pair, pair_round, pair_rounds}
+use Rattle.rasta_core_recovery.proofs.Links.{Pair, end_round, pair_round, pair_rounds}
 use Rattle.rasta_core_recovery.proofs.Healthy.{Healthy}
-use Rattle.rasta_core_recovery.proofs.Converse.{Talk}
-use Rattle.rasta_core_recovery.proofs.Sealed.{Fate, tuned_soon, old_ever, fate_of_both}
-use Rattle.rasta_core_recovery.proofs.Seen.{Rooms, Seen, BothIn, Rows, Stay, NearBy, rounds_add, seen_later, stay_later, talk_begins, near_by, healthy_after}
+use Rattle.rasta_core_recovery.proofs.Turn.{Turn}
+use Rattle.rasta_core_recovery.proofs.Converse.{Talk, Goes, server_round, server_bounds_of, server_turn}
+use Rattle.rasta_core_recovery.proofs.Asks.{Asks, asks_asking}
+use Rattle.rasta_core_recovery.proofs.Sealed.{ServerAlone, Lasting, Fate, tuned_soon, old_ever, fate_of_both}
+use Rattle.rasta_core_recovery.proofs.Seen.{Rooms, Seen, BothIn, Rows, Stay, NearBy, joined_of, server_not_asking, rounds_add, seen_later, stay_later, talk_begins, talk_step, near_by, healthy_after}
+use Rattle.rasta_core_recovery.proofs.Entered.{talk_answers}
 
--- both are inside, and stay for so long, the client having joined in the first round at the latest: they were healthy long before, or the server knows no own
--- stamp that is younger than 10 ms after the beginning, nor does it in the next round
-pub data HealthyOrOld (names : Names) (n : ℕ) (p : Pair) : Type 0 where
-  soon_healthy : (k : ℕ) → k ≤ 103 → Healthy names 1 (pair_rounds k p) → HealthyOrOld names n p
-  ever_old : (pair_rounds n p).server.own_stamp ≤ p.server.clock + 10 → (is_open (pair_rounds (suc n) p).server.phase ≡ true → (pair_rounds (suc n) p).server.own_stamp ≤ p.server.clock + 10) → HealthyOrOld names n p
+-- They were healthy long before so many rounds, or the server knows no own stamp that is younger than this reading, nor does it in the next round.
+pub data HealthyOrOld (names : Names) (n : ℕ) (p : Pair) (reading : ℕ) : Type 0 where
+  soon_healthy : (k : ℕ) → k ≤ 103 → Healthy names 1 (pair_rounds k p) → HealthyOrOld names n p reading
+  ever_old : (pair_rounds n p).server.own_stamp ≤ reading → (is_open (pair_rounds (suc n) p).server.phase ≡ true → (pair_rounds (suc n) p).server.own_stamp ≤ reading) → HealthyOrOld names n p reading
 
-pub early_healthy : (names : Names) (n : ℕ) (p : Pair) → 103 ≤ n → n ≤ 1000 → Seen names n p → Stay n p → Rows p (pair_round p) → HealthyOrOld names n p
-early_healthy names n p long short seen stay rows = finish (fate_of_both names (n - 2) p2 p2.client.clock (pair_round p).server.clock seen2 stay2 (omega (arith, short)) (omega arith) (omega (arith, seen.server_clock 1, seen.server_clock 2)) (omega (arith, long)) talk)
+-- good rounds in which both stay
+module _ (names : Names) (of_client of_server n : ℕ) (p : Pair) (seen : Seen names n p) (stay : Stay n p) (short : n ≤ 1000) (client_start : p.client.clock ≤ of_client + 1000) (server_start : p.server.clock ≤ of_server + 1000) where
+  client_short : (k : ℕ) → k ≤ n → (pair_rounds k p).client.clock ≤ of_client + 100000
+  client_short k most = omega (arith, seen.client_clock k, most, short, client_start)
+
+  server_short : (k : ℕ) → k ≤ n → (pair_rounds k p).server.clock ≤ of_server + 100000
+  server_short k most = omega (arith, seen.server_clock k, most, short, server_start)
+
+  goes : (k : ℕ) → k < n → (client_tuned server_tuned : Bool) (talk : Talk names of_client of_server client_tuned server_tuned (pair_rounds k p)) → Goes names of_client of_server client_tuned server_tuned (pair_rounds k p) (pair_rounds (suc k) p) talk
+  goes k most client_tuned server_tuned talk = (talk_step names of_client of_server client_tuned server_tuned (pair_rounds k p) talk (seen.room k (omega (arith, most))) (stay.both k (omega (arith, most))) (stay.both (suc k) (omega (arith, most)))
+      (client_short k (omega (arith, most))) (server_short k (omega (arith, most)))).goes
+
+  client_fits : (pair_rounds n p).client.sent < 2 ^ 31
+  client_fits = let r = (seen.room n (omega arith)).client (stay.both n (omega arith)).client in omega (arith, r)
+
+  alone : (client_tuned server_tuned : Bool) (talk : Talk names of_client of_server client_tuned server_tuned (pair_rounds n p)) → is_open (pair_rounds (suc n) p).server.phase ≡ true
+      → ServerAlone names of_client of_server client_tuned server_tuned (pair_rounds n p) (pair_rounds (suc n) p) talk
+  unfolding pair_round
+  alone client_tuned server_tuned talk then_in = record {
+    bounds = server_bounds_of names of_client of_server client_tuned server_tuned (pair_rounds n p) talk client_fits (server_short n (omega arith));
+    then_tuned = turn.then_tuned;
+    kept = turn.says.kept;
+    mode = turn.mode;
+    shut = turn.notes.shut;
+  }
+    where
+      turn : Turn (server_round names of_client of_server client_tuned server_tuned (pair_rounds n p) talk) (server_bounds_of names of_client of_server client_tuned server_tuned (pair_rounds n p) talk client_fits (server_short n (omega arith)))
+          server_tuned (pair_rounds n p).server (end_round ((pair_rounds n p).server.clock + 10) (pair_rounds n p).to_server (pair_rounds n p).server)
+      turn = server_turn names of_client of_server client_tuned server_tuned (pair_rounds n p) talk client_fits (server_short n (omega arith)) then_in
+
+  lasting : Lasting names n of_client of_server (λ k. pair_rounds k p)
+  lasting = record {
+    goes = goes;
+    alone = alone;
+    client_clock = λ k most. seen.client_clock k;
+    server_clock = λ k most. seen.server_clock k;
+    client_counts = (seen.client_past 0).counts (stay.both 0 (omega arith)).client;
+    server_counts = (seen.server_past 0).counts (stay.both 0 (omega arith)).server;
+  }
+
+-- from two that talk since a reading, some rounds later
+module _ (names : Names) (b n : ℕ) (p : Pair) (base : b ≤ 2) (long : 103 ≤ n) (short : n ≤ 1000) (seen : Seen names n p) (stay : Stay n p) (reading : ℕ) (start : (pair_rounds b p).server.clock ≡ reading + 10)
+    (talk : Talk names (pair_rounds b p).client.clock reading false false (pair_rounds b p)) where
+  abbrev first : Pair
+  first = pair_rounds b p
+
+  then_seen : Seen names (n - b) first
+  then_seen = seen_later names b (n - b) p (subst (λ (k : ℕ). Seen names k p) (omega (arith, long, base)) seen)
+
+  then_stay : Stay (n - b) first
+  then_stay = stay_later b (n - b) p (subst (λ (k : ℕ). Stay k p) (omega (arith, long, base)) stay)
+
+  lasts : Lasting names (n - b) first.client.clock reading (λ k. pair_rounds k first)
+  lasts = lasting names first.client.clock reading (n - b) first then_seen then_stay (omega (arith, short)) (omega arith) (omega (arith, start))
+
+  same : (k m : ℕ) → k + b ≡ m → pair_rounds k first ≡ pair_rounds m p
+  same k m e = rounds_add k b p ∙ ap (λ (i : ℕ). pair_rounds i p) e
+
+  pub early_from : HealthyOrOld names n p reading
+  early_from = finish (fate_of_both names (n - b) first.client.clock reading (λ k. pair_rounds k first) lasts (omega (arith, long, base)) talk)
+    where
+      finish : Fate names (n - b) first.client.clock reading (λ k. pair_rounds k first) lasts → HealthyOrOld names n p reading
+      finish (tuned_soon k le tuned) = soon_healthy (31 + (2 + (k + b))) (omega (arith, le, base)) (subst (Healthy names 1) there (healthy_after names (n - b - k - 2) (pair_rounds 2 q) seen4 stay4 (omega (arith, le, long, base)) by))
+        where
+          q : Pair
+          q = pair_rounds k first
+
+          seen3 : Seen names (n - b - k) q
+          seen3 = seen_later names k (n - b - k) first (subst (λ (m : ℕ). Seen names m first) (omega (arith, le, long, base)) then_seen)
+
+          stay3 : Stay (n - b - k) q
+          stay3 = stay_later k (n - b - k) first (subst (λ (m : ℕ). Stay m first) (omega (arith, le, long, base)) then_stay)
+
+          seen4 : Seen names (n - b - k - 2) (pair_rounds 2 q)
+          seen4 = seen_later names 2 (n - b - k - 2) q (subst (λ (m : ℕ). Seen names m q) (omega (arith, le, long, base)) seen3)
+
+          stay4 : Stay (n - b - k - 2) (pair_rounds 2 q)
+          stay4 = stay_later 2 (n - b - k - 2) q (subst (λ (m : ℕ). Stay m q) (omega (arith, le, long, base)) stay3)
+
+          by : NearBy names (pair_rounds 2 q)
+          by = near_by names (n - b - k) first.client.clock reading q (omega (arith, le, long, base)) seen3 stay3 tuned (omega (arith, le, then_seen.client_clock k)) (omega (arith, le, then_seen.server_clock k, start))
+
+          there : pair_rounds 31 (pair_rounds 2 q) ≡ pair_rounds (31 + (2 + (k + b))) p
+          there = ap (λ (r : Pair). pair_rounds 31 (pair_rounds 2 r)) (rounds_add k b p) ∙ ap (pair_rounds 31) (rounds_add 2 (k + b) p) ∙ rounds_add 31 (2 + (k + b)) p
+      finish (old_ever s then_s) =
+          let at = same (n - b) n (omega (arith, long, base)) in let then_at = same (suc (n - b)) (suc n) (omega (arith, long, base)) in
+          ever_old (omega (arith, s, ap (λ (q : Pair). q.server.own_stamp) at)) (λ then_in. omega (arith, then_s (ap (λ (q : Pair). is_open q.server.phase) then_at ∙ then_in), ap (λ (q : Pair). q.server.own_stamp) then_at))
+
+-- where the numbers of what is said go on from the first round, it is known two rounds later what is under way
+pub rows_early : (names : Names) (n : ℕ) (p : Pair) → 103 ≤ n → n ≤ 1000 → Seen names n p → Stay n p → Rows p (pair_round p) → HealthyOrOld names n p (p.server.clock + 10)
+rows_early names n p long short seen stay rows = early_from names 2 n p (omega arith) long short seen stay (p.server.clock + 10) (omega (arith, seen.server_clock 2))
+    (subst (λ (r : ℕ). Talk names (pair_rounds 2 p).client.clock r false false (pair_rounds 2 p)) (omega (arith, seen.server_clock 1)) talk)
   where
-    p2 : Pair
-    p2 = pair_rounds 2 p
-
-    seen2 : Seen names (n - 2) p2
-    seen2 = seen_later names 2 (n - 2) p (subst (λ (k : ℕ). Seen names k p) (omega (arith, long)) seen)
-
-    stay2 : Stay (n - 2) p2
-    stay2 = stay_later 2 (n - 2) p (subst (λ (k : ℕ). Stay k p) (omega (arith, long)) stay)
-
     in1 : BothIn (pair_round p)
     in1 = stay.both 1 (omega (arith, long))
 
     rooms1 : Rooms (pair_round p)
     rooms1 = seen.room 1 (omega (arith, long))
 
-    talk : Talk names p2.client.clock (pair_round p).server.clock false false p2
+    talk : Talk names (pair_rounds 2 p).client.clock (pair_round p).server.clock false false (pair_rounds 2 p)
     talk = talk_begins names (pair_round p) p.client.sent p.server.sent (seen.facts 1) (seen.facts 2) (seen.client_past 2) (seen.server_past 2) in1 rows.joined (stay.both 2 (omega (arith, long)))
         (omega (arith, rooms1.client in1.client)) (omega (arith, rooms1.server in1.server)) rows.client rows.server
 
-    same : (k m : ℕ) → k + 2 ≡ m → pair_rounds k p2 ≡ pair_rounds m p
-    same k m e = rounds_add k 2 p ∙ ap (λ (i : ℕ). pair_rounds i p) e
-
-    finish : Fate names (n - 2) p2 p2.client.clock (pair_round p).server.clock seen2 stay2 (omega (arith, short)) (omega arith) (omega (arith, seen.server_clock 1, seen.server_clock 2)) → HealthyOrOld names n p
-    finish (tuned_soon k le tuned) = soon_healthy (31 + (2 + (k + 2))) (omega (arith, le)) (subst (Healthy names 1) there (healthy_after names (n - 4 - k) (pair_rounds 2 q) seen4 stay4 (omega (arith, le, long)) by))
-      where
-        q : Pair
-        q = pair_rounds k p2
-
-        seen3 : Seen names (n - 2 - k) q
-        seen3 = seen_later names k (n - 2 - k) p2 (subst (λ (m : ℕ). Seen names m p2) (omega (arith, le, long)) seen2)
-
-        stay3 : Stay (n - 2 - k) q
-        stay3 = stay_later k (n - 2 - k) p2 (subst (λ (m : ℕ). Stay m p2) (omega (arith, le, long)) stay2)
-
-        seen4 : Seen names (n - 4 - k) (pair_rounds 2 q)
-        seen4 = seen_later names 2 (n - 4 - k) q (subst (λ (m : ℕ). Seen names m q) (omega (arith, le, long)) seen3)
-
-        stay4 : Stay (n - 4 - k) (pair_rounds 2 q)
-        stay4 = stay_later 2 (n - 4 - k) q (subst (λ (m : ℕ). Stay m q) (omega (arith, le, long)) stay3)
-
-        by : NearBy names (pair_rounds 2 q)
-        by = near_by names (n - 2 - k) p2.client.clock (pair_round p).server.clock q (omega (arith, le, long)) seen3 stay3 tuned (omega (arith, le, seen2.client_clock k)) (omega (arith, le, seen2.server_clock k, seen.server_clock 1, seen.server_clock 2))
-
-        there : pair_rounds 31 (pair_rounds 2 q) ≡ pair_rounds (31 + (2 + (k + 2))) p
-        there = ap (λ (r : Pair). pair_rounds 31 (pair_rounds 2 r)) (rounds_add k 2 p) ∙ ap (pair_rounds 31) (rounds_add 2 (k + 2) p) ∙ rounds_add 31 (2 + (k + 2)) p
-    finish (old_ever s then_s) =
-        let at = same (n - 2) n (omega (arith, long)) in let then_at = same (suc (n - 2)) (suc n) (omega (arith, long)) in
-        ever_old (omega (arith, s, ap (λ (q : Pair). q.server.own_stamp) at, seen.server_clock 1))
-        (λ then_in. omega (arith, then_s (ap (λ (q : Pair). is_open q.server.phase) then_at ∙ then_in), ap (λ (q : Pair). q.server.own_stamp) then_at, seen.server_clock 1))
+-- where the client joined by the response of a server that had said nothing else, it is known at once
+pub answered_early : (names : Names) (n : ℕ) (p : Pair) → 103 ≤ n → n ≤ 1000 → Seen names n p → Stay n p → p.to_server ≡ [] → Asks p.client.clock p.client → is_asking (pair_round p).client ≡ false → HealthyOrOld names n p p.server.clock
+answered_early names n p long short seen stay mute asks joined = early_from names 1 n p (omega arith) long short seen stay p.server.clock (omega (arith, seen.server_clock 1))
+    (talk_answers names p ((seen.facts 0).calls now_in.client (asks_asking p.client.clock p.client asks) now_in.server) mute asks
+    (joined_of p.server now_in.server (server_not_asking names p.server (seen.facts 0).server) ((seen.facts 0).server_young now_in.server))
+    (seen.facts 1) (seen.client_past 1) (seen.server_past 1) (stay.both 1 (omega (arith, long))) joined)
+  where
+    now_in : BothIn p
+    now_in = stay.both 0 (omega arith)

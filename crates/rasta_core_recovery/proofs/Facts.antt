@@ -1,7 +1,7 @@
 -- What is so of two ends at any moment, and is used of good rounds: from the invariants of time and of order.
-use Rattle.std.proofs.Common.{◌≡◌, ◌≢◌, ℕ, zero, suc, ◌∙◌, ◌+◌, ◌*◌, ◌/◌, ◌^◌, ◌≤◌, ◌<◌, Bool, true, false, ◌&&◌, not, nat_le, if◌then◌else◌, List, [], ◌∷◌, drop, Some, Ok, refl, sym, ap, subst, arith, leb-true, leb-false}
-use Rattle.rasta_core_run.specs.Sequence.{stamp}
-use Rattle.rasta_core_run.specs.State.{LinkState, is_open, is_asking}
+use Rattle.std.proofs.Common.{◌≡◌, ◌≢◌, ℕ, zero, suc, ◌⊎◌, inl, inr, ◌∙◌, ◌+◌, ◌*◌, ◌/◌, ◌^◌, ◌≤◌, ◌<◌, Bool, true, false, ◌&&◌, not, nat_le, if◌then◌else◌, List, [], ◌∷◌, length, drop, Some, Ok, refl, sym, ap, subst, arith, leb-true, leb-false}
+use Rattle.rasta_core_run.specs.Sequence.{stamp, wire}
+use Rattle.rasta_core_run.specs.State.{LinkState, is_open, is_asking, is_up}
 use Rattle.rasta_core_run.specs.identity.Role.{Role}
 use Rattle.rasta_core_run.specs.identity.Role.TheVariants as role
 use Rattle.rasta_core_run.specs.key.Key.{Key}
@@ -17,9 +17,10 @@ use Rattle.rasta_core_run.specs.Names.{Names, identity_of}
 use Rattle.rasta_core.specs.TimedEnds.{Inside, Outside, IsInside, IsOutside, HasHeard, own_stamp, heard_stamp, closed_at, standing, Times, times_of}
 use Rattle.rasta_core.specs.Timely.{IsKnown, IsAnswering}
 use Rattle.rasta_core.specs.Invariant.{InFlight, Timely}
-use Rattle.rasta_core.specs.Ordered.{AreTogether, Ordered, unbegun, alone, together}
-use Rattle.rasta_core.specs.EndFlow.{EndFlow}
-use Rattle.rasta_core.specs.LinkAndFlow.{Plays, joined, asking, left, HasJoined}
+use Rattle.rasta_core.specs.Ordered.{AreTogether, IsSpelledIn, Ordered, unbegun, alone, together}
+use Rattle.rasta_core.specs.Order.{BeginsByResponse, OpensOn}
+use Rattle.rasta_core.specs.EndFlow.{EndFlow, IsAt, IsOf}
+use Rattle.rasta_core.specs.LinkAndFlow.{Plays, joined, asking, left, HasJoined, IsStillAsking}
 use Rattle.rasta_core_recovery.proofs.Links.{Pair}
 use Rattle.rasta_core_recovery.proofs.Mirror.{Mirrors, AreRead, arriving, pending, bytes_from, chosen}
 use Rattle.rasta_core_recovery.proofs.Words.{IsSpeech}
@@ -50,6 +51,20 @@ pub record Shares (l m : LinkState) : Type 0 where
 abbrev pub IsLately : LinkState → Pdu → Type 0
 IsLately l p = l.clock ≤ l.closed_at + 1804
 
+-- the first PDU of a server, with a stamp of lately
+pub record IsFirst (m : LinkState) (p : Pdu) : Type 0 where
+  pub number : p.sequence_number ≡ wire m.own_first 0
+  pub read_as : ℕ
+  pub stamped : p.time_stamp ≡ stamp read_as
+  pub before : read_as ≤ m.clock
+  pub recent : m.clock ≤ read_as + 4000
+
+-- a server that has entered the connection of a client that still asks: it isn't up, and has said its response alone
+pub record Calls (l m : LinkState) (ps : List Pdu) : Type 0 where
+  pub down : is_up m.phase ≡ false
+  pub most : m.expected ≤ l.sent
+  pub first : Each (IsFirst m) ps
+
 pub record Facts (names : Names) (p : Pair) : Type 0 where
   pub client : p.client.identity ≡ identity_of role.Client names
   pub server : p.server.identity ≡ identity_of role.Server names
@@ -60,6 +75,7 @@ pub record Facts (names : Names) (p : Pair) : Type 0 where
   pub alone : is_open p.client.phase ≡ true → is_asking p.client ≡ false → is_open p.server.phase ≡ false → p.server.clock ≤ p.server.closed_at + 1804
   -- nor is one that asks, to which something comes
   pub called : is_open p.client.phase ≡ true → is_open p.server.phase ≡ false → Each (IsLately p.server) p.to_client
+  pub calls : is_open p.client.phase ≡ true → is_asking p.client ≡ true → is_open p.server.phase ≡ true → Calls p.client p.server p.to_client
   -- what comes to a server inside returns no reading of its clock that is still to come
   pub returned : is_open p.server.phase ≡ true → Each (IsReturned p.server.clock) p.to_server
   -- a client that is outside for so long has a server that is outside, and nothing is under way
@@ -106,6 +122,17 @@ each_drop P (suc n) (x ∷ xs) each = each_drop P n xs each.1
 each_map : {X : Type 0} (P Q : X → Type 0) → ((x : X) → P x → Q x) → (xs : List X) → Each P xs → Each Q xs
 each_map P Q f [] each = tt
 each_map P Q f (x ∷ xs) each = (f x each.0, each_map P Q f xs each.1)
+
+each_both : {X : Type 0} (P Q : X → Type 0) (xs : List X) → Each P xs → Each Q xs → Each (λ x. P x × Q x) xs
+each_both P Q [] a b = tt
+each_both P Q (x ∷ xs) a b = ((a.0, b.0), each_both P Q xs a.1 b.1)
+
+-- the only PDU of a flow
+only_place : (flow : List Pdu) (place : ℕ) (pdu : Pdu) → length flow ≡ 1 → IsAt place pdu flow → place ≡ 0
+only_place [] place pdu one is = absurd is
+only_place (first ∷ others) zero pdu one is = refl
+only_place (first ∷ []) (suc place) pdu one is = absurd is
+only_place (first ∷ (second ∷ others)) (suc place) pdu one is = absurd (omega (arith, one))
 
 -- what holds of what each datagram of an end that can come is read as, holds of each PDU that comes
 each_read : (key : Key) (Q : Pdu → Type 0) (who : Role) (time : ℕ) (ds : List Sent) (ps : List Pdu) → Each (λ d. d.sender ≡ who → can_come time d ≡ true → (pdu : Pdu) → reading key d.bytes ≡ Ok pdu → Q pdu) ds
@@ -346,6 +373,75 @@ module _ (names : Names) (f : Flow) (p : Pair) (m : Mirrors names f p) (ordered 
   calls_client client_in server_out = each_read names.key (IsLately s) role.Server (f.ends.time + 10000) (drop f.passed f.ends.sent) p.to_client
       (each_map (InFlight names times) _ (λ d flies. server_called client_in server_out d flies) (drop f.passed f.ends.sent) (each_drop (InFlight names times) f.passed f.ends.sent timely.datagrams)) m.to_client
 
+  -- a server that has entered the connection of a client that asks
+  called_in : is_open c.phase ≡ true → is_asking c ≡ true → is_open s.phase ≡ true → Calls c s p.to_client
+  called_in client_in asks server_in = of_order (are_together names f.ends timely ordered client_in server_in)
+    where
+      newest_server : f.ends.server.connection ≡ Some timely.newest
+      newest_server = timely.ends_timed.server.in_newest (is_inside s server_in)
+
+      of_order : AreTogether names f.ends → Calls c s p.to_client
+      of_order t = by_plays t.client_plays t.server_plays
+        where
+          in_it : (l : LinkState) (own other : EndFlow) → is_open l.phase ≡ true → is_asking l ≡ false → Plays l own other → HasJoined l own other
+          in_it l own other is_in joined_is (joined h) = h
+          in_it l own other is_in joined_is (asking a) = absurd (cc (a.asking, joined_is))
+          in_it l own other is_in joined_is (left out keeps) = absurd (of_open l out is_in)
+
+          newest_is : t.connection ≡ timely.newest
+          newest_is = cc (t.of_server, newest_server)
+
+          both : HasJoined s t.server t.client → IsStillAsking c t.client t.server → Calls c s p.to_client
+          both y a = record {
+            down = down (is_up s.phase) refl;
+            most = omega (arith, y.expected, t.order.there.counts.most, a.inside.counted);
+            first = each_read names.key (IsFirst s) role.Server (f.ends.time + 10000) (drop f.passed f.ends.sent) p.to_client
+                (each_map _ _ (λ d known. first_of d known.0 known.1) (drop f.passed f.ends.sent) (each_drop _ f.passed f.ends.sent (each_both (InFlight names times) (IsSpelledIn names role.Server t.connection t.server.flow) f.ends.sent timely.datagrams t.server_flow))) m.to_client;
+          }
+            where
+              down : (b : Bool) → is_up s.phase ≡ b → is_up s.phase ≡ false
+              down false e = e
+              down true e = absurd (heard (y.come.heard e))
+                where
+                  heard : BeginsByResponse t.client.flow ⊎ ((2 ≤ length t.client.flow) × OpensOn t.client.flow) → ⊥
+                  heard (inl begins) = a.client begins
+                  heard (inr more) = omega (arith, more.0, a.inside.alone a.asking)
+
+              one : length t.server.flow ≡ 1
+              one = (y.come.starting (down (is_up s.phase) refl)).0
+
+              first_of : (d : Sent) → InFlight names times d → IsSpelledIn names role.Server t.connection t.server.flow d → d.sender ≡ role.Server → can_come (f.ends.time + 10000) d ≡ true → (pdu : Pdu) → reading names.key d.bytes ≡ Ok pdu → IsFirst s pdu
+              first_of d flies spelled sender can pdu read = of_sender d.sender sender flies.known
+                where
+                  newest : (d.connection ≡ timely.newest) × (f.ends.time + 10000 ≤ d.at + lifetime)
+                  newest = in_newest d flies can
+
+                  place : IsOf pdu t.server.flow
+                  place = spelled sender (newest.0 ∙ sym newest_is) pdu read
+
+                  numbered : pdu.sequence_number ≡ wire t.server.first 0
+                  numbered = (t.order.back.each place.0 pdu place.1).number ∙ ap (wire t.server.first) (only_place t.server.flow place.0 pdu one place.1)
+
+                  same : flies.pdu ≡ pdu
+                  same = cc (flies.read, read)
+
+                  of_sender : (who : Role) → who ≡ role.Server → IsKnown times who d.at d.connection flies.pdu flies.back → IsFirst s pdu
+                  of_sender role.Client e known = absurd (cc e)
+                  of_sender role.Server e known =
+                      let then_read = known.was_read newest.0 (is_inside s server_in) in
+                      let least = then_read.least in let most = then_read.most in let before = known.sent_before in let soon = newest.1 in let at = timely.server.clock in record {
+                        number = numbered ∙ ap (λ (n : ℕ). wire n 0) (sym y.inside.own_first);
+                        read_as = known.read_as;
+                        stamped = sym (ap (λ (x : Pdu). x.time_stamp) same) ∙ known.stamp_is;
+                        before = omega (arith, least, before, at);
+                        recent = omega (arith, most, soon, at);
+                      }
+
+          by_plays : Plays c t.client t.server → Plays s t.server t.client → Calls c s p.to_client
+          by_plays (asking a) served = both (in_it s t.server t.client server_in (server_joined server_in) served) a
+          by_plays (joined h) served = absurd (cc (h.joined, asks))
+          by_plays (left out keeps) served = absurd (of_open c out client_in)
+
   -- what comes to a server
   returned_to_server : is_open s.phase ≡ true → (d : Sent) → InFlight names times d → d.sender ≡ role.Client → can_come (f.ends.time + 10000) d ≡ true → (pdu : Pdu) → reading names.key d.bytes ≡ Ok pdu → IsReturned p.server.clock pdu
   returned_to_server server_in d flies sender can pdu read speech = of_sender d.sender sender flies.known
@@ -378,6 +474,8 @@ module _ (names : Names) (f : Flow) (p : Pair) (m : Mirrors names f p) (ordered 
         (subst (λ (k : LinkState). is_open c.phase ≡ true → is_asking c ≡ false → is_open k.phase ≡ false → k.clock ≤ k.closed_at + 1804) m.server left_alone);
     called = λ client_in server_out. subst (λ (l : LinkState). Each (IsLately l) p.to_client) m.server
         (calls_client (ap (λ (l : LinkState). is_open l.phase) m.client ∙ client_in) (ap (λ (l : LinkState). is_open l.phase) m.server ∙ server_out));
+    calls = subst (λ (l : LinkState). is_open l.phase ≡ true → is_asking l ≡ true → is_open p.server.phase ≡ true → Calls l p.server p.to_client) m.client
+        (subst (λ (k : LinkState). is_open c.phase ≡ true → is_asking c ≡ true → is_open k.phase ≡ true → Calls c k p.to_client) m.server called_in);
     returned = λ server_in. returns_to_server (ap (λ (l : LinkState). is_open l.phase) m.server ∙ server_in);
     waited = subst (λ (l : LinkState). is_open l.phase ≡ false → l.closed_at + 5990 ≤ l.clock → (is_open p.server.phase ≡ false) × (p.to_client ≡ []) × (p.to_server ≡ [])) m.client
         (λ client_out long. (

@@ -13,13 +13,16 @@ use Rattle.rasta_core_recovery.proofs.Links.{Pair, all_heard, worked, end_round,
 use Rattle.rasta_core_recovery.proofs.Healthy.{Healthy}
 use Rattle.rasta_core_recovery.proofs.Opens.{Left, resting_link, asking_link, request, client_opens, client_waits, server_rests, step_is}
 use Rattle.rasta_core_recovery.proofs.Stays.{left_of, out_is, both_down, new_is_healthy, quiet_stays, quiet_works}
+use Rattle.rasta_core_recovery.proofs.Calls.{at_reading}
+use Rattle.rasta_core_recovery.proofs.Fold.{Out, Begins, late, on, begins, late_round}
 use Rattle.rasta_core_recovery.proofs.Course.{Joined}
 use Rattle.rasta_core_recovery.proofs.Turn.{Either, gone, so}
 use Rattle.rasta_core_recovery.proofs.Asks.{Asks, AsksOn, InIt, IsTalkPdu, asks_asking, asking_is, in_round, alone_round, server_talks}
 use Rattle.rasta_core_recovery.proofs.Facts.{Young, IsLately, Facts}
 use Rattle.rasta_core_recovery.proofs.Pasts.{Past}
 use Rattle.rasta_core_recovery.proofs.Seen.{Seen, BothIn, Rows, Stay, rows_after, rows_joining, round_first, rounds_add, seen_on, seen_later, joined_of, server_not_asking, lives_through}
-use Rattle.rasta_core_recovery.proofs.Early.{HealthyOrOld, soon_healthy, ever_old, early_healthy}
+use Rattle.rasta_core_recovery.proofs.Entered.{server_silent}
+use Rattle.rasta_core_recovery.proofs.Early.{HealthyOrOld, soon_healthy, ever_old, rows_early, answered_early}
 
 -- healthy after so many rounds at most
 pub record Comes (names : Names) (most : ℕ) (p : Pair) : Type 0 where
@@ -90,10 +93,10 @@ module _ (names : Names) (c s client_closed server_closed : ℕ) (client server 
       shut = resting_link names role.Client (c + 1800 + 10) (c + 10 + 1800) after
 
       settles : settled (c + 1800 + 10) at ≡ shut
-      settles = rw late refl
+      settles = rw is_late refl
         where
-          late : nat_le (c + 10 + 1800) (c + 1800 + 10) ≡ true
-          late = grind (arith, nat_tests)
+          is_late : nat_le (c + 10 + 1800) (c + 1800 + 10) ≡ true
+          is_late = grind (arith, nat_tests)
 
       closing : end_round (c + 1800 + 10) [] at ≡ silent shut
       closing = ap (λ (k : LinkState). worked (c + 1800 + 10) role.Client k) settles ∙ quiet_works (c + 1800 + 10) role.Client shut refl (omega arith)
@@ -181,34 +184,8 @@ pub out_comes : (names : Names) (n : ℕ) (p : Pair) → 599 ≤ n → Seen name
 out_comes names n p long seen shut = let r = waits_comes names 599 (n - 599) p (subst (λ (k : ℕ). Seen names k p) (omega (arith, long)) seen) shut (omega (arith, (seen.client_past 0).closed shut)) in
     record { rounds = r.rounds; soon = omega (arith, r.soon); healthy = r.healthy }
 
--- ---- a client that asks in vain
-
-record Stuck (p : Pair) : Type 0 where
-  asks : Asks p.client.clock p.client
-  mute : p.to_server ≡ []
-  talk : Each IsTalkPdu p.to_client
-
 to_role : (names : Names) (l : LinkState) → l.identity ≡ identity_of role.Server names → l.identity.role ≡ role.Server
 to_role names l e = ap (λ i. i.role) e
-
-stuck_step : (names : Names) (p : Pair) → Facts names p → Stuck p → (is_open (pair_round p).client.phase ≡ false) ⊎ (Stuck (pair_round p) × ((pair_round p).client.own_stamp ≡ p.client.own_stamp))
-unfolding pair_round
-stuck_step names p facts stuck = choose (alone_round (p.client.clock + 10) p.to_client p.client stuck.asks stuck.talk refl)
-  where
-    c : Step
-    c = end_round (p.client.clock + 10) p.to_client p.client
-
-    choose : Either (p.client.clock + 10) c.link (AsksOn (p.client.clock + 10) p.client c) → (is_open c.link.phase ≡ false)
-        ⊎ (Stuck (record { client = c.link; server = (end_round (p.server.clock + 10) p.to_server p.server).link; to_client = (end_round (p.server.clock + 10) p.to_server p.server).pdus; to_server = c.pdus }) × (c.link.own_stamp ≡ p.client.own_stamp))
-    choose (gone left) = inl left.is_out
-    choose (so a) = inr (
-      record {
-        asks = subst (λ (n : ℕ). Asks n c.link) (sym a.asks.clock) a.asks;
-        mute = a.silent;
-        talk = subst (λ (ps : List Pdu). Each IsTalkPdu (end_round (p.server.clock + 10) ps p.server).pdus) (sym stuck.mute) (server_talks (p.server.clock + 10) p.server (to_role names p.server facts.server));
-      },
-      a.own,
-    )
 
 record OutAt (most : ℕ) (p : Pair) : Type 0 where
   rounds : ℕ
@@ -230,19 +207,6 @@ record OutAlone (most : ℕ) (p : Pair) : Type 0 where
   clock : (pair_rounds rounds p).server.clock ≡ p.server.clock + 10 * rounds
   some : 1 ≤ rounds
 
-stuck_out : (names : Names) (fuel n : ℕ) (p : Pair) → Seen names (fuel + n) p → Stuck p → p.client.own_stamp + 1800 ≤ p.client.clock + 10 * fuel → OutAt fuel p
-stuck_out names zero n p seen stuck late = let y = stuck.asks.young in absurd (omega (arith, y, late))
-stuck_out names (suc fuel) n p seen stuck late = choose (λ s k e. stuck_out names fuel n (pair_round p) s k e) (stuck_step names p (seen.facts 0) stuck)
-  where
-    Again : Type 0
-    Again = Seen names (fuel + n) (pair_round p) → Stuck (pair_round p) → (pair_round p).client.own_stamp + 1800 ≤ (pair_round p).client.clock + 10 * fuel → OutAt fuel (pair_round p)
-
-    choose : Again → (is_open (pair_round p).client.phase ≡ false) ⊎ (Stuck (pair_round p) × ((pair_round p).client.own_stamp ≡ p.client.own_stamp)) → OutAt (suc fuel) p
-    choose again (inl shut) = record { rounds = 1; soon = omega arith; is_out = shut }
-    choose again (inr (still, own)) =
-        let r = again (seen_on names (fuel + n) p (subst (λ (k : ℕ). Seen names k p) (omega arith) seen)) still (omega (arith, late, own, seen.client_clock 1)) in
-        record { rounds = suc r.rounds; soon = omega (arith, r.soon); is_out = subst (λ (q : Pair). is_open q.client.phase ≡ false) (round_first r.rounds p) r.is_out }
-
 -- ---- a client that is left alone
 
 -- an end that had joined, and is outside after a round
@@ -259,15 +223,15 @@ just_out ps l is shut = choose (in_round (l.clock + 10) ps l (inl is) refl)
 
 -- an end whose own stamp is too old in the next round
 late_out : (ps : List Pdu) (l : LinkState) → Joined l.clock l → l.own_stamp + 1800 ≤ l.clock + 10 → JustOut (end_round (l.clock + 10) ps l).link
-late_out ps l is late = choose (is_open (end_round (l.clock + 10) ps l).link.phase) refl
+late_out ps l is over = choose (is_open (end_round (l.clock + 10) ps l).link.phase) refl
   where
     choose : (b : Bool) → is_open (end_round (l.clock + 10) ps l).link.phase ≡ b → JustOut (end_round (l.clock + 10) ps l).link
     choose false e = just_out ps l is e
-    choose true e = let y = lives_through l ps is.connected (record { own = is.own; young = is.young }) e in absurd (omega (arith, y, late))
+    choose true e = let y = lives_through l ps is.connected (record { own = is.own; young = is.young }) e in absurd (omega (arith, y, over))
 
 server_late : (p : Pair) → Joined p.server.clock p.server → p.server.own_stamp + 1800 ≤ p.server.clock + 10 → JustOut (pair_round p).server
 unfolding pair_round
-server_late p is late = late_out p.to_server p.server is late
+server_late p is over = late_out p.to_server p.server is over
 
 server_leaves_now : (p : Pair) → Joined p.server.clock p.server → is_open (pair_round p).server.phase ≡ false → JustOut (pair_round p).server
 unfolding pair_round
@@ -290,8 +254,8 @@ joined_step p is = choose (in_round (p.client.clock + 10) p.to_client p.client (
     choose (so (inr a)) = absurd (cc (a.asked, is.joined))
 
 alone_out : (names : Names) (fuel n : ℕ) (p : Pair) → Seen names (fuel + n) p → Joined p.client.clock p.client → is_open p.server.phase ≡ false → p.server.closed_at + 1804 < p.server.clock + 10 * fuel → OutAlone fuel p
-alone_out names zero n p seen joined shut late = absurd (omega (arith, late, (seen.facts 0).alone joined.connected joined.joined shut))
-alone_out names (suc fuel) n p seen joined shut late = choose (λ s j e f. alone_out names fuel n (pair_round p) s j e f) (joined_step p joined)
+alone_out names zero n p seen joined shut over = absurd (omega (arith, over, (seen.facts 0).alone joined.connected joined.joined shut))
+alone_out names (suc fuel) n p seen joined shut over = choose (λ s j e f. alone_out names fuel n (pair_round p) s j e f) (joined_step p joined)
   where
     Again : Type 0
     Again = Seen names (fuel + n) (pair_round p) → Joined (pair_round p).client.clock (pair_round p).client → is_open (pair_round p).server.phase ≡ false
@@ -318,7 +282,7 @@ alone_out names (suc fuel) n p seen joined shut late = choose (λ s j e f. alone
     }
     choose again (inr still) =
         let r = again (seen_on names (fuel + n) p (subst (λ (k : ℕ). Seen names k p) (omega arith) seen)) still then_shut
-        (omega (arith, late, ap (λ (l : LinkState). l.closed_at) on, ap (λ (l : LinkState). l.clock) on)) in
+        (omega (arith, over, ap (λ (l : LinkState). l.closed_at) on, ap (λ (l : LinkState). l.clock) on)) in
         let e = round_first r.rounds p in record {
           rounds = suc r.rounds;
           soon = omega (arith, r.soon);
@@ -473,70 +437,82 @@ alone_comes names n p long seen joined shut =
     seen_q : Seen names (n - o.rounds) q
     seen_q = seen_later names o.rounds (n - o.rounds) p (subst (λ (k : ℕ). Seen names k p) (omega (arith, long, o.soon)) seen)
 
--- Both have stayed for so many rounds, and the server knows no own stamp that is younger than 10 ms after the beginning: so time
--- is over for it, and where the client leaves first, the server isn't quiet any more as the client asks.
-module _ (names : Names) (n : ℕ) (p : Pair) (long : 1000 ≤ n) (seen : Seen names n p) (s : Stays 179 p) (rows : Rows p (pair_round p)) where
+-- Both have stayed for so many rounds, and the server knows no own stamp that is younger than this reading: so time is over for it,
+-- and where the client leaves first, the server isn't quiet any more as the client asks.
+module _ (names : Names) (n : ℕ) (p : Pair) (long : 1000 ≤ n) (seen : Seen names n p) (m reading : ℕ) (few : m ≤ 200) (s : Stays m p) (over : reading + 1780 ≤ p.server.clock + 10 * m)
+    (early : (k : ℕ) → m ≤ k → k ≤ suc m → Stay k p → HealthyOrOld names k p reading) where
   abbrev before : Pair
-  before = pair_rounds 179 p
+  before = pair_rounds m p
 
   abbrev next : Pair
-  next = pair_rounds 180 p
+  next = pair_rounds (suc m) p
 
   abbrev last : Pair
-  last = pair_rounds 181 p
+  last = pair_rounds (suc (suc m)) p
 
-  seen_at : (k : ℕ) → k ≤ 181 → Seen names (n - k) (pair_rounds k p)
+  seen_at : (k : ℕ) → k ≤ 202 → Seen names (n - k) (pair_rounds k p)
   seen_at k most = seen_later names k (n - k) p (subst (λ (i : ℕ). Seen names i p) (omega (arith, most, long)) seen)
 
-  seen_narrow : (k : ℕ) → k ≤ 181 → Seen names k p
-  seen_narrow k most = record { facts = seen.facts; client_clock = seen.client_clock; server_clock = seen.server_clock; client_past = seen.client_past; server_past = seen.server_past; room = λ i le. seen.room i (omega (arith, le, most, long)) }
-
   -- the client has left, and its server leaves a round later at the latest
-  client_first : (is_open next.server.phase ≡ true → next.server.own_stamp ≤ p.server.clock + 10) → JustOut next.client → (b : Bool) → is_open next.server.phase ≡ b → Comes names 1562 p
+  client_first : (is_open next.server.phase ≡ true → next.server.own_stamp ≤ reading) → JustOut next.client → (b : Bool) → is_open next.server.phase ≡ b → Comes names (m + 1383) p
   client_first old left false e =
-      let out = server_leaves_now before (server_joined names before (seen.facts 179) (s.stay.both 179 (omega arith)).server) e in
-      comes_later names 180 603 1562 p (omega arith) (both_left names (n - 180) next (omega (arith, long)) (seen_at 180 (omega arith)) left.is_out e (omega (arith, left.lately)) (omega (arith, out.lately)))
+      let out = server_leaves_now before (server_joined names before (seen.facts m) (s.stay.both m (omega arith)).server) e in
+      comes_later names (suc m) 603 (m + 1383) p (omega arith) (both_left names (n - suc m) next (omega (arith, long, few)) (seen_at (suc m) (omega (arith, few))) left.is_out e (omega (arith, left.lately)) (omega (arith, out.lately)))
   client_first old left true e =
-      let out = server_late next (server_joined names next (seen.facts 180) e) (omega (arith, old e, seen.server_clock 180)) in
+      let out = server_late next (server_joined names next (seen.facts (suc m)) e) (omega (arith, old e, seen.server_clock (suc m), over)) in
       let on = client_quiet next left.is_out (omega (arith, left.lately)) in
-      comes_later names 181 603 1562 p (omega arith) (both_left names (n - 181) last (omega (arith, long)) (seen_at 181 (omega arith)) (ap (λ (l : LinkState). is_open l.phase) on ∙ left.is_out) out.is_out
+      comes_later names (suc (suc m)) 603 (m + 1383) p (omega arith) (both_left names (n - suc (suc m)) last (omega (arith, long, few)) (seen_at (suc (suc m)) (omega (arith, few))) (ap (λ (l : LinkState). is_open l.phase) on ∙ left.is_out) out.is_out
       (omega (arith, left.lately, ap (λ (l : LinkState). l.clock) on, ap (λ (l : LinkState). l.closed_at) on)) (omega (arith, out.lately)))
 
   -- both stay for a round more, and then the server leaves
-  server_first : JustOut last.server → JustOut last.client ⊎ Joined last.client.clock last.client → Comes names 1562 p
-  server_first out (inl left) = comes_later names 181 603 1562 p (omega arith) (both_left names (n - 181) last (omega (arith, long)) (seen_at 181 (omega arith)) left.is_out out.is_out (omega (arith, left.lately)) (omega (arith, out.lately)))
-  server_first out (inr j) = comes_later names 181 784 1562 p (omega arith) (alone_comes names (n - 181) last (omega (arith, long)) (seen_at 181 (omega arith)) j out.is_out)
+  server_first : JustOut last.server → JustOut last.client ⊎ Joined last.client.clock last.client → Comes names (m + 1383) p
+  server_first out (inl left) = comes_later names (suc (suc m)) 603 (m + 1383) p (omega arith) (both_left names (n - suc (suc m)) last (omega (arith, long, few)) (seen_at (suc (suc m)) (omega (arith, few))) left.is_out out.is_out (omega (arith, left.lately)) (omega (arith, out.lately)))
+  server_first out (inr j) = comes_later names (suc (suc m)) 784 (m + 1383) p (omega arith) (alone_comes names (n - suc (suc m)) last (omega (arith, long, few)) (seen_at (suc (suc m)) (omega (arith, few))) j out.is_out)
 
-  both_last : Stays 180 p → HealthyOrOld names 180 p → Comes names 1562 p
+  both_last : Stays (suc m) p → HealthyOrOld names (suc m) p reading → Comes names (m + 1383) p
   both_last more (soon_healthy k le h) = record { rounds = k; soon = omega (arith, le); healthy = h }
   both_last more (ever_old d then_d) =
-      server_first (server_late next (server_joined names next (seen.facts 180) (more.stay.both 180 (omega arith)).server) (omega (arith, d, seen.server_clock 180))) (joined_step next more.joined)
+      server_first (server_late next (server_joined names next (seen.facts (suc m)) (more.stay.both (suc m) (omega arith)).server) (omega (arith, d, seen.server_clock (suc m), over))) (joined_step next more.joined)
 
-  stays_comes : Comes names 1562 p
-  stays_comes = choose (early_healthy names 179 p (omega arith) (omega arith) (seen_narrow 179 (omega arith)) s.stay rows)
+  stays_comes : Comes names (m + 1383) p
+  stays_comes = choose (early m (omega arith) (omega arith) s.stay)
     where
-      both_stay : (b : Bool) → is_open next.server.phase ≡ b → Joined next.client.clock next.client → Comes names 1562 p
-      both_stay false e j = comes_later names 180 784 1562 p (omega arith) (alone_comes names (n - 180) next (omega (arith, long)) (seen_at 180 (omega arith)) j e)
-      both_stay true e j = let more = stays_on 179 p s j e in both_last more (early_healthy names 180 p (omega arith) (omega arith) (seen_narrow 180 (omega arith)) more.stay rows)
+      both_stay : (b : Bool) → is_open next.server.phase ≡ b → Joined next.client.clock next.client → Comes names (m + 1383) p
+      both_stay false e j = comes_later names (suc m) 784 (m + 1383) p (omega arith) (alone_comes names (n - suc m) next (omega (arith, long, few)) (seen_at (suc m) (omega (arith, few))) j e)
+      both_stay true e j = let more = stays_on m p s j e in both_last more (early (suc m) (omega arith) (omega arith) more.stay)
 
-      choose : HealthyOrOld names 179 p → Comes names 1562 p
+      choose : HealthyOrOld names m p reading → Comes names (m + 1383) p
       choose (soon_healthy k le h) = record { rounds = k; soon = omega (arith, le); healthy = h }
       choose (ever_old d then_d) = follow (joined_step before s.joined)
         where
-          follow : JustOut next.client ⊎ Joined next.client.clock next.client → Comes names 1562 p
+          follow : JustOut next.client ⊎ Joined next.client.clock next.client → Comes names (m + 1383) p
           follow (inl left) = client_first then_d left (is_open next.server.phase) refl
           follow (inr j) = both_stay (is_open next.server.phase) refl j
 
+-- one of them leaves in these rounds
+leaves_comes : (names : Names) (m n : ℕ) (p : Pair) → m ≤ 200 → 1000 ≤ n → Seen names n p → Leaves m p → Comes names (m + 1383) p
+leaves_comes names m n p few long seen (client_leaves o) = out_at_comes names m n p (omega (arith, few, long)) seen o
+leaves_comes names m n p few long seen (server_leaves k most j shut) =
+    comes_later names k 784 (m + 1383) p (omega (arith, most))
+    (alone_comes names (n - k) (pair_rounds k p) (omega (arith, few, long, most)) (seen_later names k (n - k) p (subst (λ (i : ℕ). Seen names i p) (omega (arith, few, long, most)) seen)) j shut)
+
+seen_narrow : (names : Names) (k n : ℕ) (p : Pair) → k ≤ n → Seen names n p → Seen names k p
+seen_narrow names k n p most seen = record { facts = seen.facts; client_clock = seen.client_clock; server_clock = seen.server_clock; client_past = seen.client_past; server_past = seen.server_past; room = λ i le. seen.room i (omega (arith, le, most)) }
+
 -- the client has joined, now or in the first round
 rows_come : (names : Names) (n : ℕ) (p : Pair) → 1000 ≤ n → Seen names n p → (BothIn p → BothIn (pair_round p) → Rows p (pair_round p)) → Leaves 179 p ⊎ Stays 179 p → Comes names 1562 p
-rows_come names n p long seen rows (inr s) = stays_comes names n p long seen s (rows (s.stay.both 0 (omega arith)) (s.stay.both 1 (omega arith)))
-rows_come names n p long seen rows (inl (client_leaves o)) = out_at_comes names 179 n p (omega (arith, long)) seen o
-rows_come names n p long seen rows (inl (server_leaves k most j shut)) =
-    comes_later names k 784 1562 p (omega (arith, most))
-    (alone_comes names (n - k) (pair_rounds k p) (omega (arith, long, most)) (seen_later names k (n - k) p (subst (λ (i : ℕ). Seen names i p) (omega (arith, long, most)) seen)) j shut)
+rows_come names n p long seen rows (inl l) = leaves_comes names 179 n p (omega arith) long seen l
+rows_come names n p long seen rows (inr s) = stays_comes names n p long seen 179 (p.server.clock + 10) (omega arith) s (omega arith)
+    (λ k least most stay. rows_early names k p (omega (arith, least)) (omega (arith, most)) (seen_narrow names k n p (omega (arith, most, long)) seen) stay (rows (stay.both 0 (omega arith)) (stay.both 1 (omega (arith, least)))))
 
 joined_comes : (names : Names) (n : ℕ) (p : Pair) → 1000 ≤ n → Seen names n p → Joined p.client.clock p.client → Comes names 1562 p
 joined_comes names n p long seen joined = rows_come names n p long seen (λ now_in then_in. rows_after p joined (server_joined names p (seen.facts 0) now_in.server) then_in) (search 179 p joined)
+
+-- the same where it joined by the response of a server that had said nothing else
+answered_come : (names : Names) (n : ℕ) (p : Pair) → 1000 ≤ n → Seen names n p → p.to_server ≡ [] → Asks p.client.clock p.client → is_asking (pair_round p).client ≡ false → Leaves 178 p ⊎ Stays 178 p → Comes names 1561 p
+answered_come names n p long seen mute asks joined (inl l) = leaves_comes names 178 n p (omega arith) long seen l
+answered_come names n p long seen mute asks joined (inr s) = stays_comes names n p long seen 178 p.server.clock (omega arith) s (omega arith)
+    (λ k least most stay. answered_early names k p (omega (arith, least)) (omega (arith, most)) (seen_narrow names k n p (omega (arith, most, long)) seen) stay mute asks joined)
 
 -- a client that asks, and joins in this round: where its server is outside it left lately, for it has said something that comes
 called_lately : (names : Names) (p : Pair) → Facts names p → Asks p.client.clock p.client → Joined (pair_round p).client.clock (pair_round p).client → is_open p.server.phase ≡ false → p.server.clock ≤ p.server.closed_at + 1804
@@ -551,24 +527,31 @@ called_lately names p facts is j shut = choose p.to_client refl (facts.called (a
     choose [] e each = absurd (mute (alone_round (p.client.clock + 10) p.to_client p.client is (subst (Each IsTalkPdu) (sym e) tt) refl))
     choose (q ∷ qs) e each = each.0
 
-joining_comes : (names : Names) (n : ℕ) (p : Pair) → 1000 ≤ n → Seen names n p → Asks p.client.clock p.client → Joined (pair_round p).client.clock (pair_round p).client → Comes names 1562 p
-joining_comes names n p long seen is j = by_server (is_open p.server.phase) refl
+-- what it comes to where its server is inside, too
+joining : (names : Names) (most n : ℕ) (p : Pair) → 785 ≤ most → 1000 ≤ n → Seen names n p → Asks p.client.clock p.client → Joined (pair_round p).client.clock (pair_round p).client → (Stays 1 p → is_open p.server.phase ≡ true → Comes names most p) → Comes names most p
+joining names most n p many long seen is j goes_on = by_server (is_open p.server.phase) refl
   where
-    left_alone : is_open (pair_round p).server.phase ≡ false → Comes names 1562 p
-    left_alone shut = comes_later names 1 784 1562 p (omega arith) (alone_comes names (n - 1) (pair_round p) (omega (arith, long)) (seen_on names (n - 1) p (subst (λ (k : ℕ). Seen names k p) (omega (arith, long)) seen)) j shut)
+    left_alone : is_open (pair_round p).server.phase ≡ false → Comes names most p
+    left_alone shut = comes_later names 1 784 most p (omega (arith, many)) (alone_comes names (n - 1) (pair_round p) (omega (arith, long)) (seen_on names (n - 1) p (subst (λ (k : ℕ). Seen names k p) (omega (arith, long)) seen)) j shut)
 
     first_in : is_open p.server.phase ≡ true → (k : ℕ) → k < 1 → BothIn (pair_rounds k p)
     first_in e zero lt = record { client = ap is_open is.starts; server = e }
     first_in e (suc k) lt = absurd (omega (arith, lt))
 
-    both_in : (b : Bool) → is_open (pair_round p).server.phase ≡ b → is_open p.server.phase ≡ true → Comes names 1562 p
+    both_in : (b : Bool) → is_open (pair_round p).server.phase ≡ b → is_open p.server.phase ≡ true → Comes names most p
     both_in false f e = left_alone f
-    both_in true f e = rows_come names n p long seen (λ now_in then_in. rows_joining p is (server_joined names p (seen.facts 0) now_in.server) j.joined then_in)
-        (search_from 178 1 179 p (omega arith) (all_stay 1 p j (first_in e) f))
+    both_in true f e = goes_on (all_stay 1 p j (first_in e) f) e
 
-    by_server : (b : Bool) → is_open p.server.phase ≡ b → Comes names 1562 p
+    by_server : (b : Bool) → is_open p.server.phase ≡ b → Comes names most p
     by_server true e = both_in (is_open (pair_round p).server.phase) refl e
     by_server false e = left_alone (ap (λ (l : LinkState). is_open l.phase) (server_quiet p e (omega (arith, called_lately names p (seen.facts 0) is j e))) ∙ e)
+
+joining_comes : (names : Names) (n : ℕ) (p : Pair) → 1000 ≤ n → Seen names n p → Asks p.client.clock p.client → Joined (pair_round p).client.clock (pair_round p).client → Comes names 1562 p
+joining_comes names n p long seen is j = joining names 1562 n p (omega arith) long seen is j (λ s e. rows_come names n p long seen (λ now_in then_in. rows_joining p is (server_joined names p (seen.facts 0) now_in.server) j.joined then_in) (search_from 178 1 179 p (omega arith) s))
+
+-- and where it said nothing in the round before
+answered_comes : (names : Names) (n : ℕ) (p : Pair) → 1000 ≤ n → Seen names n p → p.to_server ≡ [] → Asks p.client.clock p.client → Joined (pair_round p).client.clock (pair_round p).client → Comes names 1561 p
+answered_comes names n p long seen mute is j = joining names 1561 n p (omega arith) long seen is j (λ s e. answered_come names n p long seen mute is j.joined (search_from 177 1 178 p (omega arith) s))
 
 -- an end inside has joined, or asks
 in_it_of : (l : LinkState) → is_open l.phase ≡ true → Young l → InIt l.clock l
@@ -596,44 +579,143 @@ asking_step p is = choose (in_round (p.client.clock + 10) p.to_client p.client (
     choose (so (inl j)) = joins (subst (λ (n : ℕ). Joined n c.link) (sym j.clock) j)
     choose (so (inr a)) = asks_on (subst (λ (n : ℕ). Asks n c.link) (sym a.asks.clock) a.asks) a.silent a.own
 
+-- ---- a client that asks in vain
+
+-- it asks, has said nothing in the last round, and what is under way to it opens nothing; its server knows no own stamp that is younger
+-- than this reading
+record Stuck (reading : ℕ) (p : Pair) : Type 0 where
+  asks : Asks p.client.clock p.client
+  mute : p.to_server ≡ []
+  inside : is_open p.server.phase ≡ true → p.server.own_stamp ≤ reading
+  talk : Each IsTalkPdu p.to_client
+
+-- a server to which nothing comes, and whose client asks, goes out or stands as before
+server_waits : (names : Names) (p : Pair) → Facts names p → Asks p.client.clock p.client → p.to_server ≡ [] → is_open p.server.phase ≡ true → Out (p.server.clock + 10) (pair_round p).server ⊎ ((pair_round p).server ≡ at_reading (p.server.clock + 10) p.server)
+unfolding pair_round
+server_waits names p facts is mute e = choose (server_silent (p.server.clock + 10) p.server (server_joined names p facts e) (facts.calls (ap is_open is.starts) (asks_asking p.client.clock p.client is) e).down refl)
+  where
+    choose : Out (p.server.clock + 10) (end_round (p.server.clock + 10) [] p.server).link ⊎ (end_round (p.server.clock + 10) [] p.server ≡ silent (at_reading (p.server.clock + 10) p.server))
+        → Out (p.server.clock + 10) (end_round (p.server.clock + 10) p.to_server p.server).link ⊎ ((end_round (p.server.clock + 10) p.to_server p.server).link ≡ at_reading (p.server.clock + 10) p.server)
+    choose (inl left) = inl (subst (λ (ps : List Pdu). Out (p.server.clock + 10) (end_round (p.server.clock + 10) ps p.server).link) (sym mute) left)
+    choose (inr same) = inr (ap (λ (ps : List Pdu). (end_round (p.server.clock + 10) ps p.server).link) mute ∙ ap (λ (s : Step). s.link) same)
+
+inside_then : (names : Names) (reading : ℕ) (p : Pair) → Facts names p → Asks p.client.clock p.client → p.to_server ≡ [] → (is_open p.server.phase ≡ true → p.server.own_stamp ≤ reading) → is_open (pair_round p).server.phase ≡ true → (pair_round p).server.own_stamp ≤ reading
+inside_then names reading p facts is mute inside then_in = by_server (is_open p.server.phase) refl
+  where
+    served : is_open p.server.phase ≡ true → Out (p.server.clock + 10) (pair_round p).server ⊎ ((pair_round p).server ≡ at_reading (p.server.clock + 10) p.server) → (pair_round p).server.own_stamp ≤ reading
+    served e (inl left) = absurd (cc (left.is_out, then_in))
+    served e (inr same) = omega (arith, ap (λ (l : LinkState). l.own_stamp) same, inside e)
+
+    by_server : (b : Bool) → is_open p.server.phase ≡ b → (pair_round p).server.own_stamp ≤ reading
+    by_server true e = served e (server_waits names p facts is mute e)
+    by_server false e = absurd (cc (ap (λ (l : LinkState). is_open l.phase) (server_stays names p facts e (inl mute)) ∙ e, then_in))
+
 no_opening : (names : Names) (p : Pair) → Facts names p → p.to_server ≡ [] → Each IsTalkPdu (pair_round p).to_client
 unfolding pair_round
 no_opening names p facts none = subst (λ (ps : List Pdu). Each IsTalkPdu (end_round (p.server.clock + 10) ps p.server).pdus) (sym none) (server_talks (p.server.clock + 10) p.server (to_role names p.server facts.server))
 
+-- a client that asks, to which nothing comes that opens, goes out or asks on, and says nothing
+asked_alone : (p : Pair) → Asks p.client.clock p.client → Each IsTalkPdu p.to_client
+    → (is_open (pair_round p).client.phase ≡ false) ⊎ (Asks (pair_round p).client.clock (pair_round p).client × ((pair_round p).to_server ≡ []) × ((pair_round p).client.own_stamp ≡ p.client.own_stamp))
+unfolding pair_round
+asked_alone p is talk = choose (alone_round (p.client.clock + 10) p.to_client p.client is talk refl)
+  where
+    c : Step
+    c = end_round (p.client.clock + 10) p.to_client p.client
+
+    choose : Either (p.client.clock + 10) c.link (AsksOn (p.client.clock + 10) p.client c) → (is_open c.link.phase ≡ false) ⊎ (Asks c.link.clock c.link × (c.pdus ≡ []) × (c.link.own_stamp ≡ p.client.own_stamp))
+    choose (gone left) = inl left.is_out
+    choose (so a) = inr (subst (λ (n : ℕ). Asks n c.link) (sym a.asks.clock) a.asks, a.silent, a.own)
+
+-- and where its time is over it goes out
+client_late : (p : Pair) → is_open p.client.phase ≡ true → p.client.clock < p.client.own_stamp + 1800 → p.client.own_stamp + 1800 ≤ p.client.clock + 10 → JustOut (pair_round p).client × ((pair_round p).to_server ≡ [])
+unfolding pair_round
+client_late p is_in young over = choose (begins (p.client.clock + 10) p.client refl is_in young)
+  where
+    choose : Begins (p.client.clock + 10) p.client → JustOut (end_round (p.client.clock + 10) p.to_client p.client).link × ((end_round (p.client.clock + 10) p.to_client p.client).pdus ≡ [])
+    choose (late left) = let e = late_round (p.client.clock + 10) p.to_client p.client left in
+        (subst (λ (s : Step). JustOut s.link) (sym e) (record { is_out = left.is_out; lately = omega (arith, left.clock, left.lately) }), ap (λ (s : Step). s.pdus) e)
+    choose (on e then_young) = absurd (omega (arith, then_young, over))
+
+stuck_step : (names : Names) (reading : ℕ) (p : Pair) → Facts names p → Stuck reading p → (is_open (pair_round p).client.phase ≡ false) ⊎ (Stuck reading (pair_round p) × ((pair_round p).client.own_stamp ≡ p.client.own_stamp))
+stuck_step names reading p facts stuck = choose (asked_alone p stuck.asks stuck.talk)
+  where
+    choose : (is_open (pair_round p).client.phase ≡ false) ⊎ (Asks (pair_round p).client.clock (pair_round p).client × ((pair_round p).to_server ≡ []) × ((pair_round p).client.own_stamp ≡ p.client.own_stamp))
+        → (is_open (pair_round p).client.phase ≡ false) ⊎ (Stuck reading (pair_round p) × ((pair_round p).client.own_stamp ≡ p.client.own_stamp))
+    choose (inl shut) = inl shut
+    choose (inr (asks, mute, own)) = inr (record { asks = asks; mute = mute; inside = inside_then names reading p facts stuck.asks stuck.mute stuck.inside; talk = no_opening names p facts stuck.mute }, own)
+
+-- Its time is over in the next round. Its server is outside then, or a round later: so it isn't quiet any more as the client asks again.
+over_comes : (names : Names) (reading n : ℕ) (p : Pair) → 1000 ≤ n → Seen names n p → Stuck reading p → p.client.own_stamp + 1800 ≤ p.client.clock + 10 → reading + 1780 ≤ p.server.clock → Comes names 1383 p
+over_comes names reading n p long seen stuck over server_over = by_server (is_open (pair_round p).server.phase) refl
+  where
+    left : JustOut (pair_round p).client × ((pair_round p).to_server ≡ [])
+    left = client_late p (ap is_open stuck.asks.starts) stuck.asks.young over
+
+    seen1 : Seen names (n - 1) (pair_round p)
+    seen1 = seen_on names (n - 1) p (subst (λ (k : ℕ). Seen names k p) (omega (arith, long)) seen)
+
+    both : is_open (pair_round p).server.phase ≡ true → Comes names 1383 p
+    both e =
+        let own = inside_then names reading p (seen.facts 0) stuck.asks stuck.mute stuck.inside e in
+        let out = server_late (pair_round p) (server_joined names (pair_round p) (seen.facts 1) e) (omega (arith, own, server_over, seen.server_clock 1)) in
+        let on = client_quiet (pair_round p) left.0.is_out (omega (arith, left.0.lately)) in
+        comes_later names 2 603 1383 p (omega arith) (both_left names (n - 2) (pair_rounds 2 p) (omega (arith, long)) (seen_later names 2 (n - 2) p (subst (λ (k : ℕ). Seen names k p) (omega (arith, long)) seen))
+        (ap (λ (l : LinkState). is_open l.phase) on ∙ left.0.is_out) out.is_out (omega (arith, left.0.lately, ap (λ (l : LinkState). l.clock) on, ap (λ (l : LinkState). l.closed_at) on)) (omega (arith, out.lately)))
+
+    by_server : (b : Bool) → is_open (pair_round p).server.phase ≡ b → Comes names 1383 p
+    by_server true e = both e
+    by_server false e = comes_later names 1 603 1383 p (omega arith) (opens_quickly names 599 (n - 600) 599 (pair_round p) (subst (λ (k : ℕ). Seen names k (pair_round p)) (omega (arith, long)) seen1) left.0.is_out e (inl left.1)
+        (omega (arith, left.0.lately)) (omega (arith, (seen.server_past 1).closed e)) (omega (arith, (seen.client_past 1).closed left.0.is_out)))
+
+stuck_comes : (names : Names) (reading fuel n : ℕ) (p : Pair) → 1000 ≤ n → Seen names (fuel + n) p → Stuck reading p → p.client.own_stamp + 1800 ≤ p.client.clock + 10 * fuel + 10 → reading + 1780 ≤ p.server.clock + 10 * fuel → Comes names (fuel + 1383) p
+stuck_comes names reading zero n p long seen stuck over server_over = let r = over_comes names reading n p long (subst (λ (k : ℕ). Seen names k p) (omega arith) seen) stuck (omega (arith, over)) (omega (arith, server_over)) in
+    record { rounds = r.rounds; soon = omega (arith, r.soon); healthy = r.healthy }
+stuck_comes names reading (suc fuel) n p long seen stuck over server_over = choose (λ s k e f. stuck_comes names reading fuel n (pair_round p) long s k e f) (stuck_step names reading p (seen.facts 0) stuck)
+  where
+    seen1 : Seen names (fuel + n) (pair_round p)
+    seen1 = seen_on names (fuel + n) p (subst (λ (k : ℕ). Seen names k p) (omega arith) seen)
+
+    Again : Type 0
+    Again = Seen names (fuel + n) (pair_round p) → Stuck reading (pair_round p) → (pair_round p).client.own_stamp + 1800 ≤ (pair_round p).client.clock + 10 * fuel + 10 → reading + 1780 ≤ (pair_round p).server.clock + 10 * fuel → Comes names (fuel + 1383) (pair_round p)
+
+    choose : Again → (is_open (pair_round p).client.phase ≡ false) ⊎ (Stuck reading (pair_round p) × ((pair_round p).client.own_stamp ≡ p.client.own_stamp)) → Comes names (suc fuel + 1383) p
+    choose again (inl shut) = comes_later names 1 1383 (suc fuel + 1383) p (omega arith) (out_comes names (fuel + n) (pair_round p) (omega (arith, long)) seen1 shut)
+    choose again (inr (still, own)) = comes_later names 1 (fuel + 1383) (suc fuel + 1383) p (omega arith) (again seen1 still (omega (arith, over, own, seen.client_clock 1)) (omega (arith, server_over, seen.server_clock 1)))
+
 -- a client that asks, and has asked and said nothing in the last round
-asks_twice : (names : Names) (n : ℕ) (p : Pair) → 1500 ≤ n → Seen names n p → Asks p.client.clock p.client → p.client.own_stamp + 10 ≤ p.client.clock → p.to_server ≡ [] → Comes names 1562 p
+asks_twice : (names : Names) (n : ℕ) (p : Pair) → 1500 ≤ n → Seen names n p → Asks p.client.clock p.client → p.client.own_stamp + 10 ≤ p.client.clock → p.to_server ≡ [] → Comes names 1561 p
 asks_twice names n p long seen is asked none = choose (asking_step p is)
   where
     seen1 : Seen names (n - 1) (pair_round p)
     seen1 = seen_on names (n - 1) p (subst (λ (k : ℕ). Seen names k p) (omega (arith, long)) seen)
 
-    choose : Asking p → Comes names 1562 p
-    choose (goes_out shut) = comes_later names 1 1383 1562 p (omega arith) (out_comes names (n - 1) (pair_round p) (omega (arith, long)) seen1 shut)
-    choose (joins j) = joining_comes names n p (omega (arith, long)) seen is j
-    choose (asks_on a mute own) = comes_later names 1 1561 1562 p (omega arith)
-        (out_at_comes names 178 (n - 1) (pair_round p) (omega (arith, long)) seen1
-        (stuck_out names 178 (n - 179) (pair_round p) (subst (λ (k : ℕ). Seen names k (pair_round p)) (omega (arith, long)) seen1)
-        (record { asks = a; mute = mute; talk = no_opening names p (seen.facts 0) none }) (omega (arith, own, asked, seen.client_clock 1))))
+    choose : Asking p → Comes names 1561 p
+    choose (goes_out shut) = comes_later names 1 1383 1561 p (omega arith) (out_comes names (n - 1) (pair_round p) (omega (arith, long)) seen1 shut)
+    choose (joins j) = answered_comes names n p (omega (arith, long)) seen none is j
+    choose (asks_on a mute own) = comes_later names 1 1560 1561 p (omega arith)
+        (stuck_comes names p.server.clock 177 (n - 178) (pair_round p) (omega (arith, long)) (subst (λ (k : ℕ). Seen names k (pair_round p)) (omega (arith, long)) seen1)
+        (record { asks = a; mute = mute; inside = inside_then names p.server.clock p (seen.facts 0) is none (λ e. ((seen.facts 0).server_young e).own); talk = no_opening names p (seen.facts 0) none })
+        (omega (arith, own, asked, seen.client_clock 1)) (omega (arith, seen.server_clock 1)))
+
+-- ---- the sum
 
 -- two ends, whatever has happened before
-pub all_comes : (names : Names) (n : ℕ) (p : Pair) → 1563 ≤ n → Seen names n p → Comes names 1563 p
+pub all_comes : (names : Names) (n : ℕ) (p : Pair) → 1562 ≤ n → Seen names n p → Comes names 1562 p
 all_comes names n p long seen = by_phase (is_open p.client.phase) refl
   where
     seen1 : Seen names (n - 1) (pair_round p)
     seen1 = seen_on names (n - 1) p (subst (λ (k : ℕ). Seen names k p) (omega (arith, long)) seen)
 
-    wide : (most : ℕ) → most ≤ 1563 → Comes names most p → Comes names 1563 p
-    wide most le c = record { rounds = c.rounds; soon = omega (arith, le, c.soon); healthy = c.healthy }
+    asked : Asks p.client.clock p.client → Asking p → Comes names 1562 p
+    asked is (goes_out shut) = comes_later names 1 1383 1562 p (omega arith) (out_comes names (n - 1) (pair_round p) (omega (arith, long)) seen1 shut)
+    asked is (joins j) = joining_comes names n p (omega (arith, long)) seen is j
+    asked is (asks_on a mute own) = comes_later names 1 1561 1562 p (omega arith) (asks_twice names (n - 1) (pair_round p) (omega (arith, long)) seen1 a (omega (arith, own, is.own, seen.client_clock 1)) mute)
 
-    asked : Asks p.client.clock p.client → Asking p → Comes names 1563 p
-    asked is (goes_out shut) = comes_later names 1 1383 1563 p (omega arith) (out_comes names (n - 1) (pair_round p) (omega (arith, long)) seen1 shut)
-    asked is (joins j) = wide 1562 (omega arith) (joining_comes names n p (omega (arith, long)) seen is j)
-    asked is (asks_on a mute own) = comes_later names 1 1562 1563 p (omega arith) (asks_twice names (n - 1) (pair_round p) (omega (arith, long)) seen1 a (omega (arith, own, is.own, seen.client_clock 1)) mute)
-
-    inside : InIt p.client.clock p.client → Comes names 1563 p
-    inside (inl j) = wide 1562 (omega arith) (joined_comes names n p (omega (arith, long)) seen j)
+    inside : InIt p.client.clock p.client → Comes names 1562 p
+    inside (inl j) = joined_comes names n p (omega (arith, long)) seen j
     inside (inr a) = asked a (asking_step p a)
 
-    by_phase : (b : Bool) → is_open p.client.phase ≡ b → Comes names 1563 p
-    by_phase false e = wide 1383 (omega arith) (out_comes names n p (omega (arith, long)) seen e)
+    by_phase : (b : Bool) → is_open p.client.phase ≡ b → Comes names 1562 p
+    by_phase false e = let r = out_comes names n p (omega (arith, long)) seen e in record { rounds = r.rounds; soon = omega (arith, r.soon); healthy = r.healthy }
     by_phase true e = inside (in_it_of p.client e ((seen.facts 0).client_young e))

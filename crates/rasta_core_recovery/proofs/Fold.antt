@@ -190,17 +190,17 @@ begins now l at is_in young = choose (nat_le (l.own_stamp + 1800) now) refl
     choose true e = late (rw (is_in, e) (record { clock = refl; is_out = refl; quiet = omega (arith, at, young); lately = omega (arith, at, young) }))
     choose false e = on (rw (is_in, e) refl) (leb-false _ _ e)
 
--- an end that is outside in a round stays so in it
-pub stays_out : (now : ℕ) (ps : List Pdu) (l : LinkState) → Out now (settled now l) → Out now (end_round now ps l).link
+-- an end that is outside in a round says nothing in it, and stays so
+pub late_round : (now : ℕ) (ps : List Pdu) (l : LinkState) → Out now (settled now l) → end_round now ps l ≡ silent (settled now l)
 unfolding end_round
-stays_out now ps l left = subst (Out now) (sym same) left
+late_round now ps l left = ap (λ (s : Step). then_do s (λ k. worked now l.identity.role k)) (quiet_hears_all now ps (settled now l) left.is_out left.quiet left.clock)
+    ∙ ap (λ (s : Step). unsaid s) (quiet_works now l.identity.role (settled now l) left.is_out left.quiet ∙ ap (λ (c : ℕ). silent (record (settled now l) { clock = c })) (sym left.clock))
   where
-    j : LinkState
-    j = settled now l
+    unsaid : Step → Step
+    unsaid s = record { link = s.link; pdus = [] ++ s.pdus }
 
-    same : (worked now l.identity.role (all_heard now ps j).link).link ≡ j
-    same = ap (λ (s : Step). (worked now l.identity.role s.link).link) (quiet_hears_all now ps j left.is_out left.quiet left.clock)
-        ∙ ap (λ (s : Step). s.link) (quiet_works now l.identity.role j left.is_out left.quiet) ∙ ap (λ (c : ℕ). record j { clock = c }) (sym left.clock)
+pub stays_out : (now : ℕ) (ps : List Pdu) (l : LinkState) → Out now (settled now l) → Out now (end_round now ps l).link
+stays_out now ps l left = subst (λ (s : Step). Out now s.link) (sym (late_round now ps l left)) left
 
 pub works_out : (now : ℕ) (who : Role) (k : LinkState) → Out now k → Out now (worked now who k).link
 works_out now who k left = subst (Out now) (sym (ap (λ (s : Step). s.link) (quiet_works now who k left.is_out left.quiet) ∙ ap (λ (c : ℕ). record k { clock = c }) (sym left.clock))) left

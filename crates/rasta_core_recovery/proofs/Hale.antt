@@ -15,10 +15,11 @@ use Rattle.rasta_core_recovery.proofs.Health.{reading_up}
 use Rattle.rasta_core_recovery.proofs.TunedEnds.{IsPlainPdu, Round, Bounds}
 use Rattle.rasta_core_recovery.proofs.Turn.{EndMode, reading_joined}
 use Rattle.rasta_core_recovery.proofs.Given.{Grows}
+use Rattle.rasta_core_recovery.proofs.Course.{Joined}
 use Rattle.rasta_core_recovery.proofs.Within.{Within, all_grow, work_brings}
-use Rattle.rasta_core_recovery.proofs.Converse.{Way, Talk, client_round, server_round, hearing_now}
+use Rattle.rasta_core_recovery.proofs.Converse.{Way, Talk, Goes, client_round, server_round, hearing_now}
 use Rattle.rasta_core_recovery.proofs.WorkTurn.{IsSimplePdu, simple_are_plain, Worked, Left, has_left, stays_in, works_surely}
-use Rattle.rasta_core_recovery.proofs.WorkTalk.{Goes, client_bounds, server_bounds, both_go}
+use Rattle.rasta_core_recovery.proofs.WorkTalk.{GoesAtWork, client_bounds, server_bounds, both_go}
 
 -- One direction: an end takes what comes, has heard its partner lately, and what comes is heartbeats and new items, which return a
 -- stamp of lately.
@@ -50,13 +51,13 @@ pub record Hale (names : Names) (p : Pair) : Type 0 where
 -- ---- a round
 
 -- what a round is to one direction
-record Onward (l m : LinkState) (ps : List Pdu) (k n : LinkState) (qs : List Pdu) : Type 0 where
-  clock : k.clock ≡ l.clock + 10
-  other_clock : n.clock ≡ m.clock + 10
-  own : (l.clock ≤ k.own_stamp + 319) ⊎ ((ps ≡ []) × (k.own_stamp ≡ l.own_stamp))
-  said : qs ≡ [] → n.sent_at ≡ m.sent_at
-  before : m.sent_at ≤ m.clock
-  calm : m.clock < m.sent_at + 300
+pub record Onward (l m : LinkState) (ps : List Pdu) (k n : LinkState) (qs : List Pdu) : Type 0 where
+  pub clock : k.clock ≡ l.clock + 10
+  pub other_clock : n.clock ≡ m.clock + 10
+  pub own : (l.clock ≤ k.own_stamp + 319) ⊎ ((ps ≡ []) × (k.own_stamp ≡ l.own_stamp))
+  pub said : qs ≡ [] → n.sent_at ≡ m.sent_at
+  pub before : m.sent_at ≤ m.clock
+  pub calm : m.clock < m.sent_at + 300
 
 alive_on : (l m : LinkState) (ps : List Pdu) (k n : LinkState) (qs : List Pdu) → Onward l m ps k n qs → Alive l m ps → Alive k n qs
 alive_on l m ps k n qs o a = choose o.own
@@ -194,16 +195,19 @@ module _ (names : Names) (p : Pair) (r : WorkRound p) (c : Closely names p) (cli
       (hearing_now names role.Server c.server_kept c.client_kept true true c.server_kept c.client_kept p.server p.client p.to_server p.to_client (record { own = c.server; other = c.client }) c.to_server.way c.to_client.way client_fits server_short server_young)
       c.to_server.simple server_room (server_step p r) server_does)
 
-  goes : Goes names c.server_kept c.client_kept true true p r talk
-  goes = both_go names c.server_kept c.client_kept true true p r talk client_fits server_fits client_short server_short client_worked server_worked
+  at_work : GoesAtWork names c.server_kept c.client_kept true true p r talk
+  at_work = both_go names c.server_kept c.client_kept true true p r talk client_fits server_fits client_short server_short client_worked server_worked
+
+  goes : Goes names c.server_kept c.client_kept true true p (behind p r) talk
+  goes = at_work.goes
 
   new_client : (v : Way goes.talk.client_kept goes.talk.server_kept true goes.talk.client_kept goes.talk.server_kept (behind p r).client (behind p r).server (behind p r).to_client) × (v.reading ≡ goes.talk.to_client.reading)
   new_client = rebased c.client_kept c.server_kept goes.talk.client_kept goes.talk.server_kept goes.then_client (behind p r).client (behind p r).server (behind p r).to_client (goes.client_keeps refl) goes.talk.to_client
-      (omega (arith, goes.talk.to_server.before, goes.client_way, goes.client_clock, c.to_server.recent))
+      (omega (arith, goes.talk.to_server.before, goes.client_way.2, goes.client_clock, c.to_server.recent))
 
   new_server : (v : Way goes.talk.server_kept goes.talk.client_kept true goes.talk.server_kept goes.talk.client_kept (behind p r).server (behind p r).client (behind p r).to_server) × (v.reading ≡ goes.talk.to_server.reading)
   new_server = rebased c.server_kept c.client_kept goes.talk.server_kept goes.talk.client_kept goes.then_server (behind p r).server (behind p r).client (behind p r).to_server (goes.server_keeps refl) goes.talk.to_server
-      (omega (arith, goes.talk.to_client.before, goes.server_way, goes.server_clock, c.to_client.recent))
+      (omega (arith, goes.talk.to_client.before, goes.server_way.2, goes.server_clock, c.to_client.recent))
 
   pub closely_on : Closely names (behind p r)
   closely_on = record {
@@ -213,17 +217,17 @@ module _ (names : Names) (p : Pair) (r : WorkRound p) (c : Closely names p) (cli
     server_kept = goes.talk.server_kept;
     to_client = record {
       way = new_client.0;
-      simple = goes.server_simple refl (simple_are_plain p.to_server c.to_server.simple);
+      simple = at_work.server_simple refl (simple_are_plain p.to_server c.to_server.simple);
       calm = goes.server_calm (way_up _ _ _ _ goes.then_server _ _ _ (goes.server_keeps refl) goes.talk.to_server);
       recent = goes.client_near refl c.to_client.calm;
-      lately = omega (arith, new_client.1, goes.client_way, goes.client_clock, c.to_server.recent);
+      lately = omega (arith, new_client.1, goes.client_way.2, goes.client_clock, c.to_server.recent);
     };
     to_server = record {
       way = new_server.0;
-      simple = goes.client_simple refl (simple_are_plain p.to_client c.to_client.simple);
+      simple = at_work.client_simple refl (simple_are_plain p.to_client c.to_client.simple);
       calm = goes.client_calm (way_up _ _ _ _ goes.then_client _ _ _ (goes.client_keeps refl) goes.talk.to_client);
       recent = goes.server_near refl c.to_server.calm;
-      lately = omega (arith, new_server.1, goes.server_way, goes.server_clock, c.to_client.recent);
+      lately = omega (arith, new_server.1, goes.server_way.2, goes.server_clock, c.to_client.recent);
     };
   }
 
@@ -237,7 +241,7 @@ module _ (names : Names) (p : Pair) (r : WorkRound p) (c : Closely names p) (cli
     calm = c.to_client.calm;
   }
 
-  server_onward : Onward p.server p.client p.to_server (behind p r).server (behind p r).client (behind p r).to_server
+  pub server_onward : Onward p.server p.client p.to_server (behind p r).server (behind p r).client (behind p r).to_server
   server_onward = record {
     clock = goes.server_clock;
     other_clock = goes.client_clock;
@@ -286,6 +290,37 @@ hale_on names p r h = let c : p.client.clock + 10 < p.client.own_stamp + 1800 = 
   client = alive_on _ _ _ _ _ _ (client_onward names p r h.near c s) h.client;
   server = alive_on _ _ _ _ _ _ (server_onward names p r h.near c s) h.server;
 }
+
+-- ---- what a round keeps of two in a connection
+
+-- Each stays in its connection, and gives on in it; and behind the round it expects what the other says next.
+pub record Keeps (p : Pair) (r : WorkRound p) : Type 0 where
+  pub client : Joined p.client.clock p.client
+  pub server : Joined p.server.clock p.server
+  pub client_within : Within (p.client.clock + 10) r.client_acts (settled (p.client.clock + 10) p.client)
+  pub server_within : Within (p.server.clock + 10) r.server_acts (settled (p.server.clock + 10) p.server)
+  pub client_level : (behind p r).client.expected ≡ p.server.sent
+  pub server_level : (behind p r).server.expected ≡ p.client.sent
+  pub client_grows : Grows p.client (behind p r).client
+  pub server_grows : Grows p.server (behind p r).server
+
+pub hale_keeps : (names : Names) (p : Pair) (r : WorkRound p) → Hale names p → Keeps p r
+hale_keeps names p r h = record {
+  client = h.near.to_client.way.is;
+  server = h.near.to_server.way.is;
+  client_within = client_within names p r h.near c s;
+  server_within = server_within names p r h.near c s;
+  client_level = client_level names p r h.near c s;
+  server_level = server_level names p r h.near c s;
+  client_grows = client_grows names p r h.near c s;
+  server_grows = server_grows names p r h.near c s;
+}
+  where
+    c : p.client.clock + 10 < p.client.own_stamp + 1800
+    c = omega (arith, h.client.under)
+
+    s : p.server.clock + 10 < p.server.own_stamp + 1800
+    s = omega (arith, h.server.under)
 
 -- two that take what the other says, of whom each waits to be heard
 pub record Waiting (names : Names) (client_start server_start : ℕ) (p : Pair) : Type 0 where
@@ -354,36 +389,36 @@ both_tuned names of_client of_server false b p e f t = absurd (cc e)
 both_tuned names of_client of_server true false p e f t = absurd (cc f)
 both_tuned names of_client of_server true true p e f t = (t, refl, refl, refl, refl)
 
-pub calmly_then : (names : Names) (of_client of_server : ℕ) (p : Pair) (r : WorkRound p) (t : Talk names of_client of_server true true p) → Goes names of_client of_server true true p r t → Calmly names of_client of_server (behind p r)
+pub calmly_then : (names : Names) (of_client of_server : ℕ) (p : Pair) (r : WorkRound p) (t : Talk names of_client of_server true true p) → GoesAtWork names of_client of_server true true p r t → Calmly names of_client of_server (behind p r)
 calmly_then names of_client of_server p r t g = record {
-  talk = (both_tuned names of_client of_server g.then_client g.then_server (behind p r) (g.client_keeps refl) (g.server_keeps refl) g.talk).0;
-  to_client = g.server_plain refl;
-  to_server = g.client_plain refl;
-  client_calm = g.client_calm (way_up _ _ _ _ g.then_client _ _ _ (g.client_keeps refl) g.talk.to_client);
-  server_calm = g.server_calm (way_up _ _ _ _ g.then_server _ _ _ (g.server_keeps refl) g.talk.to_server);
+  talk = (both_tuned names of_client of_server g.goes.then_client g.goes.then_server (behind p r) (g.goes.client_keeps refl) (g.goes.server_keeps refl) g.goes.talk).0;
+  to_client = g.goes.server_plain refl;
+  to_server = g.goes.client_plain refl;
+  client_calm = g.goes.client_calm (way_up _ _ _ _ g.goes.then_client _ _ _ (g.goes.client_keeps refl) g.goes.talk.to_client);
+  server_calm = g.goes.server_calm (way_up _ _ _ _ g.goes.then_server _ _ _ (g.goes.server_keeps refl) g.goes.talk.to_server);
 }
 
-pub simply_then : (names : Names) (of_client of_server : ℕ) (p : Pair) (r : WorkRound p) (c : Calmly names of_client of_server p) → Goes names of_client of_server true true p r c.talk → Simply names of_client of_server (behind p r)
+pub simply_then : (names : Names) (of_client of_server : ℕ) (p : Pair) (r : WorkRound p) (c : Calmly names of_client of_server p) → GoesAtWork names of_client of_server true true p r c.talk → Simply names of_client of_server (behind p r)
 simply_then names of_client of_server p r c g =
-    let u = both_tuned names of_client of_server g.then_client g.then_server (behind p r) (g.client_keeps refl) (g.server_keeps refl) g.talk in record {
+    let u = both_tuned names of_client of_server g.goes.then_client g.goes.then_server (behind p r) (g.goes.client_keeps refl) (g.goes.server_keeps refl) g.goes.talk in record {
       calm = record {
         talk = u.0;
-        to_client = g.server_plain refl;
-        to_server = g.client_plain refl;
-        client_calm = g.client_calm (way_up _ _ _ _ g.then_client _ _ _ (g.client_keeps refl) g.talk.to_client);
-        server_calm = g.server_calm (way_up _ _ _ _ g.then_server _ _ _ (g.server_keeps refl) g.talk.to_server);
+        to_client = g.goes.server_plain refl;
+        to_server = g.goes.client_plain refl;
+        client_calm = g.goes.client_calm (way_up _ _ _ _ g.goes.then_client _ _ _ (g.goes.client_keeps refl) g.goes.talk.to_client);
+        server_calm = g.goes.server_calm (way_up _ _ _ _ g.goes.then_server _ _ _ (g.goes.server_keeps refl) g.goes.talk.to_server);
       };
       to_client = g.server_simple refl c.to_server;
       to_server = g.client_simple refl c.to_client;
-      client_recent = omega (arith, u.1, g.client_near refl c.server_calm);
-      server_recent = omega (arith, u.2, g.server_near refl c.client_calm);
+      client_recent = omega (arith, u.1, g.goes.client_near refl c.server_calm);
+      server_recent = omega (arith, u.2, g.goes.server_near refl c.client_calm);
     }
 
-pub closely_then : (names : Names) (of_client of_server : ℕ) (p : Pair) (r : WorkRound p) (c : Simply names of_client of_server p) → Goes names of_client of_server true true p r c.calm.talk → Closely names (behind p r)
+pub closely_then : (names : Names) (of_client of_server : ℕ) (p : Pair) (r : WorkRound p) (c : Simply names of_client of_server p) → GoesAtWork names of_client of_server true true p r c.calm.talk → Closely names (behind p r)
 closely_then names of_client of_server p r c g =
-    let u = both_tuned names of_client of_server g.then_client g.then_server (behind p r) (g.client_keeps refl) (g.server_keeps refl) g.talk in
-    let way_c = rebased of_server of_client u.0.client_kept u.0.server_kept true (behind p r).client (behind p r).server (behind p r).to_client refl u.0.to_client (omega (arith, u.0.to_server.before, u.3, g.client_way, g.client_clock, c.server_recent)) in
-    let way_s = rebased of_client of_server u.0.server_kept u.0.client_kept true (behind p r).server (behind p r).client (behind p r).to_server refl u.0.to_server (omega (arith, u.0.to_client.before, u.4, g.server_way, g.server_clock, c.client_recent)) in record {
+    let u = both_tuned names of_client of_server g.goes.then_client g.goes.then_server (behind p r) (g.goes.client_keeps refl) (g.goes.server_keeps refl) g.goes.talk in
+    let way_c = rebased of_server of_client u.0.client_kept u.0.server_kept true (behind p r).client (behind p r).server (behind p r).to_client refl u.0.to_client (omega (arith, u.0.to_server.before, u.3, g.goes.client_way.2, g.goes.client_clock, c.server_recent)) in
+    let way_s = rebased of_client of_server u.0.server_kept u.0.client_kept true (behind p r).server (behind p r).client (behind p r).to_server refl u.0.to_server (omega (arith, u.0.to_client.before, u.4, g.goes.server_way.2, g.goes.server_clock, c.client_recent)) in record {
       client = u.0.client;
       server = u.0.server;
       client_kept = u.0.client_kept;
@@ -391,15 +426,15 @@ closely_then names of_client of_server p r c g =
       to_client = record {
         way = way_c.0;
         simple = g.server_simple refl c.calm.to_server;
-        calm = g.server_calm (way_up _ _ _ _ g.then_server _ _ _ (g.server_keeps refl) g.talk.to_server);
-        recent = omega (arith, u.1, g.client_near refl c.calm.server_calm);
-        lately = omega (arith, way_c.1, u.3, g.client_way, g.client_clock, c.server_recent);
+        calm = g.goes.server_calm (way_up _ _ _ _ g.goes.then_server _ _ _ (g.goes.server_keeps refl) g.goes.talk.to_server);
+        recent = omega (arith, u.1, g.goes.client_near refl c.calm.server_calm);
+        lately = omega (arith, way_c.1, u.3, g.goes.client_way.2, g.goes.client_clock, c.server_recent);
       };
       to_server = record {
         way = way_s.0;
         simple = g.client_simple refl c.calm.to_client;
-        calm = g.client_calm (way_up _ _ _ _ g.then_client _ _ _ (g.client_keeps refl) g.talk.to_client);
-        recent = omega (arith, u.2, g.server_near refl c.calm.client_calm);
-        lately = omega (arith, way_s.1, u.4, g.server_way, g.server_clock, c.client_recent);
+        calm = g.goes.client_calm (way_up _ _ _ _ g.goes.then_client _ _ _ (g.goes.client_keeps refl) g.goes.talk.to_client);
+        recent = omega (arith, u.2, g.goes.server_near refl c.calm.client_calm);
+        lately = omega (arith, way_s.1, u.4, g.goes.server_way.2, g.goes.server_clock, c.client_recent);
       };
     }

@@ -1,7 +1,7 @@
 -- What is given in a round at work is taken in the next.
 use Rattle.std.proofs.Common.{◌≡◌, ℕ, zero, suc, ◌∙◌, ◌+◌, ◌^◌, ◌≤◌, ◌<◌, Bool, true, false, nat_le, if◌then◌else◌, List, [], ◌∷◌, ◌++◌, length, take, refl, sym, ap, subst, arith, leb-true}
 use Rattle.rasta_core_run.specs.Parameters.{stops_at_greatest}
-use Rattle.rasta_core_run.specs.State.{LinkState, is_open, is_asking}
+use Rattle.rasta_core_run.specs.State.{LinkState, is_open, is_asking, is_up}
 use Rattle.rasta_core_run.specs.window.Unconfirmed.{Unconfirmed}
 use Rattle.rasta_core_run.specs.Ends.{EndState}
 use Rattle.rasta_core_run.specs.Run.{Ends, later}
@@ -23,9 +23,10 @@ use Rattle.rasta_core_recovery.proofs.Bridge.{mirror_of}
 use Rattle.rasta_core_recovery.proofs.Facts.{are_together}
 use Rattle.rasta_core_recovery.proofs.Recovers.{Laws, Holds, holds_run, holds_after}
 use Rattle.rasta_core_recovery.proofs.Within.{Continues}
-use Rattle.rasta_core_recovery.proofs.Hale.{Closely, Hale, hale_on, client_level, server_level, client_within, server_within, client_grows, server_grows}
+use Rattle.rasta_core_recovery.proofs.Hale.{Hale, Keeps}
 use Rattle.rasta_core_recovery.proofs.WorkBridge.{Follows, follows}
-use Rattle.rasta_core_recovery.proofs.WorkFates.{all_come}
+use Rattle.rasta_core_recovery.proofs.WorkFates.{Soon, soon_on, soon_keeps, soon_up}
+use Rattle.rasta_core_recovery.proofs.WorkSum.{soon_come}
 use Rattle.rasta_core_recovery.proofs.WorkRecovers.{leads, sound_of}
 
 -- ---- lists
@@ -118,7 +119,7 @@ record BothJoined (ends : Ends) : Type 0 where
 module _ (old new : Ends) (names : Names) (o : AreTogether names old) (n : AreTogether names new) (oj : BothJoined old) (nj : BothJoined new)
     (client_goes : Continues old.client new.client) (server_goes : Continues old.server new.server)
     (at_client : new.client.link.expected ≡ old.server.link.sent) (at_server : new.server.link.expected ≡ old.client.link.sent)
-    (of_client : Grows old.client.link new.client.link) (of_server : Grows old.server.link new.server.link) where
+    (of_client : Grows old.client.link new.client.link) (of_server : Grows old.server.link new.server.link) (client_up : is_up old.client.link.phase ≡ true) where
   old_c : HasJoined old.client.link o.client o.server
   old_c = plays_in old.client.link o.client o.server oj.client.connected oj.client.joined o.client_plays
 
@@ -133,6 +134,7 @@ module _ (old new : Ends) (names : Names) (o : AreTogether names old) (n : AreTo
 
   both_hand_over : HandOver old new
   both_hand_over = record {
+    client_up = client_up;
     connection = o.connection;
     old_client = o.of_client;
     old_server = o.of_server;
@@ -142,39 +144,40 @@ module _ (old new : Ends) (names : Names) (o : AreTogether names old) (n : AreTo
     to_server = all_taken old.client new.client new.server o.client o.server n.client n.server old_c o.order.there o.client_few o.client_given new_c new_s n.order.there n.client_few n.client_given n.server_taken at_server of_client client_goes;
   }
 
--- ---- a round of two ends that are healthy at work
+-- ---- a round of two ends that are ready at work behind it
 
-joined_both : (names : Names) (f : Flow) (p : Pair) → Mirrors names f p → Closely names p → BothJoined f.ends
-joined_both names f p m c = record {
-  client = subst (λ (l : LinkState). Joined l.clock l) (sym m.client) c.to_client.way.is;
-  server = subst (λ (l : LinkState). Joined l.clock l) (sym m.server) c.to_server.way.is;
+joined_both : (names : Names) (f : Flow) (p : Pair) → Mirrors names f p → Joined p.client.clock p.client → Joined p.server.clock p.server → BothJoined f.ends
+joined_both names f p m c s = record {
+  client = subst (λ (l : LinkState). Joined l.clock l) (sym m.client) c;
+  server = subst (λ (l : LinkState). Joined l.clock l) (sym m.server) s;
 }
 
-module _ (names : Names) (f : Flow) (p : Pair) (calls : List Event) (m : Mirrors names f p) (now : Holds names f.ends) (later_on : Holds names (work_round calls f).ends) (h : Hale names p) (w : Follows names f p calls) where
-  client_young : p.client.clock + 10 < p.client.own_stamp + 1800
-  client_young = omega (arith, h.client.under)
+module _ (names : Names) (f : Flow) (p : Pair) (calls : List Event) (m : Mirrors names f p) (now : Holds names f.ends) (later_on : Holds names (work_round calls f).ends) (h : Soon names p) (w : Follows names f p calls) where
+  keeps : Keeps p w.round
+  keeps = soon_keeps names p w.round h
 
-  server_young : p.server.clock + 10 < p.server.own_stamp + 1800
-  server_young = omega (arith, h.server.under)
+  then_hale : Hale names (behind p w.round)
+  then_hale = soon_on names p w.round h
 
   oj : BothJoined f.ends
-  oj = joined_both names f p m h.near
+  oj = joined_both names f p m keeps.client keeps.server
 
   nj : BothJoined (work_round calls f).ends
-  nj = joined_both names (work_round calls f) (behind p w.round) w.mirrors (hale_on names p w.round h).near
+  nj = joined_both names (work_round calls f) (behind p w.round) w.mirrors then_hale.near.to_client.way.is then_hale.near.to_server.way.is
 
   round_hands_over : HandOver f.ends (work_round calls f).ends
   round_hands_over = both_hand_over f.ends (work_round calls f).ends names
       (are_together names f.ends now.timely now.ordered oj.client.connected oj.server.connected)
       (are_together names (work_round calls f).ends later_on.timely later_on.ordered nj.client.connected nj.server.connected) oj nj
-      (w.client_on (client_within names p w.round h.near client_young server_young)) (w.server_on (server_within names p w.round h.near client_young server_young))
-      (ap (λ (l : LinkState). l.expected) w.mirrors.client ∙ client_level names p w.round h.near client_young server_young ∙ ap (λ (l : LinkState). l.sent) (sym m.server))
-      (ap (λ (l : LinkState). l.expected) w.mirrors.server ∙ server_level names p w.round h.near client_young server_young ∙ ap (λ (l : LinkState). l.sent) (sym m.client))
-      (subst (Grows f.ends.client.link) (sym w.mirrors.client) (subst (λ (l : LinkState). Grows l (behind p w.round).client) (sym m.client) (client_grows names p w.round h.near client_young server_young)))
-      (subst (Grows f.ends.server.link) (sym w.mirrors.server) (subst (λ (l : LinkState). Grows l (behind p w.round).server) (sym m.server) (server_grows names p w.round h.near client_young server_young)))
+      (w.client_on keeps.client_within) (w.server_on keeps.server_within)
+      (ap (λ (l : LinkState). l.expected) w.mirrors.client ∙ keeps.client_level ∙ ap (λ (l : LinkState). l.sent) (sym m.server))
+      (ap (λ (l : LinkState). l.expected) w.mirrors.server ∙ keeps.server_level ∙ ap (λ (l : LinkState). l.sent) (sym m.client))
+      (subst (Grows f.ends.client.link) (sym w.mirrors.client) (subst (λ (l : LinkState). Grows l (behind p w.round).client) (sym m.client) keeps.client_grows))
+      (subst (Grows f.ends.server.link) (sym w.mirrors.server) (subst (λ (l : LinkState). Grows l (behind p w.round).server) (sym m.server) keeps.server_grows))
+      (ap (λ (l : LinkState). is_up l.phase) m.client ∙ soon_up names p h)
 
 pub hands_over : Laws → (names : Names) (start : Start) (events : List Event) (passed : ℕ) (rounds : List (List Event)) (calls : List Event) → AreNames names → MayRun names events (started names start)
-    → AreAtWork names rounds (flow_after names start events passed) → Each (Each LeavesOpen) rounds → StayBelow rounds (flow_after names start events passed) → recovery_rounds_at_work ≤ length rounds
+    → AreAtWork names rounds (flow_after names start events passed) → Each (Each LeavesOpen) rounds → StayBelow rounds (flow_after names start events passed) → recovery_rounds_at_work ≤ suc (length rounds)
     → IsAtWork names (work_rounds rounds (flow_after names start events passed)) calls → Each LeavesOpen calls → HaveRoom calls (later 10000 10000 10000 (work_rounds rounds (flow_after names start events passed)).ends)
     → HandOver (work_rounds rounds (flow_after names start events passed)).ends (work_round calls (work_rounds rounds (flow_after names start events passed))).ends
 hands_over laws names start events passed rounds calls are may work opens room long last last_open last_room =
@@ -183,6 +186,6 @@ hands_over laws names start events passed rounds calls are may work opens room l
     let m = mirror_of names f first.timely in
     let l = leads laws names are rounds f m.0 first m.1 work opens room in
     let g : Flow = work_rounds rounds f in
-    let hale = all_come names (length rounds) m.0 l.last long (sound_of names f m.0 first m.1) l.is_run in
-    round_hands_over names g l.last calls l.mirrors l.holds (holds_run laws names are (Passes 10000 10000 10000 ∷ calls) g.ends l.holds last.may) hale
+    let soon = soon_come names (length rounds) m.0 l.last (omega (arith, long)) (sound_of names f m.0 first m.1) l.is_run in
+    round_hands_over names g l.last calls l.mirrors l.holds (holds_run laws names are (Passes 10000 10000 10000 ∷ calls) g.ends l.holds last.may) soon
     (follows laws.time laws.written laws.hands names are g l.last calls l.mirrors last last_open last_room)

@@ -157,7 +157,7 @@ pub record Whole (now : ℕ) (acts : List Act) (l : LinkState) : Type 0 where
   pub reaches : (all_did now acts l).link.expected ≡ l.expected + length (all_brought acts)
 
 -- so it is behind the first act
-whole_then : (now : ℕ) (a : Act) (acts : List Act) (l : LinkState) → Whole now (a ∷ acts) l → Whole now acts (did now a l).link × ((did now a l).link.expected ≡ l.expected + length (brought a))
+pub whole_then : (now : ℕ) (a : Act) (acts : List Act) (l : LinkState) → Whole now (a ∷ acts) l → Whole now acts (did now a l).link × ((did now a l).link.expected ≡ l.expected + length (brought a))
 unfolding all_did
 whole_then now a acts l w =
     let each = each_split IsSimplePdu (brought a) (all_brought acts) w.simple
@@ -231,13 +231,13 @@ own_made now a l own is room = record {
     u = own_utters now a l own (lively now l is) room
 
 -- a PDU that comes is taken, and nothing is said
-record Takes (now : ℕ) (p : Pdu) (l : LinkState) : Type 0 where
-  taken : Taken p l (did now (Hears p) l).link (did now (Hears p) l).pdus
-  plain : IsPlain p.body
-  silent_is : (did now (Hears p) l).pdus ≡ []
-  sent : (did now (Hears p) l).link.sent ≡ l.sent
+pub record Takes (now : ℕ) (p : Pdu) (l : LinkState) : Type 0 where
+  pub taken : Taken p l (did now (Hears p) l).link (did now (Hears p) l).pdus
+  pub plain : IsPlain p.body
+  pub silent_is : (did now (Hears p) l).pdus ≡ []
+  pub sent : (did now (Hears p) l).link.sent ≡ l.sent
 
-hears_takes : (now : ℕ) (p : Pdu) (acts : List Act) (l : LinkState) → Whole now (Hears p ∷ acts) l → Takes now p l
+pub hears_takes : (now : ℕ) (p : Pdu) (acts : List Act) (l : LinkState) → Whole now (Hears p ∷ acts) l → Takes now p l
 hears_takes now p acts l w = choose (one_hears now p l w.within.0 w.room.0 w.simple.0)
   where
     plain : IsPlain p.body

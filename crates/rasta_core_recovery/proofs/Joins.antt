@@ -21,10 +21,10 @@ pub record Joins (g : ℕ) (l : LinkState) (ps : List Pdu) (h : ℕ) (k : LinkSt
   pub row : is_asking k ≡ false → Row (IsNumbered (voice_of k)) l.sent ps k.sent
   pub voice : is_asking l ≡ false → (is_asking k ≡ false) × (voice_of k ≡ voice_of l)
 
-joins_none : (g : ℕ) (l : LinkState) → Joins g l [] g l
+pub joins_none : (g : ℕ) (l : LinkState) → Joins g l [] g l
 joins_none g l = record { asks = λ e. (e, refl, refl); row = λ e. refl; voice = λ e. (e, refl) }
 
-joins_then : (g h i : ℕ) (l k j : LinkState) (ps qs : List Pdu) → Joins g l ps h k → Joins h k qs i j → Joins g l (ps ++ qs) i j
+pub joins_then : (g h i : ℕ) (l k j : LinkState) (ps qs : List Pdu) → Joins g l ps h k → Joins h k qs i j → Joins g l (ps ++ qs) i j
 joins_then g h i l k j ps qs a b = record {
   asks = λ e. let y = b.asks e in let x = a.asks y.0 in (x.0, both x.1 y.1, y.2 ∙ x.2);
   row = λ e. choose (is_asking k) refl (b.row e);
@@ -39,7 +39,7 @@ joins_then g h i l k j ps qs a b = record {
     choose false f row = row_then (IsNumbered (voice_of j)) l.sent k.sent j.sent ps qs (subst (λ (v : Voice). Row (IsNumbered v) l.sent ps k.sent) (sym (b.voice f).1) (a.row f)) row
 
 module _ (now : ℕ) where
-  of_rowed : (l k : LinkState) (ps : List Pdu) → Joined now l → Joined now k → Rowed now 0 l ps 0 k → Joins 0 l ps 0 k
+  pub of_rowed : (l k : LinkState) (ps : List Pdu) → Joined now l → Joined now k → Rowed now 0 l ps 0 k → Joins 0 l ps 0 k
   of_rowed l k ps is then_is r = record {
     asks = λ e. absurd (cc (e, then_is.joined));
     row = λ e. subst (λ (v : Voice). Row (IsNumbered v) l.sent ps k.sent) (sym (voice_goes now l k ps r.goes)) r.row;
@@ -53,12 +53,12 @@ module _ (now : ℕ) where
   asking_deed : (p : Pdu) (l k : LinkState) (qs : List Pdu) → Asks now l → AskDeed p l k qs → Out now k ⊎ (InIt now k × Joins 0 l qs 0 k)
   asking_deed p l k qs is (ask_leaves left) = inl (record { clock = left.clock ∙ is.clock; is_out = left.is_out; quiet = omega (arith, left.closed_at, is.clock); lately = omega (arith, left.closed_at, is.clock) })
   asking_deed p l k qs is (ask_keeps same none) = inr (inr (subst (Asks now) (sym same) is), subst (λ (j : LinkState). Joins 0 l qs 0 j) (sym same) (subst (λ (rs : List Pdu). Joins 0 l rs 0 l) (sym none) (joins_none 0 l)))
-  asking_deed p l k qs is (ask_joins opens clock in_it joined own said confirmed sent row) = inr (
+  asking_deed p l k qs is (ask_joins opens clock in_it joined own said confirmed sent row met) = inr (
     inl (record { clock = clock ∙ is.clock; connected = in_it; joined = joined; young = omega (arith, is.young, own); own = omega (arith, is.own, own) }),
     record { asks = λ e. absurd (cc (e, joined)); row = λ e. row; voice = λ e. absurd (cc (e, asks_asking now l is)) },
   )
 
-  joins_step : (g : ℕ) (p : Pdu) (ps : List Pdu) (l : LinkState) → InIt now l → Next ℕ now (λ g ps l. InIt now l) Joins g l ps (heard now p l)
+  pub joins_step : (g : ℕ) (p : Pdu) (ps : List Pdu) (l : LinkState) → InIt now l → Next ℕ now (λ g ps l. InIt now l) Joins g l ps (heard now p l)
   joins_step g p ps l is = choose (heard_case now p l (in_lively now l is))
     where
       next : Out now (heard now p l).link ⊎ (InIt now (heard now p l).link × Joins 0 l (heard now p l).pdus 0 (heard now p l).link) → Next ℕ now (λ g ps l. InIt now l) Joins g l ps (heard now p l)

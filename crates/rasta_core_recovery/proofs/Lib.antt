@@ -24,6 +24,8 @@ pub mod Ages
 pub mod Converse
 pub mod Facts
 pub mod Seen
+pub mod Answered
+pub mod Entered
 pub mod Sealed
 pub mod Early
 pub mod Fates
@@ -41,8 +43,14 @@ pub mod Within
 pub mod Hale
 pub mod WorkOpens
 pub mod WorkAsks
+pub mod WorkJoins
+pub mod WorkAnswered
 pub mod WorkNew
+pub mod WorkRun
 pub mod WorkFates
+pub mod WorkEarly
+pub mod WorkStays
+pub mod WorkSum
 pub mod WorkBridge
 pub mod WorkRecovers
 pub mod HandOver
@@ -58,3 +66,7 @@ pub mod ClientLeft
 -- What comes back confirms.
 pub mod InTurn
 pub mod Replies
+pub mod Confirms
+pub mod Heartbeats
+pub mod HeartbeatsAlone
+pub mod ConfirmsAtOnce

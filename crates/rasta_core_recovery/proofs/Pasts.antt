@@ -186,7 +186,7 @@ deed_ready p l k qs is in_it joined (takes passes t) =
 ask_ready : (p : Pdu) (l k : LinkState) (qs : List Pdu) → Ready l → is_open l.phase ≡ true → AskDeed p l k qs → Ready k
 ask_ready p l k qs is in_it (ask_leaves left) = left_ready l k left
 ask_ready p l k qs is in_it (ask_keeps same none) = subst Ready (sym same) is
-ask_ready p l k qs is in_it (ask_joins opens clock then_in joined own said confirmed sent row) = record {
+ask_ready p l k qs is in_it (ask_joins opens clock then_in joined own said confirmed sent row met) = record {
   past = record { closed = λ e. absurd (cc (e, then_in)); said = λ e. omega (arith, said, clock); counts = λ e. omega (arith, confirmed, sent, is.past.counts in_it) };
   young = λ e. omega (arith, is.young in_it, own, clock);
   own = λ e. omega (arith, is.own in_it, own, clock);

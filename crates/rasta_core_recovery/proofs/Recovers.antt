@@ -102,7 +102,7 @@ module _ (laws : Laws) (names : Names) (are : AreNames names) (f : Flow) (start 
         all : Seen names n p
         all = seen n room
 
-        comes : Comes names 1563 p
+        comes : Comes names 1562 p
         comes = all_comes names n p long all
 
         whole : comes.rounds + (n - comes.rounds) ≡ n

@@ -40,23 +40,23 @@ use Rattle.rasta_core_recovery.proofs.WindowNumbers.{all_later}
 use Rattle.rasta_core_recovery.proofs.Within.{all_grow, each_split, work_brings}
 use Rattle.rasta_core_recovery.proofs.Words.{Chain, Voice}
 use Rattle.rasta_core_recovery.proofs.WorkBridge.{AllAct, Follows, follows, key_of, one_client, one_server}
-use Rattle.rasta_core_recovery.proofs.WorkFates.{all_come}
+use Rattle.rasta_core_recovery.proofs.WorkSum.{all_come}
 use Rattle.rasta_core_recovery.proofs.WorkRecovers.{leads, sound_of}
 
 -- ---- two ends in the middle of a round
 
 -- what was done at an end so far, and what is done then
-record Cut (key : Key) (now : ℕ) (old mid : LinkState) (calls : List Call) (acts : List Act) : Type 0 where
-  one : List Act
-  other : List Act
-  are : acts ≡ one ++ other
-  link : mid ≡ (all_did now one old).link
-  other_as : AllAct key calls other
+pub record Cut (key : Key) (now : ℕ) (old mid : LinkState) (calls : List Call) (acts : List Act) : Type 0 where
+  pub one : List Act
+  pub other : List Act
+  pub are : acts ≡ one ++ other
+  pub link : mid ≡ (all_did now one old).link
+  pub other_as : AllAct key calls other
 
-record BothCut (names : Names) (old mid : Ends) (rest : List Event) (client_acts server_acts : List Act) : Type 0 where
-  client : Cut names.key (reading_of old.client.clock) old.client.link mid.client.link (calls_in role.Client rest) client_acts
-  server : Cut names.key (reading_of old.server.clock) old.server.link mid.server.link (calls_in role.Server rest) server_acts
-  server_clock : mid.server.clock ≡ old.server.clock
+pub record BothCut (names : Names) (old mid : Ends) (rest : List Event) (client_acts server_acts : List Act) : Type 0 where
+  pub client : Cut names.key (reading_of old.client.clock) old.client.link mid.client.link (calls_in role.Client rest) client_acts
+  pub server : Cut names.key (reading_of old.server.clock) old.server.link mid.server.link (calls_in role.Server rest) server_acts
+  pub server_clock : mid.server.clock ≡ old.server.clock
 
 -- behind one act more at an end
 cut_then : (key : Key) (now : ℕ) (a b mid : LinkState) (calls : List Call) (act : Act) (acts : List Act) → b ≡ (did now act a).link → Cut key now b mid calls acts → Cut key now a mid calls (act ∷ acts)
@@ -77,7 +77,7 @@ cut_at : (key : Key) (one other : ℕ) (l mid : LinkState) (calls : List Call) (
 cut_at key one other l mid calls acts same c = subst (λ (n : ℕ). Cut key (reading_of n) l mid calls acts) same c
 
 module _ (time : KeepsTime) (names : Names) (are : AreNames names) (rest : List Event) where
-  cut : (front : List Event) (ends : Ends) (client_acts server_acts : List Act) → Timely names ends → Each IsCall front → MayRun names front ends
+  pub cut : (front : List Event) (ends : Ends) (client_acts server_acts : List Act) → Timely names ends → Each IsCall front → MayRun names front ends
       → AllAct names.key (calls_in role.Client (front ++ rest)) client_acts → AllAct names.key (calls_in role.Server (front ++ rest)) server_acts → BothCut names ends (run front ends) rest client_acts server_acts
   unfolding all_did
   cut [] ends ca sa is only may client_as server_as = record {
@@ -122,23 +122,23 @@ gives_first key item calls (Asks ∷ others) so_is = absurd so_is.0
 
 -- ---- a round of two ends that are healthy at work takes all that comes
 
-chain_count : (v : Voice) (n c r end d q : ℕ) (ps : List Pdu) → Chain v n c r ps end d q → n + length ps ≡ end
+pub chain_count : (v : Voice) (n c r end d q : ℕ) (ps : List Pdu) → Chain v n c r ps end d q → n + length ps ≡ end
 chain_count v n c r end d q [] (i, j, k) = omega (arith, i)
 chain_count v n c r end d q (p ∷ ps) (x, y, h, i, w, more) = let t = chain_count v (n + 1) x y end d q ps more in omega (arith, t)
 
-client_did : (p : Pair) (r : WorkRound p) → client_step p r ≡ all_did (p.client.clock + 10) r.client_acts (settled (p.client.clock + 10) p.client)
+pub client_did : (p : Pair) (r : WorkRound p) → client_step p r ≡ all_did (p.client.clock + 10) r.client_acts (settled (p.client.clock + 10) p.client)
 unfolding acted
 client_did p r = refl
 
-server_did : (p : Pair) (r : WorkRound p) → server_step p r ≡ all_did (p.server.clock + 10) r.server_acts (settled (p.server.clock + 10) p.server)
+pub server_did : (p : Pair) (r : WorkRound p) → server_step p r ≡ all_did (p.server.clock + 10) r.server_acts (settled (p.server.clock + 10) p.server)
 unfolding acted
 server_did p r = refl
 
 module _ (names : Names) (p : Pair) (r : WorkRound p) (h : Hale names p) where
-  client_young : p.client.clock + 10 < p.client.own_stamp + 1800
+  pub client_young : p.client.clock + 10 < p.client.own_stamp + 1800
   client_young = omega (arith, h.client.under)
 
-  server_young : p.server.clock + 10 < p.server.own_stamp + 1800
+  pub server_young : p.server.clock + 10 < p.server.own_stamp + 1800
   server_young = omega (arith, h.server.under)
 
   abbrev client_first : LinkState
@@ -147,16 +147,16 @@ module _ (names : Names) (p : Pair) (r : WorkRound p) (h : Hale names p) where
   abbrev server_first : LinkState
   server_first = settled (p.server.clock + 10) p.server
 
-  client_is : client_first ≡ record p.client { clock = p.client.clock + 10 }
+  pub client_is : client_first ≡ record p.client { clock = p.client.clock + 10 }
   client_is = client_on names p r h.near client_young server_young
 
-  server_is : server_first ≡ record p.server { clock = p.server.clock + 10 }
+  pub server_is : server_first ≡ record p.server { clock = p.server.clock + 10 }
   server_is = server_on names p r h.near client_young server_young
 
-  client_brings : all_brought r.client_acts ≡ p.to_client
+  pub client_brings : all_brought r.client_acts ≡ p.to_client
   client_brings = work_brings role.Client p.to_client r.client_acts r.client_work
 
-  server_brings : all_brought r.server_acts ≡ p.to_server
+  pub server_brings : all_brought r.server_acts ≡ p.to_server
   server_brings = work_brings role.Server p.to_server r.server_acts r.server_work
 
   client_counts : client_first.expected + length (all_brought r.client_acts) ≡ p.server.sent
@@ -177,7 +177,7 @@ module _ (names : Names) (p : Pair) (r : WorkRound p) (h : Hale names p) where
       in let b = ap length server_brings
       in omega (arith, e, n, c, b)
 
-  client_whole : Whole (p.client.clock + 10) r.client_acts client_first
+  pub client_whole : Whole (p.client.clock + 10) r.client_acts client_first
   client_whole = record {
     within = client_within names p r h.near client_young server_young;
     room = r.client_room;
@@ -186,7 +186,7 @@ module _ (names : Names) (p : Pair) (r : WorkRound p) (h : Hale names p) where
     reaches = ap (λ (s : Step). s.link.expected) (sym (client_did p r)) ∙ client_level names p r h.near client_young server_young ∙ sym client_counts;
   }
 
-  server_whole : Whole (p.server.clock + 10) r.server_acts server_first
+  pub server_whole : Whole (p.server.clock + 10) r.server_acts server_first
   server_whole = record {
     within = server_within names p r h.near client_young server_young;
     room = r.server_room;
@@ -197,7 +197,7 @@ module _ (names : Names) (p : Pair) (r : WorkRound p) (h : Hale names p) where
 
 -- ---- the reply
 
-may_part : (names : Names) (one other : List Event) (ends : Ends) → MayRun names (one ++ other) ends → MayRun names one ends
+pub may_part : (names : Names) (one other : List Event) (ends : Ends) → MayRun names (one ++ other) ends → MayRun names one ends
 may_part names [] other ends may = tt
 may_part names (e ∷ one) other ends may = (may.0, may_part names one other (happened e ends) may.1)
 
@@ -216,7 +216,7 @@ some_said now item others l is room accepts none = not_none (did now (Gives item
     (ap (λ (s : Step). s.pdus) (gives_at_once now item l (lively now l is) room ∙ ap (λ (b : Bool). if b then giving item l else silent l) accepts)) none
 
 -- two ends that are healthy at work are in one connection
-both_of : (names : Names) (f : Flow) (p : Pair) → Mirrors names f p → Holds names f.ends → Hale names p → Both names f.ends
+pub both_of : (names : Names) (f : Flow) (p : Pair) → Mirrors names f p → Holds names f.ends → Hale names p → Both names f.ends
 both_of names f p m holds h = record {
   timely = holds.timely;
   together = are_together names f.ends holds.timely holds.ordered client_in server_in;

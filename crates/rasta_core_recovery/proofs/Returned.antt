@@ -24,10 +24,10 @@ pub record IsBehind (last now : ℕ) (l : LinkState) : Type 0 where
   pub own : l.own_stamp ≤ last
 
 module _ (last now : ℕ) (at : now ≡ last + 10) where
-  abbrev Returns : ℕ → List Pdu → LinkState → Type 0
+  abbrev pub Returns : ℕ → List Pdu → LinkState → Type 0
   Returns g ps l = IsBehind last now l × Each (IsReturned last) ps
 
-  abbrev Any : ℕ → LinkState → List Pdu → ℕ → LinkState → Type 0
+  abbrev pub Any : ℕ → LinkState → List Pdu → ℕ → LinkState → Type 0
   Any g l ps h k = Unit {0}
 
   returns_deed : (p : Pdu) (l k : LinkState) (qs : List Pdu) → IsBehind last now l → IsReturned last p → Deed p l k qs → Out now k ⊎ IsBehind last now k
@@ -39,7 +39,7 @@ module _ (last now : ℕ) (at : now ≡ last + 10) where
       let aged = returned known.0 now p l b.is.clock known.1 (omega (arith, old, at)) (omega (arith, recent, at)) in
       inr (record { is = taken_joined now p l k qs b.is passes t; own = omega (arith, t.own_stamp, aged, b.is.clock, old, at) })
 
-  returns_step : (g : ℕ) (p : Pdu) (ps : List Pdu) (l : LinkState) → Returns g (p ∷ ps) l → Next ℕ now Returns Any g l ps (heard now p l)
+  pub returns_step : (g : ℕ) (p : Pdu) (ps : List Pdu) (l : LinkState) → Returns g (p ∷ ps) l → Next ℕ now Returns Any g l ps (heard now p l)
   returns_step g p ps l (b, each) = choose (heard_case now p l (lively now l b.is))
     where
       next : Out now (heard now p l).link ⊎ IsBehind last now (heard now p l).link → Next ℕ now Returns Any g l ps (heard now p l)

@@ -1,5 +1,5 @@
 -- Two ends that have joined a connection and stay in it: soon each takes what the other says, or one of them never will.
-use Rattle.std.proofs.Common.{◌≡◌, ℕ, zero, suc, ◌∙◌, ◌+◌, ◌*◌, ◌-◌, ◌^◌, ◌≤◌, ◌<◌, ◌⊎◌, inl, inr, Bool, true, false, List, [], ◌∷◌, refl, sym, ap, subst, arith}
+use Rattle.std.proofs.Common.{◌≡◌, ℕ, zero, suc, ◌∙◌, ◌+◌, ◌*◌, ◌-◌, ◌≤◌, ◌<◌, ◌⊎◌, inl, inr, Bool, true, false, List, [], ◌∷◌, refl, sym, ap, subst, arith}
 use Rattle.rasta_core_run.specs.State.{LinkState, is_open, is_up, is_asking}
 use Rattle.rasta_core_run.specs.identity.Role.TheVariants as role
 use Rattle.rasta_core_run.specs.phase.Phase.{Phase}
@@ -7,13 +7,13 @@ use Rattle.rasta_core_run.specs.phase.Phase.TheVariants as phase
 use Rattle.rasta_core_run.specs.pdu.Pdu.{Pdu}
 use Rattle.rasta_core_run.specs.Each.{Each}
 use Rattle.rasta_core_run.specs.Names.{Names}
-use Rattle.rasta_core_recovery.proofs.Links.{Pair, end_round, pair_round, pair_rounds}
+use Rattle.rasta_core_recovery.proofs.Links.{Pair}
 use Rattle.rasta_core_recovery.proofs.Healthy.{waits}
 use Rattle.rasta_core_recovery.proofs.Words.{Voice, Chain, chain_ends}
-use Rattle.rasta_core_recovery.proofs.TunedEnds.{IsPlainPdu, IsNoAnswerPdu, Round, Bounds, Reached, unheard, waiting, off, low, Deaf, far_off, missed, stuck, nothing}
-use Rattle.rasta_core_recovery.proofs.Turn.{Notes, EndMode, Turn}
-use Rattle.rasta_core_recovery.proofs.Converse.{Way, Talk, Are, bounds, turn, client_round, server_round, Goes}
-use Rattle.rasta_core_recovery.proofs.Seen.{Seen, Stay, talk_step, tuned_up}
+use Rattle.rasta_core_recovery.proofs.TunedEnds.{IsPlainPdu, IsNoAnswerPdu, Round, Bounds, IsShut, Reached, unheard, waiting, off, low, Deaf, far_off, missed, stuck, nothing}
+use Rattle.rasta_core_recovery.proofs.Turn.{waits_up, Notes, EndMode}
+use Rattle.rasta_core_recovery.proofs.Converse.{Way, Talk, client_round, server_round, Goes}
+use Rattle.rasta_core_recovery.proofs.Seen.{tuned_up}
 
 -- ---- an end that isn't tuned, and what it has heard of a partner that isn't either
 
@@ -76,13 +76,6 @@ way_up : (start own_start : ℕ) (tuned : Bool) (kept other_kept : ℕ) (l m : L
 way_up start own_start true kept other_kept l m ps w e = tuned_up start own_start kept other_kept l m ps w
 way_up start own_start false kept other_kept l m ps w e = absurd (cc e)
 
-waits_up : (at : Phase) → waits at ≡ true → is_up at ≡ false → ⊥
-waits_up phase.Closed e f = cc (e, f)
-waits_up phase.Start e f = cc (e, f)
-waits_up phase.Up e f = cc (e, f)
-waits_up phase.RetransmissionRequested e f = cc (e, f)
-waits_up phase.RetransmissionRunning e f = cc (e, f)
-
 -- a client that has joined is up
 joined_up : (l : LinkState) → l.identity.role ≡ role.Client → is_open l.phase ≡ true → is_asking l ≡ false → is_up l.phase ≡ true
 joined_up l client connected joined = by l.phase refl
@@ -99,18 +92,32 @@ joined_up l client connected joined = by l.phase refl
 
 -- ---- both, round by round
 
-module _ (names : Names) (n : ℕ) (p : Pair) (of_client of_server : ℕ) (seen : Seen names n p) (stay : Stay n p) (short : n ≤ 9000) (client_start : p.client.clock ≤ of_client + 1000) (server_start : p.server.clock ≤ of_server + 1000) where
-  abbrev at : ℕ → Pair
-  at k = pair_rounds k p
+-- What a round makes of the server, whether its client stays or not.
+pub record ServerAlone (names : Names) (of_client of_server : ℕ) (client_tuned server_tuned : Bool) (p q : Pair) (talk : Talk names of_client of_server client_tuned server_tuned p) : Type 0 where
+  pub bounds : Bounds (server_round names of_client of_server client_tuned server_tuned p talk)
+  pub then_tuned : Bool
+  pub kept : ℕ
+  pub mode : EndMode (server_round names of_client of_server client_tuned server_tuned p talk) bounds then_tuned kept q.server
+  pub shut : IsShut (server_round names of_client of_server client_tuned server_tuned p talk) → then_tuned ≡ false
 
+-- Pairs one after another, so many of them and one more: what each round makes of two that talk since these readings.
+pub record Lasting (names : Names) (n : ℕ) (of_client of_server : ℕ) (at : ℕ → Pair) : Type 0 where
+  pub goes : (k : ℕ) → k < n → (client_tuned server_tuned : Bool) (talk : Talk names of_client of_server client_tuned server_tuned (at k)) → Goes names of_client of_server client_tuned server_tuned (at k) (at (suc k)) talk
+  pub alone : (client_tuned server_tuned : Bool) (talk : Talk names of_client of_server client_tuned server_tuned (at n)) → is_open (at (suc n)).server.phase ≡ true → ServerAlone names of_client of_server client_tuned server_tuned (at n) (at (suc n)) talk
+  pub client_clock : (k : ℕ) → k ≤ n → (at k).client.clock ≡ (at 0).client.clock + 10 * k
+  pub server_clock : (k : ℕ) → k ≤ n → (at k).server.clock ≡ (at 0).server.clock + 10 * k
+  -- its partner confirmed to each no more than it sent
+  pub client_counts : (at 0).client.confirmed < (at 0).client.sent
+  pub server_counts : (at 0).server.confirmed < (at 0).server.sent
+
+module _ (names : Names) (n : ℕ) (of_client of_server : ℕ) (at : ℕ → Pair) (lasting : Lasting names n of_client of_server at) where
   record Held (k : ℕ) : Type 0 where
     client_tuned : Bool
     server_tuned : Bool
     talk : Talk names of_client of_server client_tuned server_tuned (at k)
 
-  goes : (k : ℕ) → k < n → (h : Held k) → Goes names of_client of_server h.client_tuned h.server_tuned (at k) h.talk
-  goes k most h = talk_step names of_client of_server h.client_tuned h.server_tuned (at k) h.talk (seen.room k (omega (arith, most))) (stay.both k (omega (arith, most))) (stay.both (suc k) (omega (arith, most)))
-      (omega (arith, seen.client_clock k, most, short, client_start)) (omega (arith, seen.server_clock k, most, short, server_start))
+  goes : (k : ℕ) → k < n → (h : Held k) → Goes names of_client of_server h.client_tuned h.server_tuned (at k) (at (suc k)) h.talk
+  goes k most h = lasting.goes k most h.client_tuned h.server_tuned h.talk
 
   abbrev next : (k : ℕ) → k < n → Held k → Held (suc k)
   next k most h = let g = goes k most h in record { client_tuned = g.then_client; server_tuned = g.then_server; talk = g.talk }
@@ -153,7 +160,7 @@ module _ (names : Names) (n : ℕ) (p : Pair) (of_client of_server : ℕ) (seen 
       (g.server_notes.hush u) (g.client_notes.hush t)
   kind_on k most h (server_mute e f none mute v) = server_mute t y.0 (g.server_notes.mute y.0 shut_up) shut_up (still v)
     where
-      g : Goes names of_client of_server h.client_tuned h.server_tuned (at k) h.talk
+      g : Goes names of_client of_server h.client_tuned h.server_tuned (at k) (at (suc k)) h.talk
       g = goes k most h
 
       t : g.then_client ≡ false
@@ -195,44 +202,28 @@ module _ (names : Names) (n : ℕ) (p : Pair) (of_client of_server : ℕ) (seen 
       sealed_to j (suc k) m (omega (arith, e)) le (record { held = next k lt s.held; kind = kind_on k lt s.held s.kind })
 
   -- nor does it where it stays in the next round, in which its client may leave
-  module _ (k : ℕ) (most : k ≤ n) (h : Held k) (then_in : is_open (pair_round (at k)).server.phase ≡ true) where
+  module _ (h : Held n) (then_in : is_open (at (suc n)).server.phase ≡ true) where
     abbrev last : Round
-    last = server_round names of_client of_server h.client_tuned h.server_tuned (at k) h.talk
+    last = server_round names of_client of_server h.client_tuned h.server_tuned (at n) h.talk
 
-    fits : (at k).client.sent < 2 ^ 31
-    fits = let r = (seen.room k most).client (stay.both k most).client in omega (arith, r)
+    alone : ServerAlone names of_client of_server h.client_tuned h.server_tuned (at n) (at (suc n)) h.talk
+    alone = lasting.alone h.client_tuned h.server_tuned h.talk then_in
 
-    server_short : (at k).server.clock ≤ of_server + 100000
-    server_short = omega (arith, seen.server_clock k, most, short, server_start)
+    then_old : (bounds : Bounds last) (tuned : Bool) (kept : ℕ) (l : LinkState) → EndMode last bounds tuned kept l → (tuned ≡ false) ⊎ (h.talk.client_kept ≤ of_server) → (at n).server.own_stamp ≤ of_server → l.own_stamp ≤ of_server
+    then_old bounds false kept l m why old = omega (arith, m.1, old)
+    then_old bounds true kept l (t, how) (inl e) old = absurd (cc e)
+    then_old bounds true kept l (t, how) (inr e) old = omega (arith, t.own, e)
 
-    abbrev server_are : Are names role.Server (at k).server (at k).client
-    server_are = record { own = h.talk.server; other = h.talk.client }
+    why_old : Kind n h → (alone.then_tuned ≡ false) ⊎ (h.talk.client_kept ≤ of_server)
+    why_old (client_far e f) = inr (old_client n h e).0
+    why_old (client_stuck e w na pl) = inr (old_client n h e).0
+    why_old (server_far e f) = inl (alone.shut (e, far_off f))
+    why_old (server_stuck e w na pl) = inl (alone.shut (e, stuck w na))
+    why_old (both_missed e f a b na nb) = inr (old_client n h e).0
+    why_old (server_mute e f none mute v) = inr (old_client n h e).0
 
-    abbrev server_bounds : Bounds last
-    server_bounds = bounds names role.Server of_client of_server h.server_tuned h.client_tuned h.talk.server_kept h.talk.client_kept (at k).server (at k).client (at k).to_server (at k).to_client
-        server_are h.talk.to_server h.talk.to_client fits server_short
-
-    server_turn : Turn last server_bounds h.server_tuned (at k).server (end_round ((at k).server.clock + 10) (at k).to_server (at k).server)
-    unfolding pair_round
-    server_turn = turn names role.Server of_client of_server h.server_tuned h.client_tuned h.talk.server_kept h.talk.client_kept (at k).server (at k).client (at k).to_server (at k).to_client
-        server_are h.talk.to_server h.talk.to_client fits server_short then_in
-
-    then_old : (tuned : Bool) (kept : ℕ) (l : LinkState) → EndMode last server_bounds tuned kept l → (tuned ≡ false) ⊎ (h.talk.client_kept ≤ of_server) → (at k).server.own_stamp ≤ of_server → l.own_stamp ≤ of_server
-    then_old false kept l m why old = omega (arith, m.1, old)
-    then_old true kept l (t, how) (inl e) old = absurd (cc e)
-    then_old true kept l (t, how) (inr e) old = omega (arith, t.own, e)
-
-    why_old : Kind k h → (server_turn.then_tuned ≡ false) ⊎ (h.talk.client_kept ≤ of_server)
-    why_old (client_far e f) = inr (old_client k h e).0
-    why_old (client_stuck e w na pl) = inr (old_client k h e).0
-    why_old (server_far e f) = inl (server_turn.notes.shut (e, far_off f))
-    why_old (server_stuck e w na pl) = inl (server_turn.notes.shut (e, stuck w na))
-    why_old (both_missed e f a b na nb) = inr (old_client k h e).0
-    why_old (server_mute e f none mute v) = inr (old_client k h e).0
-
-    server_old : Kind k h → (pair_round (at k)).server.own_stamp ≤ of_server
-    unfolding pair_round
-    server_old kind = then_old server_turn.then_tuned server_turn.says.kept _ server_turn.mode (why_old kind) (is_old k h kind)
+    server_old : Kind n h → (at (suc n)).server.own_stamp ≤ of_server
+    server_old kind = then_old alone.bounds alone.then_tuned alone.kept (at (suc n)).server alone.mode (why_old kind) (is_old n h kind)
 
   -- ---- neither is tuned yet
 
@@ -242,9 +233,9 @@ module _ (names : Names) (n : ℕ) (p : Pair) (of_client of_server : ℕ) (seen 
     server_counts : h.server_tuned ≡ false → (at k).server.confirmed < h.talk.to_client.number
 
   counts_first : (most : 0 < n) (h : Held 0) → Counts 1 (next 0 most h)
-  counts_first most h = let g = goes 0 most h in let b = stay.both 0 (omega arith) in record {
-    client_counts = λ e. omega (arith, (g.client_notes.deaf e).confirmed, g.server_way.0, (seen.client_past 0).counts b.client);
-    server_counts = λ e. omega (arith, (g.server_notes.deaf e).confirmed, g.client_way.0, (seen.server_past 0).counts b.server);
+  counts_first most h = let g = goes 0 most h in record {
+    client_counts = λ e. omega (arith, (g.client_notes.deaf e).confirmed, g.server_way.0, lasting.client_counts);
+    server_counts = λ e. omega (arith, (g.server_notes.deaf e).confirmed, g.client_way.0, lasting.server_counts);
   }
 
   not_then : (a b : Bool) → a ≡ false → (b ≡ true → a ≡ true) → b ≡ false
@@ -285,7 +276,7 @@ module _ (names : Names) (n : ℕ) (p : Pair) (of_client of_server : ℕ) (seen 
 
   -- a round after which neither is tuned
   module _ (k : ℕ) (most : k < n) (h : Held k) (t : (goes k most h).then_client ≡ false) (u : (goes k most h).then_server ≡ false) where
-    abbrev g : Goes names of_client of_server h.client_tuned h.server_tuned (at k) h.talk
+    abbrev g : Goes names of_client of_server h.client_tuned h.server_tuned (at k) (at (suc k)) h.talk
     g = goes k most h
 
     was_client : h.client_tuned ≡ false
@@ -413,7 +404,7 @@ module _ (names : Names) (n : ℕ) (p : Pair) (of_client of_server : ℕ) (seen 
         choose false false e f = inl (missed_then 33 long h e f m (inl closed.0))
 
     mute_server : (at 33).to_client ≡ [] → is_up (at 33).server.phase ≡ false → Closed h.talk.client_kept (at 33).server (at 33).client h.talk.to_server.number → Sealed 33
-    mute_server none down (inl w) = absurd (waits_up (at 33).server.phase w down)
+    mute_server none down (inl w) = absurd (cc (waits_up (at 33).server.phase w, down))
     mute_server none down (inr (inl f)) = record { held = h; kind = server_far b.server_deaf f }
     mute_server none down (inr (inr v)) = record { held = h; kind = server_mute b.client_deaf b.server_deaf none down v }
 
@@ -421,7 +412,7 @@ module _ (names : Names) (n : ℕ) (p : Pair) (of_client of_server : ℕ) (seen 
     resolve = by b.client_ear
       where
         quiet : (at 33).to_client ≡ [] → (at 33).server.sent_at ≤ (at 1).server.clock → (x : Bool) → is_up (at 33).server.phase ≡ x → Sealed 34 ⊎ OneTuned 34
-        quiet none old true e = absurd (omega (arith, b.server_calm e, old, seen.server_clock 33, seen.server_clock 1))
+        quiet none old true e = absurd (omega (arith, b.server_calm e, old, lasting.server_clock 33 (omega (arith, long)), lasting.server_clock 1 (omega (arith, long))))
         quiet none old false e = inl (seal_33 long (mute_server none e closed.1))
 
         by : Ear (at 1).server.clock h.talk.server_kept (at 33).client (at 33).server h.talk.to_client.number (at 33).to_client → Sealed 34 ⊎ OneTuned 34
@@ -450,7 +441,7 @@ module _ (names : Names) (n : ℕ) (p : Pair) (of_client of_server : ℕ) (seen 
           by : ((at 32).to_server ≡ []) ⊎ (h.talk.to_server.number < (at 32).client.sent)
               → (h.talk.to_server.number < (at 32).client.sent) ⊎ (((at 32).server.expected < h.talk.to_server.number) × Closed h.talk.client_kept (at 32).server (at 32).client h.talk.to_server.number)
           by (inr lt) = inl lt
-          by (inl none) = absurd (omega (arith, b.client_calm (client_up 32 h), f none, seen.client_clock 32, seen.client_clock 1))
+          by (inl none) = absurd (omega (arith, b.client_calm (client_up 32 h), f none, lasting.client_clock 32 (omega (arith, long)), lasting.client_clock 1 (omega (arith, long))))
 
       choose : (x y : Bool) → (goes 32 most h).then_client ≡ x → (goes 32 most h).then_server ≡ y → Sealed 34 ⊎ OneTuned 34
       choose true y e f = inr (one_on 33 long (record { held = next 32 most h; counts = counts_on 32 most h c; some = inl e }))
@@ -499,7 +490,7 @@ module _ (names : Names) (n : ℕ) (p : Pair) (of_client of_server : ℕ) (seen 
     calm = g.server_calm (way_up _ _ _ _ _ _ _ _ g.talk.to_server (g.server_keeps other));
   }
     where
-      g : Goes names of_client of_server h.client_tuned h.server_tuned (at k) h.talk
+      g : Goes names of_client of_server h.client_tuned h.server_tuned (at k) (at (suc k)) h.talk
       g = goes k most h
 
       was : h.client_tuned ≡ false
@@ -531,7 +522,7 @@ module _ (names : Names) (n : ℕ) (p : Pair) (of_client of_server : ℕ) (seen 
       choose true e = record { round = suc k; soon = omega arith; done = client_both (next k lt h) e ((goes k lt h).server_keeps l.other) }
       choose false e = by d.reached
         where
-          g : Goes names of_client of_server h.client_tuned h.server_tuned (at k) h.talk
+          g : Goes names of_client of_server h.client_tuned h.server_tuned (at k) (at (suc k)) h.talk
           g = goes k lt h
 
           d : Deaf (client_round names of_client of_server h.client_tuned h.server_tuned (at k) h.talk) (at (suc k)).client (at k).server.sent []
@@ -597,7 +588,7 @@ module _ (names : Names) (n : ℕ) (p : Pair) (of_client of_server : ℕ) (seen 
     calm = g.client_calm (way_up _ _ _ _ _ _ _ _ g.talk.to_client (g.client_keeps other));
   }
     where
-      g : Goes names of_client of_server h.client_tuned h.server_tuned (at k) h.talk
+      g : Goes names of_client of_server h.client_tuned h.server_tuned (at k) (at (suc k)) h.talk
       g = goes k most h
 
       was : h.server_tuned ≡ false
@@ -629,7 +620,7 @@ module _ (names : Names) (n : ℕ) (p : Pair) (of_client of_server : ℕ) (seen 
       choose true e = record { round = suc k; soon = omega arith; done = server_both (next k lt h) e ((goes k lt h).client_keeps l.other) }
       choose false e = by d.reached
         where
-          g : Goes names of_client of_server h.client_tuned h.server_tuned (at k) h.talk
+          g : Goes names of_client of_server h.client_tuned h.server_tuned (at k) (at (suc k)) h.talk
           g = goes k lt h
 
           d : Deaf (server_round names of_client of_server h.client_tuned h.server_tuned (at k) h.talk) (at (suc k)).server (at k).client.sent []
@@ -695,14 +686,14 @@ module _ (names : Names) (n : ℕ) (p : Pair) (of_client of_server : ℕ) (seen 
 
   -- both are tuned soon, or the server never knows a younger own stamp
   pub data Fate : Type 0 where
-    tuned_soon : (k : ℕ) → k ≤ 68 → Talk names of_client of_server true true (pair_rounds k p) → Fate
-    old_ever : (pair_rounds n p).server.own_stamp ≤ of_server → (is_open (pair_rounds (suc n) p).server.phase ≡ true → (pair_rounds (suc n) p).server.own_stamp ≤ of_server) → Fate
+    tuned_soon : (k : ℕ) → k ≤ 68 → Talk names of_client of_server true true (at k) → Fate
+    old_ever : (at n).server.own_stamp ≤ of_server → (is_open (at (suc n)).server.phase ≡ true → (at (suc n)).server.own_stamp ≤ of_server) → Fate
 
-  pub fate_of_both : 68 ≤ n → Talk names of_client of_server false false p → Fate
+  pub fate_of_both : 68 ≤ n → Talk names of_client of_server false false (at 0) → Fate
   fate_of_both long talk = finish (outcome long (record { client_tuned = false; server_tuned = false; talk = talk }))
     where
       ever : Sealed n → Fate
-      ever s = old_ever (is_old n s.held s.kind) (λ then_in. server_old n (omega arith) s.held then_in s.kind)
+      ever s = old_ever (is_old n s.held s.kind) (λ then_in. server_old s.held then_in s.kind)
 
       done : (k : ℕ) → k ≤ 68 → Done k → Fate
       done k le (both_up h e f) = tuned_soon k le (subst (λ (b : Bool). Talk names of_client of_server true b (at k)) f (subst (λ (b : Bool). Talk names of_client of_server b h.server_tuned (at k)) e h.talk))

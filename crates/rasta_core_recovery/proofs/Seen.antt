@@ -12,7 +12,7 @@ use Rattle.rasta_core_recovery.proofs.Course.{Joined}
 use Rattle.rasta_core_recovery.proofs.Fold.{Begins, late, on, begins, stays_out}
 use Rattle.rasta_core_recovery.proofs.TunedEnds.{Round}
 use Rattle.rasta_core_recovery.proofs.Turn.{Either, gone, so, Numbers, numbers, Spoke, loosely}
-use Rattle.rasta_core_recovery.proofs.Converse.{Way, Talk, Goes, talks_on}
+use Rattle.rasta_core_recovery.proofs.Converse.{Way, Talk, GoesQuietly, talks_on}
 use Rattle.rasta_core_recovery.proofs.Asks.{Asks}
 use Rattle.rasta_core_recovery.proofs.Joins.{joins_row}
 use Rattle.rasta_core_recovery.proofs.Returned.{IsReturned, IsBehind, own_behind}
@@ -118,7 +118,7 @@ loose_says l m n ps k is shares fits row then_in = choose (loosely (loose_round 
     choose (so says) = says
 
 -- one direction after such a round, since readings of the clocks that no end has taken more than
-pub way_from : (partner_start own_start : ℕ) (l m : LinkState) (ps qs : List Pdu) (s r : Step) (k : Kept l m) (j : Kept m l) → (t : Spoke (loose_round k.reading l m ps) l s) → (u : Spoke (loose_round j.reading m l qs) m r)
+way_from : (partner_start own_start : ℕ) (l m : LinkState) (ps qs : List Pdu) (s r : Step) (k : Kept l m) (j : Kept m l) → (t : Spoke (loose_round k.reading l m ps) l s) → (u : Spoke (loose_round j.reading m l qs) m r)
     → Shares s.link r.link → m.clock ≤ partner_start → partner_start ≤ r.link.clock → own_start ≤ s.link.clock → r.link.own_stamp ≤ partner_start → s.link.own_stamp ≤ own_start → Past r.link → is_open r.link.phase ≡ true
     → Way partner_start own_start false t.kept u.kept s.link r.link r.pdus
 way_from partner_start own_start l m ps qs s r k j t u shares from later own_later partner_old own_old past partner_in = record {
@@ -141,10 +141,24 @@ way_from partner_start own_start l m ps qs s r k j t u shares from later own_lat
   deaf = λ e. (t.most, own_old);
 }
 
-pub first_way : (l m : LinkState) (ps qs : List Pdu) (s r : Step) (k : Kept l m) (j : Kept m l) → (t : Spoke (loose_round k.reading l m ps) l s) → (u : Spoke (loose_round j.reading m l qs) m r)
-    → Shares s.link r.link → Young r.link → Past r.link → is_open r.link.phase ≡ true → Way r.link.clock s.link.clock false t.kept u.kept s.link r.link r.pdus
-first_way l m ps qs s r k j t u shares young past partner_in =
-    way_from r.link.clock s.link.clock l m ps qs s r k j t u shares (omega (arith, u.is.clock)) (omega arith) (omega arith) young.own (omega (arith, t.is.own, t.is.clock)) past partner_in
+-- What both say from then on, from a round of two that have joined, where the server knows no own stamp that is younger than before it.
+pub talk_from : (names : Names) (p q : Pair) (now : Shares p.client p.server × Shares p.server p.client) → Facts names q → Past q.client → Past q.server → BothIn q
+    → Spoke (loose_round now.0.kept.reading p.client p.server p.to_client) p.client (record { link = q.client; pdus = q.to_server })
+    → Spoke (loose_round now.1.kept.reading p.server p.client p.to_server) p.server (record { link = q.server; pdus = q.to_client })
+    → q.server.own_stamp ≤ p.server.clock → Talk names q.client.clock p.server.clock false false q
+talk_from names p q now facts client_past server_past in_it x y old = record {
+  client = facts.client;
+  server = facts.server;
+  client_kept = x.kept;
+  server_kept = y.kept;
+  to_client = way_from p.server.clock q.client.clock p.client p.server p.to_client p.to_server (record { link = q.client; pdus = q.to_server }) (record { link = q.server; pdus = q.to_client }) now.0.kept now.1.kept x y later.0
+      (omega arith) (omega (arith, y.is.clock)) (omega arith) old (omega (arith, x.is.own, x.is.clock)) server_past in_it.server;
+  to_server = way_from q.client.clock p.server.clock p.server p.client p.to_server p.to_client (record { link = q.server; pdus = q.to_client }) (record { link = q.client; pdus = q.to_server }) now.1.kept now.0.kept y x later.1
+      (omega (arith, x.is.clock)) (omega arith) (omega (arith, y.is.clock)) (omega (arith, x.is.own, x.is.clock)) old client_past in_it.client;
+}
+  where
+    later : Shares q.client q.server × Shares q.server q.client
+    later = facts.shares in_it.client x.is.joined in_it.server
 
 -- the server knows no own stamp that is younger than before a round in which nothing younger is returned to it
 server_behind : (p : Pair) → Joined p.server.clock p.server → Each (IsReturned p.server.clock) p.to_server → is_open (pair_round p).server.phase ≡ true → (pair_round p).server.own_stamp ≤ p.server.clock
@@ -162,16 +176,8 @@ pub talk_begins : (names : Names) (p : Pair) (n m : ℕ) → Facts names p → F
     → p.client.sent < 2 ^ 31 → p.server.sent < 2 ^ 31 → Row (IsNumbered (voice_of p.client)) n p.to_server p.client.sent → Row (IsNumbered (voice_of p.server)) m p.to_client p.server.sent
     → Talk names (pair_round p).client.clock p.server.clock false false (pair_round p)
 unfolding pair_round
-talk_begins names p n m facts then_facts client_past server_past now_in joined then_in client_fits server_fits client_row server_row = record {
-  client = then_facts.client;
-  server = then_facts.server;
-  client_kept = x.kept;
-  server_kept = y.kept;
-  to_client = way_from p.server.clock c.link.clock p.client p.server p.to_client p.to_server c s now.0.kept now.1.kept x y later.0
-      (omega arith) (omega (arith, y.is.clock)) (omega arith) behind (omega (arith, x.is.own, x.is.clock)) server_past then_in.server;
-  to_server = way_from c.link.clock p.server.clock p.server p.client p.to_server p.to_client s c now.1.kept now.0.kept y x later.1
-      (omega (arith, x.is.clock)) (omega arith) (omega (arith, y.is.clock)) (omega (arith, x.is.own, x.is.clock)) behind client_past then_in.client;
-}
+talk_begins names p n m facts then_facts client_past server_past now_in joined then_in client_fits server_fits client_row server_row =
+    talk_from names p (pair_round p) now then_facts client_past server_past then_in x y (server_behind p server_is (facts.returned now_in.server) then_in.server)
   where
     c : Step
     c = end_round (p.client.clock + 10) p.to_client p.client
@@ -194,12 +200,6 @@ talk_begins names p n m facts then_facts client_past server_past now_in joined t
     y : Spoke (loose_round now.1.kept.reading p.server p.client p.to_server) p.server s
     y = loose_says p.server p.client n p.to_server now.1.kept server_is now.1 client_fits client_row then_in.server
 
-    later : Shares c.link s.link × Shares s.link c.link
-    later = then_facts.shares then_in.client x.is.joined then_in.server
-
-    behind : s.link.own_stamp ≤ p.server.clock
-    behind = server_behind p server_is (facts.returned now_in.server) then_in.server
-
 -- while both stay
 pub record Stay (n : ℕ) (p : Pair) : Type 0 where
   pub both : (k : ℕ) → k ≤ n → BothIn (pair_rounds k p)
@@ -212,7 +212,7 @@ stay_later zero n p stay = subst (λ (k : ℕ). Stay k p) (omega arith) stay
 stay_later (suc m) n p stay = stay_on n (pair_rounds m p) (stay_later m (suc n) p (subst (λ (k : ℕ). Stay k p) (omega arith) stay))
 
 pub talk_step : (names : Names) (of_client of_server : ℕ) (client_tuned server_tuned : Bool) (p : Pair) → (talk : Talk names of_client of_server client_tuned server_tuned p) → Rooms p → BothIn p → BothIn (pair_round p)
-    → p.client.clock ≤ of_client + 100000 → p.server.clock ≤ of_server + 100000 → Goes names of_client of_server client_tuned server_tuned p talk
+    → p.client.clock ≤ of_client + 100000 → p.server.clock ≤ of_server + 100000 → GoesQuietly names of_client of_server client_tuned server_tuned p talk
 talk_step names of_client of_server client_tuned server_tuned p talk rooms now_in then_in client_short server_short =
     let c = rooms.client now_in.client in let s = rooms.server now_in.server in
     talks_on names of_client of_server client_tuned server_tuned p talk (omega (arith, c)) (omega (arith, s)) client_short server_short then_in.client then_in.server
@@ -287,25 +287,25 @@ near_from names of_client of_server p true true e f talk client_near server_near
 pub near_by : (names : Names) (n of_client of_server : ℕ) (p : Pair) → 2 ≤ n → Seen names n p → Stay n p → Talk names of_client of_server true true p → p.client.clock + 10 ≤ of_client + 100000 → p.server.clock + 10 ≤ of_server + 100000
     → NearBy names (pair_rounds 2 p)
 near_by names n of_client of_server p long seen stay talk client_short server_short =
-    near_from names of_client of_server (pair_rounds 2 p) g2.then_client g2.then_server (g2.client_keeps refl) (g2.server_keeps refl) g2.talk (g2.client_near refl server_calm) (g2.server_near refl client_calm)
-    (record { client_beats = g2.client_beats refl (g1.server_plain refl); server_beats = g2.server_beats refl (g1.client_plain refl); client_calm = g2.client_calm; server_calm = g2.server_calm })
+    near_from names of_client of_server (pair_rounds 2 p) g2.goes.then_client g2.goes.then_server (g2.goes.client_keeps refl) (g2.goes.server_keeps refl) g2.goes.talk (g2.goes.client_near refl server_calm) (g2.goes.server_near refl client_calm)
+    (record { client_beats = g2.client_beats refl (g1.goes.server_plain refl); server_beats = g2.server_beats refl (g1.goes.client_plain refl); client_calm = g2.goes.client_calm; server_calm = g2.goes.server_calm })
     (seen.room 2 long) (stay.both 2 long)
   where
-    g1 : Goes names of_client of_server true true p talk
+    g1 : GoesQuietly names of_client of_server true true p talk
     g1 = talk_step names of_client of_server true true p talk (seen.room 0 (omega arith)) (stay.both 0 (omega arith)) (stay.both 1 (omega (arith, long))) (omega (arith, client_short)) (omega (arith, server_short))
 
     mid_talk : Talk names of_client of_server true true (pair_round p)
-    mid_talk = subst (λ (b : Bool). Talk names of_client of_server true b (pair_round p)) (g1.server_keeps refl) (subst (λ (b : Bool). Talk names of_client of_server b g1.then_server (pair_round p)) (g1.client_keeps refl) g1.talk)
+    mid_talk = subst (λ (b : Bool). Talk names of_client of_server true b (pair_round p)) (g1.goes.server_keeps refl) (subst (λ (b : Bool). Talk names of_client of_server b g1.goes.then_server (pair_round p)) (g1.goes.client_keeps refl) g1.goes.talk)
 
-    g2 : Goes names of_client of_server true true (pair_round p) mid_talk
+    g2 : GoesQuietly names of_client of_server true true (pair_round p) mid_talk
     g2 = talk_step names of_client of_server true true (pair_round p) mid_talk (seen.room 1 (omega (arith, long))) (stay.both 1 (omega (arith, long))) (stay.both 2 long)
-        (omega (arith, client_short, g1.client_clock)) (omega (arith, server_short, g1.server_clock))
+        (omega (arith, client_short, g1.goes.client_clock)) (omega (arith, server_short, g1.goes.server_clock))
 
     client_calm : (pair_round p).client.clock < (pair_round p).client.sent_at + 300
-    client_calm = g1.client_calm (tuned_up of_server of_client mid_talk.client_kept mid_talk.server_kept (pair_round p).client (pair_round p).server (pair_round p).to_client mid_talk.to_client)
+    client_calm = g1.goes.client_calm (tuned_up of_server of_client mid_talk.client_kept mid_talk.server_kept (pair_round p).client (pair_round p).server (pair_round p).to_client mid_talk.to_client)
 
     server_calm : (pair_round p).server.clock < (pair_round p).server.sent_at + 300
-    server_calm = g1.server_calm (tuned_up of_client of_server mid_talk.server_kept mid_talk.client_kept (pair_round p).server (pair_round p).client (pair_round p).to_server mid_talk.to_server)
+    server_calm = g1.goes.server_calm (tuned_up of_client of_server mid_talk.server_kept mid_talk.client_kept (pair_round p).server (pair_round p).client (pair_round p).to_server mid_talk.to_server)
 
 -- ---- and 31 rounds later both are healthy
 

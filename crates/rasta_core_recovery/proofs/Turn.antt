@@ -19,6 +19,14 @@ use Rattle.rasta_core_recovery.proofs.Fold.{Out, heard_case, Next, gone_next, st
 use Rattle.rasta_core_recovery.proofs.Course.{Joined, lively, Goes, goes_none, goes_then, voice_goes, taken_joined, placed, answers_chain, asked_chain, asked_joined, asked_goes, taken_goes}
 use Rattle.rasta_core_recovery.proofs.TunedEnds.{IsPlainPdu, IsNoAnswerPdu, not_before, IsShut, IsOutdated, Reached, unheard, waiting, off, low, Deaf, each_append, Round, Bounds, Ghost, Tuned, HasHeard, HasWaited, Mode, Hearing, Answers, tunes}
 
+-- an end that waits for a retransmission is up
+pub waits_up : (at : Phase) → waits at ≡ true → is_up at ≡ true
+waits_up phase.Closed e = cc
+waits_up phase.Start e = cc
+waits_up phase.Up e = refl
+waits_up phase.RetransmissionRequested e = refl
+waits_up phase.RetransmissionRunning e = refl
+
 -- ---- its own work
 
 pub data Ended (now : ℕ) (k : LinkState) (s : Step) : Type 0 where
@@ -387,13 +395,6 @@ module _ (x : Round) (bounds : Bounds x) where
   phase_stays : (b : Bool) (k : LinkState) → (spoken b k).phase ≡ k.phase
   phase_stays false k = refl
   phase_stays true k = refl
-
-  waits_up : (at : Phase) → waits at ≡ true → is_up at ≡ true
-  waits_up phase.Closed e = cc
-  waits_up phase.Start e = cc
-  waits_up phase.Up e = refl
-  waits_up phase.RetransmissionRequested e = refl
-  waits_up phase.RetransmissionRunning e = refl
 
   no_beat : (b : Bool) (k : LinkState) → (b ≡ true → is_up k.phase ≡ true) → is_up k.phase ≡ false → beats b (spoken b k) ≡ []
   no_beat false k up e = refl

@@ -56,7 +56,7 @@ heard_grows now p l is room simple = simple_deed now p l (heard now p l).link (h
     same = heard_lives now p l (record { connected = is.connected; young = is.young; room = room is.connected })
         ∙ ap (λ (k : LinkState). record { link = (hearing p k).link; pdus = (hearing p k).pdus }) (same_clock now l is.clock)
 
-did_grows : (now : ℕ) (a : Act) (l : LinkState) → Joined now l → HasRoom l → Each IsSimplePdu (brought a) → Joined now (did now a l).link × Grows l (did now a l).link
+pub did_grows : (now : ℕ) (a : Act) (l : LinkState) → Joined now l → HasRoom l → Each IsSimplePdu (brought a) → Joined now (did now a l).link × Grows l (did now a l).link
 unfolding did
 did_grows now (Hears p) l is room simple = heard_grows now p l is room simple.0
 did_grows now Beats l is room simple = let u = own_utters now Beats l tt (lively now l is) room in (utters_joined now l _ _ is u, u.grows)
@@ -91,7 +91,7 @@ gifts_bring_none (Beats ∷ acts) each = absurd each.0
 gifts_bring_none (Asks ∷ acts) each = absurd each.0
 gifts_bring_none (Gives item ∷ acts) each = gifts_bring_none acts each.1
 
-clock_brings_none : (who : Role) (acts : List Act) → Each IsGift acts → all_brought (clock_acts who ++ acts) ≡ []
+pub clock_brings_none : (who : Role) (acts : List Act) → Each IsGift acts → all_brought (clock_acts who ++ acts) ≡ []
 clock_brings_none role.Client acts each = gifts_bring_none acts each
 clock_brings_none role.Server acts each = gifts_bring_none acts each
 

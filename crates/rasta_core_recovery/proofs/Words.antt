@@ -60,6 +60,10 @@ abbrev pub IsNoAnswer : Body → Type 0
 IsNoAnswer RetransmissionResponse = ⊥
 IsNoAnswer _ = Unit {0}
 
+pub simple_no_answer : (body : Body) → IsSimple body → IsNoAnswer body
+simple_no_answer RetransmissionResponse is = is
+simple_no_answer _ is = tt
+
 -- ---- PDUs of one header
 
 abbrev pub Says : (Body → Type 0) → Header → ℕ → List Pdu → ℕ → Type 0

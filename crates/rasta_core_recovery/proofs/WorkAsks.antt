@@ -19,18 +19,18 @@ use Rattle.rasta_core_recovery.proofs.TunedEnds.{each_append}
 use Rattle.rasta_core_recovery.proofs.Turn.{Either, gone, so, reading_joined}
 use Rattle.rasta_core_recovery.proofs.Asks.{IsTalkPdu, Asks, InIt, AsksOn, Mute, mute_then, in_lively, in_step, Alone, Same, same_then, alone_step, asks_asking, asks_lively, reading_asks, not_up, first_talks, beating_talks}
 use Rattle.rasta_core_recovery.proofs.WorkTurn.{utters_joined}
-use Rattle.rasta_core_recovery.proofs.WorkOpens.{gifts_of, mute_client, round_is}
+use Rattle.rasta_core_recovery.proofs.WorkOpens.{gifts_of, mute_server, mute_client, round_is}
 use Rattle.rasta_core_recovery.proofs.Hale.{room_first}
 
 -- ---- an end that asks is given items in vain
 
-utters_asks : (now : ℕ) (l k : LinkState) (qs : List Pdu) → Asks now l → Utters l k qs → Asks now k
+pub utters_asks : (now : ℕ) (l k : LinkState) (qs : List Pdu) → Asks now l → Utters l k qs → Asks now k
 utters_asks now l k qs is u = subst (Asks now) (sym u.same) (record { clock = is.clock; starts = is.starts; client = is.client; young = is.young; own = is.own })
 
-utters_none_then : (now : ℕ) (l k : LinkState) (qs : List Pdu) → Asks now l → Utters l k qs → qs ≡ []
+pub utters_none_then : (now : ℕ) (l k : LinkState) (qs : List Pdu) → Asks now l → Utters l k qs → qs ≡ []
 utters_none_then now l k qs is u = u.mute (not_up l (asks_asking now l is))
 
-utters_in_it : (now : ℕ) (l k : LinkState) (qs : List Pdu) → InIt now l → Utters l k qs → InIt now k × Mute now 0 l qs 0 k
+pub utters_in_it : (now : ℕ) (l k : LinkState) (qs : List Pdu) → InIt now l → Utters l k qs → InIt now k × Mute now 0 l qs 0 k
 utters_in_it now l k qs (inl is) u = let j = utters_joined now l k qs is u in (inl j, λ e. absurd (cc (e, j.joined)))
 utters_in_it now l k qs (inr is) u = (inr (utters_asks now l k qs is u), λ e. (asks_asking now l is, ap (λ (j : LinkState). j.own_stamp) u.same, utters_none_then now l k qs is u))
 
@@ -111,6 +111,20 @@ asks_on now acts l work is at room = choose (begins now l at (ap is_open is.star
         lives = record { connected = ap is_open is.starts; young = young; room = room_first now acts k (subst (Roomy now acts) e room) (ap is_open is.starts) }
 
 -- ---- a server to which nothing comes
+
+-- a server that isn't up, to which nothing comes, says nothing, and stands as before or is outside
+pub server_silent : (now : ℕ) (acts : List Act) (l : LinkState) → IsWork role.Server [] acts → Joined l.clock l → is_up l.phase ≡ false → now ≡ l.clock + 10 → Roomy now acts (settled now l)
+    → Out now (acted now acts l).link ⊎ (acted now acts l ≡ silent (at_reading now l))
+unfolding acted
+server_silent now acts l work is down at room = choose (begins now l at is.connected is.young)
+  where
+    choose : Begins now l → Out now (all_did now acts (settled now l)).link ⊎ (all_did now acts (settled now l) ≡ silent (at_reading now l))
+    choose (late left) = inl (out_all now acts (settled now l) left)
+    choose (on e young) = inr (round_is role.Server now [] acts l work ∙ ap (λ (k : LinkState). all_did now (work.front ++ (clock_acts role.Server ++ work.back)) k) e
+        ∙ mute_server now work.front work.back (at_reading now l) (gifts_of work.front work.before work.brings) work.behind (entered_lives now (at_reading now l) lives) down)
+      where
+        lives : Lives now (at_reading now l)
+        lives = record { connected = is.connected; young = young; room = room_first now acts (at_reading now l) (subst (Roomy now acts) e room) is.connected }
 
 items_talk : (b : Bool) (item : List ℕ) (j : LinkState) → Each IsTalkPdu (if b then giving item j else silent j).pdus
 unfolding giving sending pdu_of

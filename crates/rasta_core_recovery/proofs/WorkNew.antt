@@ -7,6 +7,7 @@ use Rattle.rasta_core_run.specs.PdusHandedOut.{Step, silent}
 use Rattle.rasta_core_run.specs.identity.Role.TheVariants as role
 use Rattle.rasta_core_run.specs.identity.Identity.{Identity}
 use Rattle.rasta_core_run.specs.pdu.Pdu.{Pdu}
+use Rattle.rasta_core_run.specs.Each.{Each}
 use Rattle.rasta_core_run.specs.Names.{Names, identity_of}
 use Rattle.rasta_core_recovery.proofs.Links.{Pair}
 use Rattle.rasta_core_recovery.proofs.Acts.{acted, all_did, IsWork, Roomy, WorkRound, client_step, server_step, behind}
@@ -18,10 +19,12 @@ use Rattle.rasta_core_recovery.proofs.Health.{reading_up}
 use Rattle.rasta_core_recovery.proofs.Healthy.{is_reading}
 use Rattle.rasta_core_recovery.proofs.Course.{Joined, voice_goes}
 use Rattle.rasta_core_recovery.proofs.TunedEnds.{Round, Bounds, Hearing}
-use Rattle.rasta_core_recovery.proofs.Turn.{EndMode}
-use Rattle.rasta_core_recovery.proofs.WorkTurn.{simple_are_plain, Worked, Left, has_left, stays_in, works_surely}
+use Rattle.rasta_core_recovery.proofs.Turn.{EndMode, reading_joined}
+use Rattle.rasta_core_recovery.proofs.WorkTurn.{IsSimplePdu, simple_are_plain, Worked, Left, has_left, stays_in, works_surely}
 use Rattle.rasta_core_recovery.proofs.WorkOpens.{client_joins_at_work, Joins, server_waits_at_work, server_comes_up_at_work, ComesUp, Tells, TellsAll, tells_through}
-use Rattle.rasta_core_recovery.proofs.Hale.{Hale, room_first}
+use Rattle.rasta_core_recovery.proofs.Hale.{Hale, Keeps, room_first}
+use Rattle.rasta_core_recovery.proofs.Given.{Grows}
+use Rattle.rasta_core_recovery.proofs.Within.{Within, all_grow, work_brings}
 
 -- a pair by its parts
 pub record Is (p : Pair) (c s : LinkState) (tc ts : List Pdu) : Type 0 where
@@ -332,6 +335,51 @@ module _ (names : Names) (client_closed server_closed cf sf at grant : ℕ) (fit
       where
         reading_then : is_reading (client_step p r).link.phase ≡ true
         reading_then = ap (λ (l : LinkState). is_reading l.phase) same4 ∙ ap (λ (l : LinkState). is_reading l.phase) j.tells.same
+
+    -- ---- and what the round keeps
+
+    server_in : Joined p.server.clock p.server
+    server_in = subst (λ (l : LinkState). Joined l.clock l) (sym j.server) (record { clock = refl; connected = refl; joined = refl; young = omega arith; own = omega arith })
+
+    server_young : p.server.clock + 10 < p.server.own_stamp + 1800
+    server_young = omega (arith, ap (λ (l : LinkState). l.clock) j.server, ap (λ (l : LinkState). l.own_stamp) j.server)
+
+    server_on : settled (p.server.clock + 10) p.server ≡ at_reading (p.server.clock + 10) p.server
+    server_on = settled_in (p.server.clock + 10) p.server server_in.connected server_young
+
+    server_room : Roomy (p.server.clock + 10) r.server_acts (at_reading (p.server.clock + 10) p.server)
+    server_room = subst (Roomy (p.server.clock + 10) r.server_acts) server_on r.server_room
+
+    client_in : Joined p.client.clock p.client
+    client_in = subst (λ (n : ℕ). Joined n p.client) (sym k_clock) j.is
+
+    client_kept : Within (p.client.clock + 10) r.client_acts (at_reading (p.client.clock + 10) p.client) × Grows (at_reading (p.client.clock + 10) p.client) (all_did (p.client.clock + 10) r.client_acts (at_reading (p.client.clock + 10) p.client)).link
+    client_kept = all_grow (p.client.clock + 10) r.client_acts (at_reading (p.client.clock + 10) p.client) (reading_joined (p.client.clock + 10) p.client client_in refl young) client_room
+        (subst (Each IsSimplePdu) (sym (work_brings role.Client [] r.client_acts (client_work_of p r [] j.to_client))) tt)
+
+    server_kept : Within (p.server.clock + 10) r.server_acts (at_reading (p.server.clock + 10) p.server) × Grows (at_reading (p.server.clock + 10) p.server) (all_did (p.server.clock + 10) r.server_acts (at_reading (p.server.clock + 10) p.server)).link
+    server_kept = all_grow (p.server.clock + 10) r.server_acts (at_reading (p.server.clock + 10) p.server) (reading_joined (p.server.clock + 10) p.server server_in refl server_young) server_room
+        (subst (Each IsSimplePdu) (sym (work_brings role.Server (beat c3 ∷ j.others) r.server_acts (server_work_of p r (beat c3 ∷ j.others) j.to_server))) (tt, j.tells.simple))
+
+    client_goes : Grows p.client (client_step p r).link
+    unfolding acted
+    client_goes = let g = subst (λ (l : LinkState). Grows (at_reading (p.client.clock + 10) p.client) (all_did (p.client.clock + 10) r.client_acts l).link) (sym client_on) client_kept.1 in record { sent = g.sent; waits = g.waits }
+
+    server_goes : Grows p.server (server_step p r).link
+    unfolding acted
+    server_goes = let g = subst (λ (l : LinkState). Grows (at_reading (p.server.clock + 10) p.server) (all_did (p.server.clock + 10) r.server_acts l).link) (sym server_on) server_kept.1 in record { sent = g.sent; waits = g.waits }
+
+    pub joined_keeps : Keeps p r
+    joined_keeps = record {
+      client = client_in;
+      server = server_in;
+      client_within = subst (Within (p.client.clock + 10) r.client_acts) (sym client_on) client_kept.0;
+      server_within = subst (Within (p.server.clock + 10) r.server_acts) (sym server_on) server_kept.0;
+      client_level = omega (arith, client_expected, ap (λ (l : LinkState). l.sent) j.server);
+      server_level = ended.3.0.expected;
+      client_grows = client_goes;
+      server_grows = server_goes;
+    }
 
   -- the round in which the client joins
   pub joins_then : (p : Pair) (r : WorkRound p) → Is p (asking_link names (at + 10) client_closed cf at) (granted grant) (answer ∷ []) [] → JoinedBy (behind p r)

@@ -113,7 +113,7 @@ mute_gifts now (Beats ∷ gifts) l given enters down = absurd given.0
 mute_gifts now (Asks ∷ gifts) l given enters down = absurd given.0
 mute_gifts now (Gives item ∷ gifts) l given enters down = passes_over now (Gives item) gifts l (mute_gives now item l enters down) ∙ mute_gifts now gifts l given.1 enters down
 
-mute_server : (now : ℕ) (gifts back : List Act) (l : LinkState) → Each IsGift gifts → Each IsGift back → entered now l ≡ silent l → is_up l.phase ≡ false → all_did now (gifts ++ (clock_acts role.Server ++ back)) l ≡ silent l
+pub mute_server : (now : ℕ) (gifts back : List Act) (l : LinkState) → Each IsGift gifts → Each IsGift back → entered now l ≡ silent l → is_up l.phase ≡ false → all_did now (gifts ++ (clock_acts role.Server ++ back)) l ≡ silent l
 mute_server now gifts back l given behind enters down =
     mute_front now gifts (Beats ∷ back) l given enters down ∙ passes_over now Beats back l (mute_ticks now l enters down) ∙ mute_gifts now back l behind enters down
 

@@ -15,7 +15,8 @@ use Rattle.rasta_core_recovery.proofs.Pasts.{Past}
 use Rattle.rasta_core_recovery.proofs.Recovers.{Laws, Holds, holds_run, holds_after}
 use Rattle.rasta_core_recovery.proofs.Hale.{hale_up}
 use Rattle.rasta_core_recovery.proofs.WorkBridge.{Follows, follows}
-use Rattle.rasta_core_recovery.proofs.WorkFates.{Sound, Run, all_come}
+use Rattle.rasta_core_recovery.proofs.WorkRun.{Sound, Run}
+use Rattle.rasta_core_recovery.proofs.WorkSum.{all_come}
 
 pub sound_of : (names : Names) (f : Flow) (p : Pair) → Holds names f.ends → Mirrors names f p → Sound names p
 sound_of names f p holds m = record { facts = facts names f p m holds.ordered; client_past = subst Past m.client holds.pasts.client; server_past = subst Past m.server holds.pasts.server }

@@ -1,7 +1,7 @@
 -- What a round at work makes of an end that has joined a connection.
 use Rattle.std.proofs.Common.{◌≡◌, ℕ, ◌∙◌, ◌+◌, ◌-◌, ◌^◌, ◌≤◌, ◌<◌, ◌⊎◌, inl, inr, Bool, true, false, List, [], ◌∷◌, ◌++◌, refl, sym, ap, subst, arith}
 use Rattle.rasta_core_run.specs.Sequence.{stamp}
-use Rattle.rasta_core_run.specs.State.{LinkState}
+use Rattle.rasta_core_run.specs.State.{LinkState, is_up}
 use Rattle.rasta_core_run.specs.Clock.{settled}
 use Rattle.rasta_core_run.specs.PdusHandedOut.{Step, header_of}
 use Rattle.rasta_core_run.specs.header.Header.{Header}
@@ -12,13 +12,13 @@ use Rattle.rasta_core_recovery.proofs.Links.{heard}
 use Rattle.rasta_core_recovery.proofs.Acts.{Act, all_did, acted, IsWork, HasRoom, Roomy}
 use Rattle.rasta_core_recovery.proofs.Healthy.{is_reading, waits}
 use Rattle.rasta_core_recovery.proofs.Calls.{at_reading}
-use Rattle.rasta_core_recovery.proofs.Words.{IsSimple, Says, simple_plain, simple_talk, says_most, Row, Voice, voice_of, IsNumbered, Chain, says_row, says_chain}
+use Rattle.rasta_core_recovery.proofs.Words.{IsSimple, Says, simple_plain, simple_talk, simple_no_answer, says_most, Row, Voice, voice_of, IsNumbered, Chain, says_row, says_chain}
 use Rattle.rasta_core_recovery.proofs.Fold.{Out, Next, gone_next, stays_next}
 use Rattle.rasta_core_recovery.proofs.Own.{Utters, Calm}
 use Rattle.rasta_core_recovery.proofs.WorkFold.{Done, gone_done, so_done, works_through, round_through}
 use Rattle.rasta_core_recovery.proofs.Course.{Joined, lively, Goes, goes_none, voice_goes, speaks_now}
-use Rattle.rasta_core_recovery.proofs.TunedEnds.{IsPlainPdu, Round, Bounds, Ghost, HasHeard, HasWaited, Mode, Shut, far_off, outdated, missed, stuck, nothing, Reached, unheard, waiting, off, low, IsOutdated, each_append, Hearing, Answers, tunes_one}
-use Rattle.rasta_core_recovery.proofs.Turn.{Either, gone, so, Rowed, rowed_then, rows_step, Numbers, Loose, Linked, linked_none, linked_then, loose_step, Spoke, end_mode, Heeds, reading_joined}
+use Rattle.rasta_core_recovery.proofs.TunedEnds.{IsPlainPdu, IsNoAnswerPdu, not_before, Round, Bounds, Ghost, HasHeard, HasWaited, Mode, Shut, far_off, outdated, missed, stuck, nothing, Reached, unheard, waiting, off, low, Deaf, IsOutdated, each_append, Hearing, Answers, tunes_one}
+use Rattle.rasta_core_recovery.proofs.Turn.{waits_up, Either, gone, so, Rowed, rowed_then, rows_step, Numbers, Loose, Linked, linked_none, linked_then, loose_step, Spoke, Notes, end_mode, Heeds, reading_joined}
 
 abbrev pub IsSimplePdu : Pdu → Type 0
 IsSimplePdu p = IsSimple p.body
@@ -46,7 +46,7 @@ utters_goes now l k qs at u = record {
     said (inl e) none = e.1
     said (inr e) none = absurd (e.1 none)
 
-utters_row : (l k : LinkState) (qs : List Pdu) → Utters l k qs → Row (IsNumbered (voice_of l)) l.sent qs k.sent
+pub utters_row : (l k : LinkState) (qs : List Pdu) → Utters l k qs → Row (IsNumbered (voice_of l)) l.sent qs k.sent
 utters_row l k qs u = says_row IsSimple simple_talk (voice_of l) l l.sent k.sent qs refl u.says
 
 expects_still : (l k : LinkState) (qs : List Pdu) → Utters l k qs → k.expected ≡ l.expected
@@ -64,6 +64,10 @@ each_simple h n end (p ∷ ps) s = (s.1, each_simple h (n + 1) end ps s.2)
 pub simple_are_plain : (ps : List Pdu) → Each IsSimplePdu ps → Each IsPlainPdu ps
 simple_are_plain [] each = tt
 simple_are_plain (p ∷ ps) each = (simple_plain p.body each.0, simple_are_plain ps each.1)
+
+simple_no_answers : (ps : List Pdu) → Each IsSimplePdu ps → Each IsNoAnswerPdu ps
+simple_no_answers [] each = tt
+simple_no_answers (p ∷ ps) each = (simple_no_answer p.body each.0, simple_no_answers ps each.1)
 
 pub utters_simple : (l k : LinkState) (qs : List Pdu) → Utters l k qs → Each IsSimplePdu qs
 utters_simple l k qs u = each_simple (header_of l) l.sent k.sent qs u.says
@@ -159,7 +163,8 @@ module _ (x : Round) (bounds : Bounds x) where
 
   -- ---- and what it said confirms and returns more and more
 
-  -- an end that takes what comes says nothing that asks; and where what comes doesn't ask, it says heartbeats and new items alone
+  -- An end that takes what comes says nothing that asks; and where what comes doesn't ask, it says heartbeats and new items alone. One that
+  -- isn't tuned answers none that asks, and one that waits for a retransmission waits on.
   record Said (g : Ghost) (l : LinkState) (ps : List Pdu) (h : Ghost) (k : LinkState) : Type 0 where
     goes : Goes x.now l ps k
     rises : l.expected ≤ k.expected
@@ -167,9 +172,26 @@ module _ (x : Round) (bounds : Bounds x) where
     stays_tuned : g.tuned ≡ true → h.tuned ≡ true
     plain : g.tuned ≡ true → Each IsPlainPdu ps
     simple : g.tuned ≡ true → Each IsPlainPdu x.pdus → Each IsSimplePdu ps
+    hush : h.tuned ≡ false → Each IsNoAnswerPdu ps
+    hush_plain : Each IsPlainPdu x.pdus → Each IsNoAnswerPdu ps
+    waits_on : waits l.phase ≡ true → h.tuned ≡ false → (waits k.phase ≡ true) × Each IsPlainPdu ps
+    phase : h.tuned ≡ false → (k.phase ≡ l.phase) ⊎ (waits k.phase ≡ true)
+    mute : h.tuned ≡ false → is_up k.phase ≡ false → ps ≡ []
 
   said_none : (g : Ghost) (l : LinkState) → Said g l [] g l
-  said_none g l = record { goes = goes_none x.now l; rises = omega arith; chain = (refl, omega arith, omega arith); stays_tuned = λ e. e; plain = λ e. tt; simple = λ e p. tt }
+  said_none g l = record {
+    goes = goes_none x.now l;
+    rises = omega arith;
+    chain = (refl, omega arith, omega arith);
+    stays_tuned = λ e. e;
+    plain = λ e. tt;
+    simple = λ e p. tt;
+    hush = λ e. tt;
+    hush_plain = λ p. tt;
+    waits_on = λ w e. (w, tt);
+    phase = λ e. inl refl;
+    mute = λ e down. refl;
+  }
 
   said_then : (g h i : Ghost) (l k j : LinkState) (ps qs : List Pdu) → Said g l ps h k → Said h k qs i j → Said g l (ps ++ qs) i j
   said_then g h i l k j ps qs a b =
@@ -180,17 +202,47 @@ module _ (x : Round) (bounds : Bounds x) where
         stays_tuned = λ e. b.stays_tuned (a.stays_tuned e);
         plain = λ e. each_append IsPlainPdu ps qs (a.plain e) (b.plain (a.stays_tuned e));
         simple = λ e p. each_append IsSimplePdu ps qs (a.simple e p) (b.simple (a.stays_tuned e) p);
+        hush = λ e. each_append IsNoAnswerPdu ps qs (a.hush (was e)) (b.hush e);
+        hush_plain = λ p. each_append IsNoAnswerPdu ps qs (a.hush_plain p) (b.hush_plain p);
+        waits_on = λ w e. let y = a.waits_on w (was e) in let z = b.waits_on y.0 e in (z.0, each_append IsPlainPdu ps qs y.1 z.1);
+        phase = λ e. phase_then e (a.phase (was e)) (b.phase e);
+        mute = λ e down. none_both (a.mute (was e) (was_down (b.phase e) down)) (b.mute e down);
       }
+    where
+      was : i.tuned ≡ false → h.tuned ≡ false
+      was e = not_before i.tuned h.tuned e b.stays_tuned
 
-  said_of : (g h : Ghost) (l k : LinkState) (ps : List Pdu) → Answers x g l ps h k → Said g l ps h k
-  said_of g h l k ps a = record {
+      phase_then : i.tuned ≡ false → (k.phase ≡ l.phase) ⊎ (waits k.phase ≡ true) → (j.phase ≡ k.phase) ⊎ (waits j.phase ≡ true) → (j.phase ≡ l.phase) ⊎ (waits j.phase ≡ true)
+      phase_then e y (inr w) = inr w
+      phase_then e (inl y) (inl z) = inl (z ∙ y)
+      phase_then e (inr w) (inl z) = inr (b.waits_on w e).0
+
+      was_down : (j.phase ≡ k.phase) ⊎ (waits j.phase ≡ true) → is_up j.phase ≡ false → is_up k.phase ≡ false
+      was_down (inl z) down = ap is_up (sym z) ∙ down
+      was_down (inr w) down = absurd (cc (waits_up j.phase w, down))
+
+      none_both : ps ≡ [] → qs ≡ [] → ps ++ qs ≡ []
+      none_both e f = cc
+
+  said_of : (g h : Ghost) (l k : LinkState) (before after ps : List Pdu) → Hearing x g before l → Hearing x h after k → Answers x g l ps h k → Said g l ps h k
+  said_of g h l k before after ps was is a = record {
     goes = a.goes;
     rises = a.rises;
     chain = a.chain;
     stays_tuned = a.stays_tuned;
     plain = a.plain;
     simple = λ e p. subst (Each IsSimplePdu) (sym (a.calm e p)) tt;
+    hush = a.hush;
+    hush_plain = a.hush_plain;
+    waits_on = λ w e. let y = a.waits_on w e in (y.0, subst (Each IsPlainPdu) (sym y.1) tt);
+    phase = λ e. phase_of e (was.deaf (not_before h.tuned g.tuned e a.stays_tuned)).phase (is.deaf e).phase;
+    mute = λ e down. a.mute e (not_before (is_up k.phase) (waits k.phase) down (waits_up k.phase));
   }
+    where
+      phase_of : h.tuned ≡ false → (l.phase ≡ x.before.phase) ⊎ (waits l.phase ≡ true) → (k.phase ≡ x.before.phase) ⊎ (waits k.phase ≡ true) → (k.phase ≡ l.phase) ⊎ (waits k.phase ≡ true)
+      phase_of e y (inr w) = inr w
+      phase_of e (inl y) (inl z) = inl (z ∙ sym y)
+      phase_of e (inr w) (inl z) = inr (a.waits_on w e).0
 
   mode_as : (b : Bool) (kept : ℕ) (l j : LinkState) (n c r : ℕ) (ps : List Pdu) → j.phase ≡ l.phase → j.expected ≡ l.expected → j.confirmed ≡ l.confirmed → j.own_stamp ≡ l.own_stamp → Mode x b kept l n c r ps → Mode x b kept j n c r ps
   mode_as false kept l j n c r ps f e g o m = (m.0, o ∙ m.1)
@@ -284,6 +336,7 @@ module _ (x : Round) (bounds : Bounds x) where
     pub heeds : Heeds x bounds tuned l s
     pub plain : tuned ≡ true → Each IsPlainPdu s.pdus
     pub simple : tuned ≡ true → Each IsPlainPdu x.pdus → Each IsSimplePdu s.pdus
+    pub notes : Notes x heeds.then_tuned s
     pub calm : Calm x.now s.link
 
   -- what is left behind a round
@@ -301,7 +354,7 @@ module _ (x : Round) (bounds : Bounds x) where
         either : ((IsSimple p.body → ⊥) × Out x.now (heard x.now p k).link) ⊎ ((h : Ghost) × Hearing x h ps (heard x.now p k).link × Answers x g k (heard x.now p k).pdus h (heard x.now p k).link)
             → Done (Why sure) Ghost x.now Through Said g k ps (heard x.now p k)
         either (inl (why, left)) = gone_done (why_of sure p ps each why) left
-        either (inr (h, then_in, o)) = so_done h (then_in, others_of sure p ps each) (said_of g h k (heard x.now p k).link (heard x.now p k).pdus o)
+        either (inr (h, then_in, o)) = so_done h (then_in, others_of sure p ps each) (said_of g h k (heard x.now p k).link (p ∷ ps) ps (heard x.now p k).pdus in_it then_in o)
 
     own : (g : Ghost) (ps : List Pdu) (k j : LinkState) (qs : List Pdu) → Through g ps k → Utters k j qs → Through g ps j × Said g k qs g j
     own g ps k j qs (in_it, each) u = let f = expects_still k j qs u in (
@@ -313,6 +366,11 @@ module _ (x : Round) (bounds : Bounds x) where
         stays_tuned = λ e. e;
         plain = λ e. simple_are_plain qs (utters_simple k j qs u);
         simple = λ e p. utters_simple k j qs u;
+        hush = λ e. simple_no_answers qs (utters_simple k j qs u);
+        hush_plain = λ p. simple_no_answers qs (utters_simple k j qs u);
+        waits_on = λ w e. (ap (λ (m : LinkState). waits m.phase) u.same ∙ w, simple_are_plain qs (utters_simple k j qs u));
+        phase = λ e. inl (ap (λ (m : LinkState). m.phase) u.same);
+        mute = λ e down. u.mute (ap (λ (m : LinkState). is_up m.phase) (sym u.same) ∙ down);
       },
     )
 
@@ -329,6 +387,15 @@ module _ (x : Round) (bounds : Bounds x) where
       };
       plain = o.plain;
       simple = o.simple;
+      notes = record {
+        shut = λ s. (a.shut s).0;
+        hush = o.hush;
+        hush_plain = o.hush_plain;
+        waits_on = λ w f. o.waits_on (ap (λ (m : LinkState). waits m.phase) (sym same) ∙ w) f;
+        mute = o.mute;
+        deaf = λ f. subst (λ (n : ℕ). Deaf x s.link n []) a.chain.0 (a.deaf f);
+        outdated_on = λ f d. let y = a.outdated_on f d in (y.0, y.2);
+      };
       calm = calm;
     })
 

@@ -1,7 +1,7 @@
 -- Rounds of two ends at work: as good rounds, but that an end may be given items at any time, and may be closed.
 use Rattle.std.specs.Prelude.{◌≡◌, ℕ, ◌+◌, ◌^◌, ◌<◌, ◌≤◌, ◌&&◌, true, List, [], ◌∷◌, ◌++◌, length, drop, Some, if◌then◌else◌}
 use Rattle.rasta_core_run.specs.Parameters.{connection_limit}
-use Rattle.rasta_core_run.specs.State.{is_open}
+use Rattle.rasta_core_run.specs.State.{is_open, is_up}
 use Rattle.rasta_core_run.specs.identity.Role.{Role}
 use Rattle.rasta_core_run.specs.identity.Role.TheVariants as role
 use Rattle.rasta_core_run.specs.Each.{Each}
@@ -119,9 +119,9 @@ abbrev pub StayBelow : List (List Event) → Flow → Type 0
 StayBelow [] f = Unit {0}
 StayBelow (calls ∷ others) f = HaveRoom calls (later 10000 10000 10000 f.ends) × StayBelow others (work_round calls f)
 
--- from this round at work on both ends are up: 16,010 ms after the rounds began
+-- from this round at work on both ends are up: 15,620 ms after the rounds began
 abbrev pub recovery_rounds_at_work : ℕ
-recovery_rounds_at_work = 1601
+recovery_rounds_at_work = 1562
 
 -- All that an end gave its partner took: perhaps by a later moment. Their links count so.
 pub record HasTaken (giver taker : EndState) : Type 0 where
@@ -130,9 +130,10 @@ pub record HasTaken (giver taker : EndState) : Type 0 where
   pub counts : giver.link.given ≤ taker.link.taken
   pub few : taker.link.taken < 2 ^ 31
 
--- Two ends at two moments: they are in one connection at both, and by the later one each has taken all that the other gave by the
--- earlier one.
+-- Two ends at two moments: they are in one connection at both, the client is up at the earlier one, and by the later one each has taken
+-- all that the other gave by the earlier one.
 pub record HandOver (old new : Ends) : Type 0 where
+  pub client_up : is_up old.client.link.phase ≡ true
   pub connection : ℕ
   pub old_client : old.client.connection ≡ Some connection
   pub old_server : old.server.connection ≡ Some connection

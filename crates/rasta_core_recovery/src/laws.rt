@@ -1,6 +1,6 @@
 //! Recovery, for two ends that were just created and every list of events that may happen to them.
 
-ghost use Rattle.std.specs.Prelude.{◌≡◌, ℕ, ◌+◌, ◌≤◌, ◌<◌, List, ◌++◌, drop, length};
+ghost use Rattle.std.specs.Prelude.{◌≡◌, ℕ, suc, ◌+◌, ◌≤◌, ◌<◌, List, ◌++◌, drop, length};
 ghost use Rattle.rasta_core_run.specs.Each.{Each};
 ghost use Rattle.rasta_core_run.specs.Events.{Event, May, MayRun, Start, happened, run, started};
 ghost use Rattle.rasta_core_run.specs.Names.{AreNames, Names};
@@ -9,7 +9,7 @@ ghost use Rattle.rasta_core_run.specs.State.{confirmed_items};
 ghost use Rattle.rasta_core.specs.Invariant.{Timely};
 ghost use Rattle.rasta_core.specs.Ordered.{Ordered};
 ghost use Rattle.rasta_core_recovery.specs.Confirming.{Answers, AreIn, Confirming, FewLeft, FewWait, HasLeft, Owes};
-ghost use Rattle.rasta_core_recovery.specs.Replies.{Accepts, StaysAtWork, in_round, with_reply};
+ghost use Rattle.rasta_core_recovery.specs.Replies.{Accepts, ClientSpeaks, SpeaksAlone, StaysAtWork, in_round, speaking_rounds, with_reply};
 ghost use Rattle.rasta_core_recovery.specs.Rounds.{AreUp, Flow, StayBelowLimit, calm_rounds, comings, events_of, flow_after, gap_rounds, good_round, good_rounds, own_work, recovery_rounds};
 ghost use Rattle.rasta_core_recovery.specs.Work.{AreAtWork, HandOver, HaveRoom, IsAtWork, LeavesOpen, StayBelow, recovery_rounds_at_work, work_round, work_rounds};
 ghost use Rattle.rasta_core_recovery.specs.WrongRounds.{NeverUp, RestsFor, asks_in_vain, asks_once, ends_at_limit, rounds_where};
@@ -28,8 +28,8 @@ pub fn good_rounds_may_happen()
     ensures lead { (n : ℕ) (f : Flow) → (good_rounds n f).ends ≡ run (events_of n f) f.ends }
 {}
 
-/// Two ends come up whatever has happened to them before: after each good round from the 1563rd on both are up, so for
-/// good 15.63 s after the good rounds began. That is where no end comes to the limit of PDUs in a connection till then.
+/// Two ends come up whatever has happened to them before: after each good round from the 1562nd on both are up, so for
+/// good 15.62 s after the good rounds began. That is where no end comes to the limit of PDUs in a connection till then.
 /// What was sent before the good rounds may come in the first of them, or never.
 pub fn two_ends_come_up()
     ensures { (names : Names) (start : Start) (events : List Event) (passed n : ℕ) → AreNames names → MayRun names events (started names start)
@@ -44,7 +44,7 @@ pub fn two_ends_come_up()
 }
 
 /// Two ends that have come up are up again 6040 ms later at the latest, whenever one of them comes to the limit of PDUs in a
-/// connection: so from a good round from the 1563rd on, till which no end came to it, each good round is one of two that are up,
+/// connection: so from a good round from the 1562nd on, till which no end came to it, each good round is one of two that are up,
 /// or has such a one at most 604 rounds behind it.
 pub fn gaps_are_short()
     ensures { (names : Names) (start : Start) (events : List Event) (passed m n : ℕ) → AreNames names → MayRun names events (started names start)
@@ -58,7 +58,7 @@ pub fn gaps_are_short()
     calls_hand_out_pdus();
 }
 
-/// And gaps are rare. Where an end isn't up after a good round from the 1563rd on, both are up after each round from 604 to
+/// And gaps are rare. Where an end isn't up after a good round from the 1562nd on, both are up after each round from 604 to
 /// 64,000,000,000 behind it: for more than 20 years.
 pub fn gaps_are_rare()
     ensures { (names : Names) (start : Start) (events : List Event) (passed m n k : ℕ) → AreNames names → MayRun names events (started names start)
@@ -74,7 +74,7 @@ pub fn gaps_are_rare()
 }
 
 /// Two ends at work come up, too: whatever has happened to them before, and whatever items they are given meanwhile, both are up
-/// after each round at work from the 1601st on, so for good 16.01 s after these rounds began. That is where nothing closes
+/// after each round at work from the 1562nd on, so for good 15.62 s after these rounds began. That is where nothing closes
 /// an end in them, and no end comes to the limit of PDUs in a connection.
 pub fn two_ends_at_work_come_up()
     ensures { (names : Names) (start : Start) (events : List Event) (passed : ℕ) (rounds : List (List Event)) → AreNames names → MayRun names events (started names start)
@@ -89,13 +89,14 @@ pub fn two_ends_at_work_come_up()
     calls_hand_out_pdus();
 }
 
-/// Two ends at work hand over what they are given: whatever has happened to them before, behind each round at work from the 1602nd
-/// on each end has taken all that the other had given behind the round before, in the connection that both are in. So
-/// nothing that is given is lost or waits for long, as long as nothing closes an end and none comes to the limit of PDUs.
+/// Two ends at work hand over what they are given: whatever has happened to them before, behind each round at work from the 1562nd
+/// on each end has taken all that the other had given behind the round before, in the connection that both are in; and behind that
+/// one the client was up. So nothing that is given is lost or waits for long, as long as nothing closes an end and none comes
+/// to the limit of PDUs.
 pub fn two_ends_at_work_hand_over()
     ensures { (names : Names) (start : Start) (events : List Event) (passed : ℕ) (rounds : List (List Event)) (calls : List Event) → AreNames names
         → MayRun names events (started names start) → AreAtWork names rounds (flow_after names start events passed) → Each (Each LeavesOpen) rounds
-        → StayBelow rounds (flow_after names start events passed) → recovery_rounds_at_work ≤ length rounds
+        → StayBelow rounds (flow_after names start events passed) → recovery_rounds_at_work ≤ suc (length rounds)
         → IsAtWork names (work_rounds rounds (flow_after names start events passed)) calls → Each LeavesOpen calls
         → HaveRoom calls (later 10000 10000 10000 (work_rounds rounds (flow_after names start events passed)).ends)
         → HandOver (work_rounds rounds (flow_after names start events passed)).ends (work_round calls (work_rounds rounds (flow_after names start events passed))).ends }
@@ -108,7 +109,7 @@ pub fn two_ends_at_work_hand_over()
 }
 
 /// And what the other end has taken is confirmed to the client, where the server says something: whatever has happened to them before,
-/// where in a round at work from the 1602nd on the server accepts an item, then behind the next round the client's link holds for
+/// where in a round at work from the 1563rd on the server accepts an item, then behind the next round the client's link holds for
 /// confirmed all that the server had taken as it accepted that.
 pub fn two_ends_at_work_confirm()
     ensures { (names : Names) (start : Start) (events : List Event) (passed : ℕ) (rounds : List (List Event)) (front : List Event) (item : List ℕ) (rest calls : List Event) → AreNames names
@@ -119,6 +120,68 @@ pub fn two_ends_at_work_confirm()
         → Accepts (in_round front (work_rounds rounds (flow_after names start events passed))).server
         → (in_round front (work_rounds rounds (flow_after names start events passed))).server.link.taken
         ≤ confirmed_items (work_round calls (work_round (with_reply front item rest) (work_rounds rounds (flow_after names start events passed)))).ends.client.link }
+{
+    starts_in_time();
+    every_event_keeps_time();
+    every_event_keeps_order();
+    written_is_read();
+    calls_hand_out_pdus();
+}
+
+/// And what the client has taken is confirmed to the server, where the client says something: whatever has happened to them before,
+/// where in a round at work from the 1563rd on the client says something behind some calls, then behind the next round the server's link
+/// holds for confirmed all that the client had taken behind those calls.
+pub fn clients_at_work_confirm()
+    ensures { (names : Names) (start : Start) (events : List Event) (passed : ℕ) (rounds : List (List Event)) (front rest calls : List Event) → AreNames names
+        → MayRun names events (started names start) → AreAtWork names rounds (flow_after names start events passed) → Each (Each LeavesOpen) rounds
+        → StayBelow rounds (flow_after names start events passed) → recovery_rounds_at_work ≤ length rounds
+        → StaysAtWork names (work_rounds rounds (flow_after names start events passed)) (front ++ rest)
+        → StaysAtWork names (work_round (front ++ rest) (work_rounds rounds (flow_after names start events passed))) calls
+        → ClientSpeaks front rest (work_rounds rounds (flow_after names start events passed))
+        → (in_round front (work_rounds rounds (flow_after names start events passed))).client.link.taken
+        ≤ confirmed_items (work_round calls (work_round (front ++ rest) (work_rounds rounds (flow_after names start events passed)))).ends.server.link }
+{
+    starts_in_time();
+    every_event_keeps_time();
+    every_event_keeps_order();
+    written_is_read();
+    calls_hand_out_pdus();
+}
+
+/// And the client says something in each 30 rounds, so in each 300 ms: whatever has happened to them before, behind a round at work from the
+/// 1562nd on and 30 more it has sent more PDUs in its connection than before these.
+pub fn clients_at_work_speak()
+    ensures { (names : Names) (start : Start) (events : List Event) (passed : ℕ) (rounds more : List (List Event)) → AreNames names
+        → MayRun names events (started names start) → AreAtWork names rounds (flow_after names start events passed) → Each (Each LeavesOpen) rounds
+        → StayBelow rounds (flow_after names start events passed) → recovery_rounds_at_work ≤ length rounds
+        → AreAtWork names more (work_rounds rounds (flow_after names start events passed)) → Each (Each LeavesOpen) more
+        → StayBelow more (work_rounds rounds (flow_after names start events passed)) → speaking_rounds ≤ length more
+        → (work_rounds rounds (flow_after names start events passed)).ends.client.link.sent
+        < (work_rounds more (work_rounds rounds (flow_after names start events passed))).ends.client.link.sent }
+{
+    starts_in_time();
+    every_event_keeps_time();
+    every_event_keeps_order();
+    written_is_read();
+    calls_hand_out_pdus();
+}
+
+/// A client that is given nothing confirms all at once, by a heartbeat: where it says something in the second of two rounds at work, from the
+/// 1563rd on, and was given nothing in both, the server hears nothing in that round, and so holds no more for confirmed behind it (*still*);
+/// and behind the next it holds for confirmed all that the client had taken behind that round (*all*).
+pub fn quiet_clients_confirm_at_once()
+    ensures still { (names : Names) (start : Start) (events : List Event) (passed : ℕ) (rounds : List (List Event)) (one two : List Event) → AreNames names
+        → MayRun names events (started names start) → AreAtWork names rounds (flow_after names start events passed) → Each (Each LeavesOpen) rounds
+        → StayBelow rounds (flow_after names start events passed) → recovery_rounds_at_work ≤ length rounds
+        → SpeaksAlone names (work_rounds rounds (flow_after names start events passed)) one two
+        → confirmed_items (work_round two (work_round one (work_rounds rounds (flow_after names start events passed)))).ends.server.link ≤ confirmed_items (work_round one (work_rounds rounds (flow_after names start events passed))).ends.server.link }
+    ensures all { (names : Names) (start : Start) (events : List Event) (passed : ℕ) (rounds : List (List Event)) (one two three : List Event) → AreNames names
+        → MayRun names events (started names start) → AreAtWork names rounds (flow_after names start events passed) → Each (Each LeavesOpen) rounds
+        → StayBelow rounds (flow_after names start events passed) → recovery_rounds_at_work ≤ length rounds
+        → SpeaksAlone names (work_rounds rounds (flow_after names start events passed)) one two
+        → StaysAtWork names (work_round two (work_round one (work_rounds rounds (flow_after names start events passed)))) three
+        → (work_round two (work_round one (work_rounds rounds (flow_after names start events passed)))).ends.client.link.taken
+        ≤ confirmed_items (work_round three (work_round two (work_round one (work_rounds rounds (flow_after names start events passed))))).ends.server.link }
 {
     starts_in_time();
     every_event_keeps_time();

@@ -48,7 +48,7 @@ use Rattle.simulator_run_links.specs.Whole.{IsPeer, IsWhole}
 use Rattle.simulator_headline.specs.Reached.{IsReached}
 use Rattle.simulator_recovery.specs.ClientSaid.{ClientHasSaid, ClientTalks, commanded}
 use Rattle.simulator_recovery.specs.Conversation.{AreMatched}
-use Rattle.simulator_recovery.specs.Expected.{AnswersOnce, GivesNoMore, HaveAnswered, HaveNext, NextIsExpected}
+use Rattle.simulator_recovery.specs.Expected.{AnswersOnce, GivesAtMostTwoMore, HaveAnswered, HaveNext, NextIsExpected}
 use Rattle.simulator_recovery.specs.Matched.{name_of, peer_for, section_names}
 use Rattle.simulator_recovery.specs.Told.{Any, HasNames, IndicatesSpoken, SaidSome, SomeAsks}
 use Rattle.simulator_recovery.proofs.AlwaysOnLinks.{CanBe, HasHeld, always_held}
@@ -208,7 +208,7 @@ module _ (laws : ExpectedLaws) (site : Site) (table : Table) (station : IsStatio
     next_signal place known e = next_of site (Signal place) known.client (seen place network) (s.talking.talk.signals place known e) (each_signal place known e) (λ connection of_client of_server up item at completed. signal_changes place known e)
 
     -- a point's controller gives no more than it is made to
-    pub gives_no_more : (place : ℕ) (c : ClockedControllerState PointState) → slice_get world.points place ≡ Some c → GivesNoMore (seen (point_link site place) network)
+    pub gives_no_more : (place : ℕ) (c : ClockedControllerState PointState) → slice_get world.points place ≡ Some c → GivesAtMostTwoMore (seen (point_link site place) network)
     gives_no_more place c g connection of_client of_server =
         let ever = (s.answering.of_points place c g).ever in let taken = ap length safe.beginning ∙ length-append (network.ends (point_link site place)).server.taken safe.rest in omega (arith, ever, taken)
       where

@@ -44,7 +44,7 @@ module _ (site : Site) (table : Table) where
     four = λ up. absurd (false≢true up);
   }
 
-  new_rests : (begins : Beginning) → Rests (new_ixl site table begins)
+  pub new_rests : (begins : Beginning) → Rests (new_ixl site table begins)
   unfolding new_ixl at_node
   new_rests begins = record {
     stops = record {

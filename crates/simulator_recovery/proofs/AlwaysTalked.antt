@@ -5,14 +5,15 @@ use Rattle.simulator_run.specs.layout.Entries.{Site}
 use Rattle.simulator_run.specs.layout.Once.{Once}
 use Rattle.simulator_run.specs.layout.Station.{IsStation}
 use Rattle.simulator_run.specs.rasta_core.Ends.{Receives}
-use Rattle.simulator_run.specs.rasta_core.Links.{Links, MayCallOn, run_links}
+use Rattle.simulator_run.specs.rasta_core.Links.{Links, MayCallOn, begun, run_links}
 use Rattle.simulator_run.specs.ixl_rules.Table.{Table}
 use Rattle.std.specs.Prelude.{◌≡◌, None}
 use Rattle.simulator_run.specs.simulator_event.declared.event.Event.{Event}
 use Rattle.simulator_run.specs.simulator_event.declared.event.Event.TheVariants.{Deliver}
 use Rattle.simulator_run.specs.simulator_event.declared.event.NodeId.{NodeId}
+use Rattle.simulator_run.specs.First.{Outset, world_at}
 use Rattle.simulator_run.specs.Happens.{happens}
-use Rattle.simulator_run.specs.Links.{AreLinksOf, names_at}
+use Rattle.simulator_run.specs.Links.{AreLinksOf, names_at, starts_at_zero}
 use Rattle.simulator_run.specs.Network.{connection_of, copy_of}
 use Rattle.simulator_run.specs.Refusals.{refusal}
 use Rattle.simulator_run.specs.State.{WorldState}
@@ -47,10 +48,13 @@ module _ (laws : TalkedLaws) (site : Site) (table : Table) (station : IsStation 
         talk = event_talks laws.talk laws.may_come site table is_table happening world network can (record { stands = before.stands.clients; speaks = before.matching.clients; talk = before.talk }) matching.clients;
       }
 
+  pub talking_first : (outset : Outset) → AreTalking (world_at site table outset) (begun (names_at site) starts_at_zero)
+  talking_first outset = record { stands = stand_first site table station outset; matching = matching_first site table outset; talk = first_talks laws.talk laws.may_come site table is_table outset }
+
   pub have_talked : (world : WorldState) → IsReached site table world → HaveTalked site world
   have_talked world reached = record { has = held.has; talk = record { signals = held.holds.talk.signals; points = held.holds.talk.points; detectors = held.holds.talk.detectors } }
     where
       held : HasHeld laws.links site table station once AreTalking
-          (λ outset lies. record { stands = stand_first site table station outset; matching = matching_first site table outset; talk = first_talks laws.talk laws.may_come site table is_table outset }) talking_on world
+          (λ outset lies. talking_first outset) talking_on world
       held = always_held laws.links site table station once AreTalking
-          (λ outset lies. record { stands = stand_first site table station outset; matching = matching_first site table outset; talk = first_talks laws.talk laws.may_come site table is_table outset }) talking_on world reached
+          (λ outset lies. talking_first outset) talking_on world reached

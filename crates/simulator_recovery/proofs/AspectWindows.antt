@@ -40,7 +40,7 @@ abbrev pub AtMost : ℕ → ClientState → Type 0
 AtMost most client = is_up client.link.phase ≡ true → length client.link.waiting ≤ most
 
 -- what was given was given to a client that is ready
-abbrev GivenWhenReady : KnownSignalState → Type 0
+abbrev pub GivenWhenReady : KnownSignalState → Type 0
 GivenWhenReady known = is_ready known.client.stage ≡ false → known.aspect ≡ None
 
 -- Few items wait at a signal's client: two where it was given no aspect in the connection, and else four at most. The number of the last
@@ -99,7 +99,7 @@ known_after aspect number indicated client few so = choose (is_outside client.st
     choose true e = record { gives = few; up = λ inside. absurd (false≢true (sym inside ∙ e)); none = λ f. outside_few client e few; number = λ a f. absurd (cc f); four = outside_at_most 4 client e few }
     choose false e = let i = so e in record { gives = few; up = λ inside. i.up; none = i.none; number = i.number_is; four = i.four }
 
-client_after : (aspect : Option Aspect) (number : ℕ) (indicated : Option Aspect) (client : ClientState) → (known_signal_after aspect number indicated client).client ≡ client
+pub client_after : (aspect : Option Aspect) (number : ℕ) (indicated : Option Aspect) (client : ClientState) → (known_signal_after aspect number indicated client).client ≡ client
 unfolding known_signal_after
 client_after aspect number indicated client = choose (is_outside client.stage)
   where
@@ -118,7 +118,7 @@ at_most_after most aspect number indicated client few = subst (AtMost most) (sym
 
 -- ---- a part of a step that is no command
 
-given_ready : (known : KnownSignalState) (aspect : Aspect) → GivenWhenReady known → known.aspect ≡ Some aspect → is_ready known.client.stage ≡ true
+pub given_ready : (known : KnownSignalState) (aspect : Aspect) → GivenWhenReady known → known.aspect ≡ Some aspect → is_ready known.client.stage ≡ true
 given_ready known aspect ready e = choose (is_ready known.client.stage) refl
   where
     choose : (b : Bool) → is_ready known.client.stage ≡ b → is_ready known.client.stage ≡ true
@@ -204,12 +204,12 @@ pub record WindowsStand (table : Table) (routes : List RouteState) (signals : Li
   pub leaves : (place : ℕ) → Each LeavesWindow (at_node (Signal place) calls)
 
 -- a route that has its aspect behind a change had it before
-record Had (table : Table) (number : ℕ) (row : Row) (routes : List RouteState) : Type 0 where
-  was : RouteState
-  at : AtRoute table number row was routes
-  proceeds : is_proceeding was.phase ≡ true
+pub record Had (table : Table) (number : ℕ) (row : Row) (routes : List RouteState) : Type 0 where
+  pub was : RouteState
+  pub at : AtRoute table number row was routes
+  pub proceeds : is_proceeding was.phase ≡ true
 
-had_aspect : (table : Table) (number k : ℕ) (change : RouteState → RouteState) (row : Row) (route : RouteState) (routes : List RouteState)
+pub had_aspect : (table : Table) (number k : ℕ) (change : RouteState → RouteState) (row : Row) (route : RouteState) (routes : List RouteState)
     → ((was : RouteState) → slice_get routes number ≡ Some was → is_proceeding (change was).phase ≡ true → is_proceeding was.phase ≡ true)
     → AtRoute table k row route (changed change number routes) → is_proceeding route.phase ≡ true → Had table k row routes
 had_aspect table number k change row route routes stays at proceeds = choose (changed_at change number routes k route at.there)
@@ -409,4 +409,4 @@ module _ (now : ℕ) (table : Table) where
     where
       quiet_aspect : (old new : RouteState) → IsQuiet old new → is_proceeding new.phase ≡ true → is_proceeding old.phase ≡ true
       quiet_aspect old new (inl (same, cancelled)) proceeds = ap is_proceeding (sym same) ∙ proceeds
-      quiet_aspect old new (inr (over, undone, was)) proceeds = absurd (over_unproceeding new.phase over proceeds)
+      quiet_aspect old new (inr (over, undone, was, kept)) proceeds = absurd (over_unproceeding new.phase over proceeds)

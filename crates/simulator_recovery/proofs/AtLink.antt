@@ -27,7 +27,7 @@ use Rattle.simulator_recovery.specs.Ready.{HostIsAt}
 use Rattle.simulator_recovery.proofs.Addressed.{at_behind, at_front, partners_length}
 use Rattle.simulator_recovery.proofs.LinkCounts.{settled_open}
 use Rattle.simulator_recovery.proofs.Lists.{at_place, map_length}
-use Rattle.simulator_recovery.proofs.Moments.{Moment}
+use Rattle.simulator_recovery.proofs.Moments.{Moment, said_one}
 use Rattle.simulator_recovery.proofs.StationKeeps.{all_at}
 
 -- ---- three lists one behind the other
@@ -213,6 +213,19 @@ module _ (site : Site) (station : IsStation site) (world : WorldState) (whole : 
           in let last = below
           in let here : detector_link site detector_place ≡ link = omega (arith, many)
           in subst (Found site world) here (detector_found detector_place (omega (arith, many, last)) (ap (controller_at site) here ∙ rw (e, f, lt_true link (links site) below) refl))
+
+  -- A client that is up has given an item, whether its controller is up or not.
+  pub client_said : (link : ℕ) (after : Links) → link < links site → AreLinksOf site world after → is_up (after.ends link).client.link.phase ≡ true → 1 ≤ (after.ends link).client.link.given
+  client_said link after below are up =
+      let f = found link below
+      in let id = at_place (partners site) link (subst (λ (n : ℕ). link < n) (sym (partners_length site)) below)
+      in let c = are.clients link id.0 id.1
+      in let kept : c.kept ≡ f.client.link = same_Some c.kept f.client.link (sym c.there ∙ f.client_link)
+      in let cl : (after.ends link).client.link ≡ settled (reading_of world.station.clock) f.client.link = c.link_is ∙ ap (settled (reading_of world.station.clock)) kept
+      in let c_open = settled_open (reading_of world.station.clock) f.client.link (up_open _ (ap (λ (l : LinkState). is_up l.phase) (sym cl) ∙ up))
+      in let c_is = cl ∙ c_open.0
+      in let counts = f.stands.stands c_open.1
+      in said_one (after.ends link).client.link f.client.stage counts.given (ap (λ (l : LinkState). l.given) c_is ∙ counts.counts.given_is) (f.stands.outside ∙ ap not (ap (λ (l : LinkState). is_up l.phase) (sym c_is) ∙ up)) counts.gave
 
   -- what both ends count at this moment, as the link sees them
   pub record AtLink (link : ℕ) (client server : LinkState) : Type 0 where

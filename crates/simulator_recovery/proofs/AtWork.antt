@@ -144,7 +144,7 @@ dues_are who link time (one ∷ more) fresh = choose (one.link == link) refl (du
     choose false e rest = rest
         ∙ ap (λ (c : Bool). (if c then (if is_same (partner_of one.datagram.sender) who then one.datagram.bytes ∷ [] else []) else []) ++ dues who link more) (sym (same_either link one.link ∙ e))
 
-of_both : (link : ℕ) (one other : List OnLink) → of_link link (one ++ other) ≡ of_link link one ++ of_link link other
+pub of_both : (link : ℕ) (one other : List OnLink) → of_link link (one ++ other) ≡ of_link link one ++ of_link link other
 of_both link [] other = refl
 of_both link (first ∷ one) other = choose (first.link == link) (of_both link one other)
   where

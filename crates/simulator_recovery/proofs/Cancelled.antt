@@ -35,22 +35,22 @@ use Rattle.simulator_recovery.proofs.StopsGiven.{differs, is_equal, proceeding_s
 use Rattle.simulator_recovery.proofs.SignalParts.{AtRoute, IsQuiet, PartsKeep, behind_withdrawal, over_held, step_held, watching_held, withdrawing_held}
 
 -- no command comes behind this one
-abbrev NoCommand : Command → Type 0
+abbrev pub NoCommand : Command → Type 0
 NoCommand command = ⊥
 
-none_comes : (route : RouteId) → NoCommand (commands.Request route) → ⊥
+pub none_comes : (route : RouteId) → NoCommand (commands.Request route) → ⊥
 none_comes route never = never
 
 -- ---- what is kept of one route
 
-abbrev OfRoute : ℕ → (RouteState → Type 0) → List RouteState → List KnownSignalState → Type 0
+abbrev pub OfRoute : ℕ → (RouteState → Type 0) → List RouteState → List KnownSignalState → Type 0
 OfRoute number F routes signals = (route : RouteState) → slice_get routes number ≡ Some route → F route
 
 -- What the parts of a step keep of a route, whichever it is.
-record RouteKeeps (F : RouteState → Type 0) : Type 0 where
-  quiet : (old new : RouteState) → IsQuiet old new → F old → F new
-  withdrawn : (route : RouteState) → F route → is_proceeding route.phase ≡ true → F (come_to phase.Withdrawn route)
-  waits_not : (route : RouteState) → F route → is_waiting route.phase ≡ true → route.cancelled ≡ false → ⊥
+pub record RouteKeeps (F : RouteState → Type 0) : Type 0 where
+  pub quiet : (old new : RouteState) → IsQuiet old new → F old → F new
+  pub withdrawn : (route : RouteState) → F route → is_proceeding route.phase ≡ true → F (come_to phase.Withdrawn route)
+  pub waits_not : (route : RouteState) → F route → is_waiting route.phase ≡ true → route.cancelled ≡ false → ⊥
 
 module _ (now : ℕ) (table : Table) (Obeys : Command → Type 0) (never : (route : RouteId) → Obeys (commands.Request route) → ⊥) (number : ℕ) (F : RouteState → Type 0) (keeps : RouteKeeps F) where
   changed_of : (place : ℕ) (change : RouteState → RouteState) (routes : List RouteState) → ((was : RouteState) → slice_get routes place ≡ Some was → number ≡ place → F (change was)) → ((route : RouteState) → slice_get routes number ≡ Some route → F route)
@@ -61,7 +61,7 @@ module _ (now : ℕ) (table : Table) (Obeys : Command → Type 0) (never : (rout
       choose (inl (same, was, f, is)) = subst F (sym is) (so was f same)
       choose (inr f) = of route f
 
-  route_keep : PartsKeep now table Obeys (OfRoute number F)
+  pub route_keep : PartsKeep now table Obeys (OfRoute number F)
   route_keep = record {
     rules = record {
       quiet = λ place change routes signals quiet of. changed_of place change routes (λ was f same. keeps.quiet was (change was) (quiet was f) (of was (ap (slice_get routes) same ∙ f))) of;
@@ -90,11 +90,11 @@ HasFallen route = (is_waiting route.phase ≡ true → route.cancelled ≡ true)
 
 cancelled_quiet : (old new : RouteState) → IsQuiet old new → IsCancelled old → IsCancelled new
 cancelled_quiet old new (inl (same, kept)) is = (λ waits. kept (is.0 (ap is_waiting (sym same) ∙ waits)), λ goes. kept (is.1 (ap is_proceeding (sym same) ∙ goes)))
-cancelled_quiet old new (inr (over, undone, set)) is = let rests = over_rests new.phase over in (λ waits. absurd (false≢true (sym rests.0 ∙ waits)), λ goes. absurd (false≢true (sym rests.1 ∙ goes)))
+cancelled_quiet old new (inr (over, undone, set, kept)) is = let rests = over_rests new.phase over in (λ waits. absurd (false≢true (sym rests.0 ∙ waits)), λ goes. absurd (false≢true (sym rests.1 ∙ goes)))
 
 fallen_quiet : (old new : RouteState) → IsQuiet old new → HasFallen old → HasFallen new
 fallen_quiet old new (inl (same, kept)) is = (λ waits. kept (is.0 (ap is_waiting (sym same) ∙ waits)), ap is_proceeding same ∙ is.1)
-fallen_quiet old new (inr (over, undone, set)) is = let rests = over_rests new.phase over in (λ waits. absurd (false≢true (sym rests.0 ∙ waits)), rests.1)
+fallen_quiet old new (inr (over, undone, set, kept)) is = let rests = over_rests new.phase over in (λ waits. absurd (false≢true (sym rests.0 ∙ waits)), rests.1)
 
 cancelled_keeps : RouteKeeps IsCancelled
 cancelled_keeps = record {
@@ -112,7 +112,7 @@ fallen_keeps = record {
 
 -- ---- the first rule
 
-stopped_routes : (now : ℕ) (row : Row) (part : StepSoFar) → (stopped now row part).ixl.routes ≡ part.ixl.routes
+pub stopped_routes : (now : ℕ) (row : Row) (part : StepSoFar) → (stopped now row part).ixl.routes ≡ part.ixl.routes
 unfolding giving_aspect
 stopped_routes now row part = choose (is_signal_ready part.ixl row.entry) (one_given (slice_get part.ixl.known_signals row.entry) _ (λ known. refl))
   where
@@ -124,7 +124,7 @@ stopped_routes now row part = choose (is_signal_ready part.ixl row.entry) (one_g
     choose true same = same
     choose false same = refl
 
-there_changed : (change : RouteState → RouteState) (place : ℕ) (list : List RouteState) (y : RouteState) → slice_get (changed change place list) place ≡ Some y → (x : RouteState) × (y ≡ change x)
+pub there_changed : (change : RouteState → RouteState) (place : ℕ) (list : List RouteState) (y : RouteState) → slice_get (changed change place list) place ≡ Some y → (x : RouteState) × (y ≡ change x)
 there_changed change place [] y e = absurd (none-some y e)
 there_changed change zero (x ∷ xs) y e = (x, sym (same_Some (change x) y e))
 there_changed change (suc place) (x ∷ xs) y e = there_changed change place xs y e
@@ -243,7 +243,7 @@ unset_keeps = record {
   where
     unset_quiet : (old new : RouteState) → IsQuiet old new → IsUnset old → IsUnset new
     unset_quiet old new (inl (same, kept)) unset = ap is_set same ∙ unset
-    unset_quiet old new (inr (over, undone, set)) unset = absurd (false≢true (sym unset ∙ set))
+    unset_quiet old new (inr (over, undone, set, kept)) unset = absurd (false≢true (sym unset ∙ set))
 
 stays_unset : (site : Site) (table : Table) (world : WorldState) (route : RouteId) (number : ℕ) → OfRoute number IsUnset world.station.ixl.routes []
     → OfRoute number IsUnset (interlocking_stepped site table (Commands (commands.Cancel route)) world).station.ixl.routes []
@@ -257,7 +257,7 @@ stays_unset site table world route number unset =
 
 -- ---- what an accepted cancel leaves
 
-not_refused : (cause : Option Refusal) → answered_by (answer_by cause) ≡ answer.Accepted → cause ≡ None
+pub not_refused : (cause : Option Refusal) → answered_by (answer_by cause) ≡ answer.Accepted → cause ≡ None
 not_refused None e = refl
 not_refused (Some cause) e = absurd (cc e)
 
@@ -284,7 +284,7 @@ same_routes : (now : ℕ) (ixl : IxlState) → (all_clocked now ixl).routes ≡ 
 unfolding all_clocked
 same_routes now ixl = refl
 
-accepted_so : (site : Site) (table : Table) (world : WorldState) (route : RouteId) → answered site table (event.Request (commands.Cancel route)) world ≡ answer.Accepted
+pub accepted_so : (site : Site) (table : Table) (world : WorldState) (route : RouteId) → answered site table (event.Request (commands.Cancel route)) world ≡ answer.Accepted
     → refusal (reading_of world.station.clock) table (commands.Cancel route) (all_clocked (reading_of world.station.clock) world.station.ixl) ≡ None
 unfolding answered reply
 accepted_so site table world route accepted = not_refused (refusal (reading_of world.station.clock) table (commands.Cancel route) (all_clocked (reading_of world.station.clock) world.station.ixl)) accepted

@@ -165,7 +165,7 @@ module _ (now : ℕ) where
   answer_down l down = rw down refl
 
   -- behind it the link is up: the item was accepted
-  post_up : (told : Message) (part : ClientSoFar) (taken given : ℕ) → is_up (posting now told part).client.link.phase ≡ true → HasCounted taken given part.client.link
+  pub post_up : (told : Message) (part : ClientSoFar) (taken given : ℕ) → is_up (posting now told part).client.link.phase ≡ true → HasCounted taken given part.client.link
       → HasCounted taken (given + 1) (posting now told part).client.link × (is_up part.client.link.phase ≡ true)
   unfolding posting calling answer_to_send
   post_up told part taken given up has = choose (is_refused_by_window (answer_to_send now l)) refl up
@@ -242,7 +242,7 @@ data After (now : ℕ) (item : List ℕ) (part after : ClientSoFar) : Type 0 whe
       → ((given : ℕ) → ClientHasGiven part.client.stage given → ClientHasGiven after.client.stage given) → After now item part after
   asks : (told : Message) → after.client.link ≡ (posting now told (acted_on item part)).client.link → length after.acted ≡ length part.acted + 1 → part.client.stage ≡ stage.AwaitsAnswer → after.client.stage ≡ stage.AwaitsStart → After now item part after
 
-either : {M : Type 0} (P : M → Type 0) (b : Bool) (x y : M) → (b ≡ true → P x) → P y → P (if b then x else y)
+pub either : {M : Type 0} (P : M → Type 0) (b : Bool) (x y : M) → (b ≡ true → P x) → P y → P (if b then x else y)
 either P true x y one other = one refl
 either P false x y one other = other
 

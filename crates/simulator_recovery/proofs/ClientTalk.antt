@@ -214,7 +214,7 @@ module _ (site : Site) (node : Node) (peer : PeerState) (of : OfNode node peer) 
     pub gave : given_after now (map (as_call connection) part.calls) link given ≡ g
     pub took : taken_after now (map (as_call connection) part.calls) link taken ≡ t
 
-  called : (call : LinkCall) (part : ClientSoFar) (g t : List (List ℕ)) → Tracks part g t
+  pub called : (call : LinkCall) (part : ClientSoFar) (g t : List (List ℕ)) → Tracks part g t
       → Tracks (calling now call part) (given_by now (as_call connection call) part.client.link g) (taken_by now (as_call connection call) part.client.link t)
   unfolding calling
   called call part g t tr = record {
@@ -260,11 +260,11 @@ module _ (site : Site) (node : Node) (peer : PeerState) (of : OfNode node peer) 
       by_up true e = ap (λ (s : Step). is_up s.link.phase) (sym (entered_open now l (up_open _ e)).0) ∙ e
       by_up false e = absurd (false≢true (sym (answer_down now (entered now l).link e) ∙ ok))
 
-  data Posted (item : List ℕ) (part after : ClientSoFar) (g t : List (List ℕ)) : Type 0 where
+  pub data Posted (item : List ℕ) (part after : ClientSoFar) (g t : List (List ℕ)) : Type 0 where
     accepted : is_up part.client.link.phase ≡ true → Tracks after (g ++ item ∷ []) t → Posted item part after g t
     refused : is_up after.client.link.phase ≡ false → (is_open after.client.link.phase ≡ true → (is_open part.client.link.phase ≡ true) × (is_up part.client.link.phase ≡ false)) → Tracks after g t → Posted item part after g t
 
-  posts : (told : Message) (part : ClientSoFar) (g t : List (List ℕ)) → Tracks part g t → Posted (writing (telegram_to part.client.peer told)) part (posting now told part) g t
+  pub posts : (told : Message) (part : ClientSoFar) (g t : List (List ℕ)) → Tracks part g t → Posted (writing (telegram_to part.client.peer told)) part (posting now told part) g t
   unfolding posting calling answer_to_send
   posts told part g t tr = choose (is_refused_by_window (answer_to_send now l)) refl (is_ok (answer_to_send now l)) refl
     where
@@ -922,7 +922,7 @@ available_ready (stage.AwaitsStatus left) e = absurd (false≢true e)
 -- ---- one part behind another
 
 module _ (now connection : ℕ) where
-  all_made_behind : (one other : List Call) (l : LinkState) → (all_made now (one ++ other) l).link ≡ (all_made now other (all_made now one l).link).link
+  pub all_made_behind : (one other : List Call) (l : LinkState) → (all_made now (one ++ other) l).link ≡ (all_made now other (all_made now one l).link).link
   unfolding all_made
   all_made_behind [] other l = refl
   all_made_behind (first ∷ one) other l = all_made_behind one other (made_by now first l).link

@@ -2,7 +2,7 @@
 use Rattle.std.proofs.Common.{◌≡◌, ◌≢◌, ℕ, suc, ◌+◌, ◌*◌, ◌<◌, ◌≤◌, ◌==◌, Bool, true, false, if◌then◌else◌, List, [], ◌∷◌, ◌++◌, length, map, None, refl, sym, ap, subst, ◌∙◌, arith}
 use Rattle.std.proofs.lemmas.Bool.Decides.{nat_tests}
 use Rattle.rasta_core_recovery.specs.Rounds.{AreUp, Flow, flow_after}
-use Rattle.rasta_core_recovery.specs.Work.{AreAtWork, HaveRoom, LeavesOpen, StayBelow, work_round, work_rounds}
+use Rattle.rasta_core_recovery.specs.Work.{AreAtWork, HaveRoom, LeavesOpen, StayBelow, recovery_rounds_at_work, work_round, work_rounds}
 use Rattle.ixl_table.specs.Table.{IsTableOf}
 use Rattle.simulator_run.specs.layout.Entries.{Site}
 use Rattle.simulator_run.specs.layout.Once.{Once}
@@ -26,7 +26,7 @@ use Rattle.simulator_run.specs.Tried.{Played, after}
 use Rattle.simulator_run_links.specs.HasLinks.{IsStanding}
 use Rattle.simulator_headline.specs.Reached.{IsReached}
 use Rattle.simulator_recovery.specs.Closes.{LeavesOpenOn}
-use Rattle.simulator_recovery.specs.LinkRounds.{HasRoomOn, HaveRoomOn, IsAtWorkOn, IsUpOn, StayBelowOn, StaysBelowLimit, all_events_tried, behind_time, calls_of_round, calls_on, event_of, flow_of, links_behind, time_of_round}
+use Rattle.simulator_recovery.specs.LinkRounds.{HasRoomOn, HaveRoomOn, IsAtWorkOn, IsUpOn, StayBelowOn, StaysBelowLimit, all_events_tried, behind_time, calls_of_round, calls_on, event_of, flow_of, link_rounds, links_behind, time_of_round}
 use Rattle.simulator_recovery.specs.Rounds.{HasTime, IsWork, LeavesFresh, all_tried, clocks_of, good_rounds}
 use Rattle.simulator_recovery.proofs.Addressed.{partners_length}
 use Rattle.simulator_recovery.proofs.Arrives.{ArrivalLaws, none_refused}
@@ -110,7 +110,7 @@ pub record ComeUpLaws : Type 0 where
   pub runs : (count : ℕ) (names : ℕ → Names) (start : LinksStart) (events : List LinksEvent) → AreLinks count names → MayRunLinks count names events (begun names start)
       → (link : ℕ) → link < count → IsRun (names link) (start_of link start) (seen link (run_links events (begun names start)))
   pub up : (names : Names) (start : Start) (events : List LinkEvent) (passed : ℕ) (rounds : List (List LinkEvent)) → AreNames names → MayRun names events (started names start)
-      → AreAtWork names rounds (flow_after names start events passed) → Each (Each LeavesOpen) rounds → StayBelow rounds (flow_after names start events passed) → 1601 ≤ length rounds
+      → AreAtWork names rounds (flow_after names start events passed) → Each (Each LeavesOpen) rounds → StayBelow rounds (flow_after names start events passed) → recovery_rounds_at_work ≤ length rounds
       → AreUp (work_rounds rounds (flow_after names start events passed)).ends
 
 -- the rounds of a link
@@ -307,13 +307,13 @@ module _ (laws : ComeUpLaws) (sited : SitedTable) (station : IsStation sited.sit
         goes : RoundsOn sited.site link rounds (flow_of link passed_then start.before) next start.before
         goes = through rounds flowing next (leaves_fresh first flowing work_first) start.before start.has start.is work can
 
-    pub up_then : (rounds : List (List Event)) → (b : BehindRounds rounds) → Each (Each LeavesOpen) (lists_of rounds) → StayBelow (lists_of rounds) flow_then → 1601 ≤ length (lists_of rounds) → AreUp (seen link b.after)
+    pub up_then : (rounds : List (List Event)) → (b : BehindRounds rounds) → Each (Each LeavesOpen) (lists_of rounds) → StayBelow (lists_of rounds) flow_then → recovery_rounds_at_work ≤ length (lists_of rounds) → AreUp (seen link b.after)
     up_then rounds b open_so below long = subst AreUp (sym b.ends)
         (laws.up (names_at sited.site link) (start_of link starts_at_zero) start.is_run.events passed_then (lists_of rounds) ((are_links laws.link sited station once).each link there) start.is_run.may b.work open_so below long)
 
 pub come_up : ComeUpLaws → (between : List Event) (later_rounds : List (List Event)) (flowing : Flowing Played) (link : ℕ) → Once flowing.state.sited.site → IsStation flowing.state.sited.site
     → IsTableOf flowing.state.sited.site flowing.state.sited.table → IsReached flowing.state.sited.site flowing.state.sited.table flowing.state.run → Each IsWork between → Each (Each IsWork) later_rounds
-    → HasTime (suc (length later_rounds)) flowing.state.run → link < links flowing.state.sited.site → 1602 ≤ suc (length later_rounds)
+    → HasTime (suc (length later_rounds)) flowing.state.run → link < links flowing.state.sited.site → link_rounds ≤ suc (length later_rounds)
     → StaysBelowLimit flowing.state.sited.site link later_rounds (all_tried between (round stations flowing)) → IsUpOn link (good_rounds (between ∷ later_rounds) flowing).state.run
 come_up laws between later_rounds flowing link once station is_table reached work works can there long below =
     let sited = flowing.state.sited

@@ -1,10 +1,9 @@
 -- Where a controller says something in a good round, the interlocking's link holds for confirmed behind the next what it had taken then.
-use Rattle.std.proofs.Common.{◌≡◌, ℕ, suc, ◌+◌, ◌<◌, ◌≤◌, ◌&&◌, nat_le, Bool, true, false, if◌then◌else◌, List, [], ◌∷◌, ◌++◌, length, refl, sym, ap, subst, ◌∙◌, arith}
+use Rattle.std.proofs.Common.{◌≡◌, ℕ, suc, ◌<◌, ◌≤◌, ◌&&◌, nat_le, Bool, true, false, if◌then◌else◌, List, [], ◌∷◌, ◌++◌, length, refl, sym, ap, subst, ◌∙◌, arith}
 use Rattle.rasta_core_recovery.specs.Replies.{Accepts, StaysAtWork, in_round, with_reply}
 use Rattle.rasta_core_recovery.specs.Rounds.{Flow, flow_after}
-use Rattle.rasta_core_recovery.specs.Work.{AreAtWork, HaveRoom, IsAtWork, LeavesOpen, StayBelow, work_round, work_rounds}
+use Rattle.rasta_core_recovery.specs.Work.{AreAtWork, LeavesOpen, StayBelow, recovery_rounds_at_work, work_round, work_rounds}
 use Rattle.ixl_table.specs.Table.{IsTableOf}
-use Rattle.simulator_run.specs.layout.Entries.{Site}
 use Rattle.simulator_run.specs.layout.Once.{Once}
 use Rattle.simulator_run.specs.layout.Station.{IsStation}
 use Rattle.simulator_run.specs.rasta_core.Clock.{deadline, settled}
@@ -19,13 +18,12 @@ use Rattle.simulator_run.specs.rasta_core.phase.Phase.TheVariants as phase
 use Rattle.simulator_run.specs.ixl_rules.Table.{SitedTable}
 use Rattle.simulator_run.specs.simulator_event.declared.event.Event.{Event}
 use Rattle.simulator_run.specs.Flow.{Flowing, round, stations}
-use Rattle.simulator_run.specs.Links.{AreLinksOf, names_at, starts_at_zero}
+use Rattle.simulator_run.specs.Links.{names_at, starts_at_zero}
 use Rattle.simulator_run.specs.Nodes.{links}
-use Rattle.simulator_run.specs.State.{WorldState}
 use Rattle.simulator_run.specs.Tried.{Played}
 use Rattle.simulator_headline.specs.Reached.{IsReached}
 use Rattle.simulator_recovery.specs.HandedOver.{HasConfirmed}
-use Rattle.simulator_recovery.specs.LinkRounds.{IsUpOn, StaysBelowLimit, calls_on, links_behind}
+use Rattle.simulator_recovery.specs.LinkRounds.{IsUpOn, StaysBelowLimit, calls_on, link_rounds, links_behind}
 use Rattle.simulator_recovery.specs.RepliesOn.{RepliesAfter, RepliesBehind, RepliesOn}
 use Rattle.simulator_recovery.specs.Rounds.{HasTime, IsWork, all_tried, clocks_of, good_rounds}
 use Rattle.simulator_recovery.proofs.ComeUp.{Begun, begun_so, behind_rounds, links_after, lists_length, lists_on, rounds_open, up_on}
@@ -34,7 +32,7 @@ use Rattle.simulator_recovery.proofs.LinkRounds.{are_links}
 use Rattle.simulator_recovery.proofs.Ready.{IsUpBehind, ReadyLaws, below_front, count_front, each_front, fewer_time, front_of, lists_front, rounds_both, ups, work_front}
 use Rattle.simulator_recovery.proofs.StaysOpen.{rounds_stay}
 
-settled_confirmed : (now : ℕ) (l : LinkState) → confirmed_items (settled now l) ≡ confirmed_items l
+pub settled_confirmed : (now : ℕ) (l : LinkState) → confirmed_items (settled now l) ≡ confirmed_items l
 unfolding settled
 settled_confirmed now l = choose (is_open l.phase && nat_le (deadline l) now)
   where
@@ -44,7 +42,7 @@ settled_confirmed now l = choose (is_open l.phase && nat_le (deadline l) now)
 
 abbrev pub Confirm : Type 0
 Confirm = (names : Names) (start : Start) (events : List LinkEvent) (passed : ℕ) (rounds : List (List LinkEvent)) (front : List LinkEvent) (item : List ℕ) (rest calls : List LinkEvent) → AreNames names → MayRun names events (started names start)
-    → AreAtWork names rounds (flow_after names start events passed) → Each (Each LeavesOpen) rounds → StayBelow rounds (flow_after names start events passed) → 1601 ≤ length rounds
+    → AreAtWork names rounds (flow_after names start events passed) → Each (Each LeavesOpen) rounds → StayBelow rounds (flow_after names start events passed) → recovery_rounds_at_work ≤ length rounds
     → StaysAtWork names (work_rounds rounds (flow_after names start events passed)) (with_reply front item rest)
     → StaysAtWork names (work_round (with_reply front item rest) (work_rounds rounds (flow_after names start events passed))) calls
     → Accepts (in_round front (work_rounds rounds (flow_after names start events passed))).server
@@ -136,7 +134,7 @@ module _ (laws : ConfirmLaws) (sited : SitedTable) (station : IsStation sited.si
         (laws.confirm names (start_of link starts_at_zero) start.is_run.events passed (lists rounds) r.front r.item r.rest calls.0 ((are_links laws.ready.up.link sited station once).each link there) start.is_run.may
         s.behind.work s.opens s.below (let l = s.long in let n = lists_length link rounds next start.before in omega (arith, l, n)) first_round second_round accepts)
 
-    confirms : HasConfirmed link (good_rounds rounds next).state.run (good_rounds ((rounds ++ between ∷ []) ++ last ∷ []) next).state.run
+    pub confirms : HasConfirmed link (good_rounds rounds next).state.run (good_rounds ((rounds ++ between ∷ []) ++ last ∷ []) next).state.run
     confirms = record {
       before = was;
       behind = up;
@@ -159,7 +157,7 @@ module _ (laws : ConfirmLaws) (sited : SitedTable) (station : IsStation sited.si
 
 pub links_confirm : ConfirmLaws → (between : List Event) (later_rounds : List (List Event)) (replied last : List Event) (flowing : Flowing Played) (link : ℕ) → Once flowing.state.sited.site → IsStation flowing.state.sited.site
     → IsTableOf flowing.state.sited.site flowing.state.sited.table → IsReached flowing.state.sited.site flowing.state.sited.table flowing.state.run → Each IsWork between → Each (Each IsWork) ((later_rounds ++ replied ∷ []) ++ last ∷ [])
-    → HasTime (suc (length ((later_rounds ++ replied ∷ []) ++ last ∷ []))) flowing.state.run → link < links flowing.state.sited.site → 1602 ≤ suc (length later_rounds)
+    → HasTime (suc (length ((later_rounds ++ replied ∷ []) ++ last ∷ []))) flowing.state.run → link < links flowing.state.sited.site → link_rounds ≤ suc (length later_rounds)
     → StaysBelowLimit flowing.state.sited.site link ((later_rounds ++ replied ∷ []) ++ last ∷ []) (all_tried between (round stations flowing))
     → RepliesBehind flowing.state.sited.site link later_rounds replied (all_tried between (round stations flowing))
     → HasConfirmed link (good_rounds (between ∷ later_rounds) flowing).state.run (good_rounds (between ∷ ((later_rounds ++ replied ∷ []) ++ last ∷ [])) flowing).state.run

@@ -50,6 +50,10 @@ is_taken before after confirmed (inr stop) (inr (same, number)) enough =
     least : (a b : ℕ) → a ≤ b → nat_le a b ≡ true
     least a b few = grind (arith, nat_tests, few)
 
+-- a link that is up as the clock rules are applied was up before
+pub still_up : (now : ℕ) (l : LinkState) → is_up (settled now l).phase ≡ true → is_up l.phase ≡ true
+still_up now l up = sym (ap (λ (x : LinkState). is_up x.phase) (settled_open now l (up_open (settled now l).phase up)).0) ∙ up
+
 pub confirmed_ends : SignalLaws → (site : Site) (table : Table) (old new : WorldState) (signal : ℕ) → Once site → IsStation site → IsTableOf site table → IsReached site table old → IsReached site table new → signal < length site.signals
     → HasConfirmed signal old new → NoneProceeds table old.station.ixl signal → GivesNoMore signal old.station.ixl new.station.ixl → IsWithdrawnFrom table new.station.ixl signal → ⊥
 confirmed_ends laws site table old new signal once station is_table reached_old reached_new few over none no_more withdrawn =
@@ -68,6 +72,3 @@ confirmed_ends laws site table old new signal once station is_table reached_old 
     in let taken = is_taken before.0 after.0 (confirmed_items after.0.client.link) (stops_given site table old signal reached_old none before.0 before.1) (no_more before.0 after.0 before.1 after.1)
     (λ stop. subst (λ (n : ℕ). n ≤ confirmed_items after.0.client.link) (sym (number_is s ready stop)) enough)
     in not_outlived site table new signal after.0 reached_new withdrawn after.1 (ap (λ (l : LinkState). is_up l.phase) (sym is_client) ∙ still_up (reading_of new.station.clock) over.behind.client over.behind.client_up, taken)
-  where
-    still_up : (now : ℕ) (l : LinkState) → is_up (settled now l).phase ≡ true → is_up l.phase ≡ true
-    still_up now l up = sym (ap (λ (x : LinkState). is_up x.phase) (settled_open now l (up_open (settled now l).phase up)).0) ∙ up

@@ -102,7 +102,7 @@ module _ {Object : Type 0} (does : Behaviour Object) (Fits : Object → Type 0) 
     abbrev after : Lists
     after = lists_of (called_all connection done.calls ends).server
 
-    given_is : after.given ≡ kept (entering input connection ends) ends.server.given ++ given_now
+    pub given_is : after.given ≡ kept (entering input connection ends) ends.server.given ++ given_now
     unfolding stepped
     given_is = ap (λ (s : HostSoFar Object). (called_all connection s.calls ends).server.given) (sym done_is) ∙ laws.kind.given input connection at
         ∙ ap (λ (n : ℕ). kept (entering input connection ends) ends.server.given ++ items_given n (world_step does input at).calls ends.server.link) (ap reading_of clock_is)
@@ -179,20 +179,21 @@ module _ {Object : Type 0} (does : Behaviour Object) (Fits : Object → Type 0) 
         whole = ap (λ (b : Bool). given_before b [] ++ given_now) shut ∙ sym (given_is ∙ ap (λ (o : Option ℕ). kept o ends.server.given ++ given_now) g)
 
     -- outside, and in none behind the step
+    pub stays_out : is_open ends.server.link.phase ≡ false → entering input connection ends ≡ None → is_open done.host.link.phase ≡ false
+    unfolding stepped
+    stays_out f g = ap (λ (s : HostSoFar Object). is_open s.host.link.phase) (sym done_is) ∙ ap (λ (l : LinkState). is_open l.phase) (sym (laws.kind.world.link input connection at (settled_so does many tells.objects laws.kind input connection 0 c ends link_is clock_is)))
+        ∙ laws.kind.world.outside input connection at g f
+
     outside_tells : is_open ends.server.link.phase ≡ false → entering input connection ends ≡ None → Tells done.host after
     unfolding stepped
     outside_tells f g = record {
       objects = tells.objects;
       counts = step_stands does many tells.objects now input c.host tells.counts;
       kept_so = step_keeps does Fits version own_name peer_name keep now input c.host tells.kept_so;
-      said = λ e. absurd (false≢true (sym stays_out ∙ e));
+      said = λ e. absurd (false≢true (sym (stays_out f g) ∙ e));
       ever = subst (SaidSome does Fits Wrong item version) (sym same_given) (some_still does Fits item version (SomeAsks version ends.server.taken) Wrong (λ s. subst (SomeAsks version) (sym same_taken) s) ends.server.given tells.ever);
     }
       where
-        stays_out : is_open done.host.link.phase ≡ false
-        stays_out = ap (λ (s : HostSoFar Object). is_open s.host.link.phase) (sym done_is) ∙ ap (λ (l : LinkState). is_open l.phase) (sym (laws.kind.world.link input connection at (settled_so does many tells.objects laws.kind input connection 0 c ends link_is clock_is)))
-            ∙ laws.kind.world.outside input connection at g f
-
         same_given : after.given ≡ ends.server.given
         same_given = ap (λ (s : HostSoFar Object). (called_all connection s.calls ends).server.given) (sym done_is) ∙ laws.gives_none input connection at g f
 

@@ -53,7 +53,7 @@ use Rattle.simulator_recovery.proofs.StationKeeps.{later_at}
 
 -- ---- lists and links
 
-set_there : {X : Type 0} (list : List X) (place : ℕ) (new : X) (k : ℕ) (y : X) → slice_get (slice_set list place new) k ≡ Some y → ((k ≡ place) × (y ≡ new)) ⊎ ((k ≢ place) × (slice_get list k ≡ Some y))
+pub set_there : {X : Type 0} (list : List X) (place : ℕ) (new : X) (k : ℕ) (y : X) → slice_get (slice_set list place new) k ≡ Some y → ((k ≡ place) × (y ≡ new)) ⊎ ((k ≢ place) × (slice_get list k ≡ Some y))
 set_there [] place new k y e = absurd (none-some y e)
 set_there (x ∷ xs) zero new zero y e = inl (refl, sym (same_Some new y e))
 set_there (x ∷ xs) zero new (suc k) y e = inr (λ same. absurd (cc same), e)
@@ -79,7 +79,7 @@ abbrev pub lists_at : Links → ℕ → Lists
 lists_at network link = lists_of (network.ends link).server
 
 -- an end that is made anew keeps what it gave
-anew_keeps : (link : ℕ) (who : Role) (clock first : ℕ) (network : Links) (other : ℕ) → lists_at (happened_to (RestartsOn link who clock first) network) other ≡ lists_at network other
+pub anew_keeps : (link : ℕ) (who : Role) (clock first : ℕ) (network : Links) (other : ℕ) → lists_at (happened_to (RestartsOn link who clock first) network) other ≡ lists_at network other
 unfolding restarted end_restarted
 anew_keeps link who clock first network other = choose who (other == link) refl
   where
@@ -89,11 +89,11 @@ anew_keeps link who clock first network other = choose who (other == link) refl
     choose role.Server true e = rw (e, lists_at) (ap (lists_at network) (sym (same_number other link e)))
     choose role.Server false e = rw (e, lists_at) refl
 
-all_anew_keeps : (who : Role) (clock : ℕ) (firsts : ℕ → ℕ) (numbers : List ℕ) (network : Links) (other : ℕ) → lists_at (run_links (restarts_of who clock firsts numbers) network) other ≡ lists_at network other
+pub all_anew_keeps : (who : Role) (clock : ℕ) (firsts : ℕ → ℕ) (numbers : List ℕ) (network : Links) (other : ℕ) → lists_at (run_links (restarts_of who clock firsts numbers) network) other ≡ lists_at network other
 all_anew_keeps who clock firsts [] network other = refl
 all_anew_keeps who clock firsts (first ∷ others) network other = all_anew_keeps who clock firsts others (happened_to (RestartsOn first who clock (firsts first)) network) other ∙ anew_keeps first who clock (firsts first) network other
 
-all_called : (connection : ℕ) (calls : List LinkCall) (ends : Ends) → called_all connection calls ends ≡ run (calls_at role.Server (map (as_call connection) calls)) ends
+pub all_called : (connection : ℕ) (calls : List LinkCall) (ends : Ends) → called_all connection calls ends ≡ run (calls_at role.Server (map (as_call connection) calls)) ends
 unfolding called_all
 all_called connection [] ends = refl
 all_called connection (first ∷ others) ends = all_called connection others (called role.Server (as_call connection first) ends)
@@ -122,7 +122,7 @@ held_same : {Object : Type 0} (Holds : ℕ → HostState Object → Lists → Ty
 held_same Holds at servers old new same held place c e = subst (Holds place c.host) (sym (same place c e)) (held place c e)
 
 module _ (laws : CallLaws) where
-  elsewhere : {Object : Type 0} (does : Behaviour Object) (input : HostInput) (connection link : ℕ) (found : Option (ClockedControllerState Object)) (before : Links) (other : ℕ)
+  pub elsewhere : {Object : Type 0} (does : Behaviour Object) (input : HostInput) (connection link : ℕ) (found : Option (ClockedControllerState Object)) (before : Links) (other : ℕ)
       → ((c : ClockedControllerState Object) → found ≡ Some c → other ≢ link) → lists_at (run_links (host_events does input connection link found) before) other ≡ lists_at before other
   elsewhere does input connection link None before other differ = refl
   elsewhere does input connection link (Some c) before other differ = ap lists_of (laws.others role.Server link other (map (as_call connection) (step_of does input c).calls) before (differ c refl) role.Server)

@@ -6,10 +6,7 @@ use Rattle.simulator_run.specs.layout.Station.{IsStation}
 use Rattle.simulator_run.specs.sci_telegram.declared.message.Aspect.{Aspect}
 use Rattle.simulator_run.specs.sci_telegram.declared.message.Occupancy.{Occupancy}
 use Rattle.simulator_run.specs.rasta_core.Each.{Each}
-use Rattle.simulator_run.specs.rasta_core.EachLink.{AreTimely}
 use Rattle.simulator_run.specs.rasta_core.Ends.{reading_of}
-use Rattle.simulator_run.specs.rasta_core.Links.{AreLinks, Links, LinksEvent, LinksStart, MayRunLinks, begun as begun_links, run_links}
-use Rattle.simulator_run.specs.rasta_core.Names.{Names}
 use Rattle.simulator_run.specs.rasta_core.Outbox.{OutboxState}
 use Rattle.simulator_run.specs.rasta_core.State.{is_open}
 use Rattle.simulator_run.specs.ixl_client.Client.{ClientState}
@@ -21,30 +18,28 @@ use Rattle.simulator_run.specs.ixl_rules.StepSoFar.{Detector, Node, Point, Signa
 use Rattle.simulator_run.specs.ixl_rules.Table.{Table}
 use Rattle.simulator_run.specs.simulator_event.declared.event.Event.{Event}
 use Rattle.simulator_run.specs.simulator_event.declared.event.Event.TheVariants as event
-use Rattle.simulator_run.specs.First.{Beginning, IsOutsetOf, Outset, at_zero, new_detector_of, new_ixl, world_at}
+use Rattle.simulator_run.specs.First.{Beginning, at_zero, new_detector_of, new_ixl, world_at}
 use Rattle.simulator_run.specs.Happens.{delivered_to, detector_anew, detector_stepped, happens, interlocking_stepped, made_anew, passed, point_anew, point_stepped, sensed_by, signal_anew, signal_stepped, ticked_at}
 use Rattle.simulator_run.specs.Interlocking.{interlocking_step}
-use Rattle.simulator_run.specs.Links.{names_at, starts_at_zero}
 use Rattle.simulator_run.specs.Network.{connection_of, copy_of}
 use Rattle.simulator_run.specs.Nodes as nodes
-use Rattle.simulator_run.specs.Nodes.{detector_link, key_of, links, node_at, point_link}
+use Rattle.simulator_run.specs.Nodes.{detector_link, key_of, node_at}
 use Rattle.simulator_run.specs.Refusals.{refusal}
-use Rattle.simulator_run.specs.Run.{CanHappen, after_all}
+use Rattle.simulator_run.specs.Run.{after_all}
 use Rattle.simulator_run.specs.State.{ClockedInterlockingState, WorldState}
 use Rattle.simulator_run_links.specs.Events.{events_of}
-use Rattle.simulator_run_links.specs.HasLinks.{IsStanding, links_in}
 use Rattle.simulator_headline.specs.Reached.{IsReached}
 use Rattle.simulator_recovery.specs.Counts.{EachClient}
 use Rattle.simulator_recovery.proofs.FewItems.{FewSoFar, GivesFew, clocked_few, few_wait, hearing_few, new_client_few, ticking_few}
 use Rattle.simulator_recovery.proofs.IxlClients.{mapped_at}
 use Rattle.simulator_recovery.proofs.IxlSoFar.{All, SoFarKeeps, step_held}
 use Rattle.simulator_recovery.proofs.Lists.{at_place}
-use Rattle.simulator_recovery.proofs.WindowEvents.{WindowLaws, event_leaves}
+use Rattle.simulator_recovery.proofs.StationWindows.{StationWindowLaws, node_leaves}
 use Rattle.simulator_recovery.specs.Closes.{FillsNoWindowOn}
 
 -- ---- a step of the interlocking
 
-abbrev FewAt : Node → ClientState → Type 0
+abbrev pub FewAt : Node → ClientState → Type 0
 FewAt (Detector place) client = GivesFew false client
 FewAt _ client = Unit {0}
 
@@ -100,7 +95,7 @@ module _ (site : Site) (table : Table) (input : ixl.Input) (station : ClockedInt
 -- ---- an event
 
 module _ (site : Site) (table : Table) where
-  abbrev FewIn : WorldState → Type 0
+  abbrev pub FewIn : WorldState → Type 0
   FewIn world = EachClient FewAt world.station.ixl
 
   new_few : (begins : Beginning) → EachClient FewAt (new_ixl site table begins)
@@ -171,7 +166,7 @@ module _ (site : Site) (table : Table) where
   all_events [] world few = few
   all_events (first ∷ others) world few = all_events others (happens site table first world) (one_event first world few)
 
-  reached_few : (world : WorldState) → IsReached site table world → FewIn world
+  pub reached_few : (world : WorldState) → IsReached site table world → FewIn world
   unfolding world_at
   reached_few world reached = subst FewIn (sym reached.after) (all_events reached.events (world_at site table reached.outset) (new_few at_zero))
 
@@ -181,30 +176,9 @@ module _ (site : Site) (table : Table) where
 
 -- ---- the calls of an event
 
-pub record DetectorLaws : Type 0 where
-  pub window : WindowLaws
-  pub named : (site : Site) → IsStation site → Once site → AreLinks (links site) (names_at site)
-  pub begins : (count : ℕ) (names : ℕ → Names) (start : LinksStart) → AreLinks count names → AreTimely count names (begun_links names start)
-  pub time : (count : ℕ) (names : ℕ → Names) (events : List LinksEvent) (network : Links) → AreLinks count names → AreTimely count names network
-      → MayRunLinks count names events network → AreTimely count names (run_links events network)
-  pub standing : (site : Site) (table : Table) (outset : Outset) (events : List Event) → IsStation site → Once site → IsOutsetOf site outset
-      → CanHappen site table events (world_at site table outset) → IsStanding site (after_all site table events (world_at site table outset))
-  pub kept : (site : Site) (table : Table) (happening : Event) (world : WorldState) → IsStation site → Once site → IsStanding site world → refusal site happening world ≡ None
-      → IsStanding site (happens site table happening world)
-
-module _ (laws : DetectorLaws) (site : Site) (table : Table) (station : IsStation site) (once : Once site) (place : ℕ) (below : place < length site.detectors) (world : WorldState) (reached : IsReached site table world) where
-  are_links : AreLinks (links site) (names_at site)
-  are_links = laws.named site station once
-
-  stands : IsStanding site world
-  stands = subst (IsStanding site) (sym reached.after) (laws.standing site table reached.outset reached.events station once reached.lies reached.can)
-
-  timely : AreTimely (links site) (names_at site) (links_in stands.linked)
-  timely = laws.time (links site) (names_at site) stands.linked.events (begun_links (names_at site) starts_at_zero) are_links (laws.begins (links site) (names_at site) starts_at_zero are_links) stands.linked.may
-
-  pub detector_leaves : (happening : Event) → refusal site happening world ≡ None → Each (FillsNoWindowOn (detector_link site place)) (events_of site table happening world)
-  detector_leaves happening may = event_leaves laws.window site table (Detector place) below world (links_in stands.linked) are_links stands.whole timely stands.linked.are
-      (λ other intact. (laws.kept site table other world station once stands intact).whole) (λ events. Unit {0}) (λ input connection comes may clients.
-      let many = clients.detectors
-      in let there = at_place (interlocking_step site table input world.station).ixl.detectors place (omega (arith, below, many))
-      in ((held site table input world.station (reached_few site table world reached)).detectors place there.0 there.1).leaves) happening may tt
+pub detector_leaves : (laws : StationWindowLaws) (site : Site) (table : Table) (station : IsStation site) (once : Once site) (place : ℕ) (below : place < length site.detectors) (world : WorldState) (reached : IsReached site table world)
+    → (happening : Event) → refusal site happening world ≡ None → Each (FillsNoWindowOn (detector_link site place)) (events_of site table happening world)
+detector_leaves laws site table station once place below world reached = node_leaves laws site table station once world reached (Detector place) below (λ input clients.
+    let many = clients.detectors
+    in let there = at_place (interlocking_step site table input world.station).ixl.detectors place (omega (arith, below, many))
+    in ((held site table input world.station (reached_few site table world reached)).detectors place there.0 there.1).leaves)

@@ -17,7 +17,7 @@ use Rattle.simulator_run.specs.Interlocking.{interlocking_step}
 use Rattle.simulator_run.specs.Links.{names_at}
 use Rattle.simulator_run.specs.Network.{connection_of, copy_of}
 use Rattle.simulator_run.specs.Nodes as nodes
-use Rattle.simulator_run.specs.Nodes.{links, node_at}
+use Rattle.simulator_run.specs.Nodes.{node_at}
 use Rattle.simulator_run.specs.Refusals.{refusal}
 use Rattle.simulator_run.specs.State.{WorldState}
 use Rattle.simulator_run_links.specs.Events.{delivery_events, events_of, interlocking_events, tick_events}

@@ -10,7 +10,7 @@ use Rattle.simulator_run.specs.ixl_client.Client.{ClientState, is_outside}
 use Rattle.simulator_run.specs.ixl_client.ClientSoFar.{begun}
 use Rattle.simulator_run.specs.ixl_client.Step.{clocked, ticking}
 use Rattle.simulator_run.specs.ixl_rules.Rules.{come_to, is_proceeding, is_waiting}
-use Rattle.simulator_run.specs.ixl_rules.State.{KnownSignalState, RouteState, changed}
+use Rattle.simulator_run.specs.ixl_rules.State.{IxlState, KnownSignalState, RouteState, changed}
 use Rattle.simulator_run.specs.ixl_rules.Step.{Commands, Datagram, Input, Tick, clocked_known_signal}
 use Rattle.simulator_run.specs.ixl_rules.StepSoFar.{begun_with, empty_outbox, known_signal_after}
 use Rattle.simulator_run.specs.ixl_rules.Table.{Row, SitedTable, Table}
@@ -36,7 +36,7 @@ use Rattle.simulator_recovery.proofs.SignalParts.{AtRoute, IsOver, IsQuiet, Part
 -- ---- what is kept
 
 -- as the signal was, or given none
-abbrev IsAs : Option Aspect → ℕ → KnownSignalState → Type 0
+abbrev pub IsAs : Option Aspect → ℕ → KnownSignalState → Type 0
 IsAs aspect number known = (known.aspect ≡ None) ⊎ ((known.aspect ≡ aspect) × (known.number ≡ number))
 
 -- a signal whose client is another
@@ -60,13 +60,13 @@ as_then aspect number one other (inl none) (inr (same, count)) = inl (same ∙ n
 as_then aspect number one other (inr (same, count)) (inr (again, more)) = inr (again ∙ same, more ∙ count)
 
 -- a route has no aspect, and waits for none but where it is cancelled
-abbrev RestsSo : RouteState → Type 0
+abbrev pub RestsSo : RouteState → Type 0
 RestsSo route = (is_waiting route.phase ≡ true → route.cancelled ≡ true) × (is_proceeding route.phase ≡ false)
 
 -- No route that begins at the signal proceeds, or waits to, and the signal was given no more.
-record Rests (table : Table) (signal : ℕ) (aspect : Option Aspect) (number : ℕ) (routes : List RouteState) (signals : List KnownSignalState) : Type 0 where
-  none : (place : ℕ) (row : Row) (route : RouteState) → slice_get table.rows place ≡ Some row → slice_get routes place ≡ Some route → row.entry ≡ signal → RestsSo route
-  given : (known : KnownSignalState) → slice_get signals signal ≡ Some known → IsAs aspect number known
+pub record Rests (table : Table) (signal : ℕ) (aspect : Option Aspect) (number : ℕ) (routes : List RouteState) (signals : List KnownSignalState) : Type 0 where
+  pub none : (place : ℕ) (row : Row) (route : RouteState) → slice_get table.rows place ≡ Some row → slice_get routes place ≡ Some route → row.entry ≡ signal → RestsSo route
+  pub given : (known : KnownSignalState) → slice_get signals signal ≡ Some known → IsAs aspect number known
 
 pub over_rests : (p : Phase) → IsOver p → (is_waiting p ≡ false) × (is_proceeding p ≡ false)
 over_rests phase.Free over = (refl, refl)
@@ -77,10 +77,10 @@ over_rests phase.Withdrawn over = absurd over
 
 quiet_rests : (old new : RouteState) → IsQuiet old new → RestsSo old → RestsSo new
 quiet_rests old new (inl (same, cancelled)) rests = (λ waits. cancelled (rests.0 (ap is_waiting (sym same) ∙ waits)), ap is_proceeding same ∙ rests.1)
-quiet_rests old new (inr (over, undone, set)) rests = let so = over_rests new.phase over in (λ waits. absurd (false≢true (sym so.0 ∙ waits)), so.1)
+quiet_rests old new (inr (over, undone, set, kept)) rests = let so = over_rests new.phase over in (λ waits. absurd (false≢true (sym so.0 ∙ waits)), so.1)
 
 -- no command comes
-abbrev NoCommand : Command → Type 0
+abbrev pub NoCommand : Command → Type 0
 NoCommand command = ⊥
 
 module _ (now : ℕ) (table : Table) (signal : ℕ) (aspect : Option Aspect) (number : ℕ) where
@@ -103,7 +103,7 @@ module _ (now : ℕ) (table : Table) (signal : ℕ) (aspect : Option Aspect) (nu
       choose (inl (same, was, g, h)) = absurd (differ (sym same))
       choose (inr g) = holds.given known g
 
-  rests_keep : PartsKeep now table NoCommand Holds
+  pub rests_keep : PartsKeep now table NoCommand Holds
   rests_keep = record {
     rules = record {
       quiet = λ place change routes signals quiet holds. record { none = λ k row route e f entry. same_route place change routes signals quiet holds k row route e f entry; given = holds.given };
@@ -146,14 +146,14 @@ module _ (now : ℕ) (table : Table) (signal : ℕ) (aspect : Option Aspect) (nu
 -- ---- the events of a round
 
 -- an event of a round: no request comes
-abbrev IsOfRound : Event → Type 0
+abbrev pub IsOfRound : Event → Type 0
 IsOfRound (event.Time elapsed clocks) = Unit {0}
 IsOfRound (event.Deliver node bytes) = Unit {0}
 IsOfRound (event.Tick node) = Unit {0}
 IsOfRound (event.Reach point position) = Unit {0}
 IsOfRound _ = ⊥
 
-abbrev AreOfRound : List RoundEvent → Type 0
+abbrev pub AreOfRound : List RoundEvent → Type 0
 AreOfRound [] = Unit {0}
 AreOfRound (first ∷ others) = IsOfRound first.event × AreOfRound others
 
@@ -188,22 +188,20 @@ unfolding reaches
 reaches_of passed point [] = tt
 reaches_of passed point (drive ∷ drives) = both_of (reach passed point drive) (reaches passed (suc point) drives) (reach_of passed point drive) (reaches_of passed (suc point) drives)
 
-due_of : (flowing : Flowing Played) → AreOfRound (due stations flowing)
+pub due_of : (flowing : Flowing Played) → AreOfRound (due stations flowing)
 due_of flowing = (tt, both_of (deliveries _ flowing.passed _) _ (deliveries_of _ flowing.passed _) (both_of (ticks _ 0 _) _ (ticks_of _ 0 _) (reaches_of _ 0 flowing.drives)))
 
-module _ (site : Site) (table : Table) (signal : ℕ) (aspect : Option Aspect) (number : ℕ) where
-  abbrev Resting : WorldState → Type 0
-  Resting world = Rests table signal aspect number world.station.ixl.routes world.station.ixl.known_signals
+-- ---- what each step of an interlocking keeps where no command comes
 
-  stepped_rests : (input : Input) (world : WorldState) → ((command : Command) → input ≡ Commands command → ⊥) → Resting world → Resting (interlocking_stepped site table input world)
-  unfolding interlocking_stepped
-  stepped_rests input world none rests = step_held (reading_of world.station.clock) table NoCommand (Rests table signal aspect number) (rests_keep (reading_of world.station.clock) table signal aspect number) (key_of site) input
-      (begun_with world.station.ixl empty_outbox) none rests
+module _ (site : Site) (table : Table) (P : IxlState → Type 0)
+    (steps : (input : Input) (world : WorldState) → ((command : Command) → input ≡ Commands command → ⊥) → P world.station.ixl → P (interlocking_stepped site table input world).station.ixl) where
+  abbrev Resting : WorldState → Type 0
+  Resting world = P world.station.ixl
 
   ticked_rests : (at : Option Node) (world : WorldState) → Resting world → Resting (ticked_at site table at world)
   unfolding signal_stepped point_stepped detector_stepped
   ticked_rests None world rests = rests
-  ticked_rests (Some Interlocking) world rests = stepped_rests Tick world (λ command e. absurd (cc e)) rests
+  ticked_rests (Some Interlocking) world rests = steps Tick world (λ command e. absurd (cc e)) rests
   ticked_rests (Some (Signal place)) world rests = rests
   ticked_rests (Some (Point place)) world rests = rests
   ticked_rests (Some (Detector place)) world rests = rests
@@ -211,7 +209,7 @@ module _ (site : Site) (table : Table) (signal : ℕ) (aspect : Option Aspect) (
   delivered_rests : (bytes : List ℕ) (connection : ℕ) (at : Option Node) (world : WorldState) → Resting world → Resting (delivered_to site table bytes connection at world)
   unfolding signal_stepped point_stepped detector_stepped
   delivered_rests bytes connection None world rests = rests
-  delivered_rests bytes connection (Some Interlocking) world rests = stepped_rests (Datagram bytes) world (λ command e. absurd (cc e)) rests
+  delivered_rests bytes connection (Some Interlocking) world rests = steps (Datagram bytes) world (λ command e. absurd (cc e)) rests
   delivered_rests bytes connection (Some (Signal place)) world rests = rests
   delivered_rests bytes connection (Some (Point place)) world rests = rests
   delivered_rests bytes connection (Some (Detector place)) world rests = rests
@@ -227,42 +225,54 @@ module _ (site : Site) (table : Table) (signal : ℕ) (aspect : Option Aspect) (
   event_rests (event.Lose bytes) world of rests = absurd of
   event_rests (event.Restart node clock first) world of rests = absurd of
 
--- a station of this data in which they rest
-record RestsAt (sited : SitedTable) (signal : ℕ) (aspect : Option Aspect) (number : ℕ) (world : Played) : Type 0 where
+-- a station of this data in which it is so
+record RestsAt (sited : SitedTable) (P : IxlState → Type 0) (world : Played) : Type 0 where
   same : world.sited ≡ sited
-  rests : Rests sited.table signal aspect number world.run.station.ixl.routes world.run.station.ixl.known_signals
+  rests : P world.run.station.ixl
 
-module _ (sited : SitedTable) (signal : ℕ) (aspect : Option Aspect) (number : ℕ) where
-  tried_rests : (world : Played) (one : Event) → IsOfRound one → RestsAt sited signal aspect number world → RestsAt sited signal aspect number (after world one)
-  tried_rests world one of is = tried_keeps (RestsAt sited signal aspect number) world one is (λ none. record {
+module _ (sited : SitedTable) (P : IxlState → Type 0)
+    (steps : (input : Input) (world : WorldState) → ((command : Command) → input ≡ Commands command → ⊥) → P world.station.ixl → P (interlocking_stepped sited.site sited.table input world).station.ixl) where
+  tried_rests : (world : Played) (one : Event) → IsOfRound one → RestsAt sited P world → RestsAt sited P (after world one)
+  tried_rests world one of is = tried_keeps (RestsAt sited P) world one is (λ none. record {
     same = is.same;
-    rests = subst (λ (s : SitedTable). Rests sited.table signal aspect number (happens s.site s.table one world.run).station.ixl.routes (happens s.site s.table one world.run).station.ixl.known_signals) (sym is.same)
-        (event_rests sited.site sited.table signal aspect number one world.run of is.rests);
+    rests = subst (λ (s : SitedTable). P (happens s.site s.table one world.run).station.ixl) (sym is.same) (event_rests sited.site sited.table P steps one world.run of is.rests);
   })
 
-  all_rest : (list : List RoundEvent) (flowing : Flowing Played) → AreOfRound list → RestsAt sited signal aspect number flowing.state → RestsAt sited signal aspect number (all_did stations list flowing).state
+  all_rest : (list : List RoundEvent) (flowing : Flowing Played) → AreOfRound list → RestsAt sited P flowing.state → RestsAt sited P (all_did stations list flowing).state
   unfolding all_did
   all_rest [] flowing of is = is
   all_rest (first ∷ others) flowing of is = all_rest others (did stations first flowing) of.1 (tried_rests flowing.state first.event of.0 is)
 
+  -- so it is kept in a good round
+  pub round_keeps : (flowing : Flowing Played) → flowing.state.sited ≡ sited → P flowing.state.run.station.ixl → P (round stations flowing).state.run.station.ixl
+  round_keeps flowing same so = (all_rest (due stations flowing) flowing (due_of flowing) (record { same = same; rests = so })).rests
+
+module _ (site : Site) (table : Table) (signal : ℕ) (aspect : Option Aspect) (number : ℕ) where
+  abbrev RestsIn : IxlState → Type 0
+  RestsIn ixl = Rests table signal aspect number ixl.routes ixl.known_signals
+
+  stepped_rests : (input : Input) (world : WorldState) → ((command : Command) → input ≡ Commands command → ⊥) → RestsIn world.station.ixl → RestsIn (interlocking_stepped site table input world).station.ixl
+  unfolding interlocking_stepped
+  stepped_rests input world none rests = step_held (reading_of world.station.clock) table NoCommand (Rests table signal aspect number) (rests_keep (reading_of world.station.clock) table signal aspect number) (key_of site) input
+      (begun_with world.station.ixl empty_outbox) none rests
+
 round_rests : (flowing : Flowing Played) (signal : ℕ) (aspect : Option Aspect) (number : ℕ) → NoneProceeds flowing.state.sited.table flowing.state.run.station.ixl signal
-    → ((known : KnownSignalState) → slice_get flowing.state.run.station.ixl.known_signals signal ≡ Some known → IsAs aspect number known) → RestsAt flowing.state.sited signal aspect number (round stations flowing).state
-round_rests flowing signal aspect number none given = all_rest flowing.state.sited signal aspect number (due stations flowing) flowing (due_of flowing) (record {
-  same = refl;
-  rests = record { none = λ place row route e f entry. none place row route (e, f) entry; given = given };
-})
+    → ((known : KnownSignalState) → slice_get flowing.state.run.station.ixl.known_signals signal ≡ Some known → IsAs aspect number known)
+    → Rests flowing.state.sited.table signal aspect number (round stations flowing).state.run.station.ixl.routes (round stations flowing).state.run.station.ixl.known_signals
+round_rests flowing signal aspect number none given = round_keeps flowing.state.sited (λ (ixl : IxlState). Rests flowing.state.sited.table signal aspect number ixl.routes ixl.known_signals)
+    (stepped_rests flowing.state.sited.site flowing.state.sited.table signal aspect number) flowing refl (record { none = λ place row route e f entry. none place row route (e, f) entry; given = given })
 
 pub round_gives_no_more : (flowing : Flowing Played) (signal : ℕ) → NoneProceeds flowing.state.sited.table flowing.state.run.station.ixl signal
     → GivesNoMore signal flowing.state.run.station.ixl (round stations flowing).state.run.station.ixl
 round_gives_no_more flowing signal none before behind there is =
-    (round_rests flowing signal before.aspect before.number none (λ known e. inr (ap (λ (k : KnownSignalState). k.aspect) (same_Some known before (sym e ∙ there)), ap (λ (k : KnownSignalState). k.number) (same_Some known before (sym e ∙ there))))).rests.given behind is
+    (round_rests flowing signal before.aspect before.number none (λ known e. inr (ap (λ (k : KnownSignalState). k.aspect) (same_Some known before (sym e ∙ there)), ap (λ (k : KnownSignalState). k.number) (same_Some known before (sym e ∙ there))))).given behind is
 
 pub round_stays : (flowing : Flowing Played) (signal : ℕ) → NoneProceeds flowing.state.sited.table flowing.state.run.station.ixl signal
     → NoneProceeds flowing.state.sited.table (round stations flowing).state.run.station.ixl signal
 round_stays flowing signal none number row route is entry = by_known (slice_get flowing.state.run.station.ixl.known_signals signal) refl
   where
     then_so : (aspect : Option Aspect) (count : ℕ) → ((known : KnownSignalState) → slice_get flowing.state.run.station.ixl.known_signals signal ≡ Some known → IsAs aspect count known) → RestsSo route
-    then_so aspect count given = (round_rests flowing signal aspect count none given).rests.none number row route is.0 is.1 entry
+    then_so aspect count given = (round_rests flowing signal aspect count none given).none number row route is.0 is.1 entry
 
     by_known : (found : Option KnownSignalState) → slice_get flowing.state.run.station.ixl.known_signals signal ≡ found → RestsSo route
     by_known None e = then_so None 0 (λ known f. absurd (none-some known (sym e ∙ f)))

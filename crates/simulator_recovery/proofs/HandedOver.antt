@@ -19,7 +19,7 @@ use Rattle.simulator_run.specs.State.{WorldState}
 use Rattle.simulator_run.specs.Tried.{Played}
 use Rattle.simulator_headline.specs.Reached.{IsReached}
 use Rattle.simulator_recovery.specs.HandedOver.{HasHandedOver}
-use Rattle.simulator_recovery.specs.LinkRounds.{IsUpOn, StaysBelowLimit}
+use Rattle.simulator_recovery.specs.LinkRounds.{IsUpOn, StaysBelowLimit, link_rounds}
 use Rattle.simulator_recovery.specs.Rounds.{HasTime, IsWork, all_tried, good_rounds}
 use Rattle.simulator_recovery.proofs.Addressed.{partners_length}
 use Rattle.simulator_recovery.proofs.ComeUp.{begun_so, behind_rounds, rounds_open, up_on}
@@ -76,7 +76,7 @@ handed site link there old new before after are_old are_new was up p = record {
 
 pub hands_over : ReadyLaws → (between : List Event) (later_rounds : List (List Event)) (last : List Event) (flowing : Flowing Played) (link : ℕ) → Once flowing.state.sited.site → IsStation flowing.state.sited.site
     → IsTableOf flowing.state.sited.site flowing.state.sited.table → IsReached flowing.state.sited.site flowing.state.sited.table flowing.state.run → Each IsWork between → Each (Each IsWork) (later_rounds ++ last ∷ [])
-    → HasTime (suc (length (later_rounds ++ last ∷ []))) flowing.state.run → link < links flowing.state.sited.site → 1602 ≤ suc (length later_rounds)
+    → HasTime (suc (length (later_rounds ++ last ∷ []))) flowing.state.run → link < links flowing.state.sited.site → link_rounds ≤ suc (length later_rounds)
     → StaysBelowLimit flowing.state.sited.site link (later_rounds ++ last ∷ []) (all_tried between (round stations flowing))
     → HasHandedOver link (good_rounds (between ∷ later_rounds) flowing).state.run (good_rounds (between ∷ (later_rounds ++ last ∷ [])) flowing).state.run
 hands_over laws between later_rounds last flowing link once station is_table reached work works can there long below =

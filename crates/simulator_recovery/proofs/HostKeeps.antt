@@ -146,7 +146,7 @@ module _ {Object : Type 0} (does : Behaviour Object) (Fits : Object → Type 0) 
         choose true = record { object = k.object; own_is = k.own_is; peer_is = k.peer_is; version_is = k.version_is }
         choose false = record { object = k.object; own_is = k.own_is; peer_is = k.peer_is; version_is = k.version_is }
 
-    heard : (input : Input) (host : HostState Object) → Kept host → Kept (given_in does now input host).host
+    pub heard : (input : Input) (host : HostState Object) → Kept host → Kept (given_in does now input host).host
     unfolding given_in hearing
     heard inputs.Tick host k = k
     heard (inputs.Datagram bytes) host k = all_acted (receiving now bytes.now host.link).items (received now bytes.now (receiving now bytes.now host.link) host).host (came bytes.now host k)

@@ -44,7 +44,7 @@ at_node node (first ∷ others) = if is_node node first.0 then first.1 ∷ at_no
 pub same_place : (place : ℕ) → (place == place) ≡ true
 same_place place = grind (arith, nat_tests)
 
-other_place : (place other : ℕ) → other ≢ place → (other == place) ≡ false
+pub other_place : (place other : ℕ) → other ≢ place → (other == place) ≡ false
 other_place place other differ = choose (other == place) refl
   where
     choose : (b : Bool) → (other == place) ≡ b → (other == place) ≡ false

@@ -143,10 +143,10 @@ module _ (site : Site) where
   abbrev pub KeptDetector : DetectorEntry → HostState (List Section) → Type 0
   KeptDetector entry = Kept detection_behaviour (HasNames (section_names site entry)) spoken entry.name site.station.name (detectors_keep (section_names site entry))
 
-  abbrev OfSignal : ℕ → HostState SignalState → Type 0
+  abbrev pub OfSignal : ℕ → HostState SignalState → Type 0
   OfSignal place host = (entry : SignalEntry) → slice_get site.signals place ≡ Some entry → KeptSignal entry host
 
-  abbrev OfPoint : ℕ → HostState PointState → Type 0
+  abbrev pub OfPoint : ℕ → HostState PointState → Type 0
   OfPoint place host = (entry : PointEntry) → slice_get site.points place ≡ Some entry → KeptPoint entry host
 
   abbrev OfDetector : ℕ → HostState (List Section) → Type 0

@@ -48,18 +48,22 @@ pub record Passes (client server then_client then_server : LinkState) : Type 0 w
   pub to_client : server.given ≤ then_client.taken
   pub client_few : then_client.taken < 2 ^ 31
 
+-- a client inside has said the check of the version
+pub said_one : (client : LinkState) (how_far : Stage) (given : ℕ) → client.given ≡ stops_at_greatest given → is_outside how_far ≡ false → ClientHasGiven how_far given → 1 ≤ client.given
+said_one client how_far given gives inside gave = let some = by_stage how_far inside gave in subst (λ (n : ℕ). 1 ≤ n) (sym gives) (least given 1 some (omega arith))
+  where
+    by_stage : (s : Stage) → is_outside s ≡ false → ClientHasGiven s given → 1 ≤ given
+    by_stage stage.Outside inside gave = absurd (false≢true (sym inside))
+    by_stage stage.AwaitsAnswer inside gave = gave
+    by_stage stage.AwaitsStart inside gave = omega (arith, gave)
+    by_stage (stage.AwaitsStatus left) inside gave = omega (arith, gave)
+    by_stage stage.Completed inside gave = omega (arith, gave)
+    by_stage stage.AwaitsReport inside gave = omega (arith, gave)
+
 module _ (objects : ℕ) (few : objects ≤ 16) where
   -- a client inside has said the check of the version
   one_said : (client server : LinkState) → Moment objects client server → 1 ≤ client.given
-  one_said client server m = let some = by_stage m.how_far m.inside m.client_gave in subst (λ (n : ℕ). 1 ≤ n) (sym m.client_gives) (least m.client_given 1 some (omega arith))
-    where
-      by_stage : (s : Stage) → is_outside s ≡ false → ClientHasGiven s m.client_given → 1 ≤ m.client_given
-      by_stage stage.Outside inside gave = absurd (false≢true (sym inside))
-      by_stage stage.AwaitsAnswer inside gave = gave
-      by_stage stage.AwaitsStart inside gave = omega (arith, gave)
-      by_stage (stage.AwaitsStatus left) inside gave = omega (arith, gave)
-      by_stage stage.Completed inside gave = omega (arith, gave)
-      by_stage stage.AwaitsReport inside gave = omega (arith, gave)
+  one_said client server m = said_one client m.how_far m.client_given m.client_gives m.inside m.client_gave
 
   -- a host that has acted on an item has answered
   one_answered : (client server : LinkState) → Moment objects client server → 1 ≤ server.taken → server.taken < 2 ^ 31 → 1 ≤ server.given
@@ -116,11 +120,18 @@ module _ (objects : ℕ) (few : objects ≤ 16) where
       by_stage stage.Completed acted taken = refl
       by_stage stage.AwaitsReport acted taken = refl
 
+  -- three times what was given is handed over: the check, the answer, the request
+  pub two_taken : (c0 s0 c1 s1 c2 s2 c3 s3 : LinkState) → 1 ≤ c0.given → Moment objects c1 s1 → Moment objects c2 s2 → Passes c0 s0 c1 s1 → Passes c1 s1 c2 s2 → Passes c2 s2 c3 s3 → 2 ≤ s3.taken
+  two_taken c0 s0 c1 s1 c2 s2 c3 s3 said m1 m2 p1 p2 p3 =
+      let answered = one_answered c1 s1 m1 (omega (arith, said, p1.to_server)) p1.server_few
+      in let asked = two_said c2 s2 m2 (omega (arith, answered, p2.to_client)) p2.client_few
+      in omega (arith, asked, p3.to_server)
+
   -- four times what was given is handed over: the check, the answer, the request, the initialisation
-  module _ (c0 s0 c1 s1 c2 s2 c3 s3 c4 s4 : LinkState) (m0 : Moment objects c0 s0) (m1 : Moment objects c1 s1) (m2 : Moment objects c2 s2) (m3 : Moment objects c3 s3) (m4 : Moment objects c4 s4)
+  module _ (c0 s0 c1 s1 c2 s2 c3 s3 c4 s4 : LinkState) (said0 : 1 ≤ c0.given) (m1 : Moment objects c1 s1) (m2 : Moment objects c2 s2) (m3 : Moment objects c3 s3) (m4 : Moment objects c4 s4)
       (p1 : Passes c0 s0 c1 s1) (p2 : Passes c1 s1 c2 s2) (p3 : Passes c2 s2 c3 s3) (p4 : Passes c3 s3 c4 s4) where
     answered1 : 1 ≤ s1.given
-    answered1 = let said = one_said c0 s0 m0 in one_answered c1 s1 m1 (omega (arith, said, p1.to_server)) p1.server_few
+    answered1 = one_answered c1 s1 m1 (omega (arith, said0, p1.to_server)) p1.server_few
 
     asked2 : 2 ≤ c2.given
     asked2 = let answered = answered1 in two_said c2 s2 m2 (omega (arith, answered, p2.to_client)) p2.client_few

@@ -84,14 +84,14 @@ module _ (laws : TellLaws point_behaviour) (input : Input) (connection : ℕ) (c
   abbrev after : Lists
   after = lists_of (called_all connection done.calls ends).server
 
-  given_is : after.given ≡ kept (entering input connection ends) ends.server.given ++ given_now
+  pub given_is : after.given ≡ kept (entering input connection ends) ends.server.given ++ given_now
   unfolding stepped
   given_is = ap (λ (s : HostSoFar PointState). (called_all connection s.calls ends).server.given) (sym done_is) ∙ laws.kind.given input connection at
       ∙ ap (λ (n : ℕ). kept (entering input connection ends) ends.server.given ++ items_given n (world_step point_behaviour input at).calls ends.server.link) (ap reading_of clock_is)
       ∙ ap (λ (l : LinkState). kept (entering input connection ends) ends.server.given ++ items_given now (world_step point_behaviour input at).calls l) link_is
       ∙ ap (λ (s : HostSoFar PointState). kept (entering input connection ends) ends.server.given ++ items_given now s.calls link) done_is
 
-  taken_is : after.taken ≡ kept (entering input connection ends) ends.server.taken ++ taken_now
+  pub taken_is : after.taken ≡ kept (entering input connection ends) ends.server.taken ++ taken_now
   unfolding stepped
   taken_is = ap (λ (s : HostSoFar PointState). (called_all connection s.calls ends).server.taken) (sym done_is) ∙ laws.taken input connection at
       ∙ ap (λ (n : ℕ). kept (entering input connection ends) ends.server.taken ++ items_taken n (world_step point_behaviour input at).calls ends.server.link) (ap reading_of clock_is)
@@ -128,7 +128,7 @@ module _ (laws : TellLaws point_behaviour) (input : Input) (connection : ℕ) (c
       no_fewer : length taken + length done.acted ≤ length after.taken
       no_fewer = let few = s.few in let comes = comes_in in let both = length-append taken taken_now in let all = ap length taken_so in omega (arith, few, comes, both, all)
 
-  enters_none : is_open ends.server.link.phase ≡ true → entering input connection ends ≡ None
+  pub enters_none : is_open ends.server.link.phase ≡ true → entering input connection ends ≡ None
   unfolding outcome
   enters_none = by_input input
     where
@@ -155,19 +155,20 @@ module _ (laws : TellLaws point_behaviour) (input : Input) (connection : ℕ) (c
   entering_counts f entered g = counts_by [] [] (anew f) (sym (given_is ∙ ap (λ (o : Option ℕ). kept o ends.server.given ++ given_now) g)) (sym (taken_is ∙ ap (λ (o : Option ℕ). kept o ends.server.taken ++ taken_now) g))
 
   -- outside, and in none behind the step
+  pub stays_outside : is_open ends.server.link.phase ≡ false → entering input connection ends ≡ None → is_open done.host.link.phase ≡ false
+  unfolding stepped
+  stays_outside f g = ap (λ (s : HostSoFar PointState). is_open s.host.link.phase) (sym done_is)
+      ∙ ap (λ (l : LinkState). is_open l.phase) (sym (laws.kind.world.link input connection at (settled_so point_behaviour points_tell 1 laws.kind input connection 0 c ends link_is clock_is)))
+      ∙ laws.kind.world.outside input connection at g f
+
   outside_counts : is_open ends.server.link.phase ≡ false → entering input connection ends ≡ None → Counted done.host after
   unfolding stepped
   outside_counts f g = record {
     idle = (steps now 0 0 input c.host (anew f)).idle;
-    inside = λ e. absurd (false≢true (sym stays_out ∙ e));
+    inside = λ e. absurd (false≢true (sym (stays_outside f g) ∙ e));
     ever = subst (λ (lists : Lists). length lists.given ≤ 2 + length lists.taken) (sym same) counted.ever;
   }
     where
-      stays_out : is_open done.host.link.phase ≡ false
-      stays_out = ap (λ (s : HostSoFar PointState). is_open s.host.link.phase) (sym done_is)
-          ∙ ap (λ (l : LinkState). is_open l.phase) (sym (laws.kind.world.link input connection at (settled_so point_behaviour points_tell 1 laws.kind input connection 0 c ends link_is clock_is)))
-          ∙ laws.kind.world.outside input connection at g f
-
       same : after ≡ lists_of ends.server
       same = ap (λ (s : HostSoFar PointState). lists_of (called_all connection s.calls ends).server) (sym done_is)
           ∙ both (laws.gives_none input connection at g f) (laws.takes_none input connection at g f)
@@ -187,7 +188,7 @@ made_waits : (site : Site) (begins : Beginning) (position : Position) (entry : P
 unfolding new_host keeping
 made_waits site begins position entry = refl
 
-made_counts : (site : Site) (begins : Beginning) (position : Position) (entry : PointEntry) (items : Lists) → length items.given ≤ 2 + length items.taken → Counted (new_point site begins position entry) items
+pub made_counts : (site : Site) (begins : Beginning) (position : Position) (entry : PointEntry) (items : Lists) → length items.given ≤ 2 + length items.taken → Counted (new_point site begins position entry) items
 made_counts site begins position entry items few = record { idle = λ e. made_waits site begins position entry; inside = λ e. absurd (false≢true (sym (new_closed point_behaviour _ _ _ _ _ _ _) ∙ e)); ever = few }
 
 -- of a signal and a detector nothing is said here

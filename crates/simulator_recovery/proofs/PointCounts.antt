@@ -30,7 +30,7 @@ use Rattle.simulator_run.specs.object_host.declared.stage.Stage.{Stage}
 use Rattle.simulator_run.specs.object_host.declared.stage.Stage.TheVariants as stage
 use Rattle.simulator_run.specs.point_ctl.Controlled.{point_behaviour}
 use Rattle.simulator_run.specs.point_ctl.Drive as drive
-use Rattle.simulator_run.specs.point_ctl.Drive.{PointState, answered, begun, drive_end, final_report, is_at, limited, losing, move_taken, reached, sensing, taking, ticking}
+use Rattle.simulator_run.specs.point_ctl.Drive.{PointState, answered, drive_end, final_report, is_at, limited, losing, reached, sensing, taking, ticking}
 use Rattle.simulator_run.specs.point_ctl.History.{unanswered}
 use Rattle.simulator_run.specs.point_ctl.declared.progress.Progress.{Progress}
 use Rattle.simulator_run.specs.point_ctl.declared.progress.Progress.TheVariants as progress

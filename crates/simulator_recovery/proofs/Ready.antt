@@ -1,7 +1,7 @@
 -- The links of a station are ready at both ends, as long as nothing closes them.
 use Rattle.std.proofs.Common.{◌≡◌, ℕ, zero, suc, ◌+◌, ◌-◌, ◌*◌, ◌<◌, ◌≤◌, List, [], ◌∷◌, ◌++◌, length, refl, sym, ap, subst, ◌∙◌, arith}
 use Rattle.rasta_core_recovery.specs.Rounds.{AreUp, Flow, flow_after}
-use Rattle.rasta_core_recovery.specs.Work.{AreAtWork, HandOver, HaveRoom, IsAtWork, LeavesOpen, StayBelow, work_round, work_rounds}
+use Rattle.rasta_core_recovery.specs.Work.{AreAtWork, HandOver, HaveRoom, IsAtWork, LeavesOpen, StayBelow, recovery_rounds_at_work, work_round, work_rounds}
 use Rattle.ixl_table.specs.Table.{IsTableOf}
 use Rattle.simulator_run.specs.layout.Entries.{Site}
 use Rattle.simulator_run.specs.layout.Once.{Once}
@@ -23,24 +23,24 @@ use Rattle.simulator_run_links.specs.HasLinks.{IsStanding}
 use Rattle.simulator_headline.specs.Reached.{IsReached}
 use Rattle.simulator_recovery.specs.Counts.{AllStandByCounts}
 use Rattle.simulator_recovery.specs.LinkRounds.{StaysBelowLimit, calls_on, links_behind}
-use Rattle.simulator_recovery.specs.Ready.{HostIsAt, IsReadyOn}
+use Rattle.simulator_recovery.specs.Ready.{HostIsAt, IsReadyOn, ready_rounds}
 use Rattle.simulator_recovery.specs.Rounds.{HasTime, IsWork, all_tried, clocks_of, good_rounds}
-use Rattle.simulator_recovery.proofs.AtLink.{AtLink, at_link, told_once}
+use Rattle.simulator_recovery.proofs.AtLink.{AtLink, at_link, client_said, told_once}
 use Rattle.simulator_recovery.proofs.ComeUp.{BehindRounds, Begun, ComeUpLaws, begun_so, behind_rounds, flow_then, lists_length, lists_on, rounds_open, up_on, up_then}
 use Rattle.simulator_recovery.proofs.LinkRounds.{are_links}
-use Rattle.simulator_recovery.proofs.Moments.{Moment, Passes, client_is_ready, host_is_ready}
+use Rattle.simulator_recovery.proofs.Moments.{Moment, Passes, client_is_ready, host_is_ready, two_taken}
 use Rattle.simulator_recovery.proofs.Rounds.{rounds_reached}
 use Rattle.simulator_recovery.proofs.StaysOpen.{rounds_stay}
 
 -- ---- lists by their last
 
-record Last {X : Type 0} (count : ℕ) (list : List X) : Type 0 where
-  front : List X
-  last : X
-  are : list ≡ front ++ last ∷ []
-  long : length front ≡ count
+pub record Last {X : Type 0} (count : ℕ) (list : List X) : Type 0 where
+  pub front : List X
+  pub last : X
+  pub are : list ≡ front ++ last ∷ []
+  pub long : length front ≡ count
 
-last_of : {X : Type 0} (count : ℕ) (list : List X) → length list ≡ suc count → Last count list
+pub last_of : {X : Type 0} (count : ℕ) (list : List X) → length list ≡ suc count → Last count list
 last_of count [] long = absurd (omega (arith, long))
 last_of zero (x ∷ []) long = record { front = []; last = x; are = refl; long = refl }
 last_of zero (x ∷ (y ∷ list)) long = absurd (omega (arith, long))
@@ -82,7 +82,7 @@ fewer_time n m (clock ∷ clocks) few each = (omega (arith, few, each.0), fewer_
 
 abbrev pub HandsOver : Type 0
 HandsOver = (names : Names) (start : Start) (events : List LinkEvent) (passed : ℕ) (rounds : List (List LinkEvent)) (calls : List LinkEvent) → AreNames names → MayRun names events (started names start)
-    → AreAtWork names rounds (flow_after names start events passed) → Each (Each LeavesOpen) rounds → StayBelow rounds (flow_after names start events passed) → 1601 ≤ length rounds
+    → AreAtWork names rounds (flow_after names start events passed) → Each (Each LeavesOpen) rounds → StayBelow rounds (flow_after names start events passed) → recovery_rounds_at_work ≤ suc (length rounds)
     → IsAtWork names (work_rounds rounds (flow_after names start events passed)) calls → Each LeavesOpen calls → HaveRoom calls (later 10000 10000 10000 (work_rounds rounds (flow_after names start events passed)).ends)
     → HandOver (work_rounds rounds (flow_after names start events passed)).ends (work_round calls (work_rounds rounds (flow_after names start events passed))).ends
 
@@ -114,7 +114,17 @@ module _ (laws : ReadyLaws) (sited : SitedTable) (station : IsStation sited.site
     pub behind : Behind rounds
     pub opens : Each (Each LeavesOpen) (lists rounds)
     pub below : StayBelow (lists rounds) flow
-    pub long : 1601 ≤ length rounds
+    pub long : recovery_rounds_at_work ≤ length rounds
+
+  -- And behind one round less: its client is up already.
+  pub record IsSoonUpBehind (rounds : List (List Event)) : Type 0 where
+    pub behind : Behind rounds
+    pub opens : Each (Each LeavesOpen) (lists rounds)
+    pub below : StayBelow (lists rounds) flow
+    pub long : recovery_rounds_at_work ≤ suc (length rounds)
+
+  abbrev soon_of : (rounds : List (List Event)) → IsUpBehind rounds → IsSoonUpBehind rounds
+  soon_of rounds s = record { behind = s.behind; opens = s.opens; below = s.below; long = let l = s.long in omega (arith, l) }
 
   many : (rounds : List (List Event)) → length (lists rounds) ≡ length rounds
   many rounds = lists_length link rounds next start.before
@@ -138,8 +148,8 @@ module _ (laws : ReadyLaws) (sited : SitedTable) (station : IsStation sited.site
   at_moment rounds s = at_link sited.site station (world_at rounds) (standing_at rounds).whole (laws.stand sited.site sited.table (world_at rounds) station (reached_at rounds)) link s.behind.after there s.behind.are (ups rounds s)
 
   -- from one round to the next
-  pub hand_over : (front : List (List Event)) (last : List Event) → (s : IsUpBehind front) → (t : IsUpBehind (front ++ last ∷ [])) → Passes (s.behind.after.ends link).client.link (s.behind.after.ends link).server.link (t.behind.after.ends link).client.link (t.behind.after.ends link).server.link
-  hand_over front last s t = passes_so (seen link s.behind.after) (seen link t.behind.after) (subst (λ (old : Ends). HandOver old (seen link t.behind.after)) (sym s.behind.ends) (subst (HandOver (work_rounds (lists front) flow).ends) (sym then_is) over))
+  handed : (front : List (List Event)) (last : List Event) → (s : IsSoonUpBehind front) → (t : IsUpBehind (front ++ last ∷ [])) → HandOver (seen link s.behind.after) (seen link t.behind.after)
+  handed front last s t = subst (λ (old : Ends). HandOver old (seen link t.behind.after)) (sym s.behind.ends) (subst (HandOver (work_rounds (lists front) flow).ends) (sym then_is) over)
     where
       calls : (calls : List LinkEvent) × (lists (front ++ last ∷ []) ≡ lists front ++ calls ∷ [])
       calls = lists_front link front last next start.before
@@ -160,9 +170,15 @@ module _ (laws : ReadyLaws) (sited : SitedTable) (station : IsStation sited.site
       over = laws.over (names_at sited.site link) (start_of link starts_at_zero) start.is_run.events (length (of_link link flowing.state.run.sent)) (lists front) calls.0 ((are_links laws.up.link sited station once).each link there) start.is_run.may
           work.0 opened.0 room.0 (let l = s.long in omega (arith, l, many front)) work.1 opened.1 room.1
 
+  pub all_over : (front : List (List Event)) (last : List Event) → (s : IsUpBehind front) → (t : IsUpBehind (front ++ last ∷ [])) → HandOver (seen link s.behind.after) (seen link t.behind.after)
+  all_over front last s t = handed front last (soon_of front s) t
+
+  pub hand_over : (front : List (List Event)) (last : List Event) → (s : IsUpBehind front) → (t : IsUpBehind (front ++ last ∷ [])) → Passes (s.behind.after.ends link).client.link (s.behind.after.ends link).server.link (t.behind.after.ends link).client.link (t.behind.after.ends link).server.link
+  hand_over front last s t = passes_so (seen link s.behind.after) (seen link t.behind.after) (all_over front last s t)
+
   -- the rounds but for the last
-  pub front_of : (front : List (List Event)) (last : List Event) → Each (Each IsWork) (front ++ last ∷ []) → HasTime (length (front ++ last ∷ [])) next.state.run → IsUpBehind (front ++ last ∷ []) → 1601 ≤ length front → IsUpBehind front
-  front_of front last works can t long = record {
+  soon_front_of : (front : List (List Event)) (last : List Event) → Each (Each IsWork) (front ++ last ∷ []) → HasTime (length (front ++ last ∷ [])) next.state.run → IsUpBehind (front ++ last ∷ []) → recovery_rounds_at_work ≤ suc (length front) → IsSoonUpBehind front
+  soon_front_of front last works can t long = record {
     behind = behind_rounds laws.up sited station once is_table link there first flowing work_first start front (each_front (Each IsWork) front last works).0 (fewer_time (length front) (length (front ++ last ∷ [])) (clocks_of next.state.run) (let n = count_front front last in omega (arith, n)) can);
     opens = (each_front (Each LeavesOpen) (lists front) calls.0 (subst (Each (Each LeavesOpen)) calls.1 t.opens)).0;
     below = (below_front (lists front) calls.0 flow (subst (λ (l : List (List LinkEvent)). StayBelow l flow) calls.1 t.below)).0;
@@ -172,8 +188,11 @@ module _ (laws : ReadyLaws) (sited : SitedTable) (station : IsStation sited.site
       calls : (calls : List LinkEvent) × (lists (front ++ last ∷ []) ≡ lists front ++ calls ∷ [])
       calls = lists_front link front last next start.before
 
-  -- five moments, one behind the other
-  module _ (r0 r1 r2 r3 r4 : List (List Event)) (t0 : IsUpBehind r0) (t1 : IsUpBehind r1) (t2 : IsUpBehind r2) (t3 : IsUpBehind r3) (t4 : IsUpBehind r4)
+  pub front_of : (front : List (List Event)) (last : List Event) → Each (Each IsWork) (front ++ last ∷ []) → HasTime (length (front ++ last ∷ [])) next.state.run → IsUpBehind (front ++ last ∷ []) → recovery_rounds_at_work ≤ length front → IsUpBehind front
+  front_of front last works can t long = let s = soon_front_of front last works can t (omega (arith, long)) in record { behind = s.behind; opens = s.opens; below = s.below; long = long }
+
+  -- five moments, one behind the other, in the first of which the client has given an item
+  module _ (r0 r1 r2 r3 r4 : List (List Event)) (t0 : IsSoonUpBehind r0) (said0 : 1 ≤ (t0.behind.after.ends link).client.link.given) (t1 : IsUpBehind r1) (t2 : IsUpBehind r2) (t3 : IsUpBehind r3) (t4 : IsUpBehind r4)
       (p1 : Passes (t0.behind.after.ends link).client.link (t0.behind.after.ends link).server.link (t1.behind.after.ends link).client.link (t1.behind.after.ends link).server.link)
       (p2 : Passes (t1.behind.after.ends link).client.link (t1.behind.after.ends link).server.link (t2.behind.after.ends link).client.link (t2.behind.after.ends link).server.link)
       (p3 : Passes (t2.behind.after.ends link).client.link (t2.behind.after.ends link).server.link (t3.behind.after.ends link).client.link (t3.behind.after.ends link).server.link)
@@ -189,8 +208,8 @@ module _ (laws : ReadyLaws) (sited : SitedTable) (station : IsStation sited.site
       up = up_on laws.up sited station once is_table link there (world_at r4) t4.behind.after t4.behind.are (ups r4 t4);
       client = last.at;
       there = last.there;
-      client_ready = ap is_ready (sym last.stage_is) ∙ client_is_ready last.objects last.few _ _ _ _ _ _ _ _ _ _ (moment r0 t0) (moment r1 t1) (moment r2 t2) (moment r3 t3) last.moment p1 p2 p3 p4;
-      host_ready = subst (HostIsAt (controller_at sited.site link) (world_at r4)) (host_is_ready last.objects last.few _ _ _ _ _ _ _ _ _ _ (moment r0 t0) (moment r1 t1) (moment r2 t2) (moment r3 t3) last.moment p1 p2 p3 p4) last.host_at;
+      client_ready = ap is_ready (sym last.stage_is) ∙ client_is_ready last.objects last.few _ _ _ _ _ _ _ _ _ _ said0 (moment r1 t1) (moment r2 t2) (moment r3 t3) last.moment p1 p2 p3 p4;
+      host_ready = subst (HostIsAt (controller_at sited.site link) (world_at r4)) (host_is_ready last.objects last.few _ _ _ _ _ _ _ _ _ _ said0 (moment r1 t1) (moment r2 t2) (moment r3 t3) last.moment p1 p2 p3 p4) last.host_at;
     }
 
   -- one round less
@@ -203,7 +222,7 @@ module _ (laws : ReadyLaws) (sited : SitedTable) (station : IsStation sited.site
     passes : Passes (stage.behind.after.ends link).client.link (stage.behind.after.ends link).server.link (t.behind.after.ends link).client.link (t.behind.after.ends link).server.link
 
   abbrev GoesBack : List (List Event) → Type 0
-  GoesBack rounds = Each (Each IsWork) rounds → HasTime (length rounds) next.state.run → 1602 ≤ length rounds → (t : IsUpBehind rounds) → Less rounds t
+  GoesBack rounds = Each (Each IsWork) rounds → HasTime (length rounds) next.state.run → suc recovery_rounds_at_work ≤ length rounds → (t : IsUpBehind rounds) → Less rounds t
 
   goes_back : (rounds : List (List Event)) → GoesBack rounds
   goes_back rounds works can long t = by_last (last_of (length rounds - 1) rounds (omega (arith, long))) works can long t
@@ -224,8 +243,36 @@ module _ (laws : ReadyLaws) (sited : SitedTable) (station : IsStation sited.site
       by_last : Last (length rounds - 1) rounds → GoesBack rounds
       by_last l = subst GoesBack (sym l.are) (of_last l.front l.last)
 
-  -- the rounds behind the first, in which the link comes up, and four more
-  ready_behind : (rounds : List (List Event)) → Each (Each IsWork) rounds → HasTime (length rounds) next.state.run → 1605 ≤ length rounds → StaysBelowLimit sited.site link rounds next
+  -- and before both are up: the client is up, and has given an item
+  record SoonLess (rounds : List (List Event)) (t : IsUpBehind rounds) : Type 0 where
+    front : List (List Event)
+    stage : IsSoonUpBehind front
+    said : 1 ≤ (stage.behind.after.ends link).client.link.given
+    passes : Passes (stage.behind.after.ends link).client.link (stage.behind.after.ends link).server.link (t.behind.after.ends link).client.link (t.behind.after.ends link).server.link
+
+  abbrev GoesSoonBack : List (List Event) → Type 0
+  GoesSoonBack rounds = Each (Each IsWork) rounds → HasTime (length rounds) next.state.run → (t : IsUpBehind rounds) → SoonLess rounds t
+
+  goes_soon_back : (rounds : List (List Event)) → 1 ≤ length rounds → GoesSoonBack rounds
+  goes_soon_back rounds some = by_last (last_of (length rounds - 1) rounds (omega (arith, some)))
+    where
+      of_last : (front : List (List Event)) (last : List Event) → GoesSoonBack (front ++ last ∷ [])
+      of_last front last works can t =
+          let count = count_front front last
+          in let s = soon_front_of front last works can t (let l = t.long in omega (arith, l, count))
+          in let h = handed front last s t
+          in record {
+            front = front;
+            stage = s;
+            said = client_said sited.site station (world_at front) (standing_at front).whole (laws.stand sited.site sited.table (world_at front) station (reached_at front)) link s.behind.after there s.behind.are h.client_up;
+            passes = passes_so (seen link s.behind.after) (seen link t.behind.after) h;
+          }
+
+      by_last : Last (length rounds - 1) rounds → GoesSoonBack rounds
+      by_last l = subst GoesSoonBack (sym l.are) (of_last l.front l.last)
+
+  -- the rounds behind the first, in which the link comes up, and three more
+  ready_behind : (rounds : List (List Event)) → Each (Each IsWork) rounds → HasTime (length rounds) next.state.run → ready_rounds ≤ suc (length rounds) → StaysBelowLimit sited.site link rounds next
       → IsReadyOn sited.site link (world_at rounds)
   ready_behind rounds works can long below =
       let b = behind_rounds laws.up sited station once is_table link there first flowing work_first start rounds works can
@@ -233,12 +280,34 @@ module _ (laws : ReadyLaws) (sited : SitedTable) (station : IsStation sited.site
       in let b3 = goes_back rounds works can (omega (arith, long)) whole
       in let b2 = goes_back b3.front b3.works b3.can (omega (arith, long, b3.one_less)) b3.stage
       in let b1 = goes_back b2.front b2.works b2.can (omega (arith, long, b3.one_less, b2.one_less)) b2.stage
-      in let b0 = goes_back b1.front b1.works b1.can (omega (arith, long, b3.one_less, b2.one_less, b1.one_less)) b1.stage
-      in is_ready_then b0.front b1.front b2.front b3.front rounds b0.stage b1.stage b2.stage b3.stage whole b0.passes b1.passes b2.passes b3.passes
+      in let b0 = goes_soon_back b1.front (omega (arith, long, b3.one_less, b2.one_less, b1.one_less)) b1.works b1.can b1.stage
+      in is_ready_then b0.front b1.front b2.front b3.front rounds b0.stage b0.said b1.stage b2.stage b3.stage whole b0.passes b1.passes b2.passes b3.passes
+
+  -- and a controller has taken two items one round before
+  two_taken_then : (r0 r1 r2 r3 : List (List Event)) (t0 : IsSoonUpBehind r0) → 1 ≤ (t0.behind.after.ends link).client.link.given → (t1 : IsUpBehind r1) (t2 : IsUpBehind r2) (t3 : IsUpBehind r3)
+      → Passes (t0.behind.after.ends link).client.link (t0.behind.after.ends link).server.link (t1.behind.after.ends link).client.link (t1.behind.after.ends link).server.link
+      → Passes (t1.behind.after.ends link).client.link (t1.behind.after.ends link).server.link (t2.behind.after.ends link).client.link (t2.behind.after.ends link).server.link
+      → Passes (t2.behind.after.ends link).client.link (t2.behind.after.ends link).server.link (t3.behind.after.ends link).client.link (t3.behind.after.ends link).server.link
+      → 2 ≤ (t3.behind.after.ends link).server.link.taken
+  two_taken_then r0 r1 r2 r3 t0 said t1 t2 t3 p1 p2 p3 = two_taken last.objects last.few (t0.behind.after.ends link).client.link (t0.behind.after.ends link).server.link (t1.behind.after.ends link).client.link (t1.behind.after.ends link).server.link
+      (t2.behind.after.ends link).client.link (t2.behind.after.ends link).server.link (t3.behind.after.ends link).client.link (t3.behind.after.ends link).server.link said (moment_of r1 t1) (moment_of r2 t2) p1 p2 p3
+    where
+      last : Moments r3 t3
+      last = at_moment r3 t3
+
+      moment_of : (some : List (List Event)) (t : IsUpBehind some) → Moment last.objects (t.behind.after.ends link).client.link (t.behind.after.ends link).server.link
+      moment_of some t = let m = at_moment some t in subst (λ (n : ℕ). Moment n (t.behind.after.ends link).client.link (t.behind.after.ends link).server.link) (told_once sited.site (controller_at sited.site link) m.objects last.objects m.told last.told) m.moment
+
+  pub two_taken_behind : (rounds : List (List Event)) → Each (Each IsWork) rounds → HasTime (length rounds) next.state.run → ready_rounds ≤ suc (suc (length rounds)) → (whole : IsUpBehind rounds) → 2 ≤ (whole.behind.after.ends link).server.link.taken
+  two_taken_behind rounds works can long whole =
+      let b2 = goes_back rounds works can (omega (arith, long)) whole
+      in let b1 = goes_back b2.front b2.works b2.can (omega (arith, long, b2.one_less)) b2.stage
+      in let b0 = goes_soon_back b1.front (omega (arith, long, b2.one_less, b1.one_less)) b1.works b1.can b1.stage
+      in two_taken_then b0.front b1.front b2.front rounds b0.stage b0.said b1.stage b2.stage whole b0.passes b1.passes b2.passes
 
 pub links_ready : ReadyLaws → (between : List Event) (later_rounds : List (List Event)) (flowing : Flowing Played) (link : ℕ) → Once flowing.state.sited.site → IsStation flowing.state.sited.site
     → IsTableOf flowing.state.sited.site flowing.state.sited.table → IsReached flowing.state.sited.site flowing.state.sited.table flowing.state.run → Each IsWork between → Each (Each IsWork) later_rounds
-    → HasTime (suc (length later_rounds)) flowing.state.run → link < links flowing.state.sited.site → 1606 ≤ suc (length later_rounds)
+    → HasTime (suc (length later_rounds)) flowing.state.run → link < links flowing.state.sited.site → ready_rounds ≤ suc (length later_rounds)
     → StaysBelowLimit flowing.state.sited.site link later_rounds (all_tried between (round stations flowing)) → IsReadyOn flowing.state.sited.site link (good_rounds (between ∷ later_rounds) flowing).state.run
 links_ready laws between later_rounds flowing link once station is_table reached work works can there long below =
     let start = begun_so laws.up flowing.state.sited station once is_table link there between flowing refl reached work

@@ -62,7 +62,7 @@ unfolding deliveries
 deliveries_calm arrival place zero = tt
 deliveries_calm arrival place (suc more) = calm_joined (delivery place (arrival place)) (deliveries arrival (suc place) more) (delivery_calm place (arrival place)) (deliveries_calm arrival (suc place) more)
 
-ticks_calm : (passed node more : ℕ) → AreCalm (ticks passed node more)
+pub ticks_calm : (passed node more : ℕ) → AreCalm (ticks passed node more)
 unfolding ticks
 ticks_calm passed node zero = tt
 ticks_calm passed node (suc more) = (tt, ticks_calm passed (suc node) more)
@@ -75,7 +75,7 @@ reach_calm passed point (Some drive) = choose (nat_lt drive.rounds 50)
     choose true = tt
     choose false = (tt, tt)
 
-reaches_calm : (passed point : ℕ) (drives : List (Option FoundDriven)) → AreCalm (reaches passed point drives)
+pub reaches_calm : (passed point : ℕ) (drives : List (Option FoundDriven)) → AreCalm (reaches passed point drives)
 unfolding reaches
 reaches_calm passed point [] = tt
 reaches_calm passed point (drive ∷ drives) = calm_joined (reach passed point drive) (reaches passed (suc point) drives) (reach_calm passed point drive) (reaches_calm passed (suc point) drives)

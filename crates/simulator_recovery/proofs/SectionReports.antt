@@ -36,15 +36,15 @@ use Rattle.simulator_recovery.proofs.Telling.{sections_told}
 
 -- ---- lists of which no two are the same
 
-apart_behind : {A : Type 0} (first : A) (others : List A) → Distinct (first ∷ others) → Distinct others
+pub apart_behind : {A : Type 0} (first : A) (others : List A) → Distinct (first ∷ others) → Distinct others
 apart_behind first others apart = λ i j d before within. apart (suc i) (suc j) d (omega (arith, before)) (omega (arith, within))
 
-first_apart : {A : Type 0} (first : A) (others : List A) (place : ℕ) (other : A) → Distinct (first ∷ others) → slice_get others place ≡ Some other → first ≡ other → ⊥
+pub first_apart : {A : Type 0} (first : A) (others : List A) (place : ℕ) (other : A) → Distinct (first ∷ others) → slice_get others place ≡ Some other → first ≡ other → ⊥
 first_apart first others place other apart is same =
     let within = slice_get_within others place other is
     in apart 0 (suc place) other (omega arith) (omega (arith, within)) (same ∙ sym (get_or_from_slice_get others place other other is))
 
-behind_apart : {A : Type 0} (xs ys : List A) → Distinct (xs ++ ys) → Distinct ys
+pub behind_apart : {A : Type 0} (xs ys : List A) → Distinct (xs ++ ys) → Distinct ys
 behind_apart [] ys apart = apart
 behind_apart (x ∷ xs) ys apart = behind_apart xs ys (apart_behind x (xs ++ ys) apart)
 
@@ -57,7 +57,7 @@ one_place (x ∷ xs) ys one (suc i) zero apart at other = absurd (first_apart x 
 one_place (x ∷ xs) ys one (suc i) (suc j) apart at other = ap suc (one_place xs ys one i j (apart_behind x (xs ++ ys) apart) at other)
 
 -- a section stands at one place of the list of its detector
-own_once : (detectors : List DetectorEntry) (place i j : ℕ) (entry : DetectorEntry) (section : SectionId) → Distinct (flat_map (λ (d : DetectorEntry). d.sections) detectors) → slice_get detectors place ≡ Some entry
+pub own_once : (detectors : List DetectorEntry) (place i j : ℕ) (entry : DetectorEntry) (section : SectionId) → Distinct (flat_map (λ (d : DetectorEntry). d.sections) detectors) → slice_get detectors place ≡ Some entry
     → slice_get entry.sections i ≡ Some section → slice_get entry.sections j ≡ Some section → i ≡ j
 own_once [] place i j entry section apart there at other = absurd (none-some entry there)
 own_once (first ∷ others) zero i j entry section apart there at other = one_place first.sections _ section i j apart

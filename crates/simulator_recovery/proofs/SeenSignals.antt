@@ -11,7 +11,7 @@ use Rattle.simulator_machine.specs.Signal.{Signal, Stop as MachineStop, aspects_
 use Rattle.simulator_machine_interlocking.specs.Link.{is_inside}
 use Rattle.simulator_machine_interlocking.specs.Nodes.{IsLastGiven, KnownSignalFits}
 use Rattle.simulator_machine_interlocking.specs.Sees.{SeesSignal}
-use Rattle.simulator_machine_interlocking.specs.Telegrams.{aspects_of, commanded, given_by, item_of}
+use Rattle.simulator_machine_interlocking.specs.Telegrams.{aspect_seen as aspect_commanded, aspects_of, commanded, given_by, item_of}
 use Rattle.simulator_machine_links.specs.Items.{aspect_seen, aspects_in}
 use Rattle.simulator_run.specs.layout.Entries.{Site}
 use Rattle.simulator_run.specs.layout.Once.{Once}
@@ -47,6 +47,7 @@ use Rattle.simulator_headline.specs.Seen.{IsSeen}
 use Rattle.simulator_recovery.specs.HandedOver.{HasHandedOver}
 use Rattle.simulator_recovery.specs.Lamps.{GivesNoMore, HasStopLast, IsAtStop, IsGivenNoMore, IsStopLast}
 use Rattle.simulator_recovery.specs.LinkRounds.{AreInOne, IsUpOn}
+use Rattle.simulator_recovery.specs.Shows.{IsGivenLast}
 use Rattle.simulator_recovery.proofs.Addressed.{at_front}
 use Rattle.simulator_recovery.proofs.AtLink.{mapped}
 use Rattle.simulator_recovery.proofs.ClientLinks.{up_open}
@@ -109,11 +110,11 @@ pub record SignalAt (world : WorldState) (known : KnownSignalState) (server : Se
   pub told : aspects_given signal ≡ aspects_in given
   pub done : signal.done ≡ aspects_in taken
 
-counted_given : (end : EndState) → IsCounted end → is_open end.link.phase ≡ true → end.link.given ≡ length end.given
+pub counted_given : (end : EndState) → IsCounted end → is_open end.link.phase ≡ true → end.link.given ≡ length end.given
 counted_given end (counts given taken) opened = given
 counted_given end (made_anew shut given taken) opened = absurd (cc (shut, opened))
 
-counted_taken : (end : EndState) → IsCounted end → is_open end.link.phase ≡ true → end.link.taken ≡ length end.taken
+pub counted_taken : (end : EndState) → IsCounted end → is_open end.link.phase ≡ true → end.link.taken ≡ length end.taken
 counted_taken end (counts given taken) opened = taken
 counted_taken end (made_anew shut given taken) opened = absurd (cc (shut, opened))
 
@@ -128,7 +129,7 @@ module _ (laws : SignalLaws) (site : Site) (table : Table) (world : WorldState) 
   pub client_same : up.client ≡ known.client.link
   client_same = same_Some up.client known.client.link (sym up.client_there ∙ at_front _ _ place known.client.link (mapped (λ (k : KnownSignalState). k.client.link) world.station.ixl.known_signals place known there))
 
-  server_same : up.server ≡ end_of_server controller
+  pub server_same : up.server ≡ end_of_server controller
   server_same = same_Some up.server (end_of_server controller) (sym up.server_there ∙ at_front _ _ place (end_of_server controller) (mapped end_of_server world.signals place controller stands))
 
   one : AreInOne place represented.network
@@ -201,32 +202,47 @@ stop_shown signal last = by_server signal.link.server
 none_done : (signal : Signal) (commands : List Command) → aspects_given signal ≡ aspects_of commands → commands ≡ [] → last_of MachineStop signal.done ≡ MachineStop
 none_done signal commands are none = ap (last_of MachineStop) (last_none signal.done signal.flight (are ∙ ap aspects_of none))
 
--- all that were commanded are taken
-all_done : {world : WorldState} {known : KnownSignalState} {server : ServerEnd} {signal : Signal} (s : SignalAt world known server signal) → length s.given ≤ length s.taken → last_of MachineStop (aspects_of s.commands) ≡ MachineStop
-    → last_of MachineStop signal.done ≡ MachineStop
-all_done s all last = ap (last_of MachineStop) (s.done ∙ (ap aspects_in (sym (no_rest s.given s.taken s.rest s.begins all)) ∙ (sym s.told ∙ s.commanded))) ∙ last
+-- a command and an item tell the machine the same of an aspect
+same_seen : (aspect : Aspect) → aspect_commanded aspect ≡ aspect_seen aspect
+same_seen aspects.Stop = refl
+same_seen aspects.Proceed = refl
+same_seen aspects.Slow = refl
+
+none_long : {A : Type 0} (list : List A) → length list ≡ 0 → list ≡ []
+none_long [] e = refl
+none_long (first ∷ others) e = absurd (omega (arith, e))
 
 module _ {old new : WorldState} {before after : KnownSignalState} {was_server server : ServerEnd} {was signal : Signal} (s : SignalAt old before was_server was) (t : SignalAt new after server signal)
     (over : before.client.link.given ≤ server.link.taken) where
   none_given : after.aspect ≡ None → last_of MachineStop signal.done ≡ MachineStop
   none_given e = none_done signal t.commands t.commanded (subst (λ (aspect : Option Aspect). IsLastGiven aspect after.number t.commands) e t.last)
 
-  -- stop was given before and nothing since: the controller has taken all that was given
-  stop_given : before.aspect ≡ Some aspects.Stop → after.aspect ≡ Some aspects.Stop → after.number ≡ before.number → last_of MachineStop signal.done ≡ MachineStop
-  stop_given first second number = by_stage (is_ready before.client.stage) refl
+  -- the controller has acted on the aspect last, which was given before, and nothing since
+  pub aspect_is_done : (aspect : Aspect) → IsGivenLast aspect before after → last_of MachineStop signal.done ≡ aspect_seen aspect
+  aspect_is_done aspect given = by_stage (is_ready before.client.stage) refl
     where
-      was_last : IsLastGiven (Some aspects.Stop) before.number s.commands
-      was_last = subst (λ (aspect : Option Aspect). IsLastGiven aspect before.number s.commands) first s.last
+      was_last : IsLastGiven (Some aspect) before.number s.commands
+      was_last = subst (λ (a : Option Aspect). IsLastGiven a before.number s.commands) given.0 s.last
 
-      is_last : IsLastGiven (Some aspects.Stop) after.number t.commands
-      is_last = subst (λ (aspect : Option Aspect). IsLastGiven aspect after.number t.commands) second t.last
+      is_last : IsLastGiven (Some aspect) after.number t.commands
+      is_last = subst (λ (a : Option Aspect). IsLastGiven a after.number t.commands) given.1 t.last
 
-      by_stage : (b : Bool) → is_ready before.client.stage ≡ b → last_of MachineStop signal.done ≡ MachineStop
-      by_stage false e = none_done signal t.commands t.commanded (none_long t.commands (let n = ap length (s.early e) in let m = was_last.1 in let k = is_last.1 in omega (arith, n, m, k, number)))
-        where
-          none_long : {A : Type 0} (list : List A) → length list ≡ 0 → list ≡ []
-          none_long [] f = refl
-          none_long (head ∷ list) f = absurd (omega (arith, f))
+      last_is : last_of MachineStop (aspects_of t.commands) ≡ aspect_seen aspect
+      last_is = is_last.0 ∙ same_seen aspect
+
+      number : after.number ≡ before.number
+      number = given.2
+
+      -- no command was given: then the aspect is stop
+      none_commanded : t.commands ≡ [] → last_of MachineStop signal.done ≡ aspect_seen aspect
+      none_commanded none = ap (last_of MachineStop) (last_none signal.done signal.flight (t.commanded ∙ ap aspects_of none)) ∙ (sym (ap (λ (c : List Command). last_of MachineStop (aspects_of c)) none) ∙ last_is)
+
+      -- all that was given is taken
+      all_taken : length t.given ≤ length t.taken → last_of MachineStop signal.done ≡ aspect_seen aspect
+      all_taken all = ap (last_of MachineStop) (t.done ∙ (ap aspects_in (sym (no_rest t.given t.taken t.rest t.begins all)) ∙ (sym t.told ∙ t.commanded))) ∙ last_is
+
+      by_stage : (b : Bool) → is_ready before.client.stage ≡ b → last_of MachineStop signal.done ≡ aspect_seen aspect
+      by_stage false e = none_commanded (none_long t.commands (let n = ap length (s.early e) in let m = was_last.1 in let k = is_last.1 in omega (arith, n, m, k, number)))
       by_stage true e =
           let n = ap length s.are ∙ given_length before.client.peer before.client.stage s.commands e
           in let most : length t.given ≤ 2 + length t.commands = subst (λ (items : List (List ℕ)). length items ≤ 2 + length t.commands) (sym t.are) (given_most after.client.peer after.client.stage t.commands)
@@ -234,12 +250,12 @@ module _ {old new : WorldState} {before after : KnownSignalState} {was_server se
           in let k = is_last.1
           in let gave = s.gave
           in let took = t.took
-          in all_done t (omega (arith, n, most, m, k, number, gave, took, over)) is_last.0
+          in all_taken (omega (arith, n, most, m, k, number, gave, took, over))
 
   pub stop_is_done : IsStopLast before → IsGivenNoMore before after → last_of MachineStop signal.done ≡ MachineStop
   stop_is_done last (inl none) = none_given none
   stop_is_done (inl none) (inr (same, number)) = none_given (same ∙ none)
-  stop_is_done (inr stop) (inr (same, number)) = stop_given stop (same ∙ stop) number
+  stop_is_done (inr stop) (inr (same, number)) = aspect_is_done aspects.Stop (stop, same ∙ stop, number)
 
 -- a lamp that shows no aspect but one that the machine's signal shows
 stop_alone : (aspect : Aspect) → (aspect ≢ aspects.Stop → MachineStop ≡ aspect_seen aspect) → aspect ≡ aspects.Stop

@@ -1,5 +1,5 @@
 -- What is kept of the routes and of the signals' aspects by each part of a step of an interlocking.
-use Rattle.std.proofs.Common.{◌≡◌, ℕ, zero, suc, Bool, true, false, ◌&&◌, List, [], ◌∷◌, length, map, Option, Some, None, slice_get, if◌then◌else◌, refl, sym, ap, ◌∙◌, ◌⊎◌, inl, inr}
+use Rattle.std.proofs.Common.{◌≡◌, ℕ, suc, Bool, true, false, ◌&&◌, List, length, map, Option, Some, None, slice_get, if◌then◌else◌, refl, sym, ap, ◌∙◌, ◌⊎◌, inl, inr}
 use Rattle.std.proofs.lemmas.Bool.{false≢true}
 use Rattle.std.proofs.lemmas.Option.{same_Some}
 use Rattle.std.specs.Prelude.{◌||◌, ◌==◌, not}
@@ -15,10 +15,10 @@ use Rattle.simulator_run.specs.ixl_client.ClientSoFar.{begun}
 use Rattle.simulator_run.specs.ixl_client.Step.{commanding, hearing, ticking}
 use Rattle.simulator_run.specs.ixl_client.declared.command.Command.TheVariants as client_commands
 use Rattle.simulator_run.specs.ixl_rules.Commands.{commanded_by, obeyed, refusal, set_anew}
-use Rattle.simulator_run.specs.ixl_rules.Rules.{authorised, come_to, count, ended, ending_authority, freed, freed_by_cancel, freed_by_passage, freeing_by_cancel, freeing_by_passage, freeing_next, frees_cancelled, frees_next, is_move_due, is_proceed_due, is_proceeding, is_stop_due, is_waiting, is_withdrawn, moved, moving, moving_one, one_freed, proceeding, repeated, ruled, withdrawing, withdrawn}
+use Rattle.simulator_run.specs.ixl_rules.Rules.{authorised, come_to, count, ended, ending_authority, freed, freed_by_cancel, freed_by_passage, freeing_by_cancel, freeing_by_passage, freeing_next, frees_cancelled, frees_next, is_move_due, is_proceed_due, is_proceeding, is_stop_due, is_waiting, is_withdrawn, moved, moving, moving_one, one_freed, proceeding, ruled, withdrawing, withdrawn}
 use Rattle.simulator_run.specs.ixl_rules.State.{IxlState, KnownSignalState, RouteState, changed}
 use Rattle.simulator_run.specs.ixl_rules.Step.{Commands, Datagram, Input, Tick, addressed, all_clocked, clocked_known_signal, detector_hearing, detector_ticking, given, known_point_hearing, known_point_ticking, known_signal_hearing, known_signal_ticking, looking, looking_by, looks, node_hearing, occupied_heard, route_looks, stepped, ticked, watching}
-use Rattle.simulator_run.specs.ixl_rules.StepSoFar.{Detector, Node, Point, Signal, StepSoFar, along, at_route, detector_after, giving_aspect, giving_move, known_signal_after, noted, over, with_detector, with_one, with_route}
+use Rattle.simulator_run.specs.ixl_rules.StepSoFar.{Detector, Node, Point, Signal, StepSoFar, at_route, detector_after, giving_aspect, giving_move, known_signal_after, noted, over, with_detector, with_one, with_route}
 use Rattle.simulator_run.specs.ixl_rules.Table.{Need, Row, Table, at, passes}
 use Rattle.simulator_run.specs.ixl_rules.View.{all_clear, all_known, is_at_known_stop, is_set, is_signal_ready, place_in, was_authorised}
 use Rattle.simulator_run.specs.ixl_rules.declared.command.Command.{Command}
@@ -26,6 +26,7 @@ use Rattle.simulator_run.specs.ixl_rules.declared.command.Command.TheVariants as
 use Rattle.simulator_run.specs.ixl_rules.declared.command.Refusal.{Refusal}
 use Rattle.simulator_run.specs.ixl_rules.declared.phase.Phase.{Phase}
 use Rattle.simulator_run.specs.ixl_rules.declared.phase.Phase.TheVariants as phase
+use Rattle.simulator_recovery.proofs.DueShapes.{along_keeps, one_keeps, over_keeps, repeated_keeps, where_keeps}
 use Rattle.simulator_recovery.proofs.IxlSoFar.{first_true, last_true, test_of}
 
 -- ---- what a part of a step does
@@ -47,9 +48,11 @@ IsOver phase.Free = Unit {0}
 IsOver (phase.Ended clock done) = Unit {0}
 IsOver _ = ⊥
 
--- a route keeps its phase, and stays cancelled where it was; or it was set and its authority is over, behind its aspect
+-- a route keeps its phase, and stays cancelled where it was; or it was set and its authority is over, behind its aspect, and where it is set
+-- still it stays cancelled
 abbrev pub IsQuiet : (old new : RouteState) → Type 0
-IsQuiet old new = ((new.phase ≡ old.phase) × (old.cancelled ≡ true → new.cancelled ≡ true)) ⊎ (IsOver new.phase × (is_proceeding old.phase ≡ false) × (is_set old.phase ≡ true))
+IsQuiet old new = ((new.phase ≡ old.phase) × (old.cancelled ≡ true → new.cancelled ≡ true))
+    ⊎ (IsOver new.phase × (is_proceeding old.phase ≡ false) × (is_set old.phase ≡ true) × (is_set new.phase ≡ true → old.cancelled ≡ true → new.cancelled ≡ true))
 
 -- a route of the table, as it is now
 pub record AtRoute (table : Table) (number : ℕ) (row : Row) (route : RouteState) (routes : List RouteState) : Type 0 where
@@ -127,8 +130,8 @@ pub freed_quietly : (row : Row) (how_far : Phase) (route : RouteState) → route
 freed_quietly row (phase.Ended clock done) route is = choose (suc done == length row.sections)
   where
     choose : (b : Bool) → IsQuiet route (if b then freed route else come_to (phase.Ended clock (suc done)) route)
-    choose true = inr (tt, ap is_proceeding is, ap is_set is)
-    choose false = inr (tt, ap is_proceeding is, ap is_set is)
+    choose true = inr (tt, ap is_proceeding is, ap is_set is, λ set. absurd (false≢true set))
+    choose false = inr (tt, ap is_proceeding is, ap is_set is, λ set cancelled. cancelled)
 freed_quietly row phase.Free route is = inl (refl, λ cancelled. cancelled)
 freed_quietly row phase.Waiting route is = inl (refl, λ cancelled. cancelled)
 freed_quietly row phase.Proceeding route is = inl (refl, λ cancelled. cancelled)
@@ -141,7 +144,7 @@ was_withdrawn now route due = by_phase route.phase due refl
     by_phase phase.Free e is = absurd (false≢true e)
     by_phase phase.Waiting e is = absurd (false≢true e)
     by_phase phase.Proceeding e is = absurd (false≢true e)
-    by_phase phase.Withdrawn e is = inr (tt, ap is_proceeding is, ap is_set is)
+    by_phase phase.Withdrawn e is = inr (tt, ap is_proceeding is, ap is_set is, λ set cancelled. cancelled)
     by_phase (phase.Ended clock done) e is = absurd (false≢true e)
 
 pub was_freed : (now : ℕ) (table : Table) (ixl : IxlState) (row : Row) (route : RouteState) → frees_cancelled now table ixl row route route.phase ≡ true → IsQuiet route (freed route)
@@ -149,10 +152,10 @@ was_freed now table ixl row route due = by_phase route.phase due refl
   where
     by_phase : (p : Phase) → frees_cancelled now table ixl row route p ≡ true → route.phase ≡ p → IsQuiet route (freed route)
     by_phase phase.Free e is = absurd (false≢true e)
-    by_phase phase.Waiting e is = inr (tt, ap is_proceeding is, ap is_set is)
+    by_phase phase.Waiting e is = inr (tt, ap is_proceeding is, ap is_set is, λ set. absurd (false≢true set))
     by_phase phase.Proceeding e is = absurd (false≢true e)
     by_phase phase.Withdrawn e is = absurd (false≢true e)
-    by_phase (phase.Ended clock done) e is = inr (tt, ap is_proceeding is, ap is_set is)
+    by_phase (phase.Ended clock done) e is = inr (tt, ap is_proceeding is, ap is_set is, λ set. absurd (false≢true set))
 
 -- ---- a step
 
@@ -162,10 +165,6 @@ module _ (now : ℕ) (table : Table) (P : List RouteState → List KnownSignalSt
 
   -- ---- its shapes
 
-  one_held : {A : Type 0} (found : Option A) (does : A → StepSoFar → StepSoFar) (part : StepSoFar) → ((one : A) → found ≡ Some one → Held (does one part)) → Held part → Held (with_one found does part)
-  one_held None does part each all = all
-  one_held (Some one) does part each all = each one refl
-
   -- where there is one
   there_held : {A : Type 0} (found : Option A) (does : A → StepSoFar → StepSoFar) (part : StepSoFar) → (found ≡ None → ⊥) → ((one : A) → found ≡ Some one → Held (does one part)) → Held (with_one found does part)
   there_held None does part there each = absurd (there refl)
@@ -174,24 +173,11 @@ module _ (now : ℕ) (table : Table) (P : List RouteState → List KnownSignalSt
   route_held : (number : ℕ) (does : Row → RouteState → StepSoFar → StepSoFar) → ((row : Row) (route : RouteState) (part : StepSoFar) → AtRoute table number row route part.ixl.routes → Held part → Held (does row route part))
       → (part : StepSoFar) → Held part → Held (at_route table number does part)
   unfolding at_route
-  route_held number does each part all = one_held (slice_get table.rows number) (λ row part. with_one (slice_get part.ixl.routes number) (does row) part) part
-      (λ row e. one_held (slice_get part.ixl.routes number) (does row) part (λ route f. each row route part (record { row_there = e; there = f }) all) all) all
+  route_held number does each part all = one_keeps Held (slice_get table.rows number) (λ row part. with_one (slice_get part.ixl.routes number) (does row) part) part
+      (λ row e. one_keeps Held (slice_get part.ixl.routes number) (does row) part (λ route f. each row route part (record { row_there = e; there = f }) all) all) all
 
   pub over_held : (does : ℕ → StepSoFar → StepSoFar) → ((number : ℕ) (part : StepSoFar) → Held part → Held (does number part)) → (n : ℕ) (part : StepSoFar) → Held part → Held (over does n part)
-  over_held does each zero part all = all
-  over_held does each (suc n) part all = each n (over does n part) (over_held does each n part all)
-
-  along_held : {A : Type 0} (does : A → StepSoFar → StepSoFar) → ((one : A) (part : StepSoFar) → Held part → Held (does one part)) → (list : List A) (part : StepSoFar) → Held part → Held (along does list part)
-  along_held does each [] part all = all
-  along_held does each (first ∷ others) part all = along_held does each others (does first part) (each first part all)
-
-  repeated_held : (n : ℕ) (does : StepSoFar → StepSoFar) → ((part : StepSoFar) → Held part → Held (does part)) → (part : StepSoFar) → Held part → Held (repeated n does part)
-  repeated_held zero does each part all = all
-  repeated_held (suc n) does each part all = repeated_held n does each (does part) (each part all)
-
-  where_due : (b : Bool) (part one : StepSoFar) → (b ≡ true → Held one) → Held part → Held (if b then one else part)
-  where_due true part one so all = so refl
-  where_due false part one so all = all
+  over_held = over_keeps Held
 
   where_either : (b : Bool) (one other : StepSoFar) → (b ≡ true → Held one) → (b ≡ false → Held other) → Held (if b then one else other)
   where_either true one other so not = so refl
@@ -211,62 +197,65 @@ module _ (now : ℕ) (table : Table) (P : List RouteState → List KnownSignalSt
   -- a move changes no route and no signal
   move_held : (point : ℕ) (side : Side) (part : StepSoFar) → Held part → Held (giving_move now point side part)
   unfolding giving_move
-  move_held point side part all = one_held (slice_get part.ixl.known_points point) _ part (λ known e. all) all
+  move_held point side part all = one_keeps Held (slice_get part.ixl.known_points point) _ part (λ known e. all) all
 
   -- ---- the rules behind the first
 
   pub ending_held : (number : ℕ) (part : StepSoFar) → Held part → Held (ending_authority now table number part)
   unfolding ending_authority
-  ending_held number = route_held number _ (λ row route part at all. where_due (is_withdrawn route.phase && is_at_known_stop now part.ixl row.entry) part _ (λ due. quietly number _ part (λ one e. was_withdrawn now one (ap (λ (r : RouteState). is_withdrawn r.phase) (same_Some one route (sym e ∙ at.there)) ∙ first_true (is_withdrawn route.phase) (is_at_known_stop now part.ixl row.entry) due)) all) all)
+  ending_held number = route_held number _ (λ row route part at all. where_keeps Held (is_withdrawn route.phase && is_at_known_stop now part.ixl row.entry) part _ (λ due. quietly number _ part (λ one e. was_withdrawn now one (ap (λ (r : RouteState). is_withdrawn r.phase) (same_Some one route (sym e ∙ at.there)) ∙ first_true (is_withdrawn route.phase) (is_at_known_stop now part.ixl row.entry) due)) all) all)
 
-  next_held : (number : ℕ) (part : StepSoFar) → Held part → Held (freeing_next table number part)
+  pub next_held : (number : ℕ) (part : StepSoFar) → Held part → Held (freeing_next table number part)
   unfolding freeing_next
-  next_held number = route_held number _ (λ row route part at all. where_due (frees_next table part.ixl row route route.phase) part _ (λ due. quietly number (one_freed row route.phase) part (λ one e. freed_quietly row route.phase one (ap (λ (r : RouteState). r.phase) (same_Some one route (sym e ∙ at.there)))) all) all)
+  next_held number = route_held number _ (λ row route part at all. where_keeps Held (frees_next table part.ixl row route route.phase) part _ (λ due. quietly number (one_freed row route.phase) part (λ one e. freed_quietly row route.phase one (ap (λ (r : RouteState). r.phase) (same_Some one route (sym e ∙ at.there)))) all) all)
 
-  passage_held : (number : ℕ) (part : StepSoFar) → Held part → Held (freeing_by_passage table number part)
+  pub passage_held : (number : ℕ) (part : StepSoFar) → Held part → Held (freeing_by_passage table number part)
   unfolding freeing_by_passage
-  passage_held number = route_held number _ (λ row route part at. repeated_held (length row.sections) (freeing_next table number) (next_held number) part)
+  passage_held number = route_held number _ (λ row route part at. repeated_keeps Held (length row.sections) (freeing_next table number) (next_held number) part)
 
-  cancel_held : (number : ℕ) (part : StepSoFar) → Held part → Held (freeing_by_cancel now table number part)
+  pub cancel_held : (number : ℕ) (part : StepSoFar) → Held part → Held (freeing_by_cancel now table number part)
   unfolding freeing_by_cancel
-  cancel_held number = route_held number _ (λ row route part at all. where_due (route.cancelled && frees_cancelled now table part.ixl row route route.phase) part _ (λ due. quietly number freed part (λ one e. was_freed now table part.ixl row one
+  cancel_held number = route_held number _ (λ row route part at all. where_keeps Held (route.cancelled && frees_cancelled now table part.ixl row route route.phase) part _ (λ due. quietly number freed part (λ one e. was_freed now table part.ixl row one
       (ap (λ (r : RouteState). frees_cancelled now table part.ixl row r r.phase) (same_Some one route (sym e ∙ at.there)) ∙ last_true route.cancelled (frees_cancelled now table part.ixl row route route.phase) due)) all) all)
 
-  moving_one_held : (number : ℕ) (need : Need) (part : StepSoFar) → Held part → Held (moving_one now table number need part)
+  pub moving_one_held : (number : ℕ) (need : Need) (part : StepSoFar) → Held part → Held (moving_one now table number need part)
   unfolding moving_one
-  moving_one_held number need = route_held number _ (λ row route part at all. where_due (is_move_due table part.ixl number route need) part _ (λ due. move_held need.point need.side part all) all)
+  moving_one_held number need = route_held number _ (λ row route part at all. where_keeps Held (is_move_due table part.ixl number route need) part _ (λ due. move_held need.point need.side part all) all)
 
-  moving_held : (number : ℕ) (part : StepSoFar) → Held part → Held (moving now table number part)
+  pub moving_held : (number : ℕ) (part : StepSoFar) → Held part → Held (moving now table number part)
   unfolding moving
-  moving_held number = route_held number _ (λ row route part at. along_held (moving_one now table number) (moving_one_held number) row.needs part)
+  moving_held number = route_held number _ (λ row route part at. along_keeps Held (moving_one now table number) (moving_one_held number) row.needs part)
 
-  proceeding_held : (number : ℕ) (part : StepSoFar) → Held part → Held (proceeding now table number part)
+  pub proceeding_held : (number : ℕ) (part : StepSoFar) → Held part → Held (proceeding now table number part)
   unfolding proceeding
-  proceeding_held number = route_held number _ (λ row route part at all. where_due (is_proceed_due now table part.ixl row route) part _ (λ due.
+  proceeding_held number = route_held number _ (λ row route part at all. where_keeps Held (is_proceed_due now table part.ixl row route) part _ (λ due.
       aspect_held row.entry row.aspect (with_route number (authorised table part.ixl row) part) (is_ready_there now table part.ixl row route due) (λ known items client e so.
       keep.proceeds number row route known items client (authorised table part.ixl row) part.ixl.routes part.ixl.known_signals at (is_waiting_there now table part.ixl row route due) (not_cancelled_there now table part.ixl row route due) (λ one. refl) e so all)) all)
 
-  -- the rules behind the second
-  pub behind_ending : (part : StepSoFar) → Held (ended now table part) → Held (ruled now table part)
-  behind_ending part all =
-      over_held (proceeding now table) proceeding_held (count table) (moved now table part)
-      (over_held (moving now table) moving_held (count table) (freed_by_cancel now table part)
+  -- the rules behind the second, up to the last
+  pub until_moved : (part : StepSoFar) → Held (ended now table part) → Held (moved now table part)
+  until_moved part all =
+      over_held (moving now table) moving_held (count table) (freed_by_cancel now table part)
       (over_held (freeing_by_cancel now table) cancel_held (count table) (freed_by_passage now table part)
-      (over_held (freeing_by_passage table) passage_held (count table) (ended now table part) all)))
+      (over_held (freeing_by_passage table) passage_held (count table) (ended now table part) all))
+
+  -- and all of them
+  pub behind_ending : (part : StepSoFar) → Held (ended now table part) → Held (ruled now table part)
+  behind_ending part all = over_held (proceeding now table) proceeding_held (count table) (moved now table part) (until_moved part all)
 
   -- ---- ticks
 
   signal_ticked : (place : ℕ) (part : StepSoFar) → Held part → Held (known_signal_ticking now place part)
   unfolding known_signal_ticking
-  signal_ticked place part all = one_held (slice_get part.ixl.known_signals place) _ part (λ known e. keep.ticks place known part.outbox part.ixl.routes part.ixl.known_signals e all) all
+  signal_ticked place part all = one_keeps Held (slice_get part.ixl.known_signals place) _ part (λ known e. keep.ticks place known part.outbox part.ixl.routes part.ixl.known_signals e all) all
 
   point_ticked : (place : ℕ) (part : StepSoFar) → Held part → Held (known_point_ticking now place part)
   unfolding known_point_ticking
-  point_ticked place part all = one_held (slice_get part.ixl.known_points place) _ part (λ known e. all) all
+  point_ticked place part all = one_keeps Held (slice_get part.ixl.known_points place) _ part (λ known e. all) all
 
   detector_ticked : (place : ℕ) (part : StepSoFar) → Held part → Held (detector_ticking now place part)
   unfolding detector_ticking
-  detector_ticked place part all = one_held (slice_get part.ixl.detectors place) _ part (λ known e. all) all
+  detector_ticked place part all = one_keeps Held (slice_get part.ixl.detectors place) _ part (λ known e. all) all
 
   pub ticked_held : (input : Input) (part : StepSoFar) → Held part → Held (ticked now input part)
   unfolding ticked
@@ -283,7 +272,7 @@ module _ (now : ℕ) (table : Table) (Obeys : Command → Type 0) (P : List Rout
 
   pub withdrawing_held : (number : ℕ) (part : StepSoFar) → Holds part → Holds (withdrawing now table number part)
   unfolding withdrawing
-  withdrawing_held number = route_held now table P keep.rules number _ (λ row route part at all. where_due now table P keep.rules (is_stop_due table part.ixl row route) part _ (λ due.
+  withdrawing_held number = route_held now table P keep.rules number _ (λ row route part at all. where_keeps Holds (is_stop_due table part.ixl row route) part _ (λ due.
       let given : is_proceeding route.phase ≡ true = first_true (is_proceeding route.phase) _ due
       in where_either now table P keep.rules (is_signal_ready part.ixl row.entry) _ _
       (λ ready. aspect_held now table P keep.rules row.entry aspects.Stop (with_route number (come_to phase.Withdrawn) part) ready (λ known items client e so. keep.withdraws number row route known items client part.ixl.routes part.ixl.known_signals at given e so all))
@@ -291,7 +280,7 @@ module _ (now : ℕ) (table : Table) (Obeys : Command → Type 0) (P : List Rout
 
   pub watching_held : (number : ℕ) (part : StepSoFar) → Holds part → Holds (watching table number part)
   unfolding watching
-  watching_held number = route_held now table P keep.rules number _ (λ row route part at all. where_due now table P keep.rules (is_proceeding route.phase || is_withdrawn route.phase) part _ (λ due. quietly now table P keep.rules number _ part (λ one e. inl (refl, λ cancelled. cancelled)) all) all)
+  watching_held number = route_held now table P keep.rules number _ (λ row route part at all. where_keeps Holds (is_proceeding route.phase || is_withdrawn route.phase) part _ (λ due. quietly now table P keep.rules number _ part (λ one e. inl (refl, λ cancelled. cancelled)) all) all)
 
   -- behind the first rule, and behind the second
   pub behind_withdrawal : (part : StepSoFar) → Holds (withdrawn now table part) → Holds (ruled now table part)
@@ -305,17 +294,17 @@ module _ (now : ℕ) (table : Table) (Obeys : Command → Type 0) (P : List Rout
 
   looking_held : (look : ℕ × Bool) (part : StepSoFar) → Holds part → Holds (looking table look part)
   unfolding looking_by
-  looking_held look = over_held now table P keep.rules (looking_by look.0 look.1 table) (λ number. route_held now table P keep.rules number _ (λ row route part at all. where_due now table P keep.rules (was_authorised route.phase) part _ (λ due.
+  looking_held look = over_held now table P keep.rules (looking_by look.0 look.1 table) (λ number. route_held now table P keep.rules number _ (λ row route part at all. where_keeps Holds (was_authorised route.phase) part _ (λ due.
       quietly now table P keep.rules number (route_looks look.0 look.1 row) part (λ one e. looks_quietly look.0 look.1 row one) all) all)) (count table)
 
   hearing_held : (bytes : List ℕ) (node : Node) (part : StepSoFar) → Holds part → Holds (node_hearing now table bytes node part)
   unfolding node_hearing known_signal_hearing known_point_hearing detector_hearing
-  hearing_held bytes (Signal place) part all = one_held now table P keep.rules (slice_get part.ixl.known_signals place) _ part (λ known e.
+  hearing_held bytes (Signal place) part all = one_keeps Holds (slice_get part.ixl.known_signals place) _ part (λ known e.
       keep.client place known _ _ part.ixl.routes part.ixl.known_signals e (hears bytes part.outbox refl) all) all
-  hearing_held bytes (Point place) part all = one_held now table P keep.rules (slice_get part.ixl.known_points place) _ part (λ known e. all) all
-  hearing_held bytes (Detector place) part all = one_held now table P keep.rules (slice_get table.detectors place) _ part (λ sections f. one_held now table P keep.rules (slice_get part.ixl.detectors place) _ part (λ known e.
+  hearing_held bytes (Point place) part all = one_keeps Holds (slice_get part.ixl.known_points place) _ part (λ known e. all) all
+  hearing_held bytes (Detector place) part all = one_keeps Holds (slice_get table.detectors place) _ part (λ sections f. one_keeps Holds (slice_get part.ixl.detectors place) _ part (λ known e.
       let done = hearing now bytes (begun known.client part.outbox)
-      in along_held now table P keep.rules (looking table) looking_held (looks sections known done.heard done.client)
+      in along_keeps Holds (looking table) looking_held (looks sections known done.heard done.client)
       (with_detector place (detector_after (occupied_heard done.heard known.occupied) done.client) (noted (Detector place) done part)) all) all) all
 
   -- ---- the input
@@ -326,7 +315,7 @@ module _ (now : ℕ) (table : Table) (Obeys : Command → Type 0) (P : List Rout
   obeyed_held (commands.Cancel route) part obeys none all = keep.rules.quiet route.0 (λ old. record old { cancelled = true }) part.ixl.routes part.ixl.known_signals (λ one e. inl (refl, λ cancelled. refl)) all
   obeyed_held commands.Resume part obeys none all = all
 
-  commanded_held : (cause : Option Refusal) (command : Command) (part : StepSoFar) → refusal now table command part.ixl ≡ cause → Obeys command → Holds part → Holds (record part { ixl = commanded_by cause command part.ixl })
+  pub commanded_held : (cause : Option Refusal) (command : Command) (part : StepSoFar) → refusal now table command part.ixl ≡ cause → Obeys command → Holds part → Holds (record part { ixl = commanded_by cause command part.ixl })
   commanded_held None command part is obeys all = obeyed_held command part obeys is all
   commanded_held (Some cause) command part is obeys all = all
 
@@ -340,7 +329,7 @@ module _ (now : ℕ) (table : Table) (Obeys : Command → Type 0) (P : List Rout
   given_held key (Datagram bytes) part obeys all = heard_at bytes (addressed (reading key bytes) part.ixl) part all
   given_held key (Commands command) part obeys all = commanded_held (refusal now table command part.ixl) command part refl (obeys command refl) all
 
-  clocked_held : (part : StepSoFar) → Holds part → Holds (record part { ixl = all_clocked now part.ixl })
+  pub clocked_held : (part : StepSoFar) → Holds part → Holds (record part { ixl = all_clocked now part.ixl })
   unfolding all_clocked
   clocked_held part all = keep.clock part.ixl.routes part.ixl.known_signals all
 

@@ -1,6 +1,6 @@
 -- A signal that acts on an aspect owes a report of it, and its host sends that at once.
 use Rattle.std.proofs.Common.{◌≡◌, ℕ, suc, Bool, true, false, not, ◌||◌, ◌⊎◌, inl, inr, List, [], ◌∷◌, ◌++◌, append_assoc, Option, Some, None, Result, Ok, Err, refl, sym, ap, subst, ◌∙◌, if◌then◌else◌}
-use Rattle.std.specs.Prelude.{◌==◌, is_ok}
+use Rattle.std.specs.Prelude.{is_ok}
 use Rattle.std.proofs.lemmas.Bool.{false≢true}
 use Rattle.simulator_run.specs.rasta_core.Calls.{answer_to_send, closing_by, receiving}
 use Rattle.simulator_run.specs.rasta_core.PdusHandedOut.{closing, entered, silent as stays_silent, telling}

@@ -34,14 +34,14 @@ use Rattle.simulator_recovery.proofs.Telling.{detectors_tell, points_tell, secti
 
 module _ (site : Site) where
   -- a client whose link is settled
-  record ClockedAt (now : ℕ) (node : Node) (client : ClientState) : Type 0 where
-    stands : ClockedStands now client
-    objects : IsToldAt site node (length client.peer.objects)
+  pub record ClockedAt (now : ℕ) (node : Node) (client : ClientState) : Type 0 where
+    pub stands : ClockedStands now client
+    pub objects : IsToldAt site node (length client.peer.objects)
 
   with_peer : (node : Node) (old new : PeerState) → new ≡ old → IsToldAt site node (length old.objects) → IsToldAt site node (length new.objects)
   with_peer node old new e has = subst (λ (peer : PeerState). IsToldAt site node (length peer.objects)) (sym e) has
 
-  clients_keep : (now : ℕ) → ClientsKeep now (ClientStandsAt site) (ClockedAt now)
+  pub clients_keep : (now : ℕ) → ClientsKeep now (ClientStandsAt site) (ClockedAt now)
   clients_keep now = record {
     clock = λ node client is. record { stands = clocked_stands now client is.stands; objects = with_peer node client.peer (clocked now client).peer (clocked_peer now client) is.objects };
     weaker = λ node client is. record { stands = is.stands.stands; objects = is.objects };
@@ -53,7 +53,7 @@ module _ (site : Site) where
   section_names : DetectorEntry → List (List ℕ)
   section_names entry = map (λ section. slice_index_or site.sections section.0 []) entry.sections
 
-  new_clients : (table : Table) (begins : Beginning) → EachClient (ClientStandsAt site) (new_ixl site table begins)
+  pub new_clients : (table : Table) (begins : Beginning) → EachClient (ClientStandsAt site) (new_ixl site table begins)
   unfolding new_ixl new_client
   new_clients table begins = record {
     signals = λ place known e. let found = mapped_at (new_known_signal_of site begins) site.signals place known e in

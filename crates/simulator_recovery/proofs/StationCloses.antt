@@ -12,7 +12,7 @@ use Rattle.simulator_run.specs.rasta_core.EachLink.{AreTimely}
 use Rattle.simulator_run.specs.rasta_core.Ends as ends
 use Rattle.simulator_run.specs.rasta_core.Ends.{Call, reading_of}
 use Rattle.simulator_run.specs.rasta_core.Events.{Calls, Elsewhere, May, MayRun}
-use Rattle.simulator_run.specs.rasta_core.Links.{AreLinks, CallsOn, Links, LinksEvent, MayCallOn, MayHappenTo, MayRunLinks, begun as begun_links, events_on, seen, sent_by}
+use Rattle.simulator_run.specs.rasta_core.Links.{AreLinks, CallsOn, Links, LinksEvent, MayHappenTo, MayRunLinks, begun as begun_links, events_on, seen, sent_by}
 use Rattle.simulator_run.specs.rasta_core.Names.{Names}
 use Rattle.simulator_run.specs.rasta_core.Nodes.{calls_of, restarts_of}
 use Rattle.simulator_run.specs.rasta_core.Outbox.{OutboxState}
@@ -56,12 +56,13 @@ use Rattle.simulator_headline.specs.Reached.{IsReached}
 use Rattle.simulator_recovery.specs.ClientSaid.{ClientHasSaid, ClientTalks, commanded}
 use Rattle.simulator_recovery.specs.Closes.{LeavesClientOpen}
 use Rattle.simulator_recovery.specs.Counts.{EachClient}
-use Rattle.simulator_recovery.specs.Expected.{GivesNoMore}
+use Rattle.simulator_recovery.specs.Expected.{GivesAtMostTwoMore}
 use Rattle.simulator_recovery.proofs.Addressed.{partners_length}
 use Rattle.simulator_recovery.proofs.AlwaysExpected.{EachIsExpected, ExpectedLaws, Stands, begun_of, detector_changes, each_detector, each_point, each_signal, gives_no_more, signal_changes, stands_first, stands_on}
 use Rattle.simulator_recovery.proofs.AlwaysOnLinks.{CanBe, HasHeld, always_held}
 use Rattle.simulator_recovery.proofs.ClientCloses.{ByWindow, ComesNext, IsFew, commanding_closes_none, hearing_closes_none, ticking_closes_none}
 use Rattle.simulator_recovery.proofs.ClientLinks.{ClockedStands, clocked_peer, clocked_stands}
+use Rattle.simulator_recovery.proofs.ComesWith.{none_comes, one_comes}
 use Rattle.simulator_recovery.proofs.IxlSoFar.{All, SoFarKeeps, at_node, is_itself, is_node, same_place, step_held}
 use Rattle.simulator_recovery.proofs.Lists.{at_place, each_both, map_length}
 use Rattle.simulator_recovery.proofs.NextItems.{GoesOnInOne, NextLaws, of_client}
@@ -121,7 +122,7 @@ module _ (laws : CloseLaws) (site : Site) (table : Table) (station : IsStation s
     abbrev link_of : Node → LinkState
     link_of node = (network.ends (link_at site node)).client.link
 
-    no_more : (place : ℕ) → place < length site.points → GivesNoMore (seen (point_link site place) network)
+    no_more : (place : ℕ) → place < length site.points → GivesAtMostTwoMore (seen (point_link site place) network)
     no_more place there = let many = s.whole.points in let c = at_place world.points place (omega (arith, there, many)) in gives_no_more laws.expected site table station once is_table world network s place c.0 c.1
 
     -- a point's client hears of one object, and each other of changes
@@ -337,13 +338,10 @@ module _ (laws : CloseLaws) (site : Site) (table : Table) (station : IsStation s
     restart_leaves clock first (Some (nodes.Point place)) = anew_leaves clock first (point_link site place) (slice_get site.points place)
     restart_leaves clock first (Some (nodes.Detector place)) = anew_leaves clock first (detector_link site place) (slice_get site.detectors place)
 
-    none_comes : (input : ixl.Input) → ((bytes : List ℕ) → input ≡ ixl.Datagram bytes → ⊥) → MayComeWith site input 0 network
-    none_comes input none bytes e = absurd (none bytes e)
-
     tick_leaves : (node : NodeId) (at : Option nodes.Node) → node_at site node.0 ≡ at → CanBe site table (event.Tick node) world network → Leaves (tick_events site table at world)
     unfolding events_of
     tick_leaves node None e can = tt
-    tick_leaves node (Some nodes.Interlocking) e can = step_leaves ixl.Tick 0 (none_comes ixl.Tick (λ bytes f. absurd (cc f))) (subst (λ (n : Option nodes.Node). MayRunLinks (links site) (names_at site) (tick_events site table n world) network) e can.follows.may)
+    tick_leaves node (Some nodes.Interlocking) e can = step_leaves ixl.Tick 0 (none_comes site network ixl.Tick (λ bytes f. absurd (cc f))) (subst (λ (n : Option nodes.Node). MayRunLinks (links site) (names_at site) (tick_events site table n world) network) e can.follows.may)
     tick_leaves node (Some (nodes.Signal place)) e can = host_leaves signal_behaviour inputs.Tick 0 place (slice_get world.signals place)
     tick_leaves node (Some (nodes.Point place)) e can = host_leaves point_behaviour inputs.Tick 0 (point_link site place) (slice_get world.points place)
     tick_leaves node (Some (nodes.Detector place)) e can = host_leaves detection_behaviour inputs.Tick 0 (detector_link site place) (slice_get world.detectors place)
@@ -352,20 +350,15 @@ module _ (laws : CloseLaws) (site : Site) (table : Table) (station : IsStation s
     unfolding events_of
     come_leaves node bytes None e can = tt
     come_leaves node bytes (Some nodes.Interlocking) e can = step_leaves (ixl.Datagram bytes) (connection_of (copy_of bytes world))
-        (λ other f link below. subst (λ (b : List ℕ). MayCallOn (names_at site link) (ends.Receives b (connection_of (copy_of bytes world))) network) (ap datagram_of f) (laws.expected.talked.may_come site node bytes world network are can.may link))
+        (one_comes site network bytes (connection_of (copy_of bytes world)) (laws.expected.talked.may_come site node bytes world network are can.may))
         (subst (λ (n : Option nodes.Node). MayRunLinks (links site) (names_at site) (delivery_events site table bytes (connection_of (copy_of bytes world)) n world) network) e can.follows.may)
-      where
-        datagram_of : ixl.Input → List ℕ
-        datagram_of (ixl.Datagram b) = b
-        datagram_of ixl.Tick = []
-        datagram_of (ixl.Commands command) = []
     come_leaves node bytes (Some (nodes.Signal place)) e can = host_leaves signal_behaviour (coming bytes) (connection_of (copy_of bytes world)) place (slice_get world.signals place)
     come_leaves node bytes (Some (nodes.Point place)) e can = host_leaves point_behaviour (coming bytes) (connection_of (copy_of bytes world)) (point_link site place) (slice_get world.points place)
     come_leaves node bytes (Some (nodes.Detector place)) e can = host_leaves detection_behaviour (coming bytes) (connection_of (copy_of bytes world)) (detector_link site place) (slice_get world.detectors place)
 
     pub event_leaves : (happening : Event) → CanBe site table happening world network → Leaves (events_of site table happening world)
     unfolding events_of
-    event_leaves (event.Request command) can = step_leaves (ixl.Commands command) 0 (none_comes (ixl.Commands command) (λ bytes f. absurd (cc f))) can.follows.may
+    event_leaves (event.Request command) can = step_leaves (ixl.Commands command) 0 (none_comes site network (ixl.Commands command) (λ bytes f. absurd (cc f))) can.follows.may
     event_leaves (event.Occupy section occupancy) can = contact_leaves (slice_get table.reporters section.0) (λ place. inputs.Sense (sense.Section place occupancy))
     event_leaves (event.Tick node) can = tick_leaves node (node_at site node.0) refl can
     event_leaves (event.Time elapsed clocks) can = (tt, tt)

@@ -81,6 +81,7 @@ use Rattle.simulator_recovery.proofs.Addressed.{at_front, partners_length}
 use Rattle.simulator_recovery.proofs.AtLink.{mapped, of_second, of_third}
 use Rattle.simulator_recovery.proofs.ClientLinks.{ClockedStands, clocked_peer, clocked_stands, not_false, outside_is, up_open}
 use Rattle.simulator_recovery.proofs.ClientTalk.{OfNode, SoFar, aspect_leads, available_ready, begins_here, commanding_so_far, hearing_so_far, move_leads, so_far_behind, ticking_so_far}
+use Rattle.simulator_recovery.proofs.ComesWith.{none_comes, one_comes}
 use Rattle.simulator_recovery.proofs.IxlClients.{mapped_at}
 use Rattle.simulator_recovery.proofs.IxlSoFar.{All, SoFarKeeps, at_node, is_node, step_held}
 use Rattle.simulator_recovery.proofs.LinkCounts.{AfterReceipt, comes_in, entered_closed, receipt_counts, settled_again, settled_open, stays_in}
@@ -157,7 +158,7 @@ server_calls [] two = refl
 server_calls (first ∷ others) two = server_calls others (called role.Server first two)
 
 -- an end that is made anew keeps what it gave and took
-anew_same : (link : ℕ) (who : Role) (clock first : ℕ) (network : Links) → SameLists network (happened_to (RestartsOn link who clock first) network)
+pub anew_same : (link : ℕ) (who : Role) (clock first : ℕ) (network : Links) → SameLists network (happened_to (RestartsOn link who clock first) network)
 unfolding restarted end_restarted
 anew_same link who clock first network = record { given = λ other. of_given who (other == link) other refl; taken = λ other. of_taken who (other == link) other refl }
   where
@@ -193,7 +194,7 @@ pub record TalkLaws : Type 0 where
       → AreOfNodes site (interlocking_step site table input world.station).calls
 
 -- a controller's calls leave the clients
-host_same : TalkLaws → {Object : Type 0} (does : Behaviour Object) (input : HostInput) (connection link : ℕ) (found : Option (ClockedControllerState Object)) (network : Links)
+pub host_same : TalkLaws → {Object : Type 0} (does : Behaviour Object) (input : HostInput) (connection link : ℕ) (found : Option (ClockedControllerState Object)) (network : Links)
     → SameLists network (run_links (host_events does input connection link found) network)
 host_same laws does input connection link None network = record { given = λ other. refl; taken = λ other. refl }
 host_same laws does input connection link (Some c) network = record { given = λ other. ap (λ (e : EndState). e.given) (same other (other == link) refl); taken = λ other. ap (λ (e : EndState). e.taken) (same other (other == link) refl) }
@@ -289,7 +290,7 @@ module _ (site : Site) (table : Table) (is_table : IsTableOf site table) where
 
 -- ---- a client before a step
 
-fallen_link : (c : ClientState) → (fallen c).link ≡ c.link
+pub fallen_link : (c : ClientState) → (fallen c).link ≡ c.link
 unfolding fallen
 fallen_link c = choose (is_up c.link.phase)
   where
@@ -521,29 +522,30 @@ module _ (laws : TalkLaws) (site : Site) (table : Table) (is_table : IsTableOf s
   called_nodes : AreOfNodes site done.calls
   called_nodes = laws.nodes site table input connection world network named whole timely are comes
 
+  -- what a client has given and taken behind the step is what its calls have made
+  module _ (node : Node) (there : IsNodeOf site node) where
+    is_after : ClientIsAfter (at_link (link_at site node) (map (node_call site connection) done.calls)) (seen (link_at site node) network) (seen (link_at site node) after)
+    is_after = laws.steps (links site) (names_at site) (map (node_call site connection) done.calls) network named timely may (link_at site node) (below node there)
+
+    clock_is : reading_of (network.ends (link_at site node)).client.clock ≡ now
+    clock_is =
+        let id = at_place (partners site) (link_at site node) (subst (λ (n : ℕ). link_at site node < n) (sym (partners_length site)) (below node there))
+        in ap reading_of (are.clients (link_at site node) id.0 id.1).clock_is
+
+    calls_are : at_link (link_at site node) (map (node_call site connection) done.calls) ≡ map (as_call connection) (at_node node done.calls)
+    calls_are = at_link_is site connection node there done.calls called_nodes
+
+    pub gave_behind_step : gave after (link_at site node) ≡ given_after now (map (as_call connection) (at_node node done.calls)) (link_of node) (gave network (link_at site node))
+    gave_behind_step = is_after.given ∙ ap (λ (n : ℕ). given_after n (at_link (link_at site node) (map (node_call site connection) done.calls)) (link_of node) (gave network (link_at site node))) clock_is
+        ∙ ap (λ (cs : List Call). given_after now cs (link_of node) (gave network (link_at site node))) calls_are
+
+    took_behind_step : took after (link_at site node) ≡ taken_after now (map (as_call connection) (at_node node done.calls)) (link_of node) (took network (link_at site node))
+    took_behind_step = is_after.taken ∙ ap (λ (n : ℕ). taken_after n (at_link (link_at site node) (map (node_call site connection) done.calls)) (link_of node) (took network (link_at site node))) clock_is
+        ∙ ap (λ (cs : List Call). taken_after now cs (link_of node) (took network (link_at site node))) calls_are
+
   -- a client behind the step
   talks_behind : (node : Node) (client : ClientState) → Holds node client (at_node node done.calls) → ClientTalks site node client (gave after (link_at site node)) (took after (link_at site node))
-  talks_behind node client h = with_lists site node client (is_after.given ∙ given_is) (is_after.taken ∙ taken_is) h.so.talks
-    where
-      link : ℕ
-      link = link_at site node
-
-      is_after : ClientIsAfter (at_link link (map (node_call site connection) done.calls)) (seen link network) (seen link after)
-      is_after = laws.steps (links site) (names_at site) (map (node_call site connection) done.calls) network named timely may link (below node h.there)
-
-      clock_is : reading_of (network.ends link).client.clock ≡ now
-      clock_is = let id = at_place (partners site) link (subst (λ (n : ℕ). link < n) (sym (partners_length site)) (below node h.there)) in ap reading_of (are.clients link id.0 id.1).clock_is
-
-      calls_are : at_link link (map (node_call site connection) done.calls) ≡ map (as_call connection) (at_node node done.calls)
-      calls_are = at_link_is site connection node h.there done.calls called_nodes
-
-      given_is : given_after (reading_of (network.ends link).client.clock) (at_link link (map (node_call site connection) done.calls)) (link_of node) (gave network link)
-          ≡ given_after now (map (as_call connection) (at_node node done.calls)) (link_of node) (gave network link)
-      given_is = ap (λ (n : ℕ). given_after n (at_link link (map (node_call site connection) done.calls)) (link_of node) (gave network link)) clock_is ∙ ap (λ (cs : List Call). given_after now cs (link_of node) (gave network link)) calls_are
-
-      taken_is : taken_after (reading_of (network.ends link).client.clock) (at_link link (map (node_call site connection) done.calls)) (link_of node) (took network link)
-          ≡ taken_after now (map (as_call connection) (at_node node done.calls)) (link_of node) (took network link)
-      taken_is = ap (λ (n : ℕ). taken_after n (at_link link (map (node_call site connection) done.calls)) (link_of node) (took network link)) clock_is ∙ ap (λ (cs : List Call). taken_after now cs (link_of node) (took network link)) calls_are
+  talks_behind node client h = with_lists site node client (gave_behind_step node h.there) (took_behind_step node h.there) h.so.talks
 
   pub step_talks : TalkOf site (interlocking_step site table input world.station).ixl (run_links (interlocking_events site table input connection world.station) network)
   step_talks = record {
@@ -571,9 +573,6 @@ anew_talks site node old new given taken same out shut talks = record {
 
 module _ (laws : TalkLaws) (may_come : (site : Site) (node : NodeId) (bytes : List ℕ) (world : WorldState) (before : Links) → AreLinksOf site world before → refusal site (event.Deliver node bytes) world ≡ None
     → (link : ℕ) → MayCallOn (names_at site link) (ends.Receives bytes (connection_of (copy_of bytes world))) before) (site : Site) (table : Table) (is_table : IsTableOf site table) where
-  none_comes : (input : ixl.Input) (network : Links) → ((bytes : List ℕ) → input ≡ ixl.Datagram bytes → ⊥) → MayComeWith site input 0 network
-  none_comes input network none bytes e = absurd (none bytes e)
-
   -- the interlocking's clients in a new interlocking
   restarted_talks : (begins : Beginning) (world : WorldState) (network new : Links) → IsWhole site world → SameLists network new → Talking site world network → EachClient (SpeaksAt site) (new_ixl site table begins) → TalkOf site (new_ixl site table begins) new
   unfolding new_ixl new_client created
@@ -623,7 +622,7 @@ module _ (laws : TalkLaws) (may_come : (site : Site) (node : NodeId) (bytes : Li
       → TalkOf site (ticked_at site table at world).station.ixl (run_links (tick_events site table at world) network)
   unfolding signal_stepped point_stepped detector_stepped interlocking_stepped events_of happens
   tick_talks node None world network can e before = before.talk
-  tick_talks node (Some nodes.Interlocking) world network can e before = steps (event.Tick node) world network can before ixl.Tick 0 (none_comes ixl.Tick network (λ bytes f. absurd (cc f)))
+  tick_talks node (Some nodes.Interlocking) world network can e before = steps (event.Tick node) world network can before ixl.Tick 0 (none_comes site network ixl.Tick (λ bytes f. absurd (cc f)))
       (subst (λ (n : Option nodes.Node). MayRunLinks (links site) (names_at site) (tick_events site table n world) network) e can.follows.may)
   tick_talks node (Some (nodes.Signal place)) world network can e before = host_talks signal_behaviour inputs.Tick 0 place (slice_get world.signals place) world.station.ixl network before.talk
   tick_talks node (Some (nodes.Point place)) world network can e before = host_talks point_behaviour inputs.Tick 0 (point_link site place) (slice_get world.points place) world.station.ixl network before.talk
@@ -634,16 +633,8 @@ module _ (laws : TalkLaws) (may_come : (site : Site) (node : NodeId) (bytes : Li
   unfolding signal_stepped point_stepped detector_stepped interlocking_stepped events_of happens
   come_talks node bytes None world network can e before = before.talk
   come_talks node bytes (Some nodes.Interlocking) world network can e before = steps (event.Deliver node bytes) world network can before (ixl.Datagram bytes) (connection_of (copy_of bytes world))
-      (λ other f link below. subst (λ (b : List ℕ). MayCallOn (names_at site link) (ends.Receives b (connection_of (copy_of bytes world))) network) (same_bytes bytes other f) (may_come site node bytes world network can.are can.may link))
+      (one_comes site network bytes (connection_of (copy_of bytes world)) (may_come site node bytes world network can.are can.may))
       (subst (λ (n : Option nodes.Node). MayRunLinks (links site) (names_at site) (delivery_events site table bytes (connection_of (copy_of bytes world)) n world) network) e can.follows.may)
-    where
-      datagram_of : ixl.Input → List ℕ
-      datagram_of (ixl.Datagram b) = b
-      datagram_of ixl.Tick = []
-      datagram_of (ixl.Commands command) = []
-
-      same_bytes : (one other : List ℕ) → ixl.Datagram one ≡ ixl.Datagram other → one ≡ other
-      same_bytes one other f = ap datagram_of f
   come_talks node bytes (Some (nodes.Signal place)) world network can e before = host_talks signal_behaviour (coming bytes) (connection_of (copy_of bytes world)) place (slice_get world.signals place) world.station.ixl network before.talk
   come_talks node bytes (Some (nodes.Point place)) world network can e before = host_talks point_behaviour (coming bytes) (connection_of (copy_of bytes world)) (point_link site place) (slice_get world.points place) world.station.ixl network before.talk
   come_talks node bytes (Some (nodes.Detector place)) world network can e before = host_talks detection_behaviour (coming bytes) (connection_of (copy_of bytes world)) (detector_link site place) (slice_get world.detectors place) world.station.ixl network before.talk
@@ -686,7 +677,7 @@ module _ (laws : TalkLaws) (may_come : (site : Site) (node : NodeId) (bytes : Li
   pub event_talks : (happening : Event) (world : WorldState) (network : Links) → CanBe site table happening world network → Talking site world network → EachClient (SpeaksAt site) (happens site table happening world).station.ixl
       → After happening world network
   unfolding happens events_of passed point_stepped interlocking_stepped
-  event_talks (event.Request command) world network can before speaks = steps (event.Request command) world network can before (ixl.Commands command) 0 (none_comes (ixl.Commands command) network (λ bytes f. absurd (cc f))) can.follows.may
+  event_talks (event.Request command) world network can before speaks = steps (event.Request command) world network can before (ixl.Commands command) 0 (none_comes site network (ixl.Commands command) (λ bytes f. absurd (cc f))) can.follows.may
   event_talks (event.Occupy section occupancy) world network can before speaks = sense_talks occupancy (slice_get table.reporters section.0) (record world { occupancies = slice_set world.occupancies section.0 occupancy }) network before.talk
   event_talks (event.Tick node) world network can before speaks = tick_talks node (node_at site node.0) world network can refl before
   event_talks (event.Time elapsed clocks) world network can before speaks = same_talk site world.station.ixl network _ (time_same elapsed clocks network) before.talk

@@ -73,12 +73,12 @@ ticks_up now l up = subst (λ (s : Step). is_up (beating s.link).link.phase ≡ 
     choose false f = (f, refl)
 
 -- what a client is behind a tick, where its link is up then
-record TicksUp (now : ℕ) (client after : ClientState) : Type 0 where
-  up : is_up client.link.phase ≡ true
-  confirmed : confirmed_items after.link ≡ confirmed_items client.link
-  same : after.stage ≡ client.stage
+pub record TicksUp (now : ℕ) (client after : ClientState) : Type 0 where
+  pub up : is_up client.link.phase ≡ true
+  pub confirmed : confirmed_items after.link ≡ confirmed_items client.link
+  pub same : after.stage ≡ client.stage
 
-client_ticks : (now : ℕ) (client : ClientState) (outbox : OutboxState) → is_up (ticking now (begun client outbox)).client.link.phase ≡ true → TicksUp now client (ticking now (begun client outbox)).client
+pub client_ticks : (now : ℕ) (client : ClientState) (outbox : OutboxState) → is_up (ticking now (begun client outbox)).client.link.phase ≡ true → TicksUp now client (ticking now (begun client outbox)).client
 unfolding ticking calling fallen
 client_ticks now client outbox up = choose (is_up k.phase) refl up
   where
@@ -145,7 +145,7 @@ module _ (now : ℕ) (table : Table) where
     where
       by_quiet : (was : RouteState) → IsQuiet was (change was) → (change was).phase ≡ phase.Withdrawn → was.phase ≡ phase.Withdrawn
       by_quiet was (inl (same, cancelled)) so = sym same ∙ so
-      by_quiet was (inr (over, undone, set)) so = absurd (over_not (change was).phase over so)
+      by_quiet was (inr (over, undone, set, kept)) so = absurd (over_not (change was).phase over so)
 
       choose : ((k ≡ number) × (was : RouteState) × (slice_get routes number ≡ Some was) × (route ≡ change was)) ⊎ (slice_get routes k ≡ Some route) → IsAwaited known
       choose (inl (same, was, f, changed_so)) = is.awaits k row was known (record { row_there = there.row_there; there = ap (slice_get routes) same ∙ f }) (by_quiet was (quiet was f) (ap (λ (r : RouteState). r.phase) (sym changed_so) ∙ withdrawn)) e

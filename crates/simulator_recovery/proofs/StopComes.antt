@@ -19,7 +19,7 @@ use Rattle.simulator_run.specs.Tried.{Played, after}
 use Rattle.simulator_headline.specs.Reached.{IsReached}
 use Rattle.simulator_recovery.specs.HandedOver.{HasHandedOver}
 use Rattle.simulator_recovery.specs.Lamps.{AcceptsCancel, GivesNoMore, IsAtStop, NoneProceeds, and_cancel, as_cancel_comes}
-use Rattle.simulator_recovery.specs.LinkRounds.{StaysBelowLimit}
+use Rattle.simulator_recovery.specs.LinkRounds.{StaysBelowLimit, link_rounds}
 use Rattle.simulator_recovery.specs.Rounds.{HasTime, IsWork, all_tried, good_rounds}
 use Rattle.simulator_recovery.proofs.AlwaysStopped.{stops_given}
 use Rattle.simulator_recovery.proofs.Cancelled.{cancel_leaves_none}
@@ -36,11 +36,11 @@ pub record StopLaws : Type 0 where
   pub signals : SignalLaws
 
 -- the last round, and the last that came behind it
-last_round : (rounds : List (List Event)) (last : List Event) (flowing : Flowing Played) → good_rounds (rounds ++ last ∷ []) flowing ≡ all_tried last (round stations (good_rounds rounds flowing))
+pub last_round : (rounds : List (List Event)) (last : List Event) (flowing : Flowing Played) → good_rounds (rounds ++ last ∷ []) flowing ≡ all_tried last (round stations (good_rounds rounds flowing))
 last_round [] last flowing = refl
 last_round (between ∷ later) last flowing = last_round later last (all_tried between (round stations flowing))
 
-last_tried : (before : List Event) (last : Event) (flowing : Flowing Played) → (all_tried (before ++ last ∷ []) flowing).state ≡ after (all_tried before flowing).state last
+pub last_tried : (before : List Event) (last : Event) (flowing : Flowing Played) → (all_tried (before ++ last ∷ []) flowing).state ≡ after (all_tried before flowing).state last
 last_tried [] last flowing = refl
 last_tried (first ∷ before) last flowing = last_tried before last (record flowing { state = after flowing.state first })
 
@@ -51,7 +51,7 @@ request_happens site world route = refl
 
 pub stop_comes : StopLaws → (between : List Event) (later_rounds : List (List Event)) (flowing : Flowing Played) (signal : ℕ) → Once flowing.state.sited.site → IsStation flowing.state.sited.site
     → IsTableOf flowing.state.sited.site flowing.state.sited.table → IsReached flowing.state.sited.site flowing.state.sited.table flowing.state.run → Each IsWork between → Each (Each IsWork) later_rounds
-    → HasTime (suc (1 + length later_rounds)) flowing.state.run → signal < length flowing.state.sited.site.signals → 1602 ≤ suc (length later_rounds)
+    → HasTime (suc (1 + length later_rounds)) flowing.state.run → signal < length flowing.state.sited.site.signals → link_rounds ≤ suc (length later_rounds)
     → StaysBelowLimit flowing.state.sited.site signal (later_rounds ++ [] ∷ []) (all_tried between (round stations flowing))
     → NoneProceeds flowing.state.sited.table (good_rounds (between ∷ later_rounds) flowing).state.run.station.ixl signal
     → IsAtStop signal (good_rounds (between ∷ (later_rounds ++ [] ∷ [])) flowing).state.run
@@ -87,17 +87,16 @@ stop_comes laws between later_rounds flowing signal once station is_table reache
 
 -- ---- behind a cancel
 
-entry_there : (site : Site) (table : Table) → IsStation site → IsTableOf site table → (number : ℕ) (row : Row) → slice_get table.rows number ≡ Some row → row.entry < length site.signals
+pub entry_there : (site : Site) (table : Table) → IsStation site → IsTableOf site table → (number : ℕ) (row : Row) → slice_get table.rows number ≡ Some row → row.entry < length site.signals
 entry_there site table station is_table number row there =
     let of : IsRowOf site (record { 0 = number }) row = is_table.rows.their number row there
     in subst (λ (n : ℕ). n < length site.signals) (sym of.entry) (all_at (IsRouteOf site) site.routes station.routes number of.written of.is_route).entry
 
--- what an accepted cancel, behind these rounds and commands, leaves
-none_behind_cancel : StopLaws → (rounds : List (List Event)) (before : List Event) (flowing : Flowing Played) (route : RouteId) (row : Row) → IsReached flowing.state.sited.site flowing.state.sited.table flowing.state.run
-    → slice_get flowing.state.sited.table.rows route.0 ≡ Some row → AcceptsCancel route (as_cancel_comes rounds before flowing).state
-    → NoneProceeds flowing.state.sited.table (good_rounds (rounds ++ and_cancel route before ∷ []) flowing).state.run.station.ixl row.entry
-none_behind_cancel laws rounds before flowing route row reached there accepted =
-    subst (λ (world : WorldState). NoneProceeds sited.table world.station.ixl row.entry) (sym then_is) (cancel_leaves_none sited.site sited.table comes.state.run route row at.reached there (subst (λ (s : SitedTable). answered s.site s.table cancel comes.state.run ≡ Accepted) at.same accepted))
+-- a cancel behind these rounds and commands
+pub cancel_happens : StopLaws → (rounds : List (List Event)) (before : List Event) (flowing : Flowing Played) (route : RouteId) → IsReached flowing.state.sited.site flowing.state.sited.table flowing.state.run
+    → IsAt flowing.state.sited (as_cancel_comes rounds before flowing).state
+    × ((good_rounds (rounds ++ and_cancel route before ∷ []) flowing).state.run ≡ happens flowing.state.sited.site flowing.state.sited.table (Request (Cancel route)) (as_cancel_comes rounds before flowing).state.run)
+cancel_happens laws rounds before flowing route reached = (at, then_is)
   where
     sited : SitedTable
     sited = flowing.state.sited
@@ -120,9 +119,23 @@ none_behind_cancel laws rounds before flowing route row reached there accepted =
         ∙ (ap (λ (w : Played). w.run) (last_tried before cancel (round stations (good_rounds rounds flowing)) ∙ tried_happens comes.state cancel never_refused)
         ∙ ap (λ (s : SitedTable). happens s.site s.table cancel comes.state.run) at.same)
 
+-- it is accepted where the flow stands
+pub accepted_there : (rounds : List (List Event)) (before : List Event) (flowing : Flowing Played) (route : RouteId) → IsAt flowing.state.sited (as_cancel_comes rounds before flowing).state → AcceptsCancel route (as_cancel_comes rounds before flowing).state
+    → answered flowing.state.sited.site flowing.state.sited.table (Request (Cancel route)) (as_cancel_comes rounds before flowing).state.run ≡ Accepted
+accepted_there rounds before flowing route at accepted = subst (λ (s : SitedTable). answered s.site s.table (Request (Cancel route)) (as_cancel_comes rounds before flowing).state.run ≡ Accepted) at.same accepted
+
+-- what an accepted cancel, behind these rounds and commands, leaves
+pub none_behind_cancel : StopLaws → (rounds : List (List Event)) (before : List Event) (flowing : Flowing Played) (route : RouteId) (row : Row) → IsReached flowing.state.sited.site flowing.state.sited.table flowing.state.run
+    → slice_get flowing.state.sited.table.rows route.0 ≡ Some row → AcceptsCancel route (as_cancel_comes rounds before flowing).state
+    → NoneProceeds flowing.state.sited.table (good_rounds (rounds ++ and_cancel route before ∷ []) flowing).state.run.station.ixl row.entry
+none_behind_cancel laws rounds before flowing route row reached there accepted =
+    let happened = cancel_happens laws rounds before flowing route reached
+    in subst (λ (world : WorldState). NoneProceeds flowing.state.sited.table world.station.ixl row.entry) (sym happened.1)
+    (cancel_leaves_none flowing.state.sited.site flowing.state.sited.table (as_cancel_comes rounds before flowing).state.run route row happened.0.reached there (accepted_there rounds before flowing route happened.0 accepted))
+
 pub stop_behind_cancel : StopLaws → (between : List Event) (later_rounds : List (List Event)) (before : List Event) (flowing : Flowing Played) (route : RouteId) (row : Row) → Once flowing.state.sited.site → IsStation flowing.state.sited.site
     → IsTableOf flowing.state.sited.site flowing.state.sited.table → IsReached flowing.state.sited.site flowing.state.sited.table flowing.state.run → Each IsWork between → Each (Each IsWork) later_rounds → Each IsWork before
-    → HasTime (suc (1 + suc (length later_rounds))) flowing.state.run → slice_get flowing.state.sited.table.rows route.0 ≡ Some row → 1602 ≤ suc (suc (length later_rounds))
+    → HasTime (suc (1 + suc (length later_rounds))) flowing.state.run → slice_get flowing.state.sited.table.rows route.0 ≡ Some row → link_rounds ≤ suc (suc (length later_rounds))
     → StaysBelowLimit flowing.state.sited.site row.entry (later_rounds ++ and_cancel route before ∷ [] ∷ []) (all_tried between (round stations flowing))
     → AcceptsCancel route (as_cancel_comes (between ∷ later_rounds) before flowing).state
     → IsAtStop row.entry (good_rounds (between ∷ (later_rounds ++ and_cancel route before ∷ [] ∷ [])) flowing).state.run

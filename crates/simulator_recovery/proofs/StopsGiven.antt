@@ -38,7 +38,7 @@ use Rattle.simulator_recovery.proofs.SignalParts.{AtRoute, GoesOn, IsGiven, IsQu
 
 -- ---- a client that is ready stays so, or is outside
 
-abbrev Stays : Stage → Stage → Type 0
+abbrev pub Stays : Stage → Stage → Type 0
 Stays old new = is_ready old ≡ true → is_outside new ≡ false → is_ready new ≡ true
 
 by_count : (peer : PeerState) (old new : Stage) (more : ℕ) → ((count : ℕ) → ClientHasActedOn peer old (count + 0) → is_outside new ≡ false → ClientHasActedOn peer new (count + more)) → Stays old new
@@ -64,15 +64,15 @@ keeps_count : (part after : ClientSoFar) → part.acted ≡ [] → KeepsCount pa
 keeps_count part after none keeps = by_count part.client.peer part.client.stage after.client.stage (length after.acted)
     (λ count has inside. keeps count (subst (λ (l : List (List ℕ)). ClientHasActedOn part.client.peer part.client.stage (count + length l)) (sym none) has) inside)
 
-goes_on_stays : (now : ℕ) (old new : ClientState) → GoesOn now old new → Stays old.stage new.stage
+pub goes_on_stays : (now : ℕ) (old new : ClientState) → GoesOn now old new → Stays old.stage new.stage
 goes_on_stays now old new (hears bytes outbox is) = subst (λ (c : ClientState). Stays old.stage c.stage) (sym is) (keeps_count (begun old outbox) (hearing now bytes (begun old outbox)) refl (hearing_counts now bytes (begun old outbox)))
 goes_on_stays now old new (ticks outbox is) = subst (λ (c : ClientState). Stays old.stage c.stage) (sym is) (keeps_count (begun old outbox) (ticking now (begun old outbox)) refl (ticking_counts now (begun old outbox)))
 
-given_stays : (now : ℕ) (aspect : Aspect) (old new : ClientState) → IsGiven now aspect old new → is_outside new.stage ≡ false → is_ready new.stage ≡ true
+pub given_stays : (now : ℕ) (aspect : Aspect) (old new : ClientState) → IsGiven now aspect old new → is_outside new.stage ≡ false → is_ready new.stage ≡ true
 given_stays now aspect old new given = subst (λ (c : ClientState). is_outside c.stage ≡ false → is_ready c.stage ≡ true) (sym given.is)
     (keeps_count (begun old given.outbox) (commanding now (client_commands.Indicate aspect) (begun old given.outbox)) refl (commanding_counts now (client_commands.Indicate aspect) (begun old given.outbox)) given.ready)
 
-clocked_stage : (now : ℕ) (client : ClientState) → is_outside (clocked now client).stage ≡ false → (clocked now client).stage ≡ client.stage
+pub clocked_stage : (now : ℕ) (client : ClientState) → is_outside (clocked now client).stage ≡ false → (clocked now client).stage ≡ client.stage
 unfolding clocked fallen
 clocked_stage now client = choose (is_up (settled now client.link).phase)
   where
@@ -181,7 +181,7 @@ changed_here change place [] x e = absurd (none-some x e)
 changed_here change zero (y ∷ list) x e = ap (λ z. Some (change z)) (same_Some y x e)
 changed_here change (suc place) (y ∷ list) x e = changed_here change place list x e
 
-changed_elsewhere : {X : Type 0} (change : X → X) (place k : ℕ) (list : List X) → k ≢ place → slice_get (changed change place list) k ≡ slice_get list k
+pub changed_elsewhere : {X : Type 0} (change : X → X) (place k : ℕ) (list : List X) → k ≢ place → slice_get (changed change place list) k ≡ slice_get list k
 changed_elsewhere change place k [] differ = refl
 changed_elsewhere change zero zero (y ∷ list) differ = absurd (differ refl)
 changed_elsewhere change zero (suc k) (y ∷ list) differ = refl
@@ -230,7 +230,7 @@ request_none now table ixl number row route none = locking_none now table ixl nu
     (where_none (not ixl.resumed) refusals.NotResumed (refused_where (is_set route.phase) refusals.AlreadySet (locking_refusal now table ixl number row))
     (where_none (is_holding now ixl) refusals.Holding (refused_where (not ixl.resumed) refusals.NotResumed (refused_where (is_set route.phase) refusals.AlreadySet (locking_refusal now table ixl number row))) none)))
 
-request_unset : (now : ℕ) (table : Table) (ixl : IxlState) (number : ℕ) (row : Row) (route : RouteState) → request_refusal now table ixl number (Some row) (Some route) ≡ None → is_set route.phase ≡ false
+pub request_unset : (now : ℕ) (table : Table) (ixl : IxlState) (number : ℕ) (row : Row) (route : RouteState) → request_refusal now table ixl number (Some row) (Some route) ≡ None → is_set route.phase ≡ false
 request_unset now table ixl number row route none = where_not (is_set route.phase) refusals.AlreadySet (locking_refusal now table ixl number row)
     (where_none (not ixl.resumed) refusals.NotResumed (refused_where (is_set route.phase) refusals.AlreadySet (locking_refusal now table ixl number row))
     (where_none (is_holding now ixl) refusals.Holding (refused_where (not ixl.resumed) refusals.NotResumed (refused_where (is_set route.phase) refusals.AlreadySet (locking_refusal now table ixl number row))) none))
@@ -289,11 +289,11 @@ module _ (now : ℕ) (table : Table) where
 
   quiet_set : (old new : RouteState) → IsQuiet old new → is_set new.phase ≡ true → is_set old.phase ≡ true
   quiet_set old new (inl (same, cancelled)) set = ap is_set (sym same) ∙ set
-  quiet_set old new (inr (over, undone, was)) set = was
+  quiet_set old new (inr (over, undone, was, kept)) set = was
 
   quiet_aspect : (old new : RouteState) → IsQuiet old new → is_proceeding new.phase ≡ false → is_proceeding old.phase ≡ false
   quiet_aspect old new (inl (same, cancelled)) none = ap is_proceeding (sym same) ∙ none
-  quiet_aspect old new (inr (over, undone, was)) none = undone
+  quiet_aspect old new (inr (over, undone, was, kept)) none = undone
 
   -- the client of a signal goes on
   client_stands : (place : ℕ) (known : KnownSignalState) (client : ClientState) (indicated : Option Aspect) (routes : List RouteState) (signals : List KnownSignalState) → slice_get signals place ≡ Some known

@@ -34,7 +34,7 @@ use Rattle.simulator_run.specs.Interlocking.{interlocking_step}
 use Rattle.simulator_run.specs.Links.{AreLinksOf, names_at}
 use Rattle.simulator_run.specs.Network.{connection_of, copy_of}
 use Rattle.simulator_run.specs.Nodes as nodes
-use Rattle.simulator_run.specs.Nodes.{detector_link, key_of, links, node_at, point_link}
+use Rattle.simulator_run.specs.Nodes.{detector_link, links, node_at, point_link}
 use Rattle.simulator_run.specs.Refusals.{refusal}
 use Rattle.simulator_run.specs.State.{ClockedControllerState, WorldState}
 use Rattle.simulator_run_links.specs.Calls.{AreOfNodes, IsNodeOf, link_at, node_call}

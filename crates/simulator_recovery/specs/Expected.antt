@@ -58,8 +58,8 @@ pub record HaveFitting (site : Site) (world : WorldState) : Type 0 where
 -- ---- how much a point reports
 
 -- In a connection that is the last of both ends, the controller has given at most two items more than its client.
-abbrev pub GivesNoMore : Ends → Type 0
-GivesNoMore ends = (connection : ℕ) → ends.client.connection ≡ Some connection → ends.server.connection ≡ Some connection → length ends.server.given ≤ 2 + length ends.client.given
+abbrev pub GivesAtMostTwoMore : Ends → Type 0
+GivesAtMostTwoMore ends = (connection : ℕ) → ends.client.connection ≡ Some connection → ends.server.connection ≡ Some connection → length ends.server.given ≤ 2 + length ends.client.given
 
 -- For the two items that ask for it a point's initialisation has four: the answer of the version, *start*, where the point stands, and
 -- *completed*. Then each report answers a move.
@@ -67,7 +67,7 @@ pub record AnswersOnce (host : HostState PointState) (ends : Ends) : Type 0 wher
   -- what the controller has given, with the move that waits for its report, if there is one
   pub waits : is_open host.link.phase ≡ true → length ends.server.given + unanswered host.object.progress ≤ 2 + length ends.server.taken
   pub ever : length ends.server.given ≤ 2 + length ends.server.taken
-  pub no_more : GivesNoMore ends
+  pub no_more : GivesAtMostTwoMore ends
 
 -- the links of a station, and what its points have given there
 pub record HaveAnswered (site : Site) (world : WorldState) : Type 0 where

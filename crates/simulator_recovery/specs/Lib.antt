@@ -14,3 +14,11 @@ pub mod HandedOver
 pub mod Lamps
 pub mod Replies
 pub mod RepliesOn
+pub mod Shows
+pub mod NothingDue
+pub mod Moves
+pub mod SectionsReported
+pub mod Authority
+pub mod RoutesCome
+pub mod SidesOfMoves
+pub mod KnownAgain

@@ -1,12 +1,12 @@
 -- What a link of a station goes through in good rounds.
-use Rattle.std.specs.Prelude.{◌≡◌, ◌≢◌, ℕ, ◌-◌, true, List, [], ◌∷◌, ◌++◌, length, map, Option, Some, None, slice_get}
+use Rattle.std.specs.Prelude.{◌≡◌, ℕ, ◌-◌, true, List, [], ◌∷◌, ◌++◌, length, map, Option, Some, None, slice_get}
 use Rattle.rasta_core_recovery.specs.Rounds.{Flow}
 use Rattle.rasta_core_recovery.specs.Work.{HasRoom, IsAtWork, work_round}
 use Rattle.simulator_run.specs.layout.Entries.{Site}
 use Rattle.simulator_run.specs.rasta_core.Clock.{settled}
 use Rattle.simulator_run.specs.rasta_core.Ends.{reading_of}
 use Rattle.simulator_run.specs.rasta_core.Events.{Event as LinkEvent}
-use Rattle.simulator_run.specs.rasta_core.Links.{CallsOn, Links, LinksEvent, happened_to, of_link, run_links, run_on, seen}
+use Rattle.simulator_run.specs.rasta_core.Links.{Links, LinksEvent, happened_to, of_link, run_links, run_on, seen}
 use Rattle.simulator_run.specs.rasta_core.State.{LinkState, is_up}
 use Rattle.simulator_run.specs.simulator_event.declared.event.Event.{Event}
 use Rattle.simulator_run.specs.simulator_event.refused.Refused.{Refused}
@@ -106,9 +106,9 @@ pub record IsUpOn (link : ℕ) (world : WorldState) : Type 0 where
   pub server_there : slice_get (server_ends world) link ≡ Some server
   pub server_up : is_up (settled (reading_of server.clock) server.link).phase ≡ true
 
--- from this good round on each link is up at both ends where neither comes to the limit of PDUs: 16,020 ms after the good rounds began
+-- from this good round on each link is up at both ends where neither comes to the limit of PDUs: 15,630 ms after the good rounds began
 abbrev pub link_rounds : ℕ
-link_rounds = 1602
+link_rounds = 1563
 
 -- Both ends of this link are in one connection: the last of each.
 pub record AreInOne (link : ℕ) (these : Links) : Type 0 where

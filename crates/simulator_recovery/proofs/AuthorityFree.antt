@@ -1,0 +1,181 @@
+-- Two good rounds behind its cancel a route is free, unless a train came or its approach counts.
+use Rattle.std.proofs.Common.{◌≡◌, inl, inr, ℕ, suc, ◌+◌, ◌≤◌, true, false, List, [], ◌∷◌, ◌++◌, append_assoc, length, Option, Some, None, slice_get, refl, sym, ap, subst, ◌∙◌}
+use Rattle.std.proofs.lemmas.Bool.{false≢true}
+use Rattle.std.proofs.lemmas.Option.{same_Some}
+use Rattle.ixl_table.specs.Table.{IsTableOf}
+use Rattle.simulator_run.specs.layout.Entries.{Site}
+use Rattle.simulator_run.specs.layout.declared.ids.RouteId.{RouteId}
+use Rattle.simulator_run.specs.layout.Once.{Once}
+use Rattle.simulator_run.specs.layout.Station.{IsStation}
+use Rattle.simulator_run.specs.rasta_core.Each.{Each}
+use Rattle.simulator_run.specs.rasta_core.Ends.{reading_of}
+use Rattle.simulator_run.specs.ixl_rules.Commands.{commanded_by, refusal}
+use Rattle.simulator_run.specs.ixl_rules.Due.{AllClear, At}
+use Rattle.simulator_run.specs.ixl_rules.Rules.{count, is_proceeding, is_waiting}
+use Rattle.simulator_run.specs.ixl_rules.State.{IxlState, RouteState}
+use Rattle.simulator_run.specs.ixl_rules.Step.{Commands, Input, all_clocked, given, stepped, ticked, watching}
+use Rattle.simulator_run.specs.ixl_rules.StepSoFar.{StepSoFar, begun_with, empty_outbox, over}
+use Rattle.simulator_run.specs.ixl_rules.Table.{Row, SitedTable, Table}
+use Rattle.simulator_run.specs.ixl_rules.View.{is_set}
+use Rattle.simulator_run.specs.ixl_rules.declared.command.Command.{Command}
+use Rattle.simulator_run.specs.ixl_rules.declared.command.Command.TheVariants as commands
+use Rattle.simulator_run.specs.ixl_rules.declared.command.Refusal.{Refusal}
+use Rattle.simulator_run.specs.ixl_rules.declared.phase.Phase.{Phase}
+use Rattle.simulator_run.specs.ixl_rules.declared.phase.Phase.TheVariants as phase
+use Rattle.simulator_run.specs.simulator_event.declared.event.Event.{Event}
+use Rattle.simulator_run.specs.simulator_event.declared.event.Event.TheVariants as event
+use Rattle.simulator_run.specs.simulator_event.declared.reply.Answer.TheVariants as answer
+use Rattle.simulator_run.specs.Flow.{Flowing, round, stations}
+use Rattle.simulator_run.specs.Happens.{answered, happens, interlocking_stepped}
+use Rattle.simulator_run.specs.Nodes.{key_of}
+use Rattle.simulator_run.specs.State.{WorldState}
+use Rattle.simulator_run.specs.Tried.{Played}
+use Rattle.simulator_headline.specs.Reached.{IsReached}
+use Rattle.simulator_recovery.specs.Authority.{IsUnseen}
+use Rattle.simulator_recovery.specs.Lamps.{AcceptsCancel, NoneProceeds, and_cancel, as_cancel_comes}
+use Rattle.simulator_recovery.specs.LinkRounds.{StaysBelowLimit}
+use Rattle.simulator_recovery.specs.NothingDue.{Proceeds}
+use Rattle.simulator_recovery.specs.Ready.{ready_rounds}
+use Rattle.simulator_recovery.specs.Rounds.{HasTime, IsWork, all_tried, good_rounds}
+use Rattle.simulator_recovery.proofs.AuthorityBehindCancel.{all_works, authority_ends_behind_cancel, few, happened, none}
+use Rattle.simulator_recovery.proofs.AuthorityCancels.{cancelled_at, clocked_routes}
+use Rattle.simulator_recovery.proofs.AuthorityEnds.{EndingLaws}
+use Rattle.simulator_recovery.proofs.AuthorityOver.{none_third}
+use Rattle.simulator_recovery.proofs.Cancelled.{NoCommand, OfRoute, RouteKeeps, accepted_so, none_comes, route_keep}
+use Rattle.simulator_recovery.proofs.GivenNoMore.{over_rests, round_keeps}
+use Rattle.simulator_recovery.proofs.NothingDueFrees.{FreeLaw, nothing_waits_to_be_freed}
+use Rattle.simulator_recovery.proofs.Rounds.{IsAt, rounds_reached}
+use Rattle.simulator_recovery.proofs.SignalParts.{IsQuiet, behind_ending, both_rules, over_held, step_held, watching_held}
+use Rattle.simulator_recovery.proofs.StopComes.{accepted_there, last_round}
+use Rattle.simulator_recovery.proofs.StopsGiven.{proceeding_set}
+
+-- ---- a cancelled route stays cancelled while it is set
+
+abbrev StaysCancelled : RouteState → Type 0
+StaysCancelled route = (is_waiting route.phase ≡ false) × (is_set route.phase ≡ true → route.cancelled ≡ true)
+
+stays_quiet : (old new : RouteState) → IsQuiet old new → StaysCancelled old → StaysCancelled new
+stays_quiet old new (inl (same, kept)) is = (ap is_waiting same ∙ is.0, λ set. kept (is.1 (ap is_set (sym same) ∙ set)))
+stays_quiet old new (inr (over_now, undone, was_set, kept)) is = ((over_rests new.phase over_now).0, λ set. kept set (is.1 was_set))
+
+stays_keeps : RouteKeeps StaysCancelled
+stays_keeps = record {
+  quiet = stays_quiet;
+  withdrawn = λ route is proceeds. (refl, λ set. is.1 (proceeding_set route.phase proceeds));
+  waits_not = λ route is waits not_so. false≢true (sym is.0 ∙ waits);
+}
+
+abbrev StaysIn : ℕ → IxlState → Type 0
+StaysIn number ixl = (route : RouteState) → slice_get ixl.routes number ≡ Some route → StaysCancelled route
+
+stepped_stays : (site : Site) (table : Table) (number : ℕ) (input : Input) (world : WorldState) → ((command : Command) → input ≡ Commands command → ⊥) → StaysIn number world.station.ixl → StaysIn number (interlocking_stepped site table input world).station.ixl
+unfolding interlocking_stepped
+stepped_stays site table number input world none_so is = step_held (reading_of world.station.clock) table NoCommand (OfRoute number StaysCancelled) (route_keep (reading_of world.station.clock) table NoCommand none_comes number StaysCancelled stays_keeps)
+    (key_of site) input (begun_with world.station.ixl empty_outbox) none_so is
+
+-- so it is behind the cancel
+cancel_stays : (site : Site) (table : Table) (world : WorldState) (route : RouteId) (one : RouteState) → refusal (reading_of world.station.clock) table (commands.Cancel route) (all_clocked (reading_of world.station.clock) world.station.ixl) ≡ None
+    → slice_get world.station.ixl.routes route.0 ≡ Some one → is_proceeding one.phase ≡ true → StaysIn route.0 (interlocking_stepped site table (Commands (commands.Cancel route)) world).station.ixl
+unfolding interlocking_stepped stepped ticked given
+cancel_stays site table world route one none_so there proceeds =
+    behind_ending now table (OfRoute route.0 StaysCancelled) (route_keep now table NoCommand none_comes route.0 StaysCancelled stays_keeps).rules watched
+    (both_rules now table NoCommand (OfRoute route.0 StaysCancelled) (route_keep now table NoCommand none_comes route.0 StaysCancelled stays_keeps) watched watched_so)
+  where
+    now : ℕ
+    now = reading_of world.station.clock
+
+    clocked_part : StepSoFar
+    clocked_part = record (begun_with world.station.ixl empty_outbox) { ixl = all_clocked now world.station.ixl }
+
+    heard : StepSoFar
+    heard = record clocked_part { ixl = commanded_by (refusal now table (commands.Cancel route) clocked_part.ixl) (commands.Cancel route) clocked_part.ixl }
+
+    watched : StepSoFar
+    watched = over (watching table) (count table) heard
+
+    not_waiting : (p : Phase) → is_proceeding p ≡ true → is_waiting p ≡ false
+    not_waiting phase.Free e = refl
+    not_waiting phase.Waiting e = absurd (false≢true e)
+    not_waiting phase.Proceeding e = refl
+    not_waiting phase.Withdrawn e = refl
+    not_waiting (phase.Ended clock done) e = refl
+
+    heard_so : StaysIn route.0 heard.ixl
+    heard_so = subst (λ (cause : Option Refusal). StaysIn route.0 (commanded_by cause (commands.Cancel route) clocked_part.ixl)) (sym none_so) (λ later e.
+        let same = same_Some (record one { cancelled = true }) later (sym (cancelled_at clocked_part.ixl route one (ap (λ (routes : List RouteState). slice_get routes route.0) (clocked_routes now world.station.ixl) ∙ there)) ∙ e)
+        in subst StaysCancelled same (not_waiting one.phase proceeds, λ set. refl))
+
+    watched_so : OfRoute route.0 StaysCancelled watched.ixl.routes watched.ixl.known_signals
+    watched_so = over_held now table (OfRoute route.0 StaysCancelled) (route_keep now table NoCommand none_comes route.0 StaysCancelled stays_keeps).rules (watching table)
+        (watching_held now table NoCommand (OfRoute route.0 StaysCancelled) (route_keep now table NoCommand none_comes route.0 StaysCancelled stays_keeps)) (count table) heard heard_so
+
+cancelled_stays : (site : Site) (table : Table) (world : WorldState) (route : RouteId) (one : RouteState) → answered site table (event.Request (commands.Cancel route)) world ≡ answer.Accepted
+    → slice_get world.station.ixl.routes route.0 ≡ Some one → is_proceeding one.phase ≡ true → StaysIn route.0 (happens site table (event.Request (commands.Cancel route)) world).station.ixl
+unfolding happens
+cancelled_stays site table world route one accepted = cancel_stays site table world route one (accepted_so site table world route accepted)
+
+-- ---- two rounds later
+
+module _ (frees : FreeLaw) (laws : EndingLaws) (between : List Event) (later_rounds : List (List Event)) (before : List Event) (flowing : Flowing Played) (route : RouteId) (row : Row) (once : Once flowing.state.sited.site) (station : IsStation flowing.state.sited.site)
+    (is_table : IsTableOf flowing.state.sited.site flowing.state.sited.table) (reached : IsReached flowing.state.sited.site flowing.state.sited.table flowing.state.run) (work : Each IsWork between) (works : Each (Each IsWork) later_rounds)
+    (before_works : Each IsWork before) (can : HasTime (suc (2 + suc (length later_rounds))) flowing.state.run) (there : slice_get flowing.state.sited.table.rows route.0 ≡ Some row) (long : ready_rounds ≤ suc (suc (length later_rounds)))
+    (below : StaysBelowLimit flowing.state.sited.site row.entry (later_rounds ++ and_cancel route before ∷ [] ∷ [] ∷ []) (all_tried between (round stations flowing)))
+    (proceeds : At (as_cancel_comes (between ∷ later_rounds) before flowing).state.run.station.ixl.routes route.0 Proceeds) (accepted : AcceptsCancel route (as_cancel_comes (between ∷ later_rounds) before flowing).state) where
+  abbrev sited : SitedTable
+  sited = flowing.state.sited
+
+  abbrev last : List Event
+  last = and_cancel route before
+
+  abbrev first : List (List Event)
+  first = later_rounds ++ last ∷ []
+
+  abbrev ixl : List (List Event) → IxlState
+  ixl rounds = (good_rounds (between ∷ rounds) flowing).state.run.station.ixl
+
+  at : (rounds : List (List Event)) → IsAt sited (good_rounds (between ∷ rounds) flowing).state
+  at rounds = rounds_reached laws.authority.confirm.ready.up.link.times.reach sited (between ∷ rounds) flowing (record { same = refl; reached = reached })
+
+  third_is : (first ++ [] ∷ []) ++ [] ∷ [] ≡ later_rounds ++ last ∷ [] ∷ [] ∷ []
+  third_is = append_assoc first ([] ∷ []) ([] ∷ []) ∙ append_assoc later_rounds (last ∷ []) ([] ∷ [] ∷ [])
+
+  happened_so : IsAt sited (as_cancel_comes (between ∷ later_rounds) before flowing).state
+      × ((good_rounds (between ∷ first) flowing).state.run ≡ happens sited.site sited.table (event.Request (commands.Cancel route)) (as_cancel_comes (between ∷ later_rounds) before flowing).state.run)
+  happened_so = happened laws between later_rounds before flowing route row once station is_table reached work works before_works can there long below proceeds accepted
+
+  stays_first : StaysIn route.0 (ixl first)
+  stays_first = subst (λ (w : WorldState). StaysIn route.0 w.station.ixl) (sym happened_so.1) (cancelled_stays sited.site sited.table (as_cancel_comes (between ∷ later_rounds) before flowing).state.run route proceeds.0
+      (accepted_there (between ∷ later_rounds) before flowing route happened_so.0 accepted) proceeds.1 (ap is_proceeding proceeds.2))
+
+  stays_on : (rounds : List (List Event)) → StaysIn route.0 (ixl rounds) → StaysIn route.0 (ixl (rounds ++ [] ∷ []))
+  stays_on rounds is = subst (λ (f : Flowing Played). StaysIn route.0 f.state.run.station.ixl) (sym (last_round (between ∷ rounds) [] flowing))
+      (round_keeps sited (StaysIn route.0) (stepped_stays sited.site sited.table route.0) (good_rounds (between ∷ rounds) flowing) (at rounds).same is)
+
+  abbrev end : IxlState
+  end = (good_rounds (between ∷ (later_rounds ++ and_cancel route before ∷ [] ∷ [] ∷ [])) flowing).state.run.station.ixl
+
+  stays_end : StaysIn route.0 end
+  stays_end = subst (λ (l : List (List Event)). StaysIn route.0 (ixl l)) third_is (stays_on (first ++ [] ∷ []) (stays_on first stays_first))
+
+  none_end : NoneProceeds sited.table end row.entry
+  none_end = subst (λ (l : List (List Event)). NoneProceeds sited.table (ixl l) row.entry) third_is
+      (none_third laws between later_rounds last flowing row.entry once station is_table reached work
+      (all_works laws between later_rounds before flowing route row once station is_table reached work works before_works can there long below proceeds accepted) can
+      (few laws between later_rounds before flowing route row once station is_table reached work works before_works can there long below proceeds accepted) long below
+      (none laws between later_rounds before flowing route row once station is_table reached work works before_works can there long below proceeds accepted)).1
+
+  pub free_behind_cancel : (state : RouteState) → slice_get (good_rounds (between ∷ (later_rounds ++ and_cancel route before ∷ [] ∷ [] ∷ [])) flowing).state.run.station.ixl.routes route.0 ≡ Some state → IsUnseen row state
+      → AllClear flowing.state.sited.table (good_rounds (between ∷ (later_rounds ++ and_cancel route before ∷ [] ∷ [] ∷ [])) flowing).state.run.station.ixl row.sections → state.approached ≡ false → is_set state.phase ≡ false
+  free_behind_cancel state is unseen clear unapproached = by_phase state.phase refl
+    where
+      stays : StaysCancelled state
+      stays = stays_end state is
+
+      by_phase : (p : Phase) → state.phase ≡ p → is_set p ≡ false
+      by_phase phase.Free e = refl
+      by_phase phase.Waiting e = absurd (false≢true (sym stays.0 ∙ ap is_waiting e))
+      by_phase phase.Proceeding e = absurd (false≢true (sym (none_end route.0 row state (there, is) refl).1 ∙ ap is_proceeding e))
+      by_phase phase.Withdrawn e = absurd (authority_ends_behind_cancel laws between later_rounds before flowing route row once station is_table reached work works before_works can there long below proceeds accepted
+          (record { number = route.0; row = row; route = state; is_route = (there, is); entry = refl; withdrawn = e }))
+      by_phase (phase.Ended clock done) e = absurd (nothing_waits_to_be_freed frees sited.site sited.table (good_rounds (between ∷ (later_rounds ++ and_cancel route before ∷ [] ∷ [] ∷ [])) flowing).state.run route.0 row state (at (later_rounds ++ and_cancel route before ∷ [] ∷ [] ∷ [])).reached (there, is)
+          (λ reading. (stays.1 (ap is_set e), inr (clock, done, e, record { unseen = unseen; clear = clear; approach = inl unapproached }))))

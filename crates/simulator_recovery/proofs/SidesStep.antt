@@ -1,0 +1,231 @@
+-- What a point's client has given by each part of a step, where it awaits a report: what it had, or a move to a side last.
+use Rattle.std.proofs.Common.{◌≡◌, ◌≢◌, ◌⊎◌, inl, inr, ℕ, ◌∙◌, Bool, false, List, [], ◌∷◌, ◌++◌, length, map, Option, Some, None, slice_get, refl, sym, ap, subst}
+use Rattle.simulator_run.specs.layout.Entries.{Site}
+use Rattle.simulator_run.specs.rasta_core.State.{LinkState}
+use Rattle.simulator_run.specs.rasta_core.Steps.{all_made}
+use Rattle.simulator_run.specs.rasta_pdu.PduRead.{reading}
+use Rattle.simulator_run.specs.rasta_pdu.declared.key.Key.{Key}
+use Rattle.simulator_run.specs.sci_telegram.declared.message.Aspect.{Aspect}
+use Rattle.simulator_run.specs.sci_telegram.declared.message.Aspect.TheVariants as aspects
+use Rattle.simulator_run.specs.sci_telegram.declared.message.Side.{Side}
+use Rattle.simulator_run.specs.ixl_client.Client.{ClientState, PeerState}
+use Rattle.simulator_run.specs.ixl_client.ClientSoFar.{ClientSoFar, LinkCall, as_call, begun}
+use Rattle.simulator_run.specs.ixl_client.Step.{commanding, hearing, ticking}
+use Rattle.simulator_run.specs.ixl_client.declared.command.Command.TheVariants.{Indicate, Move}
+use Rattle.simulator_run.specs.ixl_client.declared.stage.Stage.TheVariants as stage
+use Rattle.simulator_run.specs.ixl_rules.Commands.{commanded_by, obeyed, refusal, unmoved_for}
+use Rattle.simulator_run.specs.ixl_rules.Rules.{count, ended, ending_authority, freed_by_cancel, freed_by_passage, freeing_by_cancel, freeing_by_passage, freeing_next, is_proceed_due, is_stop_due, moved, proceeding, ruled, withdrawing, withdrawn}
+use Rattle.simulator_run.specs.ixl_rules.State.{KnownPointState, changed}
+use Rattle.simulator_run.specs.ixl_rules.Step.{Commands, Datagram, Input, Tick, addressed, detector_hearing, detector_ticking, given, known_point_hearing, known_point_ticking, known_signal_hearing, known_signal_ticking, looking, looking_by, looks, node_hearing, occupied_heard, ticked, watching}
+use Rattle.simulator_run.specs.ixl_rules.StepSoFar.{Detector, Node, Point, Signal, StepSoFar, detector_after, giving_aspect, giving_move, noted, over, with_detector, with_one}
+use Rattle.simulator_run.specs.ixl_rules.Table.{Table}
+use Rattle.simulator_run.specs.ixl_rules.View.{is_signal_ready}
+use Rattle.simulator_run.specs.ixl_rules.declared.command.Command.{Command}
+use Rattle.simulator_run.specs.ixl_rules.declared.command.Command.TheVariants as commands
+use Rattle.simulator_run.specs.ixl_rules.declared.command.Refusal.{Refusal}
+use Rattle.simulator_machine_links.specs.Flows.{given_after}
+use Rattle.simulator_recovery.specs.ClientSaid.{commanded}
+use Rattle.simulator_recovery.specs.SidesOfMoves.{IsLast}
+use Rattle.simulator_recovery.proofs.ClientLinks.{commanding_peer, hearing_peer, ticking_peer}
+use Rattle.simulator_recovery.proofs.ClientTalk.{all_gave_behind, all_made_behind}
+use Rattle.simulator_recovery.proofs.DueShapes.{along_keeps, one_keeps, over_keeps, repeated_keeps, route_keeps, where_keeps}
+use Rattle.simulator_recovery.proofs.IxlClients.{mapped_at}
+use Rattle.simulator_recovery.proofs.IxlSoFar.{at_itself, at_node, at_other, is_node, other_place, set_at}
+use Rattle.simulator_recovery.proofs.Lists.{map_both}
+use Rattle.simulator_recovery.proofs.NothingDueMoves.{point_client}
+use Rattle.simulator_recovery.proofs.SidesClient.{GivesNothing, GivesOne, gives_move, hears_nothing, ticks_nothing}
+
+module _ (site : Site) (now connection point : ℕ) (side : Side) (olds : List KnownPointState) (link : LinkState) (gave : List (List ℕ)) where
+  abbrev pub so_far : List LinkCall → List (List ℕ)
+  so_far calls = given_after now (map (as_call connection) calls) link gave
+
+  -- the client of the point behind some calls: where it awaits a report it did so before the step, and has given the same since; or it
+  -- has given the move to the side last
+  pub record Gone (client : ClientState) (calls : List LinkCall) : Type 0 where
+    pub old : KnownPointState
+    pub there : slice_get olds point ≡ Some old
+    pub link_is : client.link ≡ (all_made now (map (as_call connection) calls) link).link
+    pub peer_is : client.peer ≡ old.client.peer
+    pub way : client.stage ≡ stage.AwaitsReport → ((old.client.stage ≡ stage.AwaitsReport) × (so_far calls ≡ gave)) ⊎ IsLast (commanded old.client.peer (Move side)) (so_far calls)
+
+  behind : (calls more : List LinkCall) (client : ClientState) → client.link ≡ (all_made now (map (as_call connection) calls) link).link
+      → so_far (calls ++ more) ≡ given_after now (map (as_call connection) more) client.link (so_far calls)
+  behind calls more client link_is = ap (λ cs. given_after now cs link gave) (map_both (as_call connection) calls more) ∙ all_gave_behind now connection (map (as_call connection) calls) (map (as_call connection) more) link gave
+      ∙ ap (λ (l : LinkState). given_after now (map (as_call connection) more) l (so_far calls)) (sym link_is)
+
+  link_behind : (calls more : List LinkCall) (client after : ClientState) → client.link ≡ (all_made now (map (as_call connection) calls) link).link → after.link ≡ (all_made now (map (as_call connection) more) client.link).link
+      → after.link ≡ (all_made now (map (as_call connection) (calls ++ more)) link).link
+  link_behind calls more client after link_is then_is = then_is ∙ ap (λ (l : LinkState). (all_made now (map (as_call connection) more) l).link) link_is
+      ∙ sym (all_made_behind now connection (map (as_call connection) calls) (map (as_call connection) more) link) ∙ ap (λ cs. (all_made now cs link).link) (sym (map_both (as_call connection) calls more))
+
+  nothing_more : (client after : ClientState) (calls more : List LinkCall) → Gone client calls → after.peer ≡ client.peer → GivesNothing now connection (so_far calls) client after more → Gone after (calls ++ more)
+  nothing_more client after calls more g peer_same n = record {
+    old = g.old;
+    there = g.there;
+    link_is = link_behind calls more client after g.link_is n.link_is;
+    peer_is = peer_same ∙ g.peer_is;
+    way = λ e. choose (behind calls more client g.link_is ∙ n.same e) (g.way (n.awaited e));
+  }
+    where
+      Way : List LinkCall → Type 0
+      Way list = ((g.old.client.stage ≡ stage.AwaitsReport) × (so_far list ≡ gave)) ⊎ IsLast (commanded g.old.client.peer (Move side)) (so_far list)
+
+      choose : so_far (calls ++ more) ≡ so_far calls → Way calls → Way (calls ++ more)
+      choose same (inl (awaited, is)) = inl (awaited, same ∙ is)
+      choose same (inr last) = inr (record { front = last.front; are = same ∙ last.are })
+
+  one_more : (client after : ClientState) (calls more : List LinkCall) → Gone client calls → after.peer ≡ client.peer → GivesOne now connection (commanded client.peer (Move side)) (so_far calls) client after more → Gone after (calls ++ more)
+  one_more client after calls more g peer_same n = record {
+    old = g.old;
+    there = g.there;
+    link_is = link_behind calls more client after g.link_is n.link_is;
+    peer_is = peer_same ∙ g.peer_is;
+    way = λ e. inr (record { front = so_far calls; are = behind calls more client g.link_is ∙ n.one e ∙ ap (λ (p : PeerState). so_far calls ++ commanded p (Move side) ∷ []) g.peer_is });
+  }
+
+  -- ---- a step so far
+
+  abbrev pub On : StepSoFar → Type 0
+  On part = (known : KnownPointState) → slice_get part.ixl.known_points point ≡ Some known → Gone known.client (at_node (Point point) part.calls)
+
+  elsewhere : (node : Node) (done : ClientSoFar) (part : StepSoFar) → is_node (Point point) node ≡ false → On part → On (noted node done part)
+  elsewhere node done part differ is known e = subst (Gone known.client) (sym (at_other (Point point) node differ part.calls done.calls)) (is known e)
+
+  -- a client of a point is another, by these calls more
+  here : (place : ℕ) (new : KnownPointState) (done : ClientSoFar) (part : StepSoFar) → (point ≡ place → Gone new.client (at_node (Point point) part.calls ++ done.calls)) → On part
+      → On (record (noted (Point place) done part) { ixl = record part.ixl { known_points = changed (λ old. new) place part.ixl.known_points } })
+  here place new done part so is known e = choose (set_at place new part.ixl.known_points point known e)
+    where
+      choose : ((point ≡ place) × (known ≡ new)) ⊎ ((point ≢ place) × (slice_get part.ixl.known_points point ≡ Some known)) → Gone known.client (at_node (Point point) (part.calls ++ map (λ call. (Point place, call)) done.calls))
+      choose (inl (same, f)) = subst (λ (n : ℕ). Gone known.client (at_node (Point point) (part.calls ++ map (λ call. (Point n, call)) done.calls))) same
+          (subst (λ (k : KnownPointState). Gone k.client (at_node (Point point) (part.calls ++ map (λ call. (Point point, call)) done.calls))) (sym f)
+          (subst (Gone new.client) (sym (at_itself (Point point) part.calls done.calls)) (so same)))
+      choose (inr (differ, f)) = subst (Gone known.client) (sym (at_other (Point point) (Point place) (other_place point place (λ same. differ (sym same))) part.calls done.calls)) (is known f)
+
+  -- its own parts
+  there_too : (place : ℕ) (part : StepSoFar) (known : KnownPointState) → slice_get part.ixl.known_points place ≡ Some known → On part → point ≡ place → Gone known.client (at_node (Point point) part.calls)
+  there_too place part known e is same = is known (ap (slice_get part.ixl.known_points) same ∙ e)
+
+  pub move_on : (place : ℕ) (to : Side) (part : StepSoFar) → ((known : KnownPointState) → point ≡ place → side ≡ to) → On part → On (giving_move now place to part)
+  unfolding giving_move
+  move_on place to part agreed is = one_keeps On (slice_get part.ixl.known_points place) _ part (λ known e.
+      here place _ (commanding now (Move to) (begun known.client part.outbox)) part (λ same.
+      subst (λ (c : ClientState). Gone c (at_node (Point point) part.calls ++ (commanding now (Move to) (begun known.client part.outbox)).calls)) (sym (point_client _ _ _))
+      (one_more known.client (commanding now (Move to) (begun known.client part.outbox)).client (at_node (Point point) part.calls) (commanding now (Move to) (begun known.client part.outbox)).calls
+      (there_too place part known e is same) (commanding_peer now (Move to) (begun known.client part.outbox))
+      (subst (λ (s : Side). GivesOne now connection (commanded known.client.peer (Move s)) (so_far (at_node (Point point) part.calls)) known.client (commanding now (Move to) (begun known.client part.outbox)).client
+      (commanding now (Move to) (begun known.client part.outbox)).calls) (sym (agreed known same)) (gives_move site now connection known.client part.outbox (so_far (at_node (Point point) part.calls)) to)))) is) is
+
+  aspect_on : (signal : ℕ) (aspect : Aspect) (part : StepSoFar) → On part → On (giving_aspect now signal aspect part)
+  unfolding giving_aspect
+  aspect_on signal aspect part is = one_keeps On (slice_get part.ixl.known_signals signal) _ part (λ known e. elsewhere (Signal signal) (commanding now (Indicate aspect) (begun known.client part.outbox)) part refl is) is
+
+  -- ---- the input
+
+  looking_on : (table : Table) (look : ℕ × Bool) (part : StepSoFar) → On part → On (looking table look part)
+  unfolding looking_by
+  looking_on table look part is = over_keeps On (looking_by look.0 look.1 table) (λ number q all. route_keeps On table number _ q (λ row one there at. where_keeps On _ q _ (λ due. all) all) all) (count table) part is
+
+  hearing_on : (table : Table) (bytes : List ℕ) (node : Node) (part : StepSoFar) → On part → On (node_hearing now table bytes node part)
+  unfolding node_hearing known_signal_hearing known_point_hearing detector_hearing
+  hearing_on table bytes (Signal place) part is = one_keeps On (slice_get part.ixl.known_signals place) _ part (λ known e. elsewhere (Signal place) (hearing now bytes (begun known.client part.outbox)) part refl is) is
+  hearing_on table bytes (Point place) part is = one_keeps On (slice_get part.ixl.known_points place) _ part (λ known e.
+      here place _ (hearing now bytes (begun known.client part.outbox)) part (λ same.
+      subst (λ (c : ClientState). Gone c (at_node (Point point) part.calls ++ (hearing now bytes (begun known.client part.outbox)).calls)) (sym (point_client _ _ _))
+      (nothing_more known.client (hearing now bytes (begun known.client part.outbox)).client (at_node (Point point) part.calls) (hearing now bytes (begun known.client part.outbox)).calls
+      (there_too place part known e is same) (hearing_peer now bytes (begun known.client part.outbox)) (hears_nothing site now connection known.client part.outbox (so_far (at_node (Point point) part.calls)) bytes))) is) is
+  hearing_on table bytes (Detector place) part is = one_keeps On (slice_get table.detectors place) _ part (λ sections f. one_keeps On (slice_get part.ixl.detectors place) _ part (λ known e.
+      let done = hearing now bytes (begun known.client part.outbox)
+      in along_keeps On (looking table) (looking_on table) (looks sections known done.heard done.client)
+      (with_detector place (detector_after (occupied_heard done.heard known.occupied) done.client) (noted (Detector place) done part)) (elsewhere (Detector place) done part refl is)) is) is
+
+  obeyed_on : (command : Command) (part : StepSoFar) → On part → On (record part { ixl = obeyed command part.ixl })
+  unfolding obeyed
+  obeyed_on (commands.Request route) part is known e =
+      let found = mapped_at (unmoved_for route.0) part.ixl.known_points point known e
+      in subst (λ (k : KnownPointState). Gone k.client (at_node (Point point) part.calls)) (sym found.2) (is found.0 found.1)
+  obeyed_on (commands.Cancel route) part is known e = is known e
+  obeyed_on commands.Resume part is known e = is known e
+
+  commanded_on : (cause : Option Refusal) (command : Command) (part : StepSoFar) → On part → On (record part { ixl = commanded_by cause command part.ixl })
+  commanded_on None command part is = obeyed_on command part is
+  commanded_on (Some cause) command part is = is
+
+  heard_on : (table : Table) (bytes : List ℕ) (found : Option Node) (part : StepSoFar) → On part → On (with_one found (node_hearing now table bytes) part)
+  heard_on table bytes None part is = is
+  heard_on table bytes (Some node) part is = hearing_on table bytes node part is
+
+  pub given_on : (table : Table) (key : Key) (input : Input) (part : StepSoFar) → On part → On (given now table key input part)
+  unfolding given
+  given_on table key Tick part is = is
+  given_on table key (Datagram bytes) part is = heard_on table bytes (addressed (reading key bytes) part.ixl) part is
+  given_on table key (Commands command) part is = commanded_on (refusal now table command part.ixl) command part is
+
+  -- ---- the rules
+
+  withdrawing_on : (table : Table) (number : ℕ) (part : StepSoFar) → On part → On (withdrawing now table number part)
+  unfolding withdrawing
+  withdrawing_on table number part is = route_keeps On table number _ part (λ row one there at. where_keeps On (is_stop_due table part.ixl row one) part _
+      (λ due. where_keeps On (is_signal_ready part.ixl row.entry) _ _ (λ ready. aspect_on row.entry aspects.Stop _ is) is) is) is
+
+  ending_on : (table : Table) (number : ℕ) (part : StepSoFar) → On part → On (ending_authority now table number part)
+  unfolding ending_authority
+  ending_on table number part is = route_keeps On table number _ part (λ row one there at. where_keeps On _ part _ (λ due. is) is) is
+
+  next_on : (table : Table) (number : ℕ) (part : StepSoFar) → On part → On (freeing_next table number part)
+  unfolding freeing_next
+  next_on table number part is = route_keeps On table number _ part (λ row one there at. where_keeps On _ part _ (λ due. is) is) is
+
+  passage_on : (table : Table) (number : ℕ) (part : StepSoFar) → On part → On (freeing_by_passage table number part)
+  unfolding freeing_by_passage
+  passage_on table number part is = route_keeps On table number _ part (λ row one there at. repeated_keeps On (length row.sections) (freeing_next table number) (next_on table number) part is) is
+
+  cancel_on : (table : Table) (number : ℕ) (part : StepSoFar) → On part → On (freeing_by_cancel now table number part)
+  unfolding freeing_by_cancel
+  cancel_on table number part is = route_keeps On table number _ part (λ row one there at. where_keeps On _ part _ (λ due. is) is) is
+
+  watching_on : (table : Table) (number : ℕ) (part : StepSoFar) → On part → On (watching table number part)
+  unfolding watching
+  watching_on table number part is = route_keeps On table number _ part (λ row one there at. where_keeps On _ part _ (λ due. is) is) is
+
+  pub until_moves_on : (table : Table) (part : StepSoFar) → On part → On (freed_by_cancel now table (over (watching table) (count table) part))
+  until_moves_on table part is =
+      over_keeps On (freeing_by_cancel now table) (cancel_on table) (count table) (freed_by_passage now table seen)
+      (over_keeps On (freeing_by_passage table) (passage_on table) (count table) (ended now table seen)
+      (over_keeps On (ending_authority now table) (ending_on table) (count table) (withdrawn now table seen)
+      (over_keeps On (withdrawing now table) (withdrawing_on table) (count table) seen (over_keeps On (watching table) (watching_on table) (count table) part is))))
+    where
+      seen : StepSoFar
+      seen = over (watching table) (count table) part
+
+  proceeding_on : (table : Table) (number : ℕ) (part : StepSoFar) → On part → On (proceeding now table number part)
+  unfolding proceeding
+  proceeding_on table number part is = route_keeps On table number _ part (λ row one there at. where_keeps On (is_proceed_due now table part.ixl row one) part _ (λ due. aspect_on row.entry row.aspect _ is) is) is
+
+  -- ---- ticks
+
+  signal_ticks_on : (place : ℕ) (part : StepSoFar) → On part → On (known_signal_ticking now place part)
+  unfolding known_signal_ticking
+  signal_ticks_on place part is = one_keeps On (slice_get part.ixl.known_signals place) _ part (λ known e. elsewhere (Signal place) (ticking now (begun known.client part.outbox)) part refl is) is
+
+  point_ticks_on : (place : ℕ) (part : StepSoFar) → On part → On (known_point_ticking now place part)
+  unfolding known_point_ticking
+  point_ticks_on place part is = one_keeps On (slice_get part.ixl.known_points place) _ part (λ known e.
+      here place _ (ticking now (begun known.client part.outbox)) part (λ same.
+      subst (λ (c : ClientState). Gone c (at_node (Point point) part.calls ++ (ticking now (begun known.client part.outbox)).calls)) (sym (point_client _ _ _))
+      (nothing_more known.client (ticking now (begun known.client part.outbox)).client (at_node (Point point) part.calls) (ticking now (begun known.client part.outbox)).calls
+      (there_too place part known e is same) (ticking_peer now (begun known.client part.outbox)) (ticks_nothing site now connection known.client part.outbox (so_far (at_node (Point point) part.calls))))) is) is
+
+  detector_ticks_on : (place : ℕ) (part : StepSoFar) → On part → On (detector_ticking now place part)
+  unfolding detector_ticking
+  detector_ticks_on place part is = one_keeps On (slice_get part.ixl.detectors place) _ part (λ known e. elsewhere (Detector place) (ticking now (begun known.client part.outbox)) part refl is) is
+
+  ticked_on : (input : Input) (part : StepSoFar) → On part → On (ticked now input part)
+  unfolding ticked
+  ticked_on Tick part is = over_keeps On (detector_ticking now) detector_ticks_on (length part.ixl.detectors) _
+      (over_keeps On (known_point_ticking now) point_ticks_on (length part.ixl.known_points) _ (over_keeps On (known_signal_ticking now) signal_ticks_on (length part.ixl.known_signals) part is))
+  ticked_on (Datagram bytes) part is = is
+  ticked_on (Commands command) part is = is
+
+  pub behind_moves_on : (table : Table) (input : Input) (part : StepSoFar) → On (moved now table part) → On (ticked now input (ruled now table part))
+  behind_moves_on table input part is = ticked_on input (ruled now table part) (over_keeps On (proceeding now table) (proceeding_on table) (count table) (moved now table part) is)
