@@ -1,5 +1,6 @@
 -- What is told behind the line of a fault.
-use Rattle.std.specs.Prelude.{◌≡◌, ◌⊎◌, ◌≤◌, ℕ, List, length, take, Option, Ok}
+use Rattle.std.specs.Prelude.{◌≡◌, ◌⊎◌, ◌≤◌, ℕ, List, length, take, Option, None, Ok}
+use Rattle.std.specs.Option.{unwrap_or}
 use Rattle.std.specs.Io.KnownBytes.{Appends}
 use Rattle.control_table.specs.layout.Entries.{Site}
 use Rattle.control_table.specs.layout.NamesResolved.{layout_in}
@@ -15,11 +16,11 @@ use Rattle.toml.specs.Data.{Members}
 use Rattle.toml.specs.Parse.{parse_document}
 use Rattle.station_check.specs.Report.{Explained}
 use Rattle.station_explain.specs.Advice.{advice_line}
-use Rattle.station_explain.specs.EntryAdvice.{missing_advice, wrong_advice}
+use Rattle.station_explain.specs.EntryAdvice.{missing_told, wrong_told}
 use Rattle.station_explain.specs.Places.{place_behind}
 use Rattle.station_explain.specs.RouteDetails.{table_advice}
-use Rattle.station_explain.specs.SharedAdvice.{double_advice, port_advice}
-use Rattle.station_explain.specs.UnknownAdvice.{unknown_advice}
+use Rattle.station_explain.specs.SharedAdvice.{double_told, port_told}
+use Rattle.station_explain.specs.UnknownAdvice.{unknown_told}
 use Rattle.station_explain.specs.declared.advice.Advice.{Advice}
 use Rattle.station_explain.specs.declared.advice.Advice.TheVariants.{Broken, Layout, Nothing}
 
@@ -39,18 +40,24 @@ abbrev pub IsByWritten : List ℕ → (LayoutText → Advice) → Advice → Typ
 IsByWritten text advice_of advice =
     (document : Members) × (document_of (parse_document text) ≡ Ok document) × (w : LayoutText) × (text_of document ≡ Ok w) × (advice ≡ advice_of w)
 
--- The advice for a fault that the document tells.
-abbrev pub document_advice : Members → LayoutFault → Advice
-document_advice document (fault.MissingKey place) = missing_advice document place
-document_advice document (fault.WrongKind place) = wrong_advice document place
-document_advice document f = Layout f
+-- What the document tells of a fault, where that is found.
+unfoldable pub document_told : Members → LayoutFault → Option Advice
+document_told document (fault.MissingKey place) = missing_told document place
+document_told document (fault.WrongKind place) = wrong_told document place
+document_told document f = None
 
--- The advice for a fault that what the text writes tells.
-abbrev pub written_advice : LayoutText → LayoutFault → Advice
-written_advice w (fault.UnknownName place) = unknown_advice w place
-written_advice w (fault.DoubleName place) = double_advice w place
-written_advice w (fault.DoubleJoint place) = port_advice w place
-written_advice w f = Layout f
+unfoldable pub document_advice : Members → LayoutFault → Advice
+document_advice document f = unwrap_or (document_told document f) (Layout f)
+
+-- What the text writes tells of a fault, where that is found.
+unfoldable pub written_told : LayoutText → LayoutFault → Option Advice
+written_told w (fault.UnknownName place) = unknown_told w place
+written_told w (fault.DoubleName place) = double_told w place
+written_told w (fault.DoubleJoint place) = port_told w place
+written_told w f = None
+
+unfoldable pub written_advice : LayoutText → LayoutFault → Advice
+written_advice w f = unwrap_or (written_told w f) (Layout f)
 
 -- The advice for a fault of a layout.
 abbrev pub IsFaultAdvice : List ℕ → LayoutFault → Advice → Type 0

@@ -44,7 +44,7 @@ abbrev pub limit_words : Place → List ℕ
 limit_words place = if nat_le place.entry (most place.table) then size_words place.table else number_words place.table
 
 -- the words for a fault of a layout
-abbrev pub layout_words : LayoutFault → List ℕ
+unfoldable pub layout_words : LayoutFault → List ℕ
 layout_words layout.Toml = codes "the text is no TOML"
 layout_words (layout.MissingKey place) = codes "a key is missing at " ++ place_words place
 layout_words (layout.WrongKind place) = codes "a value is of another kind or form at " ++ place_words place
@@ -68,7 +68,7 @@ route_at_fault (table.NotSymmetric at) = Some at
 route_at_fault table.OutOfMemory = None
 
 -- what a fault of a table says of its route
-abbrev pub route_words : TableFault → List ℕ
+unfoldable pub route_words : TableFault → List ℕ
 route_words (table.PathBroken at) = codes "has a path that breaks: a port in it isn't joined to a port of the next element, or an element is left where it was entered or from leg to leg"
 route_words (table.PathRepeats at) = codes "has an element twice on its path, or comes back to a section that it left"
 route_words (table.PointMissing at) = codes "has a point on its path that isn't written under its `points`"
@@ -85,5 +85,5 @@ words_at None why = codes "memory is lacking"
 words_at (Some route) why = route_text route ++ (codes " " ++ why)
 
 -- the words for a fault of a table
-abbrev pub table_words : TableFault → List ℕ
+unfoldable pub table_words : TableFault → List ℕ
 table_words f = words_at (route_at_fault f) (route_words f)

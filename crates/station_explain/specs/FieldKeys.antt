@@ -1,5 +1,5 @@
 -- The keys of entries, and what may stand under them.
-use Rattle.std.specs.Prelude.{ℕ, List, [], ◌∷◌, codes, Option, Some, None}
+use Rattle.std.specs.Prelude.{ℕ, Bool, true, false, List, [], ◌∷◌, codes, Option, Some, None}
 use Rattle.std.specs.Fmt.{signed_decimal}
 use Rattle.toml.specs.Data.{Data, string, integer, float, boolean, datetime, array, table}
 use Rattle.layout_text.specs.declared.fault.TableName.{TableName}
@@ -50,15 +50,14 @@ item_key key.Approach = Some key.Name
 item_key key.Extra = Some key.Name
 item_key _ = None
 
--- the keys that an entry has to have, in the order in which they are read
-abbrev pub required_keys : TableName → List FieldKey
-required_keys named.Station = key.Name ∷ key.Id ∷ []
-required_keys named.Track = key.Name ∷ key.Section ∷ []
-required_keys named.Point = key.Name ∷ key.Id ∷ key.Section ∷ []
-required_keys named.Signal = key.Name ∷ key.Id ∷ key.At ∷ []
-required_keys named.Detector = key.Name ∷ key.Id ∷ key.Sections ∷ []
-required_keys named.Route = key.Name ∷ key.Entry ∷ key.Exit ∷ key.Path ∷ key.Points ∷ []
-required_keys _ = []
+-- an entry that may have the key has to have it
+abbrev pub is_required : FieldKey → Bool
+is_required key.Code = false
+is_required key.Flank = false
+is_required key.Approach = false
+is_required key.Extra = false
+is_required key.Aspect = false
+is_required _ = true
 
 -- all keys of an entry, in the order in which they are read
 abbrev pub all_keys : TableName → List FieldKey
@@ -80,12 +79,16 @@ kind_of (datetime dt) = kind.DateTime
 kind_of (array ds) = kind.Array
 kind_of (table ms) = kind.Table
 
+unfoldable pub kind_word : Kind → List ℕ
+kind_word kind.Text = codes "a text"
+kind_word (kind.Integer z) = codes "an integer"
+kind_word kind.Float = codes "a float"
+kind_word kind.Boolean = codes "a boolean"
+kind_word kind.DateTime = codes "a date or a time"
+kind_word kind.Array = codes "an array"
+kind_word kind.Table = codes "a table"
+
 -- An integer is told itself, of other values the kind.
-abbrev pub kind_words : Kind → List ℕ
-kind_words kind.Text = codes "a text"
+unfoldable pub kind_words : Kind → List ℕ
 kind_words (kind.Integer z) = signed_decimal z
-kind_words kind.Float = codes "a float"
-kind_words kind.Boolean = codes "a boolean"
-kind_words kind.DateTime = codes "a date or a time"
-kind_words kind.Array = codes "an array"
-kind_words kind.Table = codes "a table"
+kind_words k = kind_word k

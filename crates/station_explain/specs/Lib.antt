@@ -1,4 +1,5 @@
 pub mod Places
+pub mod Search
 pub mod LayoutNames
 pub mod Joints
 pub mod FieldKeys
@@ -14,7 +15,6 @@ pub mod RouteSides
 pub mod SideDetails
 pub mod Repeats
 pub mod RouteDetails
-pub mod SideWords
 pub mod DetailWords
 pub mod Advice
 pub mod AdviceTold

@@ -1,11 +1,16 @@
 -- Places in a text, by line and column.
-use Rattle.std.specs.Prelude.{ℕ, ◌+◌, ◌-◌, ◌^◌, ◌==◌, ◌&&◌, Bool, List, min, nat_le, nat_lt, if◌then◌else◌}
+use Rattle.std.specs.Prelude.{ℕ, ◌+◌, ◌-◌, ◌^◌, ◌==◌, ◌&&◌, Bool, false, List, Option, Some, None, min, nat_le, nat_lt, if◌then◌else◌}
 use Rattle.std.specs.List.{fold}
 use Rattle.station_explain.specs.declared.text_place.TextPlace.{TextPlace}
 
 -- one more, up to the greatest number
 abbrev pub counted : ℕ → ℕ
 counted n = min (n + 1) (2 ^ 64 - 1)
+
+-- there is a value, and it passes a test
+abbrev pub some_and : {A : Type 0} → (A → Bool) → Option A → Bool
+some_and test None = false
+some_and test (Some x) = test x
 
 -- a byte that goes on with a character
 abbrev pub goes_on : ℕ → Bool

@@ -1,11 +1,17 @@
--- A port as it is written.
+-- Ports and sides as they are written.
 use Rattle.std.specs.Prelude.{ℕ, List, ◌++◌, codes}
+use Rattle.control_table.specs.sci_telegram.declared.message.Side.{Side}
+use Rattle.control_table.specs.sci_telegram.declared.message.Side.TheVariants as side
 use Rattle.layout_text.specs.declared.entries.End.{End}
 use Rattle.layout_text.specs.declared.entries.End.TheVariants as end
 use Rattle.layout_text.specs.declared.entries.PortName.{PortName}
 
+unfoldable pub side_word : Side → List ℕ
+side_word side.Left = codes "left"
+side_word side.Right = codes "right"
+
 -- the word of a port
-abbrev pub end_word : End → List ℕ
+unfoldable pub end_word : End → List ℕ
 end_word end.A = codes "a"
 end_word end.B = codes "b"
 end_word end.Tip = codes "tip"
@@ -14,5 +20,5 @@ end_word end.Right = codes "right"
 end_word end.End = codes "end"
 
 -- the name of its element, a dot and its word
-abbrev pub port_words : PortName → List ℕ
+unfoldable pub port_words : PortName → List ℕ
 port_words port = port.element ++ (codes "." ++ end_word port.end)

@@ -1,14 +1,13 @@
 //! What is told in a second line.
 
 ghost use Rattle.std.specs.Prelude.{◌≡◌, IfOk, Some};
-ghost use Rattle.station_explain.specs.Advice.{advice_line, broken_words};
+ghost use Rattle.station_explain.specs.Advice.{advice_line};
 
-use crate::detail::RouteDetail;
-use crate::detail_words::DetailWords;
-use crate::entry_words::{MissingWords, SharedWords, UnknownWords, WrongEntryWords, WrongWords};
-use crate::fault_words::{LayoutWords, TableWords};
-use crate::field_key::{ArrayItem, FieldKey, Kind, WrongValue};
+use crate::detail::{PathDetail, PointDetail};
+use crate::entry_words::Form;
+use crate::field_key::{FieldKey, Kind};
 use crate::text_place::TextPlace;
+use crate::words::Words;
 use arrayvec::ArrayString;
 use control_table::layout::{LayoutFault, Place, TableName};
 use control_table::sci_telegram::Name;
@@ -20,7 +19,7 @@ use std::fmt;
 const ADVICE_LENGTH: usize = 640;
 
 /// What is told in a second line.
-#[derive(Clone, Copy)]
+#[derive(Drop)]
 pub(crate) enum Advice {
     /// The text is no TOML from a place on.
     Broken(TextPlace),
@@ -28,22 +27,39 @@ pub(crate) enum Advice {
     Absent(TableName),
     /// An entry lacks a key.
     Missing(Place, FieldKey),
-    /// Another kind of value than is wanted stands under a key of an entry or in the array there, or one of another form.
-    Wrong(Place, WrongValue),
-    /// An entry, or what stands under its key, is of another kind or form than is wanted.
-    WrongEntry(Place, Kind),
+    /// Another kind of value than is wanted stands somewhere, or one of another form.
+    Wrong(Spot, Kind),
     /// An entry has something that the one at the second place has.
     Shared(Place, Common, Place),
-    /// An entry, or this item of an array in it, names this, which isn't there or is of another kind than is wanted.
-    Unknown(Place, Missed, ArrayItem),
+    /// An entry, or an item of an array in it, names this, which isn't there or is of another kind than is wanted.
+    Unknown(Spot, Missed),
     /// Another fault of the layout.
     Layout(LayoutFault),
-    /// A route has this fault.
-    Route(FaultyRoute, RouteDetail),
+    /// This is wrong with the path of a route.
+    Path(FaultyRoute, PathDetail),
+    /// This is wrong with the points of a route.
+    Points(FaultyRoute, PointDetail),
+    /// This point of a route's path isn't written.
+    Unwritten(FaultyRoute, Name),
+    /// A route lists itself as an extra conflict.
+    WithItself(FaultyRoute),
+    /// A route lists another as an extra conflict, which doesn't list it.
+    Unanswered(FaultyRoute, Name),
     /// Another fault of the table.
     Table(TableFault),
     /// There is no fault.
     Nothing,
+}
+
+/// Where something stands in a layout.
+#[derive(Clone, Copy)]
+pub(crate) enum Spot {
+    /// It is an entry, or what stands under the key of its entries.
+    Entry(Place),
+    /// Under a key of an entry.
+    Field(Place, FieldKey),
+    /// As an item of the array under a key of an entry, counted from 1.
+    Item(Place, FieldKey, usize),
 }
 
 /// What two entries have that may stand in a layout once.
@@ -80,42 +96,61 @@ pub(crate) enum Missed {
     Unreported(Name),
 }
 
-/// The text is no TOML from a place on.
-#[derive(Clone, Copy)]
-struct BrokenWords(TextPlace);
-
-impl fmt::Display for BrokenWords {
-    ghost output = { λ at. Some (broken_words at.0) };
-
-    fn fmt<W: fmt::Write>(&self, f: &mut fmt::Formatter<W>) -> fmt::Result {
-        let line = self.0.line;
-        let column = self.0.column;
-        write!(
-            f,
-            "the text is no TOML from line {line}, column {column} on"
-        )
-    }
-}
-
 impl fmt::Display for Advice {
     ghost output = { λ advice. Some (advice_line advice) };
 
+    #[tactic(auto, unfolding(crate::specs::Advice::advice_line))]
     fn fmt<W: fmt::Write>(&self, f: &mut fmt::Formatter<W>) -> fmt::Result {
-        match *self {
-            Advice::Broken(at) => write!(f, "{}\n", BrokenWords(at)),
+        match self {
+            Advice::Broken(at) => {
+                let line = at.line;
+                let column = at.column;
+                write!(
+                    f,
+                    "the text is no TOML from line {line}, column {column} on\n"
+                )
+            }
             Advice::Absent(table) => write!(f, "the key `{table}` is missing\n"),
-            Advice::Missing(place, key) => write!(f, "{}\n", MissingWords(place, key)),
-            Advice::Wrong(place, wrong) => write!(f, "{}\n", WrongWords(place, wrong)),
-            Advice::WrongEntry(place, kind) => write!(f, "{}\n", WrongEntryWords(place, kind)),
+            Advice::Missing(place, key) => {
+                let at = Words(*place);
+                let wanted = Form(Spot::Entry(*place));
+                write!(f, "{at} has no `{key}`: it has to be {wanted}\n")
+            }
+            Advice::Wrong(at, kind) => {
+                let wanted = Form(*at);
+                write!(f, "{at} is {kind}, and has to be {wanted}\n")
+            }
             Advice::Shared(place, common, first) => {
-                write!(f, "{}\n", SharedWords(place, common, first))
+                let at = Words(*place);
+                let first = Words(*first);
+                write!(f, "{at} {common} {first}\n")
             }
-            Advice::Unknown(place, missed, at) => {
-                write!(f, "{}\n", UnknownWords(place, missed, at))
+            Advice::Unknown(at, missed) => write!(f, "{at} {missed}\n"),
+            Advice::Layout(fault) => {
+                let words = Words(*fault);
+                write!(f, "{words}\n")
             }
-            Advice::Route(route, detail) => write!(f, "{}\n", DetailWords(route, detail)),
-            Advice::Layout(fault) => write!(f, "{}\n", LayoutWords(fault)),
-            Advice::Table(fault) => write!(f, "{}\n", TableWords(fault)),
+            Advice::Path(route, detail) => write!(f, "the path of {route} {detail}\n"),
+            Advice::Points(route, detail) => write!(f, "{route} {detail}\n"),
+            Advice::Unwritten(route, point) => {
+                let point = Words(*point);
+                write!(
+                    f,
+                    "point {point} lies on the path of {route} and isn't written under its `points`\n"
+                )
+            }
+            Advice::WithItself(route) => write!(f, "under `extra` {route} lists itself\n"),
+            Advice::Unanswered(route, other) => {
+                let other = Words(*other);
+                write!(
+                    f,
+                    "under `extra` {route} lists route {other}, which doesn't list it\n"
+                )
+            }
+            Advice::Table(fault) => {
+                let words = Words(*fault);
+                write!(f, "{words}\n")
+            }
             Advice::Nothing => Ok(()),
         }
     }

@@ -3,20 +3,18 @@
 ghost use Rattle.std.specs.Prelude.{◌≡◌, ◌⊎◌};
 ghost use Rattle.layout_text.specs.declared.fault.LayoutFault.TheVariants.{OutOfMemory};
 ghost use Rattle.toml.specs.View.{table_view};
-ghost use Rattle.station_explain.specs.AdviceTold.{IsAdvice, IsBroken, IsByDocument, IsByWritten, IsLayoutAdvice, IsTableAdvice, document_advice, written_advice};
-ghost use Rattle.station_explain.specs.RouteDetails.{found_detail, table_advice, told_of};
+ghost use Rattle.station_explain.specs.AdviceTold.{IsAdvice, IsBroken, IsByDocument, IsByWritten, IsLayoutAdvice, IsTableAdvice, document_advice, document_told, written_advice, written_told};
+ghost use Rattle.station_explain.specs.RouteDetails.{table_advice};
 ghost use Rattle.station_explain.specs.declared.advice.Advice.TheVariants as advised;
 
 use crate::advice::Advice;
-use crate::detail::RouteDetail;
-use crate::entry_advice::{missing_advice, wrong_advice};
-use crate::fault_words::route_at_fault;
-use crate::route_detail::detail_of;
-use crate::shared::{double_advice, port_advice};
+use crate::entry_advice::{missing_told, wrong_told};
+use crate::route_detail::table_detail;
+use crate::shared::{double_told, port_told};
 use crate::text_place::place_behind;
-use crate::unknown::unknown_advice;
+use crate::unknown::unknown_told;
 use control_table::layout::{Layout, LayoutFault};
-use control_table::{FaultyRoute, RouteId, TableFault, check};
+use control_table::{TableFault, check};
 use layout_text::{WrittenLayout, document, written};
 use std::alloc::Global;
 use toml::Table;
@@ -44,32 +42,12 @@ fn advice_on(alloc: Global, layout: Layout) -> Advice
     }
 }
 
-/// The detail of a fault of a route, if it is found.
-fn found_detail(layout: &Layout, fault: &TableFault, route: RouteId) -> Option<RouteDetail>
-    ensures { result ≡ found_detail layout.now fault.now route }
-{
-    match layout.routes().get(route.0) {
-        Some(entry) => detail_of(layout, entry, fault),
-        None => None,
-    }
-}
-
-/// The advice for a fault of a route.
-fn told_of(layout: &Layout, fault: &TableFault, at: FaultyRoute) -> Advice
-    ensures { result ≡ told_of layout.now fault.now at }
-{
-    match found_detail(layout, fault, at.id) {
-        Some(detail) => Advice::Route(at, detail),
-        None => Advice::Table(*fault),
-    }
-}
-
 /// The advice for a fault of the table.
 fn table_advice(layout: &Layout, fault: &TableFault) -> Advice
     ensures { result ≡ table_advice layout.now fault.now }
 {
-    match route_at_fault(fault) {
-        Some(at) => told_of(layout, fault, at),
+    match table_detail(layout, fault) {
+        Some(advice) => advice,
         None => Advice::Table(*fault),
     }
 }
@@ -101,14 +79,26 @@ fn broken(alloc: Global, text: &str) -> Advice
     }
 }
 
+/// What the document of a text tells of a fault.
+#[tactic(auto, unfolding(crate::specs::AdviceTold::document_told))]
+fn document_told(document: &Table, fault: LayoutFault) -> Option<Advice>
+    ensures { result ≡ document_told (table_view document.now) fault }
+{
+    match fault {
+        LayoutFault::MissingKey(place) => missing_told(document, place),
+        LayoutFault::WrongKind(place) => wrong_told(document, place),
+        _ => None,
+    }
+}
+
 /// The advice for a fault, by the document of its text.
+#[tactic(auto, unfolding(crate::specs::AdviceTold::document_advice))]
 fn document_advice(document: &Table, fault: LayoutFault) -> Advice
     ensures { result ≡ document_advice (table_view document.now) fault }
 {
-    match fault {
-        LayoutFault::MissingKey(place) => missing_advice(document, place),
-        LayoutFault::WrongKind(place) => wrong_advice(document, place),
-        other => Advice::Layout(other),
+    match document_told(document, fault) {
+        Some(advice) => advice,
+        None => Advice::Layout(fault),
     }
 }
 
@@ -122,15 +112,27 @@ fn by_document(alloc: Global, text: &str, fault: LayoutFault) -> Advice
     }
 }
 
+/// What a text that is written so tells of a fault.
+#[tactic(auto, unfolding(crate::specs::AdviceTold::written_told))]
+fn written_told(written: &WrittenLayout, fault: LayoutFault) -> Option<Advice>
+    ensures { result ≡ written_told written.now fault }
+{
+    match fault {
+        LayoutFault::UnknownName(place) => unknown_told(written, place),
+        LayoutFault::DoubleName(place) => double_told(written, place),
+        LayoutFault::DoubleJoint(place) => port_told(written, place),
+        _ => None,
+    }
+}
+
 /// The advice for a fault, by what its text writes.
+#[tactic(auto, unfolding(crate::specs::AdviceTold::written_advice))]
 fn written_advice(written: &WrittenLayout, fault: LayoutFault) -> Advice
     ensures { result ≡ written_advice written.now fault }
 {
-    match fault {
-        LayoutFault::UnknownName(place) => unknown_advice(written, place),
-        LayoutFault::DoubleName(place) => double_advice(written, place),
-        LayoutFault::DoubleJoint(place) => port_advice(written, place),
-        other => Advice::Layout(other),
+    match written_told(written, fault) {
+        Some(advice) => advice,
+        None => Advice::Layout(fault),
     }
 }
 

@@ -1,16 +1,15 @@
 //! Which key of an entry is missing, or has another value than is wanted.
 
-ghost use Rattle.std.specs.Prelude.{◌≡◌, option_map, is_some};
+ghost use Rattle.std.specs.Prelude.{◌≡◌, option_map};
 ghost use Rattle.toml.specs.Data.{get_member};
 ghost use Rattle.toml.specs.View.{view, table_view};
 ghost use Rattle.layout_text.specs.Messages.{table_text};
-ghost use Rattle.station_explain.specs.FieldKeys.{key_text, kind_of};
-ghost use Rattle.station_explain.specs.EntryAdvice.{entry_data, first_lacking, first_wrong, has_key, is_station, lacking_at, lacking_key, missing_advice, told_wrong, wrong_advice, wrong_at, wrong_entry, wrong_item, wrong_key};
+ghost use Rattle.station_explain.specs.EntryAdvice.{entry_data, first_lacking, first_wrong, missing_told, wrong_at, wrong_field, wrong_told};
 
-use crate::advice::Advice;
-use crate::field_key::{ArrayItem, FieldKey, Kind, WrongValue, kind_of};
-use crate::value_forms::{fits, unfit_item};
-use layout_text::{LayoutFault, Place, TableName};
+use crate::advice::{Advice, Spot};
+use crate::field_key::{FieldKey, keys_of, kind_of};
+use crate::value_forms::misfit;
+use layout_text::{Place, TableName};
 use toml::{Table, Value};
 
 /// The word of a key of the layout.
@@ -37,181 +36,79 @@ fn member<'a>(table: &'a Table, key: &str) -> Option<&'a Value>
     table.get(key)
 }
 
-/// What stands under a key of the layout.
-fn value_under<'a>(document: &'a Table, table: TableName) -> Option<&'a Value>
-    ensures { option_map (λ v. view v.now) result ≡ get_member (table_text table) (table_view document.now) }
-{
-    member(document, table_word(table))
-}
-
 /// The value of an entry, or of the key itself.
+#[tactic(auto, unfolding(crate::specs::EntryAdvice::entry_data))]
 fn entry_data<'a>(document: &'a Table, place: Place) -> Option<&'a Value>
     ensures { option_map (λ v. view v.now) result ≡ entry_data place (table_view document.now) }
 {
-    match value_under(document, place.table) {
-        Some(value) if place.entry == 0 || is_station(place.table) => Some(value),
-        Some(value) => value.get(place.entry.saturating_sub(1)),
-        None => None,
+    let value = member(document, table_word(place.table))?;
+    match place.table {
+        TableName::Station => Some(value),
+        _ if place.entry == 0 => Some(value),
+        _ => value.get(place.entry.saturating_sub(1)),
     }
 }
 
-/// Whether a key is that of the station.
-pub(crate) fn is_station(table: TableName) -> bool
-    ensures { result ≡ is_station table }
-{
-    matches!(table, TableName::Station)
-}
-
-/// Whether an entry has a key.
-fn has_key(fields: &Table, key: FieldKey) -> bool
-    ensures { result ≡ has_key (table_view fields.now) key }
-{
-    member(fields, key.word()).is_some()
-}
-
-/// The first of these keys that an entry lacks.
+/// The first of these keys that an entry has to have, and lacks.
 fn first_lacking(fields: &Table, keys: &[FieldKey]) -> Option<FieldKey>
     ensures { result ≡ first_lacking (table_view fields.now) keys.now }
 {
     for key in keys {
-        if !has_key(fields, *key) {
+        if key.is_required() && member(fields, key.word()).is_none() {
             return Some(*key);
         }
     }
     None
 }
 
-/// The first key that an entry of a table has to have, and lacks.
-fn lacking_key(table: TableName, fields: &Table) -> Option<FieldKey>
-    ensures { result ≡ lacking_key table (table_view fields.now) }
-{
-    use FieldKey::{At, Entry, Exit, Id, Name, Path, Points, Section, Sections};
-    match table {
-        TableName::Station => first_lacking(fields, &[Name, Id]),
-        TableName::Track => first_lacking(fields, &[Name, Section]),
-        TableName::Point => first_lacking(fields, &[Name, Id, Section]),
-        TableName::Signal => first_lacking(fields, &[Name, Id, At]),
-        TableName::Detector => first_lacking(fields, &[Name, Id, Sections]),
-        TableName::Route => first_lacking(fields, &[Name, Entry, Exit, Path, Points]),
-        _ => None,
-    }
-}
-
-/// The advice where a key is missing at a place.
-pub(crate) fn missing_advice(document: &Table, place: Place) -> Advice
-    ensures { result ≡ missing_advice (table_view document.now) place }
+/// The advice where a key is missing at a place: the first one that the entry there has to have, and lacks.
+pub(crate) fn missing_told(document: &Table, place: Place) -> Option<Advice>
+    ensures { result ≡ missing_told (table_view document.now) place }
 {
     if place.entry == 0 {
-        return Advice::Absent(place.table);
+        return Some(Advice::Absent(place.table));
     }
-    match lacking_at(document, place) {
-        Some(key) => Advice::Missing(place, key),
-        None => Advice::Layout(LayoutFault::MissingKey(place)),
-    }
+    let fields = entry_data(document, place)?.as_table()?;
+    let key = first_lacking(fields, keys_of(place.table))?;
+    Some(Advice::Missing(place, key))
 }
 
-/// The first key that the entry at a place has to have, and lacks.
-fn lacking_at(document: &Table, place: Place) -> Option<FieldKey>
-    ensures { result ≡ lacking_at (table_view document.now) place }
+/// What is wrong with what stands under a key of an entry.
+fn wrong_at(place: Place, fields: &Table, key: FieldKey) -> Option<Advice>
+    ensures { result ≡ wrong_at place (table_view fields.now) key }
 {
-    let value = entry_data(document, place)?;
-    let fields = value.as_table()?;
-    lacking_key(place.table, fields)
+    misfit(place, key, member(fields, key.word())?)
 }
 
-/// The first item of an array that isn't as its key wants it: its place, counted from 1, and its kind.
-fn wrong_item(key: FieldKey, value: &Value) -> Option<(usize, Kind)>
-    ensures { result ≡ wrong_item key (view value.now) }
-{
-    let one = key.of_items()?;
-    let items = value.as_array()?;
-    unfit_item(one, items.as_slice())
-}
-
-/// What is wrong with a value that hasn't the form that its key wants.
-fn told_wrong(key: FieldKey, value: &Value) -> WrongValue
-    ensures { result ≡ told_wrong key (kind_of (view value.now)) (wrong_item key (view value.now)) }
-{
-    match wrong_item(key, value) {
-        Some((place, kind)) => WrongValue {
-            at: ArrayItem { key, place },
-            kind,
-        },
-        None => WrongValue {
-            at: ArrayItem { key, place: 0 },
-            kind: kind_of(value),
-        },
-    }
-}
-
-/// What stands under a key, if it hasn't the form that is wanted.
-fn wrong_at(fields: &Table, key: FieldKey) -> Option<WrongValue>
-    ensures { result ≡ wrong_at (table_view fields.now) key }
-{
-    match member(fields, key.word()) {
-        Some(value) if fits(key, value) => None,
-        Some(value) => Some(told_wrong(key, value)),
-        None => None,
-    }
-}
-
-/// The first of these keys under which another value stands than is wanted.
-fn first_wrong(fields: &Table, keys: &[FieldKey]) -> Option<WrongValue>
-    ensures { result ≡ first_wrong (table_view fields.now) keys.now }
+/// What is wrong with the first of these keys of an entry under which another value stands than is wanted.
+fn first_wrong(place: Place, fields: &Table, keys: &[FieldKey]) -> Option<Advice>
+    ensures { result ≡ first_wrong place (table_view fields.now) keys.now }
 {
     for key in keys {
-        if let Some(found) = wrong_at(fields, *key) {
+        if let Some(found) = wrong_at(place, fields, *key) {
             return Some(found);
         }
     }
     None
 }
 
-/// The first key of an entry of a table under which another value stands than is wanted.
-fn wrong_key(table: TableName, fields: &Table) -> Option<WrongValue>
-    ensures { result ≡ wrong_key table (table_view fields.now) }
+/// What is wrong with a key of an entry that has this value.
+#[tactic(auto, unfolding(crate::specs::EntryAdvice::wrong_field))]
+fn wrong_field(place: Place, value: &Value) -> Option<Advice>
+    ensures { result ≡ wrong_field place (view value.now) }
 {
-    use FieldKey::{
-        Approach, Aspect, At, Code, Entry, Exit, Extra, Flank, Id, Name, Path, Points, Section,
-        Sections,
-    };
-    match table {
-        TableName::Station => first_wrong(fields, &[Name, Id, Code]),
-        TableName::Track => first_wrong(fields, &[Name, Section]),
-        TableName::Point => first_wrong(fields, &[Name, Id, Section]),
-        TableName::Signal => first_wrong(fields, &[Name, Id, At]),
-        TableName::Detector => first_wrong(fields, &[Name, Id, Sections]),
-        TableName::Route => first_wrong(
-            fields,
-            &[
-                Name, Entry, Exit, Path, Points, Flank, Approach, Extra, Aspect,
-            ],
-        ),
-        _ => None,
+    if place.entry == 0 {
+        return None;
     }
-}
-
-/// The advice where the value of an entry is of another kind or form than is wanted.
-fn wrong_entry(place: Place, value: &Value) -> Advice
-    ensures { result ≡ wrong_entry place (view value.now) }
-{
-    let wrong = match value.as_table() {
-        Some(fields) => wrong_key(place.table, fields),
-        None => None,
-    };
-    match wrong {
-        Some(wrong) => Advice::Wrong(place, wrong),
-        None => Advice::WrongEntry(place, kind_of(value)),
-    }
+    let fields = value.as_table()?;
+    first_wrong(place, fields, keys_of(place.table))
 }
 
 /// The advice where a value is of another kind or form than is wanted.
-pub(crate) fn wrong_advice(document: &Table, place: Place) -> Advice
-    ensures { result ≡ wrong_advice (table_view document.now) place }
+pub(crate) fn wrong_told(document: &Table, place: Place) -> Option<Advice>
+    ensures { result ≡ wrong_told (table_view document.now) place }
 {
-    match entry_data(document, place) {
-        Some(value) if place.entry == 0 => Advice::WrongEntry(place, kind_of(value)),
-        Some(value) => wrong_entry(place, value),
-        None => Advice::Layout(LayoutFault::WrongKind(place)),
-    }
+    let value = entry_data(document, place)?;
+    let itself = Advice::Wrong(Spot::Entry(place), kind_of(value));
+    Some(wrong_field(place, value).unwrap_or(itself))
 }

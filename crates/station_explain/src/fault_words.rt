@@ -1,10 +1,11 @@
 //! What the faults mean whose place alone is told.
 
 ghost use Rattle.std.specs.Prelude.{◌≡◌, Some};
-ghost use Rattle.station_explain.specs.FaultWords.{layout_words, limit_words, most, number_words, route_at_fault, route_words, size_words, table_words};
+ghost use Rattle.station_explain.specs.FaultWords.{layout_words, limit_words, most, route_words, table_words};
 
-use crate::entry_words::PlaceWords;
-use control_table::{FaultyRoute, TableFault};
+use crate::route_detail::route_at_fault;
+use crate::words::Words;
+use control_table::TableFault;
 use layout_text::{LayoutFault, Place, TableName};
 use std::fmt;
 
@@ -21,22 +22,18 @@ fn most(table: TableName) -> usize
     }
 }
 
-/// Why an entry is too large.
-fn size_words(table: TableName) -> &'static str
-    ensures { result.now ≡ size_words table }
+/// Which limit an entry goes beyond: it is too large, or one too many.
+fn limit_words(place: Place) -> &'static str
+    ensures { result.now ≡ limit_words place }
 {
-    match table {
-        TableName::Detector => "reports no section, or more than 16",
-        TableName::Route => "has a path of more than 64 elements",
-        _ => "is too large",
+    if place.entry <= most(place.table) {
+        return match place.table {
+            TableName::Detector => "reports no section, or more than 16",
+            TableName::Route => "has a path of more than 64 elements",
+            _ => "is too large",
+        };
     }
-}
-
-/// That an entry is one too many.
-fn number_words(table: TableName) -> &'static str
-    ensures { result.now ≡ number_words table }
-{
-    match table {
+    match place.table {
         TableName::Section | TableName::Route => "is one too many: there may be 64",
         TableName::Track => "is one too many: there may be 128",
         TableName::Point | TableName::Signal => "is one too many: there may be 32",
@@ -45,75 +42,45 @@ fn number_words(table: TableName) -> &'static str
     }
 }
 
-/// Which limit an entry goes beyond.
-fn limit_words(place: Place) -> &'static str
-    ensures { result.now ≡ limit_words place }
-{
-    if place.entry <= most(place.table) {
-        return size_words(place.table);
-    }
-    number_words(place.table)
-}
-
-/// The words for a fault of a layout.
-#[derive(Clone, Copy)]
-pub(crate) struct LayoutWords(pub(crate) LayoutFault);
-
-impl fmt::Display for LayoutWords {
+impl fmt::Display for Words<LayoutFault> {
     ghost output = { λ words. Some (layout_words words.0) };
 
+    #[tactic(auto, unfolding(crate::specs::FaultWords::layout_words))]
     fn fmt<W: fmt::Write>(&self, f: &mut fmt::Formatter<W>) -> fmt::Result {
         match self.0 {
-            LayoutFault::Toml => write!(f, "the text is no TOML"),
+            LayoutFault::Toml => f.write_str("the text is no TOML"),
             LayoutFault::MissingKey(place) => {
-                let at = PlaceWords(place);
+                let at = Words(place);
                 write!(f, "a key is missing at {at}")
             }
             LayoutFault::WrongKind(place) => {
-                let at = PlaceWords(place);
+                let at = Words(place);
                 write!(f, "a value is of another kind or form at {at}")
             }
             LayoutFault::UnknownName(place) => {
-                let at = PlaceWords(place);
+                let at = Words(place);
                 write!(f, "{at} names something that isn't there")
             }
             LayoutFault::DoubleName(place) => {
-                let at = PlaceWords(place);
+                let at = Words(place);
                 write!(f, "{at} reports a section twice")
             }
             LayoutFault::DoubleJoint(place) => {
-                let at = PlaceWords(place);
+                let at = Words(place);
                 write!(f, "{at} joins a port with itself")
             }
             LayoutFault::Limit(place) => {
-                let at = PlaceWords(place);
+                let at = Words(place);
                 let why = limit_words(place);
                 write!(f, "{at} {why}")
             }
-            LayoutFault::OutOfMemory => write!(f, "memory is lacking"),
+            LayoutFault::OutOfMemory => f.write_str("memory is lacking"),
         }
     }
 }
 
-/// The route at which a fault is told.
-pub(crate) fn route_at_fault(fault: &TableFault) -> Option<FaultyRoute>
-    ensures { result ≡ route_at_fault fault.now }
-{
-    match fault {
-        TableFault::PathBroken(at)
-        | TableFault::PathRepeats(at)
-        | TableFault::PointMissing(at)
-        | TableFault::PointWrong(at)
-        | TableFault::FlankMissing(at)
-        | TableFault::FlankOpen(at)
-        | TableFault::FlankContradicts(at)
-        | TableFault::SignalPlace(at)
-        | TableFault::NotSymmetric(at) => Some(*at),
-        TableFault::OutOfMemory => None,
-    }
-}
-
 /// What a fault says of its route.
+#[tactic(auto, unfolding(crate::specs::FaultWords::route_words))]
 fn route_words(fault: &TableFault) -> &'static str
     ensures { result.now ≡ route_words fault.now }
 {
@@ -147,20 +114,17 @@ fn route_words(fault: &TableFault) -> &'static str
     }
 }
 
-/// The words for a fault of a table.
-#[derive(Clone, Copy)]
-pub(crate) struct TableWords(pub(crate) TableFault);
-
-impl fmt::Display for TableWords {
+impl fmt::Display for Words<TableFault> {
     ghost output = { λ words. Some (table_words words.0) };
 
+    #[tactic(auto, unfolding(crate::specs::FaultWords::table_words))]
     fn fmt<W: fmt::Write>(&self, f: &mut fmt::Formatter<W>) -> fmt::Result {
         match route_at_fault(&self.0) {
             Some(route) => {
                 let why = route_words(&self.0);
                 write!(f, "{route} {why}")
             }
-            None => write!(f, "memory is lacking"),
+            None => f.write_str("memory is lacking"),
         }
     }
 }

@@ -2,8 +2,9 @@
 
 ghost use Rattle.std.specs.Prelude.{◌≡◌, Some};
 ghost use Rattle.toml.specs.View.{view};
-ghost use Rattle.station_explain.specs.FieldKeys.{form_words, item_key, key_text, kind_of, kind_words};
+ghost use Rattle.station_explain.specs.FieldKeys.{all_keys, form_words, is_required, item_key, key_text, kind_of, kind_word, kind_words};
 
+use layout_text::TableName;
 use std::fmt;
 use toml::Value;
 
@@ -71,9 +72,7 @@ impl FieldKey {
             FieldKey::Aspect => "`proceed` or `slow`",
         }
     }
-}
 
-impl FieldKey {
     /// The key that wants of its value what this one wants of each item of its array.
     pub(crate) fn of_items(self) -> Option<FieldKey>
         ensures { result ≡ item_key self }
@@ -83,6 +82,65 @@ impl FieldKey {
             FieldKey::Path => Some(FieldKey::At),
             _ => None,
         }
+    }
+
+    /// Whether an entry that may have the key has to have it.
+    pub(crate) fn is_required(self) -> bool
+        ensures { result ≡ is_required self }
+    {
+        match self {
+            FieldKey::Code
+            | FieldKey::Flank
+            | FieldKey::Approach
+            | FieldKey::Extra
+            | FieldKey::Aspect => false,
+            _ => true,
+        }
+    }
+}
+
+const STATION_KEYS: &[FieldKey] = &[FieldKey::Name, FieldKey::Id, FieldKey::Code];
+
+const TRACK_KEYS: &[FieldKey] = &[FieldKey::Name, FieldKey::Section];
+
+const POINT_KEYS: &[FieldKey] = &[FieldKey::Name, FieldKey::Id, FieldKey::Section];
+
+const SIGNAL_KEYS: &[FieldKey] = &[FieldKey::Name, FieldKey::Id, FieldKey::At];
+
+const DETECTOR_KEYS: &[FieldKey] = &[FieldKey::Name, FieldKey::Id, FieldKey::Sections];
+
+const ROUTE_KEYS: &[FieldKey] = &[
+    FieldKey::Name,
+    FieldKey::Entry,
+    FieldKey::Exit,
+    FieldKey::Path,
+    FieldKey::Points,
+    FieldKey::Flank,
+    FieldKey::Approach,
+    FieldKey::Extra,
+    FieldKey::Aspect,
+];
+
+/// The keys of an entry of a table, in the order in which they are read.
+pub(crate) fn keys_of(table: TableName) -> &'static [FieldKey]
+    ensures { result.now ≡ all_keys table }
+{
+    match table {
+        TableName::Station => STATION_KEYS,
+        TableName::Track => TRACK_KEYS,
+        TableName::Point => POINT_KEYS,
+        TableName::Signal => SIGNAL_KEYS,
+        TableName::Detector => DETECTOR_KEYS,
+        TableName::Route => ROUTE_KEYS,
+        TableName::Section | TableName::Border | TableName::Joint => &[],
+    }
+}
+
+impl fmt::Display for FieldKey {
+    ghost output = { λ key. Some (key_text key) };
+
+    fn fmt<W: fmt::Write>(&self, f: &mut fmt::Formatter<W>) -> fmt::Result {
+        f.write_str(self.word())
     }
 }
 
@@ -99,38 +157,34 @@ pub(crate) enum Kind {
     Table,
 }
 
-impl fmt::Display for Kind {
-    ghost output = { λ kind. Some (kind_words kind) };
-
-    fn fmt<W: fmt::Write>(&self, f: &mut fmt::Formatter<W>) -> fmt::Result {
+impl Kind {
+    /// The word of the kind.
+    #[tactic(auto, unfolding(crate::specs::FieldKeys::kind_word))]
+    fn word(self) -> &'static str
+        ensures { result.now ≡ kind_word self }
+    {
         match self {
-            Kind::Text => write!(f, "a text"),
-            Kind::Integer(value) => write!(f, "{value}"),
-            Kind::Float => write!(f, "a float"),
-            Kind::Boolean => write!(f, "a boolean"),
-            Kind::DateTime => write!(f, "a date or a time"),
-            Kind::Array => write!(f, "an array"),
-            Kind::Table => write!(f, "a table"),
+            Kind::Text => "a text",
+            Kind::Integer(_) => "an integer",
+            Kind::Float => "a float",
+            Kind::Boolean => "a boolean",
+            Kind::DateTime => "a date or a time",
+            Kind::Array => "an array",
+            Kind::Table => "a table",
         }
     }
 }
 
-/// An item of an array under a key of an entry.
-#[derive(Clone, Copy)]
-pub(crate) struct ArrayItem {
-    /// The key.
-    pub(crate) key: FieldKey,
-    /// Which item it is, counted from 1; 0 where it is none.
-    pub(crate) place: usize,
-}
+impl fmt::Display for Kind {
+    ghost output = { λ kind. Some (kind_words kind) };
 
-/// What is wrong with what stands under a key of an entry.
-#[derive(Clone, Copy)]
-pub(crate) struct WrongValue {
-    /// The key, and which item of the array there is wrong; none where the value itself is.
-    pub(crate) at: ArrayItem,
-    /// What kind of value it is.
-    pub(crate) kind: Kind,
+    #[tactic(auto, unfolding(crate::specs::FieldKeys::kind_words))]
+    fn fmt<W: fmt::Write>(&self, f: &mut fmt::Formatter<W>) -> fmt::Result {
+        match self {
+            Kind::Integer(value) => write!(f, "{value}"),
+            other => f.write_str(other.word()),
+        }
+    }
 }
 
 /// The kind of a value.

@@ -1,13 +1,14 @@
 //! What the entries of a layout are called.
 
 ghost use Rattle.std.specs.Prelude.{◌≡◌};
-ghost use Rattle.station_explain.specs.LayoutNames.{element_name, exit_name, point_name, port_name, route_name, signal_name};
+ghost use Rattle.station_explain.specs.LayoutNames.{element_name, exit_name, leg_names, point_name, port_name, signal_name};
 
-use control_table::layout::{Element, Exit, Layout, PointId, Port, RouteId};
+use control_table::layout::{Element, Exit, Layout, PointId, Port};
 use control_table::sci_telegram::Name;
 use layout_text::PortName;
 
 /// The name of a point.
+#[tactic(auto, unfolding(crate::specs::LayoutNames::point_name))]
 pub(crate) fn point_name(layout: &Layout, point: PointId) -> Option<Name>
     ensures { result ≡ point_name layout.now point }
 {
@@ -15,20 +16,15 @@ pub(crate) fn point_name(layout: &Layout, point: PointId) -> Option<Name>
 }
 
 /// The name of a signal, by its place in the layout.
+#[tactic(auto, unfolding(crate::specs::LayoutNames::signal_name))]
 pub(crate) fn signal_name(layout: &Layout, place: usize) -> Option<Name>
     ensures { result ≡ signal_name layout.now place }
 {
     Some(layout.signals().get(place)?.name)
 }
 
-/// The name of a route.
-pub(crate) fn route_name(layout: &Layout, route: RouteId) -> Option<Name>
-    ensures { result ≡ route_name layout.now route }
-{
-    Some(*layout.routes().get(route.0)?.name())
-}
-
 /// The name of an element.
+#[tactic(auto, unfolding(crate::specs::LayoutNames::element_name))]
 pub(crate) fn element_name(layout: &Layout, element: Element) -> Option<Name>
     ensures { result ≡ element_name layout.now element }
 {
@@ -40,6 +36,7 @@ pub(crate) fn element_name(layout: &Layout, element: Element) -> Option<Name>
 }
 
 /// A port by the name of its element.
+#[tactic(auto, unfolding(crate::specs::LayoutNames::port_name))]
 pub(crate) fn port_name(layout: &Layout, port: Port) -> Option<PortName>
     ensures { result ≡ port_name layout.now port }
 {
@@ -50,7 +47,18 @@ pub(crate) fn port_name(layout: &Layout, port: Port) -> Option<PortName>
     })
 }
 
+/// A leg and what is joined to it, by name.
+#[tactic(auto, unfolding(crate::specs::LayoutNames::leg_names))]
+pub(crate) fn leg_names(layout: &Layout, leg: Port, from: Port) -> Option<(PortName, PortName)>
+    ensures { result ≡ leg_names layout.now leg from }
+{
+    let leg = port_name(layout, leg)?;
+    let from = port_name(layout, from)?;
+    Some((leg, from))
+}
+
 /// The name of the signal or the border at which a route ends.
+#[tactic(auto, unfolding(crate::specs::LayoutNames::exit_name))]
 pub(crate) fn exit_name(layout: &Layout, exit: Exit) -> Option<Name>
     ensures { result ≡ exit_name layout.now exit }
 {

@@ -2,16 +2,16 @@
 
 ghost use Rattle.std.specs.Prelude.{◌≡◌, false};
 ghost use Rattle.control_table.specs.Topology.{section_of};
-ghost use Rattle.station_explain.specs.Repeats.{back_at, back_in, comes_back, comes_twice, is_behind, lies_in, next_visit, repeated_detail, section_name, twice_at, twice_in};
-ghost use Rattle.station_explain.specs.declared.repeats.Visit.TheVariants.{Before};
+ghost use Rattle.station_explain.specs.Repeats.{back_at, comes_back, comes_twice, lies_in, repeated_detail, twice_at};
 
-use crate::detail::RouteDetail;
+use crate::detail::PathDetail;
 use crate::joints::same_element;
 use crate::layout_names::element_name;
+use crate::search::first_of;
 use control_table::layout::{Element, Layout, Port, Route, SectionId};
-use control_table::sci_telegram::Name;
 
 /// Whether an element comes twice on a path.
+#[tactic(auto, unfolding(crate::specs::Repeats::comes_twice))]
 fn comes_twice(path: &[Port], element: Element) -> bool
     ensures { result ≡ comes_twice element false path.now }
 {
@@ -27,25 +27,14 @@ fn comes_twice(path: &[Port], element: Element) -> bool
 }
 
 /// The element that a path leaves by a port, if it comes twice on the path.
-fn twice_at(layout: &Layout, path: &[Port], left: Port) -> Option<RouteDetail>
+#[tactic(auto, unfolding(crate::specs::Repeats::twice_at))]
+fn twice_at(layout: &Layout, path: &[Port], left: Port) -> Option<PathDetail>
     ensures { result ≡ twice_at layout.now path.now left }
 {
     if !comes_twice(path, left.element) {
         return None;
     }
-    Some(RouteDetail::Twice(element_name(layout, left.element)?))
-}
-
-/// The first element of these that comes twice on a path.
-fn twice_in(layout: &Layout, path: &[Port], lefts: &[Port]) -> Option<RouteDetail>
-    ensures { result ≡ twice_in layout.now path.now lefts.now }
-{
-    for left in lefts {
-        if let Some(found) = twice_at(layout, path, *left) {
-            return Some(found);
-        }
-    }
-    None
+    Some(PathDetail::Twice(element_name(layout, left.element)?))
 }
 
 /// The section in which an element lies. A border lies in none.
@@ -60,6 +49,7 @@ fn section_of(layout: &Layout, element: Element) -> Option<SectionId>
 }
 
 /// Whether an element lies in a section.
+#[tactic(auto, unfolding(crate::specs::Repeats::lies_in))]
 fn lies_in(layout: &Layout, element: Element, section: SectionId) -> bool
     ensures { result ≡ lies_in layout.now section element }
 {
@@ -69,88 +59,44 @@ fn lies_in(layout: &Layout, element: Element, section: SectionId) -> bool
     }
 }
 
-/// How far a path has come with a section.
-#[derive(Clone, Copy)]
-enum Visit {
-    /// It wasn't there yet.
-    Before,
-    /// It is there.
-    Within,
-    /// It was there and left it.
-    Behind,
-}
-
-/// How far a path has come with a section, by whether it is there now.
-fn next_visit(visit: Visit, here: bool) -> Visit
-    ensures { result ≡ next_visit visit here }
-{
-    if here {
-        return Visit::Within;
-    }
-    match visit {
-        Visit::Before => Visit::Before,
-        Visit::Within | Visit::Behind => Visit::Behind,
-    }
-}
-
-/// Whether a path has left a section.
-fn is_behind(visit: Visit) -> bool
-    ensures { result ≡ is_behind visit }
-{
-    matches!(visit, Visit::Behind)
-}
-
 /// Whether a path comes back to a section that it left.
+#[tactic(auto, unfolding(crate::specs::Repeats::comes_back))]
 fn comes_back(layout: &Layout, path: &[Port], section: SectionId) -> bool
-    ensures { result ≡ comes_back layout.now section Before path.now }
+    ensures { result ≡ comes_back layout.now section false false path.now }
 {
-    let mut visit = Visit::Before;
+    let mut is_there = false;
+    let mut has_left = false;
     for left in path {
         let here = lies_in(layout, left.element, section);
-        if here && is_behind(visit) {
+        if here && has_left {
             return true;
         }
-        visit = next_visit(visit, here);
+        has_left = has_left || is_there && !here;
+        is_there = here;
     }
     false
 }
 
-/// The name of a section.
-fn section_name(layout: &Layout, section: SectionId) -> Option<Name>
-    ensures { result ≡ section_name layout.now section }
-{
-    layout.sections().get(section.0).copied()
-}
-
 /// The section of an element, if a path comes back to it.
-fn back_at(layout: &Layout, path: &[Port], left: Port) -> Option<RouteDetail>
+#[tactic(auto, unfolding(crate::specs::Repeats::back_at))]
+fn back_at(layout: &Layout, path: &[Port], left: Port) -> Option<PathDetail>
     ensures { result ≡ back_at layout.now path.now left }
 {
     let section = section_of(layout, left.element)?;
     if !comes_back(layout, path, section) {
         return None;
     }
-    Some(RouteDetail::ComesBack(section_name(layout, section)?))
-}
-
-/// The first section of these elements to which a path comes back.
-fn back_in(layout: &Layout, path: &[Port], lefts: &[Port]) -> Option<RouteDetail>
-    ensures { result ≡ back_in layout.now path.now lefts.now }
-{
-    for left in lefts {
-        if let Some(found) = back_at(layout, path, *left) {
-            return Some(found);
-        }
-    }
-    None
+    Some(PathDetail::ComesBack(*layout.sections().get(section.0)?))
 }
 
 /// What comes twice on the path of a route.
-pub(crate) fn repeated_detail(layout: &Layout, route: &Route) -> Option<RouteDetail>
+#[tactic(auto, unfolding(crate::specs::Repeats::repeated_detail))]
+pub(crate) fn repeated_detail(layout: &Layout, route: &Route) -> Option<PathDetail>
     ensures { result ≡ repeated_detail layout.now route.now }
 {
-    if let Some(found) = twice_in(layout, route.path(), route.path()) {
-        return Some(found);
-    }
-    back_in(layout, route.path(), route.path())
+    let path = route.path();
+    first_of(path, |left| twice_at(layout, path, left)).or(first_of(
+        path,
+        |left| back_at(layout, path, left),
+    ))
 }

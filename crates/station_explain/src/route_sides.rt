@@ -1,10 +1,10 @@
 //! At which sides a path requires points: those on it, and those that guard its unused legs.
 
-ghost use Rattle.std.specs.Prelude.{◌≡◌, Some};
-ghost use Rattle.control_table.specs.Sides.{other};
-ghost use Rattle.station_explain.specs.RouteSides.{guard_behind, guard_from, guard_of, guard_over, guard_side, is_need, is_on_path, is_over, requires_at, requires_on, same_side, side_of, side_used, used_behind, used_over};
+ghost use Rattle.std.specs.Prelude.{◌≡◌};
+ghost use Rattle.control_table.specs.Sides.{leg, other};
+ghost use Rattle.station_explain.specs.RouteSides.{guard, guard_behind, is_need, is_on_path, requires_at, requires_on, same_side, side_of, side_used, unused_leg, used_behind};
 
-use crate::joints::{joined_to, unused_end};
+use crate::joints::{joined_to, same_element};
 use control_table::layout::{Element, End, Layout, PointId, Port};
 use control_table::sci_telegram::Side;
 
@@ -36,7 +36,25 @@ fn same_side(one: Side, another: Side) -> bool
     one == another
 }
 
+/// The leg of a point at a side.
+fn leg(point: PointId, side: Side) -> Port
+    ensures { result ≡ leg point side }
+{
+    let element = Element::Point(point);
+    match side {
+        Side::Left => Port {
+            element,
+            end: End::Left,
+        },
+        Side::Right => Port {
+            element,
+            end: End::Right,
+        },
+    }
+}
+
 /// The side of the leg of a point that a train uses which enters it by one end and leaves it by another.
+#[tactic(auto, unfolding(crate::specs::RouteSides::side_used))]
 fn side_used(entered: End, left: End) -> Option<Side>
     ensures { result ≡ side_used entered left }
 {
@@ -46,102 +64,50 @@ fn side_used(entered: End, left: End) -> Option<Side>
     }
 }
 
-/// The point that an element is, with the side of the leg that is used.
-fn used_over(element: Element, entered: End, left: End) -> Option<(PointId, Side)>
-    ensures { result ≡ used_over element entered left }
-{
-    match element {
-        Element::Point(point) => Some((point, side_used(entered, left)?)),
-        _ => None,
-    }
-}
-
 /// The point behind a port, with the side of the leg that a path uses which leaves it by another port.
+#[tactic(auto, unfolding(crate::specs::RouteSides::used_behind))]
 pub(crate) fn used_behind(layout: &Layout, before: Port, left: Port) -> Option<(PointId, Side)>
     ensures { result ≡ used_behind layout.now before left }
 {
-    match joined_to(layout.joints(), before) {
-        Some(entered) => used_over(left.element, entered.end, left.end),
-        None => None,
+    let entered = joined_to(layout.joints(), before)?;
+    match left.element {
+        Element::Point(point) => Some((point, side_used(entered.end, left.end)?)),
+        _ => None,
     }
 }
 
-/// What guards an unused leg.
-#[derive(Clone, Copy)]
-pub(crate) struct Guard {
-    /// The leg that isn't used.
-    pub(crate) leg: Port,
-    /// The leg of another point that is joined to it.
-    pub(crate) from: Port,
-    /// This other point.
-    pub(crate) point: PointId,
-    /// The side at which it guards the unused leg.
-    pub(crate) side: Side,
+/// The leg of the point behind a port that a path doesn't use which leaves it by another port, and what is joined to it.
+#[tactic(auto, unfolding(crate::specs::RouteSides::unused_leg))]
+pub(crate) fn unused_leg(layout: &Layout, before: Port, left: Port) -> Option<(Port, Port)>
+    ensures { result ≡ unused_leg layout.now before left }
+{
+    let (point, side) = used_behind(layout, before, left)?;
+    let unused = leg(point, other(side));
+    let from = joined_to(layout.joints(), unused)?;
+    Some((unused, from))
 }
 
-/// What guards the leg of a point, if the leg of another point is joined to it.
-fn guard_from(point: PointId, leg: Port, from: Port) -> Option<Guard>
-    ensures { result ≡ guard_from point leg (Some from) }
+/// What guards a leg to which a port is joined: another point whose leg this is, while it lies at its other side.
+#[tactic(auto, unfolding(crate::specs::RouteSides::guard))]
+pub(crate) fn guard(leg: Port, from: Port) -> Option<(PointId, Side)>
+    ensures { result ≡ guard leg from }
 {
+    if same_element(from.element, leg.element) {
+        return None;
+    }
     match from.element {
-        Element::Point(another) if another.0 != point.0 => {
-            let side = side_of(from.end)?;
-            Some(Guard {
-                leg,
-                from,
-                point: another,
-                side: other(side),
-            })
-        }
+        Element::Point(point) => Some((point, other(side_of(from.end)?))),
         _ => None,
     }
 }
 
-/// What guards the leg of a point at an end.
-fn guard_of(layout: &Layout, point: PointId, end: End) -> Option<Guard>
-    ensures { result ≡ guard_of layout.now point (Some end) }
-{
-    let leg = Port {
-        element: Element::Point(point),
-        end,
-    };
-    match joined_to(layout.joints(), leg) {
-        Some(from) => guard_from(point, leg, from),
-        None => None,
-    }
-}
-
-/// What guards the unused leg of an element that is entered by one end and left by another, if it is a point.
-fn guard_over(layout: &Layout, element: Element, entered: End, left: End) -> Option<Guard>
-    ensures { result ≡ guard_over layout.now element entered left }
-{
-    match element {
-        Element::Point(point) => match unused_end(entered, left) {
-            Some(end) => guard_of(layout, point, end),
-            None => None,
-        },
-        _ => None,
-    }
-}
-
-/// What guards the unused leg of the element behind a port, if it is a point.
-pub(crate) fn guard_behind(layout: &Layout, before: Port, left: Port) -> Option<Guard>
+/// What guards the unused leg of the point behind a port.
+#[tactic(auto, unfolding(crate::specs::RouteSides::guard_behind))]
+pub(crate) fn guard_behind(layout: &Layout, before: Port, left: Port) -> Option<(PointId, Side)>
     ensures { result ≡ guard_behind layout.now before left }
 {
-    match joined_to(layout.joints(), before) {
-        Some(entered) => guard_over(layout, left.element, entered.end, left.end),
-        None => None,
-    }
-}
-
-/// The point that guards an unused leg, with its side.
-pub(crate) fn guard_side(guard: Option<Guard>) -> Option<(PointId, Side)>
-    ensures { result ≡ guard_side guard }
-{
-    match guard {
-        Some(guard) => Some((guard.point, guard.side)),
-        None => None,
-    }
+    let (leg, from) = unused_leg(layout, before, left)?;
+    guard(leg, from)
 }
 
 /// Whether this is a point at a side.
@@ -155,14 +121,16 @@ fn is_need(need: Option<(PointId, Side)>, point: PointId, side: Side) -> bool
 }
 
 /// Whether a path requires a point at a side, between a port and that by which the next element is left.
+#[tactic(auto, unfolding(crate::specs::RouteSides::requires_at))]
 fn requires_at(layout: &Layout, before: Port, left: Port, point: PointId, side: Side) -> bool
     ensures { result ≡ requires_at layout.now point side before left }
 {
     is_need(used_behind(layout, before, left), point, side)
-        || is_need(guard_side(guard_behind(layout, before, left)), point, side)
+        || is_need(guard_behind(layout, before, left), point, side)
 }
 
 /// Whether a path requires a point at a side, from a port on.
+#[tactic(auto, unfolding(crate::specs::RouteSides::requires_on))]
 pub(crate) fn requires_on(
     layout: &Layout,
     start: Port,
@@ -182,19 +150,11 @@ pub(crate) fn requires_on(
     false
 }
 
-/// Whether an element is this point.
-fn is_over(element: Element, point: PointId) -> bool
-    ensures { result ≡ is_over point element }
-{
-    match element {
-        Element::Point(another) => another.0 == point.0,
-        _ => false,
-    }
-}
-
 /// Whether a point lies on a path.
+#[tactic(auto, unfolding(crate::specs::RouteSides::is_on_path))]
 pub(crate) fn is_on_path(path: &[Port], point: PointId) -> bool
     ensures { result ≡ is_on_path path.now point }
 {
-    path.iter().any(|left| is_over(left.element, point))
+    path.iter()
+        .any(|left| same_element(left.element, Element::Point(point)))
 }

@@ -1,20 +1,13 @@
 //! Places in a text, by line and column.
 
 ghost use Rattle.std.specs.Prelude.{◌≡◌};
-ghost use Rattle.station_explain.specs.Places.{behind, goes_on, place_behind};
+ghost use Rattle.station_explain.specs.Places.{behind, place_behind};
 
 /// A place in a text. Lines and columns count from 1, and a column counts characters.
 #[derive(Clone, Copy)]
 pub(crate) struct TextPlace {
     pub(crate) line: usize,
     pub(crate) column: usize,
-}
-
-/// Whether a byte goes on with a character.
-fn goes_on(byte: u8) -> bool
-    ensures { result ≡ goes_on byte }
-{
-    (128..192).contains(&byte)
 }
 
 /// The place behind one more byte.
@@ -27,7 +20,8 @@ fn behind(at: TextPlace, byte: u8) -> TextPlace
             column: 1,
         };
     }
-    if goes_on(byte) {
+    // Such a byte goes on with a character.
+    if (128..192).contains(&byte) {
         return at;
     }
     TextPlace {

@@ -5,10 +5,12 @@ ghost use Rattle.std.specs.Char.{is_ascii_hexdigit};
 ghost use Rattle.std.specs.List.{list_all};
 ghost use Rattle.toml.specs.View.{items_view, view, table_view};
 ghost use Rattle.layout_text.specs.Values.{is_name};
-ghost use Rattle.station_explain.specs.ValueForms.{all_items, are_names, are_ports, are_sides, fits, is_aspect, is_aspect_word, is_code, is_code_text, is_end_word, is_id, is_name_value, is_port, is_port_text, is_side, is_side_word, item_fits, side_fits, sides_fit, unfit_item};
+ghost use Rattle.station_explain.specs.ValueForms.{fits, is_code_text, is_end_word, is_id, is_port_text, misfit, side_fits, sides_fit, text_fits, unfit_item};
 
-use crate::field_key::{FieldKey, Kind, kind_of};
+use crate::advice::{Advice, Spot};
+use crate::field_key::{FieldKey, kind_of};
 use control_table::sci_telegram::Name;
+use layout_text::Place;
 use toml::{Table, Value};
 
 /// Whether a text has the form of a name.
@@ -17,16 +19,6 @@ fn is_name(text: &str) -> bool
 {
     match Name::of(text.as_bytes()) {
         Some(_) => true,
-        None => false,
-    }
-}
-
-/// Whether a value is a name.
-fn is_name_value(value: &Value) -> bool
-    ensures { result ≡ is_name_value (view value.now) }
-{
-    match value.as_str() {
-        Some(text) => is_name(text),
         None => false,
     }
 }
@@ -66,37 +58,6 @@ fn is_port_text(text: &str) -> bool
     }
 }
 
-/// Whether a value is a port.
-#[tactic(auto, unfolding(crate::specs::ValueForms::is_port))]
-fn is_port(value: &Value) -> bool
-    ensures { result ≡ is_port (view value.now) }
-{
-    match value.as_str() {
-        Some(text) => is_port_text(text),
-        None => false,
-    }
-}
-
-/// Whether a value is a side.
-fn is_side(value: &Value) -> bool
-    ensures { result ≡ is_side (view value.now) }
-{
-    match value.as_str() {
-        Some(word) => word == "left" || word == "right",
-        None => false,
-    }
-}
-
-/// Whether a value is an aspect.
-fn is_aspect(value: &Value) -> bool
-    ensures { result ≡ is_aspect (view value.now) }
-{
-    match value.as_str() {
-        Some(word) => word == "proceed" || word == "slow",
-        None => false,
-    }
-}
-
 /// How many digits the key of the safety code has.
 const DIGITS: usize = 32;
 
@@ -107,80 +68,24 @@ fn are_digits(text: &[u8]) -> bool
     text.iter().all(|byte| byte.is_ascii_hexdigit())
 }
 
-/// Whether a text has the form of a key.
+/// Whether a text has the form of a key of the safety code.
 fn is_code_text(text: &str) -> bool
     ensures { result ≡ is_code_text text.now }
 {
     text.len() == DIGITS && are_digits(text.as_bytes())
 }
 
-/// Whether a value is a key of the safety code.
-fn is_code(value: &Value) -> bool
-    ensures { result ≡ is_code (view value.now) }
+/// Whether a text has the form that its key wants.
+#[tactic(auto, unfolding(crate::specs::ValueForms::text_fits))]
+fn text_fits(key: FieldKey, text: &str) -> bool
+    ensures { result ≡ text_fits key text.now }
 {
-    match value.as_str() {
-        Some(text) => is_code_text(text),
-        None => false,
-    }
-}
-
-/// Whether an item of an array is as this key wants its value.
-fn item_fits(one: FieldKey, value: &Value) -> bool
-    ensures { result ≡ item_fits one (view value.now) }
-{
-    match one {
-        FieldKey::At => is_port(value),
-        _ => is_name_value(value),
-    }
-}
-
-/// The first item of an array that isn't as this key wants its value: its place, counted from 1, and its kind.
-pub(crate) fn unfit_item(one: FieldKey, items: &[Value]) -> Option<(usize, Kind)>
-    ensures { result ≡ unfit_item one 0 (items_view items.now) }
-{
-    let mut place: usize = 0;
-    for item in items {
-        place = place.saturating_add(1);
-        if !item_fits(one, item) {
-            return Some((place, kind_of(item)));
-        }
-    }
-    None
-}
-
-/// Whether all items of an array are names.
-#[tactic(auto, using(crate::proofs::Forms::names_fit))]
-fn all_names(items: &[Value]) -> bool
-    ensures { result ≡ all_items is_name_value (items_view items.now) }
-{
-    unfit_item(FieldKey::Name, items).is_none()
-}
-
-/// Whether all items of an array are ports.
-#[tactic(auto, using(crate::proofs::Forms::ports_fit))]
-fn all_ports(items: &[Value]) -> bool
-    ensures { result ≡ all_items is_port (items_view items.now) }
-{
-    unfit_item(FieldKey::At, items).is_none()
-}
-
-/// Whether a value is an array of names.
-fn are_names(value: &Value) -> bool
-    ensures { result ≡ are_names (view value.now) }
-{
-    match value.as_array() {
-        Some(items) => all_names(items.as_slice()),
-        None => false,
-    }
-}
-
-/// Whether a value is an array of ports.
-fn are_ports(value: &Value) -> bool
-    ensures { result ≡ are_ports (view value.now) }
-{
-    match value.as_array() {
-        Some(items) => all_ports(items.as_slice()),
-        None => false,
+    match key {
+        FieldKey::Name | FieldKey::Section | FieldKey::Entry | FieldKey::Exit => is_name(text),
+        FieldKey::At => is_port_text(text),
+        FieldKey::Code => is_code_text(text),
+        FieldKey::Aspect => text == "proceed" || text == "slow",
+        _ => false,
     }
 }
 
@@ -188,7 +93,10 @@ fn are_ports(value: &Value) -> bool
 fn side_fits(point: &str, side: &Value) -> bool
     ensures { result ≡ side_fits point.now (view side.now) }
 {
-    is_name(point) && is_side(side)
+    match side.as_str() {
+        Some(word) => is_name(point) && (word == "left" || word == "right"),
+        None => false,
+    }
 }
 
 /// Whether the members of a table are points with their sides.
@@ -203,30 +111,50 @@ fn sides_fit(members: &Table) -> bool
     true
 }
 
-/// Whether a value is a table of points with their sides.
-fn are_sides(value: &Value) -> bool
-    ensures { result ≡ are_sides (view value.now) }
-{
-    match value.as_table() {
-        Some(members) => sides_fit(members),
-        None => false,
-    }
-}
-
-/// Whether a value has the form that its key wants.
-pub(crate) fn fits(key: FieldKey, value: &Value) -> bool
+/// Whether a value that is no array has the form that its key wants.
+#[tactic(auto, unfolding(crate::specs::ValueForms::fits))]
+fn fits(key: FieldKey, value: &Value) -> bool
     ensures { result ≡ fits key (view value.now) }
 {
     match key {
-        FieldKey::Name | FieldKey::Section | FieldKey::Entry | FieldKey::Exit => {
-            is_name_value(value)
-        }
         FieldKey::Id => is_id(value),
-        FieldKey::Code => is_code(value),
-        FieldKey::Sections | FieldKey::Approach | FieldKey::Extra => are_names(value),
-        FieldKey::At => is_port(value),
-        FieldKey::Path => are_ports(value),
-        FieldKey::Points | FieldKey::Flank => are_sides(value),
-        FieldKey::Aspect => is_aspect(value),
+        FieldKey::Points | FieldKey::Flank => match value.as_table() {
+            Some(members) => sides_fit(members),
+            None => false,
+        },
+        _ => match value.as_str() {
+            Some(text) => text_fits(key, text),
+            None => false,
+        },
     }
+}
+
+/// What is wrong with the first item of the array under a key that isn't as another key wants its value.
+fn unfit_item(place: Place, key: FieldKey, one: FieldKey, items: &[Value]) -> Option<Advice>
+    ensures { result ≡ unfit_item place key one 0 (items_view items.now) }
+{
+    let mut at: usize = 0;
+    for item in items {
+        at = at.saturating_add(1);
+        if !fits(one, item) {
+            return Some(Advice::Wrong(Spot::Item(place, key, at), kind_of(item)));
+        }
+    }
+    None
+}
+
+/// What is wrong with the value under a key, if it hasn't the form that the key wants.
+#[tactic(auto, unfolding(crate::specs::ValueForms::misfit))]
+pub(crate) fn misfit(place: Place, key: FieldKey, value: &Value) -> Option<Advice>
+    ensures { result ≡ misfit place key (view value.now) }
+{
+    if let Some(one) = key.of_items() {
+        if let Some(items) = value.as_array() {
+            return unfit_item(place, key, one, items.as_slice());
+        }
+    }
+    if fits(key, value) {
+        return None;
+    }
+    Some(Advice::Wrong(Spot::Field(place, key), kind_of(value)))
 }

@@ -4,4 +4,4 @@ use Rattle.station_explain.specs.EntryAdvice.{first_wrong}
 use Rattle.station_explain.proofs.entry_advice.first_wrong.Given as goal
 
 abbrev pub invariant-loop-key : goal.invariant-loop-key
-invariant-loop-key l = first_wrong (table_view l.fields) (drop l.key-index l.keys) ≡ first_wrong (table_view l.fields) l.keys
+invariant-loop-key l = first_wrong l.place (table_view l.fields) (drop l.key-index l.keys) ≡ first_wrong l.place (table_view l.fields) l.keys
