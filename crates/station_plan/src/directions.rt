@@ -1,136 +1,95 @@
-//! Which way each element lies.
+//! Which way each element lies, and of which piece of the layout it is part.
 
-use crate::lists::{at, filled, put};
-use crate::yard::{Kind, Place, Yard, ends};
-use control_table::layout::End;
-use std::alloc::{AllocError, Global};
+use crate::sketch::Sketch;
+use crate::yard::Place;
+use control_table::layout::{Element, End};
+use std::alloc::AllocError;
 
-/// Which way each element lies, and of which piece of the layout it is part.
-#[derive(Drop)]
-pub(crate) struct Directions {
-    /// Whether an element lies the other way round: `a`, `tip` at its right, a border at the right of the plan.
-    pub(crate) flipped: Vec<bool>,
-    /// The piece of each element, once it is found.
-    pub(crate) pieces: Vec<Option<usize>>,
-    /// How many pieces there are.
-    pub(crate) count: usize,
-}
-
-/// Whether a port lies at the right of an element that isn't flipped.
-fn is_natural_right(end: End) -> bool {
-    match end {
-        End::B | End::Left | End::Right | End::End => true,
-        End::A | End::Tip => false,
-    }
-}
-
-impl Directions {
-    /// No directions.
-    pub(crate) fn empty(alloc: Global) -> Directions {
-        Directions {
-            flipped: Vec::new(alloc),
-            pieces: Vec::new(alloc),
-            count: 0,
-        }
-    }
-
+impl Sketch<'_> {
     /// Lays all elements: from the borders first, in table order, then from the rest.
-    pub(crate) fn lay(&mut self, alloc: Global, yard: &Yard) -> Result<(), AllocError> {
-        let size = yard.size();
-        self.flipped = filled(alloc, size, false)?;
-        self.pieces = filled(alloc, size, None)?;
-        for border in yard.border(0)..size {
-            self.explore(alloc, yard, border)?;
+    pub(crate) fn lay_directions(&mut self) -> Result<(), AllocError> {
+        let size = self.elements.len();
+        for border in self.border(0)..size {
+            self.explore(border)?;
         }
         for element in 0..size {
-            self.explore(alloc, yard, element)?;
+            self.explore(element)?;
         }
         Ok(())
     }
 
     /// Whether a port lies at the right of its element.
     pub(crate) fn is_right(&self, place: Place) -> bool {
-        is_natural_right(place.end) != at(&self.flipped, place.element, false)
-    }
-
-    /// Whether an element is part of a piece.
-    pub(crate) fn is_in(&self, element: usize, piece: usize) -> bool {
-        at(&self.pieces, element, None) == Some(piece)
+        let is_natural_right = match place.end {
+            End::B | End::Left | End::Right | End::End => true,
+            End::A | End::Tip => false,
+        };
+        is_natural_right != self.facts(place.element).is_flipped
     }
 
     /// Whether a piece is a line by itself: it has no point, and ends at no border at the right of the plan.
-    pub(crate) fn is_line(&self, yard: &Yard, piece: usize) -> bool {
-        for element in 0..yard.size() {
-            if self.is_in(element, piece) && self.parts(yard, element) {
+    pub(crate) fn is_line(&self, piece: usize) -> bool {
+        for (element, facts) in self.elements.iter().enumerate() {
+            let parts = match self.element(element) {
+                Element::Track(_) => false,
+                Element::Point(_) => true,
+                Element::Border(_) => facts.is_flipped,
+            };
+            if parts && facts.piece == Some(piece) {
                 return false;
             }
         }
         true
     }
 
-    /// Whether an element is a point, or a border at the right of the plan.
-    fn parts(&self, yard: &Yard, element: usize) -> bool {
-        match yard.kind(element) {
-            Kind::Track => false,
-            Kind::Point => true,
-            Kind::Border => at(&self.flipped, element, false),
-        }
-    }
-
-    fn is_found(&self, element: usize) -> bool {
-        at(&self.pieces, element, None).is_some()
-    }
-
     /// Finds the piece of an element, if it isn't found yet, and lays it as it comes.
-    fn explore(&mut self, alloc: Global, yard: &Yard, start: usize) -> Result<(), AllocError> {
-        if self.is_found(start) {
+    fn explore(&mut self, start: usize) -> Result<(), AllocError> {
+        if self.facts(start).piece.is_some() {
             return Ok(());
         }
-        let piece = self.count;
-        self.count = piece.saturating_add(1);
-        put(&mut self.pieces, start, Some(piece));
-        let mut found = Vec::new(alloc);
-        found.push(start)?;
-        for turn in 0..yard.size() {
+        let piece = self.pieces;
+        self.pieces = piece.saturating_add(1);
+        let mut found = Vec::new(self.alloc);
+        self.find(start, piece, false, &mut found)?;
+        for turn in 0..self.elements.len() {
             if turn < found.len() {
-                self.reach(yard, found[turn], piece, &mut found)?;
+                self.reach_from(found[turn], piece, &mut found)?;
             }
         }
         Ok(())
     }
 
-    /// Lays what an element is joined to.
-    fn reach(
+    fn find(
         &mut self,
-        yard: &Yard,
+        element: usize,
+        piece: usize,
+        is_flipped: bool,
+        found: &mut Vec<usize>,
+    ) -> Result<(), AllocError> {
+        if let Some(facts) = self.elements.get_mut(element) {
+            facts.piece = Some(piece);
+            facts.is_flipped = is_flipped;
+        }
+        found.push(element)?;
+        Ok(())
+    }
+
+    /// Lays what an element is joined to, so that it lies at the other side of it.
+    fn reach_from(
+        &mut self,
         element: usize,
         piece: usize,
         found: &mut Vec<usize>,
     ) -> Result<(), AllocError> {
-        for end in ends(yard.kind(element)) {
+        for end in self.ends(element) {
             let place = Place { element, end: *end };
-            if let Some(mate) = yard.mate(place) {
-                self.meet(place, mate, piece, found)?;
+            if let Some(mate) = self.port(place).mate {
+                if self.facts(mate.element).piece.is_none() {
+                    let turned = self.is_right(mate) == self.is_right(place);
+                    self.find(mate.element, piece, turned, found)?;
+                }
             }
         }
-        Ok(())
-    }
-
-    /// Lays the element of a port, so that it lies at the other side of what it is joined to.
-    fn meet(
-        &mut self,
-        place: Place,
-        mate: Place,
-        piece: usize,
-        found: &mut Vec<usize>,
-    ) -> Result<(), AllocError> {
-        if self.is_found(mate.element) {
-            return Ok(());
-        }
-        put(&mut self.pieces, mate.element, Some(piece));
-        let turned = self.is_right(mate) == self.is_right(place);
-        put(&mut self.flipped, mate.element, turned);
-        found.push(mate.element)?;
         Ok(())
     }
 }

@@ -3,19 +3,20 @@
 ghost use Rattle.std.specs.Prelude.{IfOk};
 ghost use Rattle.station_plan.specs.Plan.{IsPlanOf};
 
-use crate::extent::reach_of_things;
+use crate::extent::{EVERYWHERE, reach_of_things};
 use crate::groups::groups_of;
 use crate::marks::Marks;
-use crate::notes::{LINES, draw_heading, draw_legend};
-use crate::paper::{paper_for, reach_above};
+use crate::notes::{LINES, draw_legend};
+use crate::paper::paper_for;
 use crate::shown::Shown;
+use crate::sketch::spot;
 use crate::style::STYLE;
 use crate::thing::Thing;
 use crate::thing_list::things;
 use crate::units::Units;
 use control_table::Checked;
 use control_table::layout::Layout;
-use drawing::{Mark, Picture};
+use drawing::{Anchor, Mark, Picture};
 use std::alloc::{AllocError, Global};
 
 /// What is written below a plan.
@@ -25,11 +26,16 @@ fn notes(
     things: &[Thing],
     shown: &Shown,
 ) -> Result<Vec<Mark>, AllocError> {
-    let (left, right) = (Units(-1_000_000), Units(1_000_000));
-    let drawn = reach_above(things, left, right).or_origin();
-    let all = reach_of_things(things, left, right).or_origin();
+    let (left, right) = EVERYWHERE;
+    let drawn = reach_of_things(things, false, left, right);
+    let all = reach_of_things(things, true, left, right)
+        .with(drawn)
+        .or_origin();
+    let drawn = drawn.or_origin();
     let mut marks = Marks::new(alloc);
-    draw_heading(&mut marks, layout, drawn.left, drawn.bottom + Units(32))?;
+    let name = layout.station().name.as_str();
+    let below = spot(drawn.left, drawn.bottom + Units(32));
+    marks.text("heading", below, Anchor::Start, name)?;
     let down = all.bottom + LINES;
     draw_legend(&mut marks, alloc, layout, shown, drawn.left, down)?;
     Ok(marks.marks)
@@ -42,14 +48,14 @@ fn sheet(
     things: &[Thing],
     notes: &[Mark],
 ) -> Result<Picture, AllocError> {
-    let paper = paper_for(alloc, things, notes)?;
+    let (paper, strips) = paper_for(alloc, things, notes)?;
     let title = String::from_str(alloc, layout.station().name.as_str())?;
     let style = String::from_str(alloc, STYLE)?;
     Ok(Picture {
         title,
         style,
-        paper: paper.frame,
-        strips: paper.strips,
+        paper,
+        strips,
         groups: Vec::new(alloc),
     })
 }

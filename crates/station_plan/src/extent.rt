@@ -1,6 +1,6 @@
 //! How far marks reach.
 
-use crate::thing::Thing;
+use crate::thing::{Subject, Thing};
 use crate::units::{Units, count};
 use drawing::{Anchor, Frame, Mark, Shape, Spot};
 
@@ -25,6 +25,9 @@ pub(crate) const NOWHERE: Extent = Extent {
     bottom: Units(-1_000_000),
 };
 
+/// The borders of a vertical stripe that has all of the plane.
+pub(crate) const EVERYWHERE: (Units, Units) = (Units(-1_000_000), Units(1_000_000));
+
 impl Extent {
     /// The part around both.
     pub(crate) fn with(self, other: Extent) -> Extent {
@@ -48,7 +51,7 @@ impl Extent {
 
     /// The same, or the origin where it is empty.
     pub(crate) fn or_origin(self) -> Extent {
-        if self.left <= self.right {
+        if self.left.0 <= self.right.0 {
             return self;
         }
         Extent {
@@ -90,11 +93,11 @@ fn around(spot: Spot, by: Units) -> Extent {
     }
 }
 
-/// How far spots reach.
-fn all_around(spots: &[Spot], by: Units) -> Extent {
+/// How far spots reach that lines join.
+fn all_around(spots: &[Spot]) -> Extent {
     let mut extent = NOWHERE;
     for spot in spots {
-        extent = extent.with(around(*spot, by));
+        extent = extent.with(around(*spot, Units(3)));
     }
     extent
 }
@@ -120,8 +123,7 @@ fn written(at: Spot, anchor: Anchor, letters: usize) -> Extent {
 pub(crate) fn reach(mark: &Mark) -> Extent {
     match &mark.shape {
         Shape::Line { from, to } => around(*from, Units(3)).with(around(*to, Units(3))),
-        Shape::Polyline(spots) => all_around(spots.as_slice(), Units(3)),
-        Shape::Polygon(spots) => all_around(spots.as_slice(), Units(3)),
+        Shape::Polyline(spots) | Shape::Polygon(spots) => all_around(spots.as_slice()),
         Shape::Circle { centre, radius } => {
             let radius = i32::try_from(*radius).unwrap_or(i32::MAX);
             around(*centre, Units(radius) + Units(1))
@@ -148,20 +150,22 @@ pub(crate) fn reach_of_marks(marks: &[Mark], left: Units, right: Units) -> Exten
     let mut extent = NOWHERE;
     for mark in marks {
         let one = reach(mark);
-        if one.left <= right && left <= one.right {
+        if one.left.0 <= right.0 && left.0 <= one.right.0 {
             extent = extent.with(one);
         }
     }
     extent
 }
 
-/// How far things reach that touch a vertical stripe.
-pub(crate) fn reach_of_things(things: &[Thing], left: Units, right: Units) -> Extent {
+/// How far the things of the plan, or those below it, reach that touch a vertical stripe.
+pub(crate) fn reach_of_things(things: &[Thing], below: bool, left: Units, right: Units) -> Extent {
     let mut extent = NOWHERE;
     for thing in things {
-        extent = extent
-            .with(reach_of_marks(&thing.marks, left, right))
-            .with(reach_of_marks(&thing.more, left, right));
+        if matches!(thing.subject, Subject::Detector(_)) == below {
+            extent = extent
+                .with(reach_of_marks(&thing.marks, left, right))
+                .with(reach_of_marks(&thing.more, left, right));
+        }
     }
     extent
 }

@@ -1,6 +1,6 @@
 //! Things as groups of a picture.
 
-ghost use Rattle.std.specs.Prelude.{◌≡◌, IfOk, ◌++◌, codes, string_bytes};
+ghost use Rattle.std.specs.Prelude.{◌≡◌, [], IfOk, OnOk, ◌++◌, codes, string_bytes};
 ghost use Rattle.std.specs.List.{AllZip};
 ghost use Rattle.station_plan.specs.Subjects.{kind_text};
 ghost use Rattle.station_plan.specs.Plan.{AreGroupsOf, Shows, notes_id};
@@ -93,17 +93,17 @@ fn group(alloc: Global, thing: Thing) -> Result<Group, AllocError>
     })
 }
 
-/// Things as groups, in order.
+/// Adds things as groups, in order, to a list that is empty.
 #[tactic(auto, using(crate::proofs::GroupsMade::one_more))]
-fn groups_of_things(alloc: Global, things: Vec<Thing>) -> Result<Vec<Group>, AllocError>
-    ensures { IfOk result (λ groups. AllZip Shows things.items groups.items) }
+fn add_groups(groups: &mut Vec<Group>, alloc: Global, things: Vec<Thing>) -> Result<(), AllocError>
+    requires { groups.old.items ≡ [] }
+    ensures { OnOk result (AllZip Shows things.items groups.new.items) }
 {
-    let mut groups = Vec::new(alloc);
     for thing in things {
         let group = group(alloc, thing)?;
         groups.push(group)?;
     }
-    Ok(groups)
+    Ok(())
 }
 
 /// What is written below a plan, as a group.
@@ -129,7 +129,8 @@ pub(crate) fn groups_of(
 ) -> Result<Vec<Group>, AllocError>
     ensures { IfOk result (λ all. AreGroupsOf things.items all.items) }
 {
-    let mut groups = groups_of_things(alloc, things)?;
+    let mut groups = Vec::new(alloc);
+    add_groups(&mut groups, alloc, things)?;
     let below = notes_group(alloc, notes)?;
     groups.push(below)?;
     Ok(groups)

@@ -1,10 +1,9 @@
 //! What joins chains: each leg that isn't the main one of its point, with the port that it is joined to.
 
-use crate::chains::Chains;
-use crate::ground::Ground;
-use crate::main_legs::leg;
+use crate::sketch::Sketch;
+use crate::units::Units;
 use crate::yard::Place;
-use control_table::sci_telegram::Side;
+use control_table::layout::End;
 use std::alloc::AllocError;
 
 /// A link from a leg to a port.
@@ -18,56 +17,87 @@ pub(crate) struct Link {
     pub(crate) is_crossover: bool,
     /// The row of its own of a link within one chain: a chain without elements.
     pub(crate) chain: Option<usize>,
+    /// The row above its level part.
+    pub(crate) above: usize,
+    /// Its number among the links that pass there beside one another, if a part of it is level between rows.
+    pub(crate) slot: Option<usize>,
+    /// How far it reaches to the left.
+    pub(crate) left: Units,
+    /// How far it reaches to the right.
+    pub(crate) right: Units,
+    /// Whether it reaches farther to a side than up or down.
+    pub(crate) is_flat: bool,
 }
 
-/// Whether a leg leads up: a left one at a point whose tip lies left, a right one at others.
-pub(crate) fn leads_up(ground: &Ground, place: Place, side: Side) -> bool {
-    let is_left = matches!(side, Side::Left);
-    is_left == ground.directions.is_right(place)
-}
-
-/// Adds the links of a layout, and tells how many chains there are with those that have no element.
-pub(crate) fn add_links(
-    links: &mut Vec<Link>,
-    ground: &Ground,
-    chains: &Chains,
-) -> Result<usize, AllocError> {
-    let mut count = chains.count;
-    for element in ground.yard.point(0)..ground.yard.border(0) {
-        let from = Place {
-            element,
-            end: leg(ground.main.minor(element)),
-        };
-        if let Some(to) = ground.courses.mate(&ground.yard, from) {
-            let link = link_of(ground, chains, from, to, count);
-            if !is_twice(link) {
-                if link.chain.is_some() {
-                    count = count.saturating_add(1);
-                }
-                links.push(link)?;
+impl Sketch<'_> {
+    /// Finds the links of the layout. A link within one chain makes a chain without elements.
+    pub(crate) fn lay_links(&mut self) -> Result<(), AllocError> {
+        for element in self.point(0)..self.border(0) {
+            let from = self.minor(element);
+            if let Some(to) = self.port(from).next {
+                self.add_link(from, to)?;
             }
         }
+        Ok(())
     }
-    Ok(count)
-}
 
-/// Whether a link was found before, from its other end.
-fn is_twice(link: Link) -> bool {
-    link.is_crossover && link.to.element < link.from.element
-}
+    /// Adds a link, unless it was found before, from its other end.
+    fn add_link(&mut self, from: Place, to: Place) -> Result<(), AllocError> {
+        let is_crossover = !self.is_level(to);
+        if is_crossover && to.element < from.element {
+            return Ok(());
+        }
+        let mut chain = None;
+        if is_crossover && self.facts(from.element).chain == self.facts(to.element).chain {
+            chain = Some(self.chains);
+            self.chains = self.chains.saturating_add(1);
+        }
+        self.links.push(Link {
+            from,
+            to,
+            is_crossover,
+            chain,
+            above: 0,
+            slot: None,
+            left: Units(0),
+            right: Units(0),
+            is_flat: false,
+        })?;
+        Ok(())
+    }
 
-fn link_of(ground: &Ground, chains: &Chains, from: Place, to: Place, count: usize) -> Link {
-    let is_crossover = !ground.main.is_level(to);
-    let is_within = chains.chain(from.element) == chains.chain(to.element);
-    let chain = if is_crossover && is_within {
-        Some(count)
-    } else {
+    /// The link of a leg.
+    pub(crate) fn link(&self, place: Place) -> Option<Link> {
+        for link in &self.links {
+            if link.from == place || link.to == place {
+                return Some(*link);
+            }
+        }
         None
-    };
-    Link {
-        from,
-        to,
-        is_crossover,
-        chain,
+    }
+
+    /// Whether a leg leads up by its hand: a left one at a point whose tip lies left, a right one at others.
+    pub(crate) fn leads_up(&self, place: Place) -> bool {
+        (place.end == End::Left) == self.is_right(place)
+    }
+
+    /// Whether the other leg of a point is drawn up: to what it is joined to, or as it leads.
+    pub(crate) fn is_drawn_up(&self, element: usize) -> bool {
+        let place = self.minor(element);
+        let Some(link) = self.link(place) else {
+            return self.leads_up(place);
+        };
+        let other = if link.from == place {
+            link.to
+        } else {
+            link.from
+        };
+        let row = self.link_row(link).unwrap_or(self.row(other.element));
+        let mine = self.row(element);
+        if row == mine {
+            self.leads_up(place)
+        } else {
+            row < mine
+        }
     }
 }

@@ -1,19 +1,12 @@
 //! The leg of each point by which its row goes on.
 
-use crate::courses::Courses;
-use crate::directions::Directions;
-use crate::lists::{at, filled, put};
-use crate::ranks::Ranks;
-use crate::yard::{Kind, Place, Yard, ends};
-use control_table::layout::{End, Layout, Route};
+use crate::sketch::Sketch;
+use crate::yard::{FAR, Place, port_number};
+use control_table::layout::{End, Route};
 use control_table::sci_telegram::{Aspect, Side};
-use std::alloc::{AllocError, Global};
-
-/// More points than any way has.
-const FAR: usize = 1000;
 
 /// What a leg is joined to.
-#[derive(Clone, Copy)]
+#[derive(Drop)]
 enum Joined {
     /// To nothing, or where the line turns back.
     Open,
@@ -32,278 +25,164 @@ const WORST: usize = 1_003_003_000;
 /// What a way counts more by which a row is lost.
 const LOST: usize = 2_000_000_000;
 
-/// How good a way is behind a leg, as a number; the least one is the best. Its digits: how many points it passes to a border,
-/// at best; how much shorter it is than the longest that could be; the number of the element to which the leg leads.
-fn way(points: usize, shortness: usize, element: usize) -> usize {
-    points
-        .saturating_mul(BASE)
-        .saturating_add(shortness)
-        .saturating_mul(BASE)
-        .saturating_add(element)
-}
-
-/// What is known of the layout when legs are chosen.
-#[derive(Clone, Copy)]
-pub(crate) struct Lines<'a> {
-    pub(crate) yard: &'a Yard,
-    pub(crate) directions: &'a Directions,
-    pub(crate) courses: &'a Courses,
-    pub(crate) ranks: &'a Ranks,
-}
-
-/// The main leg of each element, and what is known of the ways over legs.
-#[derive(Drop)]
-pub(crate) struct MainLegs {
-    /// The legs, by number; that of an element that is no point means nothing.
-    legs: Vec<Option<Side>>,
-    /// For each port: whether a route that isn't slow runs over this leg.
-    fast: Vec<bool>,
-    /// How many points a way from each element to a border passes at best, to the left.
-    left: Vec<usize>,
-    /// And to the right.
-    right: Vec<usize>,
-}
-
-/// The other side.
-pub(crate) fn opposite(side: Side) -> Side {
-    match side {
-        Side::Left => Side::Right,
-        Side::Right => Side::Left,
+impl Sketch<'_> {
+    /// Marks the legs over which routes run that aren't slow.
+    pub(crate) fn mark_fast_legs(&mut self) {
+        let layout = self.layout;
+        for route in layout.routes() {
+            if !matches!(route.aspect(), Aspect::Slow) {
+                self.mark_fast(route);
+            }
+        }
     }
-}
 
-/// The leg of a side.
-pub(crate) fn leg(side: Side) -> End {
-    match side {
-        Side::Left => End::Left,
-        Side::Right => End::Right,
-    }
-}
-
-/// The side of a leg.
-fn side_of(end: End) -> Option<Side> {
-    match end {
-        End::Left => Some(Side::Left),
-        End::Right => Some(Side::Right),
-        End::A | End::B | End::Tip | End::End => None,
-    }
-}
-
-impl MainLegs {
-    /// No legs.
-    pub(crate) fn empty(alloc: Global) -> MainLegs {
-        MainLegs {
-            legs: Vec::new(alloc),
-            fast: Vec::new(alloc),
-            left: Vec::new(alloc),
-            right: Vec::new(alloc),
+    fn mark_fast(&mut self, route: &Route) {
+        for (point, side) in route.points() {
+            let end = match side {
+                Side::Left => End::Left,
+                Side::Right => End::Right,
+            };
+            let element = self.point(point.0);
+            if let Some(port) = self.ports.get_mut(port_number(Place { element, end })) {
+                port.is_fast = true;
+            }
         }
     }
 
     /// Chooses the main legs, by the first rule that decides: only one leg carries a route that isn't slow; a leg that is
     /// joined to no leg goes before one that is, and this before an open one; the better way. Where both legs are joined to
     /// legs, the one whose peer gives up the worse row.
-    pub(crate) fn lay(
-        &mut self,
-        alloc: Global,
-        layout: &Layout,
-        ground: Lines<'_>,
-    ) -> Result<(), AllocError> {
-        self.legs = filled(alloc, ground.yard.size(), None)?;
-        self.fast = filled(alloc, ground.yard.mates.len(), false)?;
-        self.left = filled(alloc, ground.yard.size(), FAR)?;
-        self.right = filled(alloc, ground.yard.size(), FAR)?;
-        for route in layout.routes() {
-            if !matches!(route.aspect(), Aspect::Slow) {
-                mark_fast(&mut self.fast, ground.yard, route);
+    pub(crate) fn choose_main_legs(&mut self) {
+        for element in self.point(0)..self.border(0) {
+            let leg = self.plain_leg(element);
+            self.set_main(element, leg);
+        }
+        for element in self.point(0)..self.border(0) {
+            if self.facts(element).main.is_none() {
+                self.settle_leg(element);
             }
-        }
-        self.count_points(ground);
-        self.choose(ground);
-        Ok(())
-    }
-
-    /// Counts the points that the ways to borders pass.
-    fn count_points(&mut self, ground: Lines<'_>) {
-        for element in ground.courses.order.iter().rev().copied() {
-            let count = fewest(ground, &self.left, element, false);
-            put(&mut self.left, element, count);
-        }
-        for element in ground.courses.order.iter().copied() {
-            let count = fewest(ground, &self.right, element, true);
-            put(&mut self.right, element, count);
         }
     }
 
-    /// Chooses the legs by what is known of the ways.
-    fn choose(&mut self, ground: Lines<'_>) {
-        for element in ground.yard.point(0)..ground.yard.border(0) {
-            let side = plain(ground, self, element);
-            put(&mut self.legs, element, side);
-        }
-        for element in ground.yard.point(0)..ground.yard.border(0) {
-            if at(&self.legs, element, None).is_none() {
-                self.settle(ground, element);
-            }
+    fn set_main(&mut self, element: usize, leg: Option<End>) {
+        if let Some(facts) = self.elements.get_mut(element) {
+            facts.main = leg;
         }
     }
 
     /// The main leg of a point.
-    pub(crate) fn main(&self, element: usize) -> Side {
-        at(&self.legs, element, None).unwrap_or(Side::Left)
+    pub(crate) fn main(&self, element: usize) -> End {
+        self.facts(element).main.unwrap_or(End::Left)
     }
 
-    /// The other leg of a point.
-    pub(crate) fn minor(&self, element: usize) -> Side {
-        opposite(self.main(element))
+    /// The leg of a point that isn't its main one.
+    pub(crate) fn minor(&self, element: usize) -> Place {
+        let end = if self.main(element) == End::Left {
+            End::Right
+        } else {
+            End::Left
+        };
+        Place { element, end }
     }
 
     /// Whether a port lies on the row of its element.
     pub(crate) fn is_level(&self, place: Place) -> bool {
-        match side_of(place.end) {
-            Some(side) => side == self.main(place.element),
-            None => true,
+        match place.end {
+            End::Left | End::Right => place.end == self.main(place.element),
+            End::A | End::B | End::Tip | End::End => true,
+        }
+    }
+
+    /// What a leg is joined to.
+    fn joined_to(&self, place: Place) -> Joined {
+        match self.port(place).next {
+            None => Joined::Open,
+            Some(mate) => match mate.end {
+                End::Left | End::Right => Joined::Leg,
+                End::A | End::B | End::Tip | End::End => Joined::Other,
+            },
+        }
+    }
+
+    /// The main leg of a point, unless both lead to legs.
+    fn plain_leg(&self, element: usize) -> Option<End> {
+        let left = Place {
+            element,
+            end: End::Left,
+        };
+        let right = Place {
+            element,
+            end: End::Right,
+        };
+        let is_left_fast = self.port(left).is_fast;
+        if is_left_fast != self.port(right).is_fast {
+            return Some(if is_left_fast { End::Left } else { End::Right });
+        }
+        match (self.joined_to(left), self.joined_to(right)) {
+            (Joined::Open, Joined::Open) => Some(End::Left),
+            (Joined::Leg, Joined::Leg) => None,
+            (Joined::Other, Joined::Other) => {
+                Some(better(self.way_behind(left), self.way_behind(right)))
+            }
+            (Joined::Open, _) | (Joined::Leg, Joined::Other) => Some(End::Right),
+            (_, Joined::Open) | (Joined::Other, Joined::Leg) => Some(End::Left),
         }
     }
 
     /// Settles a point of which both legs lead to legs: the row of one peer goes on over it.
-    fn settle(&mut self, ground: Lines<'_>, element: usize) {
-        let side = better(
-            self.loss(ground, element, Side::Left),
-            self.loss(ground, element, Side::Right),
-        );
-        put(&mut self.legs, element, Some(side));
-        let place = Place {
+    fn settle_leg(&mut self, element: usize) {
+        let left = Place {
             element,
-            end: leg(side),
+            end: End::Left,
         };
-        if let Some(mate) = ground.courses.mate(&ground.yard, place) {
-            put(&mut self.legs, mate.element, side_of(mate.end));
+        let right = Place {
+            element,
+            end: End::Right,
+        };
+        let end = better(self.loss(left), self.loss(right));
+        self.set_main(element, Some(end));
+        if let Some(mate) = self.port(Place { element, end }).next {
+            self.set_main(mate.element, Some(mate.end));
         }
     }
 
     /// What is lost where the row goes on by a leg: whether its peer has to give up its row, and how good that is.
-    fn loss(&self, ground: Lines<'_>, element: usize, side: Side) -> usize {
-        let place = Place {
-            element,
-            end: leg(side),
+    fn loss(&self, place: Place) -> usize {
+        let way = self.way_behind(place);
+        let Some(mate) = self.port(place).next else {
+            return way.saturating_add(LOST);
         };
-        let Some(mate) = ground.courses.mate(&ground.yard, place) else {
-            return way_behind(ground, self, place).saturating_add(LOST);
-        };
-        match at(&self.legs, mate.element, None) {
-            Some(given) if side_of(mate.end) != Some(given) => {
+        match self.facts(mate.element).main {
+            Some(given) if mate.end != given => {
                 let lost = Place {
                     element: mate.element,
-                    end: leg(given),
+                    end: given,
                 };
                 WORST
-                    .saturating_sub(way_behind(ground, self, lost))
+                    .saturating_sub(self.way_behind(lost))
                     .saturating_add(LOST)
             }
-            _ => way_behind(ground, self, place),
+            _ => way,
         }
     }
-}
 
-fn mark_fast(fast: &mut Vec<bool>, yard: &Yard, route: &Route) {
-    for (point, side) in route.points() {
-        let place = Place {
-            element: yard.point(point.0),
-            end: leg(*side),
+    /// How good the way behind a leg is, as a number; the least one is the best. Its digits: how many points it passes to a
+    /// border, at best; how much shorter it is than the longest that could be; the number of the element to which the leg
+    /// leads.
+    fn way_behind(&self, place: Place) -> usize {
+        let Some(mate) = self.port(place).next else {
+            return WORST;
         };
-        put(fast, crate::yard::port_number(place), true);
+        let ways = self.ways(mate.element, self.is_right(place));
+        ways.points
+            .saturating_mul(BASE)
+            .saturating_add(FAR.saturating_sub(ways.longest))
+            .saturating_mul(BASE)
+            .saturating_add(mate.element)
     }
 }
 
-/// How many points the best way from an element to a side passes, if it is known of what lies there.
-fn fewest(ground: Lines<'_>, known: &Vec<usize>, element: usize, right: bool) -> usize {
-    let kind = ground.yard.kind(element);
-    if kind == Kind::Border {
-        return 0;
-    }
-    let mut best = FAR;
-    for end in ends(kind) {
-        let place = Place { element, end: *end };
-        if ground.directions.is_right(place) == right {
-            best = best.min(behind(ground, known, place));
-        }
-    }
-    if kind == Kind::Point {
-        best.saturating_add(1).min(FAR)
-    } else {
-        best
-    }
-}
-
-fn behind(ground: Lines<'_>, known: &Vec<usize>, place: Place) -> usize {
-    match ground.courses.mate(&ground.yard, place) {
-        Some(mate) => at(known, mate.element, FAR),
-        None => FAR,
-    }
-}
-
-/// The way behind a leg.
-fn way_behind(ground: Lines<'_>, ways: &MainLegs, place: Place) -> usize {
-    let Some(mate) = ground.courses.mate(&ground.yard, place) else {
-        return WORST;
-    };
-    let right = ground.directions.is_right(place);
-    let passed = if right { &ways.right } else { &ways.left };
-    way(
-        at(passed, mate.element, FAR),
-        FAR.saturating_sub(ground.ranks.way(mate.element, right)),
-        mate.element,
-    )
-}
-
-/// What a leg is joined to.
-fn joined_to(ground: Lines<'_>, place: Place) -> Joined {
-    match ground.courses.mate(&ground.yard, place) {
-        None => Joined::Open,
-        Some(mate) => match mate.end {
-            End::Left | End::Right => Joined::Leg,
-            End::A | End::B | End::Tip | End::End => Joined::Other,
-        },
-    }
-}
-
-/// The main leg of a point, unless both lead to legs.
-fn plain(ground: Lines<'_>, ways: &MainLegs, element: usize) -> Option<Side> {
-    let left = Place {
-        element,
-        end: End::Left,
-    };
-    let right = Place {
-        element,
-        end: End::Right,
-    };
-    let is_left_fast = at(&ways.fast, crate::yard::port_number(left), false);
-    let is_right_fast = at(&ways.fast, crate::yard::port_number(right), false);
-    if is_left_fast != is_right_fast {
-        return Some(if is_left_fast {
-            Side::Left
-        } else {
-            Side::Right
-        });
-    }
-    match (joined_to(ground, left), joined_to(ground, right)) {
-        (Joined::Open, Joined::Open) => Some(Side::Left),
-        (Joined::Leg, Joined::Leg) => None,
-        (Joined::Other, Joined::Other) => Some(better(
-            way_behind(ground, ways, left),
-            way_behind(ground, ways, right),
-        )),
-        (Joined::Open, _) | (Joined::Leg, Joined::Other) => Some(Side::Right),
-        (_, Joined::Open) | (Joined::Other, Joined::Leg) => Some(Side::Left),
-    }
-}
-
-/// The side of the better of two ways, which is the left one where they are equally good.
-fn better(left: usize, right: usize) -> Side {
-    if right < left {
-        Side::Right
-    } else {
-        Side::Left
-    }
+/// The leg of the better of two ways, which is the left one where they are equally good.
+fn better(left: usize, right: usize) -> End {
+    if right < left { End::Right } else { End::Left }
 }

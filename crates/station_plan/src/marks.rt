@@ -1,9 +1,9 @@
 //! Marks of one thing, as they are added.
 
 ghost use Rattle.std.specs.Prelude.{◌≡◌, ◌++◌, ◌∷◌, [], IfSome, OnOk};
-ghost use Rattle.station_plan.specs.Strokes.{circle, line, polygon, rectangle, stroke_of, strokes, text_of, written};
+ghost use Rattle.station_plan.specs.Strokes.{circle, line, polygon, stroke_of, strokes, text_of, written};
 
-use crate::labels::{LINE, WRAP, lines_of};
+use crate::labels::{LINE, WRAP};
 use crate::sketch::spot;
 use crate::units::Units;
 use control_table::sci_telegram::Name;
@@ -94,27 +94,6 @@ impl Marks {
         self.add(class, Shape::Circle { centre, radius })
     }
 
-    /// Adds a rectangle.
-    pub(crate) fn rectangle(
-        &mut self,
-        class: &str,
-        corner: Spot,
-        width: u32,
-        height: u32,
-    ) -> Result<(), AllocError>
-        ensures drawn { OnOk result (strokes self.new.marks.items ≡ strokes self.old.marks.items ++ rectangle class.now ∷ []) }
-        ensures named { OnOk result (written self.new.marks.items ≡ written self.old.marks.items) }
-    {
-        self.add(
-            class,
-            Shape::Rectangle {
-                corner,
-                width,
-                height,
-            },
-        )
-    }
-
     /// Adds a text.
     pub(crate) fn text(
         &mut self,
@@ -130,15 +109,12 @@ impl Marks {
         self.add(class, Shape::Text { at, anchor, words })
     }
 
-    /// Adds a number.
-    pub(crate) fn number(
-        &mut self,
-        class: &str,
-        at: Spot,
-        number: usize,
-    ) -> Result<(), AllocError> {
+    /// Adds a number in a ring.
+    pub(crate) fn number(&mut self, at: Spot, number: usize) -> Result<(), AllocError> {
+        self.circle("ring", at, 8)?;
         let words = format!(in self.alloc; "{number}")?;
-        self.text(class, at, Anchor::Middle, words.as_str())
+        let foot = spot(Units(at.x), Units(at.y) + Units(3));
+        self.text("number", foot, Anchor::Middle, words.as_str())
     }
 
     /// Adds a name, on two lines if it is long: the first of them at `y`, or the last of them where they are to grow
@@ -183,7 +159,7 @@ fn halves(name: &Name) -> Option<(&str, &str)>
     ensures { IfSome result (λ halves. halves.0.now ++ halves.1.now ≡ name.now) }
 {
     let bytes = name.as_str().as_bytes();
-    if lines_of(name) < 2 || bytes.len() < WRAP {
+    if bytes.len() <= WRAP {
         return None;
     }
     let (first, second) = bytes.split_at(WRAP);

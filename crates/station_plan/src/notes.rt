@@ -1,30 +1,19 @@
-//! What stands below a plan beside its detection controllers: the name of the station, and what the marks mean.
+//! What stands below a plan beside its detection controllers: what the marks mean.
 
 use crate::element_marks::moved;
 use crate::marks::Marks;
 use crate::shown::{Shown, route_words};
 use crate::sketch::spot;
 use crate::units::Units;
-use control_table::layout::Layout;
+use control_table::layout::{Layout, Route};
 use drawing::{Anchor, Spot};
 use std::alloc::{AllocError, Global};
 
 /// The distance of lines.
 pub(crate) const LINES: Units = Units(17);
 
-/// Draws the name of the station.
-pub(crate) fn draw_heading(
-    marks: &mut Marks,
-    layout: &Layout,
-    x: Units,
-    y: Units,
-) -> Result<(), AllocError> {
-    let name = layout.station().name.as_str();
-    marks.text("heading", spot(x, y), Anchor::Start, name)
-}
-
 /// What is drawn before the words of a line.
-#[derive(Clone, Copy)]
+#[derive(Drop)]
 enum Sample {
     /// A line of this class.
     Line(&'static str),
@@ -73,10 +62,8 @@ pub(crate) fn draw_legend(
     y: Units,
 ) -> Result<(), AllocError> {
     let mut down = y;
-    if let Some(words) = route_words(alloc, layout, shown)? {
-        let sample = Sample::Line("sample path-sample");
-        draw_line(marks, spot(x, down), sample, words.as_str())?;
-        draw_lines(marks, spot(x, down + LINES), ROUTE_LINES)?;
+    if let Some(route) = shown.route(layout) {
+        draw_route(marks, alloc, layout, route, spot(x, down))?;
         down = down + LINES.times(3);
     }
     if shown.seen.is_some() {
@@ -85,18 +72,32 @@ pub(crate) fn draw_legend(
     Ok(())
 }
 
+/// Draws what the marks of a route mean, behind what is said of it.
+fn draw_route(
+    marks: &mut Marks,
+    alloc: Global,
+    layout: &Layout,
+    route: &Route,
+    at: Spot,
+) -> Result<(), AllocError> {
+    let words = route_words(alloc, layout, route)?;
+    let sample = Sample::Line("sample path-sample");
+    draw_line(marks, at, &sample, words.as_str())?;
+    draw_lines(marks, moved(at, 0, LINES.0), ROUTE_LINES)
+}
+
 /// Draws lines of the legend, each below the one before.
 fn draw_lines(marks: &mut Marks, at: Spot, lines: &[(Sample, &str)]) -> Result<(), AllocError> {
     let mut next = at;
     for (sample, words) in lines {
-        draw_line(marks, next, *sample, words)?;
+        draw_line(marks, next, sample, words)?;
         next = moved(next, 0, LINES.0);
     }
     Ok(())
 }
 
 /// Draws a line of the legend: a sample, and what it means.
-fn draw_line(marks: &mut Marks, at: Spot, sample: Sample, words: &str) -> Result<(), AllocError> {
+fn draw_line(marks: &mut Marks, at: Spot, sample: &Sample, words: &str) -> Result<(), AllocError> {
     match sample {
         Sample::Line(class) => marks.line(class, moved(at, 0, -4), moved(at, 22, -4))?,
         Sample::Guard => {

@@ -1,7 +1,7 @@
 //! How a plan is laid on paper: as it lies, or in strips where it is too wide.
 
-use crate::extent::{Extent, NOWHERE, reach_of_marks, reach_of_things};
-use crate::thing::{Subject, Thing};
+use crate::extent::{EVERYWHERE, Extent, reach_of_marks, reach_of_things};
+use crate::thing::Thing;
 use crate::units::{Units, count};
 use drawing::{Frame, Mark, Strip};
 use std::alloc::{AllocError, Global};
@@ -12,38 +12,6 @@ const WIDEST: Units = Units(1600);
 const OVERLAP: Units = Units(60);
 /// The free room round a plan.
 const MARGIN: Units = Units(12);
-
-/// The paper and the strips on it.
-#[derive(Drop)]
-pub(crate) struct Paper {
-    /// The paper.
-    pub(crate) frame: Frame,
-    /// The strips, if the plan is too wide.
-    pub(crate) strips: Vec<Strip>,
-}
-
-/// Whether a thing stands below the plan.
-fn is_below(thing: &Thing) -> bool {
-    matches!(thing.subject, Subject::Detector(_))
-}
-
-/// How far the things of the plan, or those below it, reach within a stripe.
-fn reach(things: &[Thing], below: bool, left: Units, right: Units) -> Extent {
-    let mut extent = NOWHERE;
-    for thing in things {
-        if is_below(thing) == below {
-            extent = extent
-                .with(reach_of_marks(thing.marks.as_slice(), left, right))
-                .with(reach_of_marks(thing.more.as_slice(), left, right));
-        }
-    }
-    extent
-}
-
-/// How far the things of the plan itself reach within a stripe.
-pub(crate) fn reach_above(things: &[Thing], left: Units, right: Units) -> Extent {
-    reach(things, false, left, right)
-}
 
 /// Adds a strip below those that are there, and tells how far down the next one lies.
 fn add_strip(strips: &mut Vec<Strip>, down: Units, shows: Extent) -> Result<Units, AllocError> {
@@ -63,7 +31,7 @@ fn add_strip(strips: &mut Vec<Strip>, down: Units, shows: Extent) -> Result<Unit
 /// A part of the plan as wide as the paper, cut to its height.
 fn window(things: &[Thing], left: Units) -> Extent {
     let right = left + WIDEST;
-    let reach = reach(things, false, left, right).grown(MARGIN);
+    let reach = reach_of_things(things, false, left, right).grown(MARGIN);
     Extent {
         left,
         top: reach.top,
@@ -83,41 +51,34 @@ fn add_strips(
     let mut down = Units(0);
     for number in 0..1000 {
         let begin = all.left + step.times(count(number));
-        if begin + OVERLAP < all.right {
+        if (begin + OVERLAP).0 < all.right.0 {
             down = add_strip(strips, down, window(things, begin))?;
         }
     }
     add_strip(strips, down, below)
 }
 
-/// The paper of a plan.
+/// The paper of a plan, and the strips on it, if the plan is too wide.
 pub(crate) fn paper_for(
     alloc: Global,
     things: &[Thing],
     notes: &[Mark],
-) -> Result<Paper, AllocError> {
-    let far = Units(1_000_000);
-    let left = Units(-1_000_000);
-    let written = reach_of_marks(notes, left, far);
-    let all = reach_of_things(things, left, far)
-        .with(written)
+) -> Result<(Frame, Vec<Strip>), AllocError> {
+    let (left, right) = EVERYWHERE;
+    let below = reach_of_things(things, true, left, right).with(reach_of_marks(notes, left, right));
+    let all = reach_of_things(things, false, left, right)
+        .with(below)
         .grown(MARGIN);
     let mut strips = Vec::new(alloc);
-    if all.width() <= WIDEST {
-        return Ok(Paper {
-            frame: all.frame(),
-            strips,
-        });
+    if all.width().0 <= WIDEST.0 {
+        return Ok((all.frame(), strips));
     }
-    let below = reach(things, true, left, far).with(written).grown(MARGIN);
-    let down = add_strips(&mut strips, things, all, below)?;
-    Ok(Paper {
-        frame: Frame {
-            left: 0,
-            top: 0,
-            width: WIDEST.0.unsigned_abs(),
-            height: down.0.unsigned_abs(),
-        },
-        strips,
-    })
+    let down = add_strips(&mut strips, things, all, below.grown(MARGIN))?;
+    let paper = Frame {
+        left: 0,
+        top: 0,
+        width: WIDEST.0.unsigned_abs(),
+        height: down.0.unsigned_abs(),
+    };
+    Ok((paper, strips))
 }

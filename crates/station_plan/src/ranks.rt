@@ -1,171 +1,108 @@
 //! How far to the right each element lies, in elements.
 
-use crate::courses::Courses;
-use crate::directions::Directions;
-use crate::lists::{at, filled, put};
-use crate::yard::{Kind, Place, Yard, ends};
-use std::alloc::{AllocError, Global};
+use crate::lists::at;
+use crate::sketch::Sketch;
+use crate::yard::{FAR, Place, Ways};
+use control_table::layout::Element;
 
-/// How many elements lie at most beside an element, on the longest ways.
-#[derive(Clone, Copy)]
-struct Rank {
-    /// At its left. A border at the right has the greatest rank.
-    rank: usize,
-    /// At its left, and itself.
-    inward: usize,
-    /// At its right, and itself.
-    onward: usize,
-}
-
-/// The rank of an element of which nothing is known yet.
-const ALONE: Rank = Rank {
-    rank: 0,
-    inward: 1,
-    onward: 1,
-};
-
-/// The ranks of all elements.
-#[derive(Drop)]
-pub(crate) struct Ranks {
-    ranks: Vec<Rank>,
-}
-
-impl Ranks {
-    /// No ranks.
-    pub(crate) fn empty(alloc: Global) -> Ranks {
-        Ranks {
-            ranks: Vec::new(alloc),
+impl Sketch<'_> {
+    /// Finds the ranks of all elements, and the ways from them to both sides.
+    pub(crate) fn lay_ranks(&mut self) {
+        for turn in 0..self.order.len() {
+            let element = at(&self.order, turn, 0);
+            self.measure(element, true);
         }
-    }
-
-    /// The ranks of all elements.
-    pub(crate) fn lay(
-        &mut self,
-        alloc: Global,
-        yard: &Yard,
-        directions: &Directions,
-        courses: &Courses,
-    ) -> Result<(), AllocError> {
-        self.ranks = filled(alloc, yard.size(), ALONE)?;
-        for element in courses.order.iter().rev().copied() {
-            self.lengthen(yard, directions, courses, element, true);
+        for turn in (0..self.order.len()).rev() {
+            let element = at(&self.order, turn, 0);
+            self.measure(element, false);
         }
-        for element in courses.order.iter().copied() {
-            self.lengthen(yard, directions, courses, element, false);
+        let longest = self.settle_ranks();
+        self.lay_beside(longest);
+    }
+
+    /// The ways from an element to a side.
+    pub(crate) fn ways(&self, element: usize, right: bool) -> Ways {
+        let facts = self.facts(element);
+        if right { facts.right } else { facts.left }
+    }
+
+    /// Finds the ways from an element to a side, by those of what it is joined to there.
+    fn measure(&mut self, element: usize, right: bool) {
+        let mut ways = Ways {
+            longest: 0,
+            points: FAR,
+        };
+        for end in self.ends(element) {
+            if let Some(mate) = self.neighbour(Place { element, end: *end }, right) {
+                let beyond = self.ways(mate.element, right);
+                ways.longest = ways.longest.max(beyond.longest);
+                ways.points = ways.points.min(beyond.points);
+            }
         }
-        self.settle(yard, directions);
-        self.lay_beside(yard, directions);
-        Ok(())
-    }
-
-    fn at(&self, element: usize) -> Rank {
-        at(&self.ranks, element, ALONE)
-    }
-
-    /// The rank of an element.
-    pub(crate) fn rank(&self, element: usize) -> usize {
-        self.at(element).rank
-    }
-
-    /// How many elements lie at most at a side of an element, with itself.
-    pub(crate) fn way(&self, element: usize, right: bool) -> usize {
-        let rank = self.at(element);
-        if right { rank.onward } else { rank.inward }
-    }
-
-    /// Makes the ways of the elements at one side of an element at least one longer than its own from the other side.
-    fn lengthen(
-        &mut self,
-        yard: &Yard,
-        directions: &Directions,
-        courses: &Courses,
-        element: usize,
-        right: bool,
-    ) {
-        let longer = self.way(element, !right).saturating_add(1);
-        for end in ends(yard.kind(element)) {
-            let place = Place { element, end: *end };
-            if directions.is_right(place) == right {
-                if let Some(mate) = courses.mate(yard, place) {
-                    self.raise(mate.element, right, longer);
-                }
+        ways.longest = ways.longest.saturating_add(1);
+        match self.element(element) {
+            Element::Track(_) => {}
+            Element::Point(_) => ways.points = ways.points.saturating_add(1).min(FAR),
+            Element::Border(_) => ways.points = 0,
+        }
+        if let Some(facts) = self.elements.get_mut(element) {
+            if right {
+                facts.right = ways;
+            } else {
+                facts.left = ways;
             }
         }
     }
 
-    /// Makes the way of an element from the side at which another lies at least so long.
-    fn raise(&mut self, element: usize, right: bool, least: usize) {
-        let mut rank = self.at(element);
-        if right {
-            rank.inward = rank.inward.max(least);
-        } else {
-            rank.onward = rank.onward.max(least);
-        }
-        put(&mut self.ranks, element, rank);
-    }
-
-    fn set(&mut self, element: usize, to: usize) {
-        let mut rank = self.at(element);
-        rank.rank = to;
-        put(&mut self.ranks, element, rank);
-    }
-
-    /// Finds the ranks by the ways from the left.
-    fn settle(&mut self, yard: &Yard, directions: &Directions) {
+    /// Finds the ranks by the ways to the left, and tells how many elements the longest one has.
+    fn settle_ranks(&mut self) -> usize {
         let mut longest: usize = 1;
-        for rank in &self.ranks {
-            longest = longest.max(rank.inward);
+        for facts in &self.elements {
+            longest = longest.max(facts.left.longest);
         }
-        for element in 0..yard.size() {
-            let is_last = yard.kind(element) == Kind::Border
-                && at(&directions.flipped, element, false);
-            let way = if is_last {
-                longest
-            } else {
-                self.way(element, false)
-            };
-            self.set(element, way.saturating_sub(1));
+        let borders = self.border(0);
+        for element in 0..self.elements.len() {
+            if let Some(facts) = self.elements.get_mut(element) {
+                let is_last = borders <= element && facts.is_flipped;
+                let way = if is_last { longest } else { facts.left.longest };
+                facts.rank = way.saturating_sub(1);
+            }
         }
+        longest
     }
 
     /// Lays lines that hang at nothing behind one another, as long as they are together no longer than the longest way: so
     /// they can share a row.
-    fn lay_beside(&mut self, yard: &Yard, directions: &Directions) {
-        let longest = self.length_of(directions, None);
+    fn lay_beside(&mut self, longest: usize) {
         let mut begin: usize = 0;
-        for piece in 0..directions.count {
-            if directions.is_line(yard, piece) {
-                let length = self.length_of(directions, Some(piece));
+        for piece in 0..self.pieces {
+            if self.is_line(piece) {
+                let length = self.length_of(piece);
                 if longest < begin.saturating_add(length) {
                     begin = 0;
                 }
-                self.shift(directions, piece, begin);
+                self.shift(piece, begin);
                 begin = begin.saturating_add(length);
             }
         }
     }
 
-    /// How many ranks a piece has, or all pieces have.
-    fn length_of(&self, directions: &Directions, piece: Option<usize>) -> usize {
+    /// How many ranks a piece has.
+    fn length_of(&self, piece: usize) -> usize {
         let mut length = 0;
-        for element in 0..self.ranks.len() {
-            let counts = match piece {
-                Some(piece) => directions.is_in(element, piece),
-                None => true,
-            };
-            if counts {
-                length = length.max(self.rank(element).saturating_add(1));
+        for facts in &self.elements {
+            if facts.piece == Some(piece) {
+                length = length.max(facts.rank.saturating_add(1));
             }
         }
         length
     }
 
     /// Moves a piece to the right.
-    fn shift(&mut self, directions: &Directions, piece: usize, by: usize) {
-        for element in 0..self.ranks.len() {
-            if directions.is_in(element, piece) {
-                let rank = self.rank(element).saturating_add(by);
-                self.set(element, rank);
+    fn shift(&mut self, piece: usize, by: usize) {
+        for facts in self.elements.iter_mut() {
+            if facts.piece == Some(piece) {
+                facts.rank = facts.rank.saturating_add(by);
             }
         }
     }

@@ -5,7 +5,7 @@ ghost use Rattle.std.specs.List.{flat_map};
 ghost use Rattle.station_plan.specs.Faces.{band, is_named, point_bands, section_strokes, track_bands};
 ghost use Rattle.station_plan.specs.Strokes.{strokes, written};
 
-use crate::element_marks::{draw_band, draw_point_band, moved, signal_room};
+use crate::element_marks::{draw_band, draw_point_band, moved};
 use crate::labels::{LETTER, LINE, lines};
 use crate::marks::Marks;
 use crate::sketch::{Sketch, spot};
@@ -50,7 +50,7 @@ pub(crate) fn draw_section(
     marks: &mut Marks,
     more: &mut Marks,
     layout: &Layout,
-    sketch: &Sketch,
+    sketch: &Sketch<'_>,
     name: &Name,
 ) -> Result<(), AllocError>
     ensures drawn { OnOk result (strokes marks.new.marks.items ≡ strokes marks.old.marks.items ++ section_strokes layout.now name.now) }
@@ -65,7 +65,7 @@ fn draw_tracks(
     marks: &mut Marks,
     more: &mut Marks,
     layout: &Layout,
-    sketch: &Sketch,
+    sketch: &Sketch<'_>,
     name: &Name,
     tracks: &[Track],
 ) -> Result<(), AllocError>
@@ -83,7 +83,7 @@ fn draw_track_part(
     marks: &mut Marks,
     more: &mut Marks,
     layout: &Layout,
-    sketch: &Sketch,
+    sketch: &Sketch<'_>,
     name: &Name,
     number: usize,
     track: &Track,
@@ -103,7 +103,7 @@ fn draw_points(
     marks: &mut Marks,
     more: &mut Marks,
     layout: &Layout,
-    sketch: &Sketch,
+    sketch: &Sketch<'_>,
     name: &Name,
     points: &[Point],
 ) -> Result<(), AllocError>
@@ -121,7 +121,7 @@ fn draw_point_part(
     marks: &mut Marks,
     more: &mut Marks,
     layout: &Layout,
-    sketch: &Sketch,
+    sketch: &Sketch<'_>,
     name: &Name,
     number: usize,
     point: &Point,
@@ -132,31 +132,38 @@ fn draw_point_part(
     if !is_named(layout, name, point.section) {
         return Ok(());
     }
-    let element = sketch.grid.ground.yard.point(number);
+    let element = sketch.point(number);
     draw_point_band(marks, sketch, element)?;
     draw_point_label(more, sketch, element)
 }
 
-fn draw_track_label(more: &mut Marks, sketch: &Sketch, element: usize) -> Result<(), AllocError> {
-    let left = sketch.edge(element, false);
-    let right = sketch.edge(element, true);
-    let x = (left + right - signal_room(sketch, element, true)).half();
+fn draw_track_label(
+    more: &mut Marks,
+    sketch: &Sketch<'_>,
+    element: usize,
+) -> Result<(), AllocError> {
+    let (left, right) = sketch.row_line(element);
+    let x = (Units(left.x) + Units(right.x) - sketch.signal_room(element, true)).half();
     let y = sketch.y(element) + Units(15);
-    let name = sketch.labels.section(element);
+    let name = sketch.section_name(element);
     more.label(x, y, name, false)
 }
 
 /// The section of a point is named beyond the point's own name.
-fn draw_point_label(more: &mut Marks, sketch: &Sketch, element: usize) -> Result<(), AllocError> {
-    let up = sketch.grid.is_drawn_up(element);
-    let beyond = LINE.times(count(lines(sketch.labels.name(element))));
+fn draw_point_label(
+    more: &mut Marks,
+    sketch: &Sketch<'_>,
+    element: usize,
+) -> Result<(), AllocError> {
+    let up = sketch.is_drawn_up(element);
+    let beyond = LINE.times(count(lines(sketch.name(element))));
     let y = if up {
         sketch.y(element) + Units(16) + beyond
     } else {
         sketch.y(element) - Units(8) - beyond
     };
     let x = sketch.x(element);
-    let name = sketch.labels.section(element);
+    let name = sketch.section_name(element);
     more.label(x, y, name, !up)
 }
 
@@ -179,9 +186,21 @@ pub(crate) fn draw_list(
     at: Spot,
     letters: usize,
 ) -> Result<Units, AllocError> {
+    let mut words = String::from_str(alloc, ":")?;
+    draw_names(more, &mut words, layout, detector, at, letters)
+}
+
+/// Writes names behind the words with which the first line begins.
+fn draw_names(
+    more: &mut Marks,
+    words: &mut String,
+    layout: &Layout,
+    detector: &Detector,
+    at: Spot,
+    letters: usize,
+) -> Result<Units, AllocError> {
     let begin = Units(at.x) + Units(30);
     let mut before = detector.name().as_str().len();
-    let mut words = String::from_str(alloc, ":")?;
     let mut down = Units(at.y);
     for section in detector.sections() {
         let word = section_word(layout, *section);
@@ -192,15 +211,11 @@ pub(crate) fn draw_list(
             before = 0;
             down = down + LINE;
         }
-        add_word(&mut words, word)?;
+        words.push_str(" ")?;
+        words.push_str(word)?;
     }
     draw_words(more, begin, down, before, words.as_str())?;
     Ok(down + LINE + Units(5))
-}
-
-fn add_word(words: &mut String, word: &str) -> Result<(), AllocError> {
-    words.push_str(" ")?;
-    words.push_str(word)
 }
 
 /// Writes words behind so many letters.

@@ -3,11 +3,25 @@
 ghost use Rattle.std.specs.Prelude.{◌≡◌};
 ghost use Rattle.std.specs.List.{position};
 ghost use Rattle.std.specs.Str.{bytes_eq};
-ghost use Rattle.station_plan.specs.Faces.{aspect_seen, aspect_state, branch_state, leg_state, occupancy_seen, occupancy_state, position_seen, section_state, signal_state};
+ghost use Rattle.station_plan.specs.Faces.{aspect_seen, aspect_state, known, leg_state, occupancy_seen, occupancy_state, position_seen, state_for};
 
 use crate::shown::{Seen, Shown};
+use crate::thing::Subject;
 use control_table::layout::{Layout, Point, Signal};
 use control_table::sci_telegram::{Aspect, Name, Occupancy, Position, Side};
+
+/// What is known at a place of a list, if anything is.
+fn known<T: Copy>(list: &[Option<T>], place: Option<usize>) -> Option<T>
+    ensures { result ≡ known list.now place }
+{
+    match place {
+        Some(place) => match list.get(place) {
+            Some(entry) => *entry,
+            None => None,
+        },
+        None => None,
+    }
+}
 
 /// The place of the signal of a name.
 fn signal_place(signals: &[Signal], name: &str) -> Option<usize>
@@ -36,39 +50,24 @@ fn section_place(sections: &[Name], name: &str) -> Option<usize>
 fn aspect_seen(layout: &Layout, seen: &Seen, name: &Name) -> Option<Aspect>
     ensures { result ≡ aspect_seen layout.now seen.now name.now }
 {
-    match signal_place(layout.signals(), name.as_str()) {
-        Some(place) => match seen.aspects.get(place) {
-            Some(aspect) => *aspect,
-            None => None,
-        },
-        None => None,
-    }
+    known(&seen.aspects, signal_place(layout.signals(), name.as_str()))
 }
 
 /// Where a point lies.
 fn position_seen(layout: &Layout, seen: &Seen, name: &Name) -> Option<Position>
     ensures { result ≡ position_seen layout.now seen.now name.now }
 {
-    match point_place(layout.points(), name.as_str()) {
-        Some(place) => match seen.positions.get(place) {
-            Some(position) => *position,
-            None => None,
-        },
-        None => None,
-    }
+    known(&seen.positions, point_place(layout.points(), name.as_str()))
 }
 
 /// Whether a section is occupied.
 fn occupancy_seen(layout: &Layout, seen: &Seen, name: &Name) -> Option<Occupancy>
     ensures { result ≡ occupancy_seen layout.now seen.now name.now }
 {
-    match section_place(layout.sections(), name.as_str()) {
-        Some(place) => match seen.occupancies.get(place) {
-            Some(occupancy) => *occupancy,
-            None => None,
-        },
-        None => None,
-    }
+    known(
+        &seen.occupancies,
+        section_place(layout.sections(), name.as_str()),
+    )
 }
 
 fn aspect_words(aspect: Option<Aspect>) -> &'static str
@@ -106,32 +105,23 @@ fn occupancy_words(occupancy: Option<Occupancy>) -> &'static str
     }
 }
 
-/// The words for what is seen of a signal.
-pub(crate) fn signal_state(layout: &Layout, shown: &Shown, name: &Name) -> &'static str
-    ensures { result.now ≡ signal_state layout.now shown.now.seen name.now }
+/// The word for what is seen of a subject.
+pub(crate) fn state_word(layout: &Layout, shown: &Shown, subject: &Subject) -> &'static str
+    ensures { result.now ≡ state_for layout.now shown.now.seen subject.now }
 {
-    match &shown.seen {
-        Some(seen) => aspect_words(aspect_seen(layout, seen, name)),
-        None => "",
-    }
-}
-
-/// The words for what is seen of a leg of a point.
-pub(crate) fn branch_state(layout: &Layout, shown: &Shown, name: &Name, side: Side) -> &'static str
-    ensures { result.now ≡ branch_state layout.now shown.now.seen name.now side }
-{
-    match &shown.seen {
-        Some(seen) => leg_words(position_seen(layout, seen, name), side),
-        None => "",
-    }
-}
-
-/// The words for what is seen of a section.
-pub(crate) fn section_state(layout: &Layout, shown: &Shown, name: &Name) -> &'static str
-    ensures { result.now ≡ section_state layout.now shown.now.seen name.now }
-{
-    match &shown.seen {
-        Some(seen) => occupancy_words(occupancy_seen(layout, seen, name)),
-        None => "",
+    let Some(seen) = &shown.seen else {
+        return "";
+    };
+    match subject {
+        Subject::Section(name) => occupancy_words(occupancy_seen(layout, seen, name)),
+        Subject::Left(name) => leg_words(position_seen(layout, seen, name), Side::Left),
+        Subject::Right(name) => leg_words(position_seen(layout, seen, name), Side::Right),
+        Subject::Signal(name) => aspect_words(aspect_seen(layout, seen, name)),
+        Subject::Track(_)
+        | Subject::Point(_)
+        | Subject::Tip(_)
+        | Subject::Border(_)
+        | Subject::Joint(..)
+        | Subject::Detector(_) => "",
     }
 }

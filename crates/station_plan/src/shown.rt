@@ -3,7 +3,8 @@
 use crate::section_marks::{detector_of, tint};
 use crate::thing::Subject;
 use control_table::layout::{
-    BorderId, Element, Exit, Layout, PointId, Route, RouteId, SectionId, SignalId, TrackId,
+    BorderId, Element, End, Exit, Layout, PointId, Port, Route, RouteId, SectionId, SignalId,
+    TrackId,
 };
 use control_table::sci_telegram::{Aspect, Occupancy, Position, Side};
 use std::alloc::{AllocError, Global};
@@ -32,7 +33,7 @@ pub struct Shown {
 
 impl Shown {
     /// The route that is drawn thick.
-    fn route<'a>(&self, layout: &'a Layout) -> Option<&'a Route> {
+    pub(crate) fn route<'a>(&self, layout: &'a Layout) -> Option<&'a Route> {
         layout.routes().get(self.route?.0)
     }
 }
@@ -57,14 +58,21 @@ fn has_side(points: &[(PointId, Side)], point: PointId, side: Side) -> bool {
     false
 }
 
-/// Whether a point protects the flank of a route.
-fn guards(route: &Route, point: PointId) -> bool {
-    has_side(route.flank(), point, Side::Left) || has_side(route.flank(), point, Side::Right)
+/// The point of a leg, and its side.
+fn leg_of(port: Port) -> Option<(PointId, Side)> {
+    match (port.element, port.end) {
+        (Element::Point(point), End::Left) => Some((point, Side::Left)),
+        (Element::Point(point), End::Right) => Some((point, Side::Right)),
+        _ => None,
+    }
 }
 
-/// Whether a route passes over a leg of a point.
-fn takes(route: &Route, point: PointId, side: Side) -> bool {
-    has_side(route.points(), point, side)
+/// Whether a route passes over an element, or over a leg where the port is one.
+fn takes(route: &Route, port: Port) -> bool {
+    match leg_of(port) {
+        Some((point, side)) => has_side(route.points(), point, side),
+        None => passes(route, port.element),
+    }
 }
 
 /// Adds words to a class.
@@ -72,27 +80,11 @@ fn add(class: &mut String, is_so: bool, words: &str) -> Result<(), AllocError> {
     if is_so { class.push_str(words) } else { Ok(()) }
 }
 
-impl Seen {
-    /// Whether a route is set.
-    fn is_set(&self, number: usize) -> bool {
-        number < self.set.len() && self.set[number]
-    }
-}
-
-/// Whether a set route passes over an element.
-fn is_set_over(layout: &Layout, seen: &Seen, element: Element) -> bool {
+/// Whether a set route passes over an element or a leg.
+fn is_set_over(layout: &Layout, seen: &Seen, port: Port) -> bool {
     for (number, route) in layout.routes().iter().enumerate() {
-        if seen.is_set(number) && passes(route, element) {
-            return true;
-        }
-    }
-    false
-}
-
-/// Whether a set route passes over a leg.
-fn is_set_by(layout: &Layout, seen: &Seen, point: PointId, side: Side) -> bool {
-    for (number, route) in layout.routes().iter().enumerate() {
-        if seen.is_set(number) && takes(route, point, side) {
+        let is_set = number < seen.set.len() && seen.set[number];
+        if is_set && takes(route, port) {
             return true;
         }
     }
@@ -102,41 +94,31 @@ fn is_set_by(layout: &Layout, seen: &Seen, point: PointId, side: Side) -> bool {
 /// Whether a point protects the flank of the route that is shown.
 pub(crate) fn is_flank(layout: &Layout, shown: &Shown, point: PointId) -> bool {
     match shown.route(layout) {
-        Some(route) => guards(route, point),
+        Some(route) => {
+            has_side(route.flank(), point, Side::Left)
+                || has_side(route.flank(), point, Side::Right)
+        }
         None => false,
     }
 }
 
-/// Marks a track, or the tip of a point.
-fn mark_element(
+/// Marks a track, or the tip or a leg of a point.
+fn mark_way(
     class: &mut String,
     layout: &Layout,
     shown: &Shown,
     element: Element,
+    end: End,
 ) -> Result<(), AllocError> {
+    let port = Port { element, end };
     if let Some(route) = shown.route(layout) {
-        add(class, passes(route, element), " path")?;
+        add(class, takes(route, port), " path")?;
+        if let Some((point, side)) = leg_of(port) {
+            add(class, has_side(route.flank(), point, side), " flank")?;
+        }
     }
     match &shown.seen {
-        Some(seen) => add(class, is_set_over(layout, seen, element), " set"),
-        None => Ok(()),
-    }
-}
-
-/// Marks a leg.
-fn mark_leg(
-    class: &mut String,
-    layout: &Layout,
-    shown: &Shown,
-    point: PointId,
-    side: Side,
-) -> Result<(), AllocError> {
-    if let Some(route) = shown.route(layout) {
-        add(class, takes(route, point, side), " path")?;
-        add(class, has_side(route.flank(), point, side), " flank")?;
-    }
-    match &shown.seen {
-        Some(seen) => add(class, is_set_by(layout, seen, point, side), " set"),
+        Some(seen) => add(class, is_set_over(layout, seen, port), " set"),
         None => Ok(()),
     }
 }
@@ -178,7 +160,7 @@ fn is_exit(layout: &Layout, shown: &Shown, border: BorderId) -> bool {
 }
 
 /// Marks a subject of this number in its table.
-fn mark(
+pub(crate) fn mark(
     class: &mut String,
     layout: &Layout,
     shown: &Shown,
@@ -186,13 +168,14 @@ fn mark(
     number: usize,
 ) -> Result<(), AllocError> {
     let point = PointId(number);
+    let track = Element::Track(TrackId(number));
     match subject {
         Subject::Section(_) => mark_section(class, layout, shown, SectionId(number)),
-        Subject::Track(_) => mark_element(class, layout, shown, Element::Track(TrackId(number))),
+        Subject::Track(_) => mark_way(class, layout, shown, track, End::A),
         Subject::Point(_) => add(class, is_flank(layout, shown, point), " flank"),
-        Subject::Tip(_) => mark_element(class, layout, shown, Element::Point(point)),
-        Subject::Left(_) => mark_leg(class, layout, shown, point, Side::Left),
-        Subject::Right(_) => mark_leg(class, layout, shown, point, Side::Right),
+        Subject::Tip(_) => mark_way(class, layout, shown, Element::Point(point), End::Tip),
+        Subject::Left(_) => mark_way(class, layout, shown, Element::Point(point), End::Left),
+        Subject::Right(_) => mark_way(class, layout, shown, Element::Point(point), End::Right),
         Subject::Border(_) => add(class, is_exit(layout, shown, BorderId(number)), " exit"),
         Subject::Joint(..) => Ok(()),
         Subject::Signal(_) => mark_signal(class, layout, shown, SignalId(number)),
@@ -200,43 +183,28 @@ fn mark(
     }
 }
 
-/// How a subject of this number in its table is marked.
-pub(crate) fn marked(
-    alloc: Global,
-    layout: &Layout,
-    shown: &Shown,
-    subject: &Subject,
-    number: usize,
-) -> Result<String, AllocError> {
-    let mut class = String::new(alloc);
-    mark(&mut class, layout, shown, subject, number)?;
-    Ok(class)
-}
-
-/// What is said of the route that is shown.
+/// What is said of a route.
 pub(crate) fn route_words(
     alloc: Global,
     layout: &Layout,
-    shown: &Shown,
-) -> Result<Option<String>, AllocError> {
-    let Some(route) = shown.route(layout) else {
-        return Ok(None);
-    };
+    route: &Route,
+) -> Result<String, AllocError> {
     let name = route.name().as_str();
-    let entry = match layout.signals().get(route.entry().0) {
-        Some(signal) => signal.name.as_str(),
-        None => "",
-    };
+    let entry = exit_word(layout, Exit::Signal(route.entry()));
     let exit = exit_word(layout, route.exit());
-    let aspect = match route.aspect() {
+    let aspect = aspect_word(route.aspect());
+    format!(in alloc; "route {name} from {entry} to {exit}, {aspect}")
+}
+
+fn aspect_word(aspect: Aspect) -> &'static str {
+    match aspect {
         Aspect::Stop => "stop",
         Aspect::Proceed => "proceed",
         Aspect::Slow => "slow",
-    };
-    Ok(Some(format!(in alloc; "route {name} from {entry} to {exit}, {aspect}")?))
+    }
 }
 
-/// The name of where a route ends.
+/// The name of the signal or the border at which a route may end.
 fn exit_word(layout: &Layout, exit: Exit) -> &str {
     match exit {
         Exit::Signal(signal) => match layout.signals().get(signal.0) {

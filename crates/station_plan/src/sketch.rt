@@ -1,28 +1,43 @@
 //! Where everything lies in a plan.
 
-use crate::chains::level_port;
-use crate::columns::Columns;
-use crate::grid::{Grid, Reach};
-use crate::heights::Heights;
-use crate::labels::Labels;
+use crate::columns::Limit;
+use crate::heights::Room;
 use crate::links::Link;
+use crate::strands::{NOTHING, Strand};
 use crate::units::Units;
-use crate::widths::{CONNECTOR, POINT, Widths, is_connector};
-use crate::yard::{Kind, Place};
-use control_table::layout::Layout;
+use crate::widths::{CONNECTOR, POINT};
+use crate::yard::{ElementFacts, Place, PortFacts, UNJOINED, UNKNOWN};
+use control_table::layout::{Element, Layout};
 use drawing::Spot;
 use std::alloc::{AllocError, Global};
 
-/// Where everything lies.
+/// Where everything lies, as far as it is found.
 #[derive(Drop)]
-pub(crate) struct Sketch {
-    /// The rows.
-    pub(crate) grid: Grid,
-    /// What is written.
-    pub(crate) labels: Labels,
-    widths: Widths,
-    heights: Heights,
-    columns: Columns,
+pub(crate) struct Sketch<'a> {
+    pub(crate) alloc: Global,
+    pub(crate) layout: &'a Layout,
+    /// What is known of each element.
+    pub(crate) elements: Vec<ElementFacts>,
+    /// What is known of each port, in `port_number`'s order.
+    pub(crate) ports: Vec<PortFacts>,
+    /// How many pieces there are.
+    pub(crate) pieces: usize,
+    /// The elements at which the search for circles is, each with how many of its ports were tried.
+    pub(crate) stack: Vec<(usize, usize)>,
+    /// The elements, from right to left.
+    pub(crate) order: Vec<usize>,
+    /// How many chains there are.
+    pub(crate) chains: usize,
+    /// How far each chain reaches.
+    pub(crate) strands: Vec<Strand>,
+    /// What joins chains.
+    pub(crate) links: Vec<Link>,
+    /// How many rows there are.
+    pub(crate) row_count: usize,
+    /// What is known of each row.
+    pub(crate) rows: Vec<Room>,
+    /// How far elements lie apart.
+    pub(crate) limits: Vec<Limit>,
 }
 
 /// A spot by its two places.
@@ -35,92 +50,99 @@ pub(crate) fn sign(positive: bool) -> i32 {
     if positive { 1 } else { -1 }
 }
 
-/// How far each link reaches.
-fn reaches(
-    alloc: Global,
-    grid: &Grid,
-    heights: &Heights,
-    columns: &Columns,
-) -> Result<Vec<Reach>, AllocError> {
-    let mut reaches = Vec::new(alloc);
-    for link in &grid.links {
-        let (from, to) = (link.from.element, link.to.element);
-        let (one, other) = (columns.place(from), columns.place(to));
-        let down = heights
-            .row(grid.row(from))
-            .distance(heights.row(grid.row(to)));
-        reaches.push(Reach {
-            left: one.or_less(other),
-            right: one.or_more(other),
-            is_level: down < one.distance(other),
-        })?;
-    }
-    Ok(reaches)
-}
-
-impl Sketch {
-    /// An empty sketch.
-    pub(crate) fn empty(alloc: Global) -> Sketch {
+impl<'a> Sketch<'a> {
+    /// A sketch of a layout in which nothing is found yet.
+    pub(crate) fn new(alloc: Global, layout: &'a Layout) -> Sketch<'a> {
         Sketch {
-            grid: Grid::empty(alloc),
-            labels: Labels::empty(alloc),
-            widths: Widths::empty(alloc),
-            heights: Heights::empty(alloc),
-            columns: Columns::empty(alloc),
+            alloc,
+            layout,
+            elements: Vec::new(alloc),
+            ports: Vec::new(alloc),
+            pieces: 0,
+            stack: Vec::new(alloc),
+            order: Vec::new(alloc),
+            chains: 0,
+            strands: Vec::new(alloc),
+            links: Vec::new(alloc),
+            row_count: 0,
+            rows: Vec::new(alloc),
+            limits: Vec::new(alloc),
         }
     }
+}
 
-    /// Lays out a layout, one thing after the other.
-    pub(crate) fn lay(&mut self, alloc: Global, layout: &Layout) -> Result<(), AllocError> {
-        self.grid.lay(alloc, layout)?;
-        self.labels.lay(layout, &self.grid.ground)?;
-        self.widths.lay(&self.grid, &self.labels)?;
-        self.place(alloc)?;
+impl Sketch<'_> {
+    /// Lays out the layout, one thing after the other. Nobody else has what is being made, so an error drops it in one place.
+    pub(crate) fn lay(&mut self) -> Result<(), AllocError> {
+        self.lay_elements()?;
+        self.lay_grid()?;
+        self.lay_widths();
+        self.set_out()?;
         // Once more, as it is known which links are level between rows.
-        let reaches = reaches(alloc, &self.grid, &self.heights, &self.columns)?;
-        self.grid.level_links(&reaches);
-        self.place(alloc)
+        self.measure_links();
+        self.level_links();
+        self.set_out()
+    }
+
+    /// Finds which way elements lie, how far to the right, and the legs by which rows go on.
+    fn lay_elements(&mut self) -> Result<(), AllocError> {
+        let size = self.border(self.layout.borders().len());
+        self.elements = vec![in self.alloc; UNKNOWN; size]?;
+        self.ports = vec![in self.alloc; UNJOINED; size.saturating_mul(3)]?;
+        self.join();
+        self.stand();
+        self.mark_fast_legs();
+        self.lay_directions()?;
+        self.lay_courses()?;
+        self.lay_ranks();
+        self.choose_main_legs();
+        Ok(())
+    }
+
+    /// Lays the elements on rows.
+    fn lay_grid(&mut self) -> Result<(), AllocError> {
+        self.lay_chains();
+        self.lay_links()?;
+        self.strands = vec![in self.alloc; NOTHING; self.chains]?;
+        self.lay_strands();
+        self.lay_rows();
+        self.level_links();
+        Ok(())
     }
 
     /// Finds where rows and columns lie.
-    fn place(&mut self, alloc: Global) -> Result<(), AllocError> {
-        self.heights.lay(alloc, &self.grid, &self.labels)?;
-        self.columns
-            .lay(alloc, &self.grid, &self.widths, &self.heights)
+    fn set_out(&mut self) -> Result<(), AllocError> {
+        self.lay_heights()?;
+        self.lay_columns()
     }
 
     /// How far to the right an element lies.
     pub(crate) fn x(&self, element: usize) -> Units {
-        self.columns.place(element)
+        self.facts(element).x
     }
 
     /// How far down an element lies.
     pub(crate) fn y(&self, element: usize) -> Units {
-        self.heights.row(self.grid.row(element))
+        self.room(self.row(element)).y
     }
 
-    /// Half of the room of an element.
-    pub(crate) fn half(&self, element: usize) -> Units {
-        self.widths.half(element)
-    }
-
-    /// Whether a port lies at the right of its element.
-    pub(crate) fn is_right(&self, place: Place) -> bool {
-        self.grid.ground.directions.is_right(place)
+    /// Where an element lies.
+    pub(crate) fn spot(&self, element: usize) -> Spot {
+        spot(self.x(element), self.y(element))
     }
 
     /// Where the line of an element on its row ends at a side: at its neighbour where this is a point or a border,
     /// halfway between tracks, and where a leg reaches the row.
     pub(crate) fn edge(&self, element: usize, right: bool) -> Units {
         let side = sign(right);
-        let own = self.x(element) + self.half(element).times(side);
-        let Some(place) = level_port(&self.grid.ground, element, right) else {
+        let own = self.x(element) + self.facts(element).half.times(side);
+        let Some(place) = self.level_port(element, right) else {
             return own;
         };
-        if is_connector(&self.grid, place) {
+        if self.is_connector(place) {
             return own - CONNECTOR.times(side);
         }
-        match self.grid.ground.courses.mate(&self.grid.ground.yard, place) {
+        match self.port(place).next {
             Some(mate) => self.edge_to(element, mate, own, side),
             None => own,
         }
@@ -128,13 +150,13 @@ impl Sketch {
 
     fn edge_to(&self, element: usize, mate: Place, own: Units, side: i32) -> Units {
         let other = self.x(mate.element);
-        if !self.grid.ground.main.is_level(mate) {
+        if !self.is_level(mate) {
             let down = self.y(element).distance(self.y(mate.element));
             return other - down.times(side);
         }
-        let theirs = other - self.half(mate.element).times(side);
-        let is_track = self.grid.ground.yard.kind(element) == Kind::Track;
-        let is_to_track = self.grid.ground.yard.kind(mate.element) == Kind::Track;
+        let theirs = other - self.facts(mate.element).half.times(side);
+        let is_track = matches!(self.element(element), Element::Track(_));
+        let is_to_track = matches!(self.element(mate.element), Element::Track(_));
         if !is_track && is_to_track {
             own
         } else if is_track && !is_to_track {
@@ -144,9 +166,18 @@ impl Sketch {
         }
     }
 
+    /// The line of an element on its row, from its left end to its right one.
+    pub(crate) fn row_line(&self, element: usize) -> (Spot, Spot) {
+        let y = self.y(element);
+        (
+            spot(self.edge(element, false), y),
+            spot(self.edge(element, true), y),
+        )
+    }
+
     /// How far the other leg of a point leads up or down: -1 is up.
     pub(crate) fn slope(&self, element: usize) -> i32 {
-        sign(!self.grid.is_drawn_up(element))
+        sign(!self.is_drawn_up(element))
     }
 
     /// Where a line that leads from a point by 45 degrees to a height reaches it.
@@ -157,37 +188,33 @@ impl Sketch {
     }
 
     /// The height of the level part of a link between two legs.
-    fn level(&self, link: Link) -> Units {
-        if let Some(row) = self.grid.link_row(link) {
-            return self.heights.row(row);
+    fn level_height(&self, link: Link) -> Units {
+        if let Some(row) = self.link_row(link) {
+            return self.room(row).y;
         }
-        for (number, other) in self.grid.links.iter().enumerate() {
-            if other.from == link.from {
-                if let Some(Some(level)) = self.grid.levels.get(number) {
-                    return self.heights.level(*level);
-                }
-            }
+        match link.slot {
+            Some(slot) => self.level_between(link, slot),
+            None => (self.y(link.from.element) + self.y(link.to.element)).half(),
         }
-        (self.y(link.from.element) + self.y(link.to.element)).half()
     }
 
     /// The corner of the other leg of a point: where its diagonal ends.
-    pub(crate) fn leg_corner(&self, place: Place) -> Spot {
-        match self.grid.link(place) {
-            Some(link) if link.is_crossover => self.corner(place, self.level(link)),
+    fn leg_corner(&self, place: Place) -> Spot {
+        match self.link(place) {
+            Some(link) if link.is_crossover => self.corner(place, self.level_height(link)),
             Some(link) => self.corner(place, self.y(link.to.element)),
             None => self.stub(place, POINT),
         }
     }
 
     /// Where the other leg of a point ends.
-    pub(crate) fn leg_end(&self, place: Place) -> Spot {
-        match self.grid.link(place) {
+    fn leg_end(&self, place: Place) -> Spot {
+        match self.link(place) {
             Some(link) if link.is_crossover => {
-                let level = self.level(link);
-                let one = self.corner(link.from, level);
-                let other = self.corner(link.to, level);
-                spot((Units(one.x) + Units(other.x)).half(), level)
+                let height = self.level_height(link);
+                let one = self.corner(link.from, height);
+                let other = self.corner(link.to, height);
+                spot((Units(one.x) + Units(other.x)).half(), height)
             }
             _ => self.leg_corner(place),
         }
@@ -202,8 +229,8 @@ impl Sketch {
     }
 
     /// Where a port lies.
-    pub(crate) fn port(&self, place: Place) -> Spot {
-        if self.grid.ground.main.is_level(place) {
+    pub(crate) fn port_spot(&self, place: Place) -> Spot {
+        if self.is_level(place) {
             let x = self.edge(place.element, self.is_right(place));
             spot(x, self.y(place.element))
         } else {
@@ -211,32 +238,38 @@ impl Sketch {
         }
     }
 
+    /// Where the line from an element to a port has a corner, if it has one: else where the port lies.
+    pub(crate) fn corner_of(&self, place: Place) -> Spot {
+        if self.is_level(place) {
+            self.port_spot(place)
+        } else {
+            self.leg_corner(place)
+        }
+    }
+
     /// Whether a port lies on a line that leads up or down. Where two legs meet from above, or both from below, the line
     /// has a corner there.
     pub(crate) fn is_slanted(&self, place: Place) -> bool {
-        if self.grid.ground.main.is_level(place) {
+        if self.is_level(place) {
             return false;
         }
-        match self.grid.link(place) {
+        match self.link(place) {
             Some(link) if link.is_crossover => {
-                self.goes_on(link) && self.leg_corner(place) == self.leg_end(place)
+                let goes_on = self.slope(link.from.element) != self.slope(link.to.element);
+                goes_on && self.leg_corner(place) == self.leg_end(place)
             }
             _ => false,
         }
     }
 
-    /// Whether a line that leads down from one end of a link leads on down to the other.
-    fn goes_on(&self, link: Link) -> bool {
-        self.slope(link.from.element) != self.slope(link.to.element)
-    }
-
     /// The number by which the two ends of a joint know one another that isn't drawn as a line.
     pub(crate) fn connector(&self, place: Place) -> Option<usize> {
         let mut number: usize = 0;
-        for (first, second) in &self.grid.ground.yard.joints {
-            if is_connector(&self.grid, *first) {
+        for joint in self.layout.joints() {
+            let first = self.place(joint.first);
+            if self.is_connector(first) {
                 number = number.saturating_add(1);
-                if *first == place || *second == place {
+                if first == place || self.place(joint.second) == place {
                     return Some(number);
                 }
             }

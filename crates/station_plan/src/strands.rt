@@ -1,13 +1,11 @@
 //! How far chains reach, by the ranks of what lies on them and hangs at them.
 
-use crate::chains::Chains;
-use crate::ground::Ground;
 use crate::links::Link;
-use crate::lists::{at, filled, put};
+use crate::lists::at;
+use crate::sketch::Sketch;
 use crate::yard::Place;
-use std::alloc::{AllocError, Global};
 
-/// How far a chain reaches.
+/// How far a chain reaches, and where it lies.
 #[derive(Clone, Copy)]
 pub(crate) struct Strand {
     /// The piece of the layout that it is part of.
@@ -22,6 +20,8 @@ pub(crate) struct Strand {
     pub(crate) first: usize,
     /// The rightmost one.
     pub(crate) last: usize,
+    /// Its row, from above, once it is placed.
+    pub(crate) row: Option<usize>,
 }
 
 /// A chain of which nothing is known yet.
@@ -32,90 +32,71 @@ pub(crate) const NOTHING: Strand = Strand {
     length: 0,
     first: usize::MAX,
     last: usize::MAX,
+    row: None,
 };
 
 impl Strand {
-    /// Whether some rank is reached by both.
-    pub(crate) fn overlaps(self, other: Strand) -> bool {
-        self.touches(other.low, other.high)
-    }
-
     /// Whether it reaches some rank of an interval.
     pub(crate) fn touches(self, low: usize, high: usize) -> bool {
         self.low <= high && low <= self.high
     }
-
-    /// The same with an element of this rank.
-    fn with(self, element: usize, rank: usize, piece: usize) -> Strand {
-        let mut longer = self;
-        longer.piece = piece;
-        if rank < self.low || self.first == usize::MAX {
-            longer.low = rank;
-            longer.first = element;
-        }
-        if self.high < rank || self.last == usize::MAX {
-            longer.high = rank;
-            longer.last = element;
-        }
-        longer
-    }
 }
 
-/// How far each chain reaches.
-pub(crate) fn strands(
-    alloc: Global,
-    ground: &Ground,
-    chains: &Chains,
-    links: &[Link],
-    count: usize,
-) -> Result<Vec<Strand>, AllocError> {
-    let mut strands = filled(alloc, count, NOTHING)?;
-    for element in 0..ground.yard.size() {
-        if let Some(chain) = chains.chain(element) {
-            lengthen(&mut strands, ground, chain, element, 1);
+impl Sketch<'_> {
+    /// How far a chain reaches.
+    pub(crate) fn strand(&self, chain: usize) -> Strand {
+        at(&self.strands, chain, NOTHING)
+    }
+
+    /// Finds how far each chain reaches.
+    pub(crate) fn lay_strands(&mut self) {
+        for element in 0..self.elements.len() {
+            let chain = self.facts(element).chain;
+            self.lengthen(chain, element, 1);
+        }
+        for number in 0..self.links.len() {
+            if let Some(link) = self.links.get(number).copied() {
+                self.reach_over(link);
+            }
         }
     }
-    for link in links {
-        reach(&mut strands, ground, chains, *link);
-    }
-    Ok(strands)
-}
 
-/// Makes a chain reach to an element.
-fn lengthen(
-    strands: &mut Vec<Strand>,
-    ground: &Ground,
-    chain: usize,
-    element: usize,
-    elements: usize,
-) {
-    let piece = at(&ground.directions.pieces, element, None).unwrap_or(0);
-    let mut strand = at(strands, chain, NOTHING).with(element, ground.ranks.rank(element), piece);
-    strand.length = strand.length.saturating_add(elements);
-    put(strands, chain, strand);
-}
-
-/// Makes chains reach over a link.
-fn reach(strands: &mut Vec<Strand>, ground: &Ground, chains: &Chains, link: Link) {
-    match link.chain {
-        Some(chain) => {
-            lengthen(strands, ground, chain, link.from.element, 0);
-            lengthen(strands, ground, chain, link.to.element, 0);
-        }
-        None => {
-            hang(strands, ground, chains, link.from, link.to);
-            hang(strands, ground, chains, link.to, link.from);
+    /// Makes a chain reach to an element, by so many elements.
+    fn lengthen(&mut self, chain: Option<usize>, element: usize, elements: usize) {
+        let Some(chain) = chain else {
+            return;
+        };
+        let facts = self.facts(element);
+        if let Some(strand) = self.strands.get_mut(chain) {
+            strand.piece = facts.piece.unwrap_or(0);
+            strand.length = strand.length.saturating_add(elements);
+            if facts.rank < strand.low || strand.first == usize::MAX {
+                strand.low = facts.rank;
+                strand.first = element;
+            }
+            if strand.high < facts.rank || strand.last == usize::MAX {
+                strand.high = facts.rank;
+                strand.last = element;
+            }
         }
     }
-}
 
-/// Makes the chain of a port on its row reach to what it hangs at.
-fn hang(strands: &mut Vec<Strand>, ground: &Ground, chains: &Chains, at: Place, place: Place) {
-    let chain = chains.chain(place.element);
-    if chain == chains.chain(at.element) || !ground.main.is_level(place) {
-        return;
+    /// Makes chains reach over a link.
+    fn reach_over(&mut self, link: Link) {
+        if link.chain.is_some() {
+            self.lengthen(link.chain, link.from.element, 0);
+            self.lengthen(link.chain, link.to.element, 0);
+        } else {
+            self.hang(link.from, link.to);
+            self.hang(link.to, link.from);
+        }
     }
-    if let Some(chain) = chain {
-        lengthen(strands, ground, chain, at.element, 0);
+
+    /// Makes the chain of a port on its row reach to what it hangs at.
+    fn hang(&mut self, other: Place, place: Place) {
+        let chain = self.facts(place.element).chain;
+        if chain != self.facts(other.element).chain && self.is_level(place) {
+            self.lengthen(chain, other.element, 0);
+        }
     }
 }

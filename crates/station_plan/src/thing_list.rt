@@ -7,15 +7,13 @@ ghost use Rattle.station_plan.specs.Faces.{AreDrawn, IsDrawn, state_for, strokes
 ghost use Rattle.station_plan.specs.Strokes.{strokes, written};
 ghost use Rattle.station_plan.specs.declared.thing.Subject.TheVariants as subject;
 
-use crate::element_marks::{
-    draw_border, draw_branch, draw_guard, draw_joint, draw_point, draw_track,
-};
-use crate::extent::{Extent, reach_of_things};
+use crate::element_marks::{draw_border, draw_branch, draw_joint, draw_point, draw_track};
+use crate::extent::{EVERYWHERE, Extent, reach_of_things};
 use crate::marks::Marks;
 use crate::notes::LINES;
 use crate::section_marks::{draw_detector, draw_list, draw_section};
-use crate::seen_words::{branch_state, section_state, signal_state};
-use crate::shown::{Shown, is_flank, marked};
+use crate::seen_words::state_word;
+use crate::shown::{Shown, is_flank, mark};
 use crate::signal_marks::draw_signal;
 use crate::sketch::{Sketch, spot};
 use crate::subjects::{element_name, same_section, section_of};
@@ -23,8 +21,8 @@ use crate::thing::{Subject, Thing};
 use crate::units::Units;
 use crate::yard::Place;
 use control_table::Checked;
-use control_table::layout::{Detector, End, Joint, Layout, Point, PointId, Signal, Track};
-use control_table::sci_telegram::{Name, Side};
+use control_table::layout::{Detector, Element, End, Joint, Layout, Point, Signal, Track};
+use control_table::sci_telegram::Name;
 use drawing::Spot;
 use std::alloc::{AllocError, Global};
 
@@ -32,7 +30,7 @@ use std::alloc::{AllocError, Global};
 #[derive(Clone, Copy)]
 struct Scene<'a> {
     layout: &'a Layout,
-    sketch: &'a Sketch,
+    sketch: &'a Sketch<'a>,
     shown: &'a Shown,
     /// Where the next detection controller stands, below the plan.
     below: Spot,
@@ -68,11 +66,12 @@ fn draw_whole_point(
     ensures named { OnOk result (written marks.new.marks.items ≡ written marks.old.marks.items ++ name) }
 {
     draw_point(marks, more, scene.sketch, element, name)?;
-    let point = PointId(scene.sketch.grid.ground.yard.entry(element));
-    if !is_flank(scene.layout, scene.shown, point) {
-        return Ok(());
+    match scene.sketch.element(element) {
+        Element::Point(point) if is_flank(scene.layout, scene.shown, point) => {
+            more.circle("guard", scene.sketch.spot(element), 4)
+        }
+        _ => Ok(()),
     }
-    draw_guard(more, scene.sketch, element)
 }
 
 /// Draws what stands at a place for a subject: its symbol and its name, and what its place adds.
@@ -101,25 +100,6 @@ fn draw(
     }
 }
 
-/// The word for what is seen of a subject.
-fn state_word(scene: Scene<'_>, subject: &Subject) -> &'static str
-    ensures { result.now ≡ state_for scene.entry.layout.now scene.entry.shown.now.seen subject.now }
-{
-    let (layout, shown) = (scene.layout, scene.shown);
-    match subject {
-        Subject::Section(name) => section_state(layout, shown, name),
-        Subject::Left(name) => branch_state(layout, shown, name, Side::Left),
-        Subject::Right(name) => branch_state(layout, shown, name, Side::Right),
-        Subject::Signal(name) => signal_state(layout, shown, name),
-        Subject::Track(_)
-        | Subject::Point(_)
-        | Subject::Tip(_)
-        | Subject::Border(_)
-        | Subject::Joint(..)
-        | Subject::Detector(_) => "",
-    }
-}
-
 /// The thing of a subject, which is that of this number in its table and stands at this place.
 fn thing_of(
     alloc: Global,
@@ -134,8 +114,9 @@ fn thing_of(
     let mut marks = Marks::new(alloc);
     let mut more = Marks::new(alloc);
     draw(&mut marks, &mut more, scene, &subject, at)?;
-    let marked = marked(alloc, scene.layout, scene.shown, &subject, number)?;
-    let state = String::from_str(alloc, state_word(scene, &subject))?;
+    let mut marked = String::new(alloc);
+    mark(&mut marked, scene.layout, scene.shown, &subject, number)?;
+    let state = String::from_str(alloc, state_word(scene.layout, scene.shown, &subject))?;
     Ok(Thing {
         subject,
         marked,
@@ -212,7 +193,7 @@ fn add_part(
     ensures listed { OnOk result (subjects_of things.new.items ≡ subjects_of things.old.items ++ part ∷ []) }
     ensures drawn { OnOk result (AreDrawn scene.entry.layout.now scene.entry.shown.now.seen things.new.items) }
 {
-    let element = scene.sketch.grid.ground.yard.point(number);
+    let element = scene.sketch.point(number);
     let at = Place { element, end };
     add_subject(things, alloc, scene, part, number, at)
 }
@@ -270,7 +251,7 @@ fn add_borders(
     ensures drawn { OnOk result (AreDrawn scene.entry.layout.now scene.entry.shown.now.seen things.new.items) }
 {
     for (number, name) in borders.iter().enumerate() {
-        let element = scene.sketch.grid.ground.yard.border(number);
+        let element = scene.sketch.border(number);
         let at = Place {
             element,
             end: End::End,
@@ -300,7 +281,7 @@ fn add_joint(
     }
     match element_name(layout, joint.first.element) {
         Some(name) => {
-            let at = scene.sketch.grid.ground.yard.place(joint.first);
+            let at = scene.sketch.place(joint.first);
             let subject = Subject::Joint(name, joint.first.end);
             add_subject(things, alloc, scene, subject, 0, at)
         }
@@ -336,7 +317,7 @@ fn add_signals(
     ensures drawn { OnOk result (AreDrawn scene.entry.layout.now scene.entry.shown.now.seen things.new.items) }
 {
     for (number, signal) in signals.iter().enumerate() {
-        let at = scene.sketch.grid.ground.yard.place(signal.at);
+        let at = scene.sketch.place(signal.at);
         let subject = Subject::Signal(signal.name);
         add_subject(things, alloc, scene, subject, number, at)?;
     }
@@ -378,11 +359,7 @@ fn add_detectors(
     ensures listed { OnOk result (subjects_of things.new.items ≡ subjects_of things.old.items ++ map detector_subject detectors.now) }
     ensures drawn { OnOk result (AreDrawn scene.entry.layout.now scene.entry.shown.now.seen things.new.items) }
 {
-    let extent = reach_of_things(
-        things.as_slice(),
-        Units(-1_000_000),
-        Units(1_000_000),
-    ).or_origin();
+    let extent = reach_of_things(things, false, EVERYWHERE.0, EVERYWHERE.1).or_origin();
     let letters = letters(extent);
     let mut down = extent.bottom + Units(32) + LINES;
     for (number, detector) in detectors.iter().enumerate() {
@@ -448,7 +425,7 @@ fn add_all(
 fn lay_and_add(
     things: &mut Vec<Thing>,
     alloc: Global,
-    sketch: &mut Sketch,
+    sketch: &mut Sketch<'_>,
     layout: &Layout,
     shown: &Shown,
 ) -> Result<(), AllocError>
@@ -456,7 +433,7 @@ fn lay_and_add(
     ensures listed { OnOk result (subjects_of things.new.items ≡ subjects layout.now) }
     ensures drawn { OnOk result (AreDrawn layout.now shown.now.seen things.new.items) }
 {
-    sketch.lay(alloc, layout)?;
+    sketch.lay()?;
     let scene = Scene {
         layout,
         sketch,
@@ -471,7 +448,7 @@ pub fn things(alloc: Global, table: &Checked, shown: &Shown) -> Result<Vec<Thing
     ensures listed { IfOk result (λ things. subjects_of things.items ≡ subjects table.now) }
     ensures drawn { IfOk result (λ things. AreDrawn table.now shown.now.seen things.items) }
 {
-    let mut sketch = Sketch::empty(alloc);
+    let mut sketch = Sketch::new(alloc, table.layout());
     let mut things = Vec::new(alloc);
     lay_and_add(&mut things, alloc, &mut sketch, table.layout(), shown)?;
     Ok(things)

@@ -3,7 +3,7 @@
 use std::ops::{Add, Sub};
 
 /// A length, or a place on an axis. It stays at the largest one rather than overflow.
-#[derive(Clone, Copy, PartialEq, Eq, PartialOrd)]
+#[derive(Clone, Copy)]
 pub(crate) struct Units(pub(crate) i32);
 
 impl Add for Units {

@@ -1,14 +1,10 @@
 //! How much room each element takes on its row.
 
-use crate::chains::level_port;
-use crate::grid::Grid;
-use crate::labels::{Labels, width};
-use crate::lists::at;
-use crate::main_legs::leg;
+use crate::labels::width;
+use crate::sketch::Sketch;
 use crate::units::Units;
-use crate::yard::{Kind, Place, Yard};
-use control_table::layout::End;
-use std::alloc::{AllocError, Global};
+use crate::yard::Place;
+use control_table::layout::{Element, End};
 
 /// The least length of a track.
 pub(crate) const LEAST: Units = Units(28);
@@ -25,128 +21,111 @@ const BESIDE: Units = Units(14);
 /// How long the end of a line is that goes on elsewhere.
 pub(crate) const CONNECTOR: Units = Units(34);
 
-/// Half of the room of each element.
-#[derive(Drop)]
-pub(crate) struct Widths {
-    halves: Vec<Units>,
-}
-
-impl Widths {
-    /// No widths.
-    pub(crate) fn empty(alloc: Global) -> Widths {
-        Widths {
-            halves: Vec::new(alloc),
+impl Sketch<'_> {
+    /// Finds the widths of all elements.
+    pub(crate) fn lay_widths(&mut self) {
+        for element in 0..self.elements.len() {
+            let half = self.half_of(element);
+            if let Some(facts) = self.elements.get_mut(element) {
+                facts.half = half;
+            }
         }
     }
 
-    /// Finds the widths of a layout.
-    pub(crate) fn lay(&mut self, grid: &Grid, labels: &Labels) -> Result<(), AllocError> {
-        for element in 0..grid.ground.yard.size() {
-            self.halves.push(half(grid, labels, element))?;
+    /// How much room the signal at a port takes.
+    fn signal_width(&self, place: Place) -> Units {
+        match self.signal_name(place) {
+            Some(name) => SIGNAL.or_more(width(Some(name)) + Units(8)),
+            None => Units(0),
         }
-        Ok(())
+    }
+
+    /// How much room the signal at a side of an element takes, on its row.
+    pub(crate) fn signal_room(&self, element: usize, right: bool) -> Units {
+        match self.level_port(element, right) {
+            Some(place) => self.signal_width(place) + self.clearance(element, right),
+            None => Units(0),
+        }
+    }
+
+    /// How far a signal at a side of an element stands away from its joint: it keeps clear of a leg that parts there.
+    pub(crate) fn clearance(&self, element: usize, right: bool) -> Units {
+        match self.parting(element, right) {
+            Some(point) if self.is_drawn_up(point) != right => CLEAR,
+            _ => Units(0),
+        }
+    }
+
+    /// The point that parts behind a signal at a side of an element.
+    fn parting(&self, element: usize, right: bool) -> Option<usize> {
+        let port = self.port(self.level_port(element, right)?);
+        let mate = port.next?;
+        if port.signal.is_some() && mate.end == self.main(mate.element) {
+            Some(mate.element)
+        } else {
+            None
+        }
+    }
+
+    /// Whether a port is joined to one that the plan doesn't draw beside it.
+    pub(crate) fn is_connector(&self, place: Place) -> bool {
+        let port = self.port(place);
+        port.mate.is_some() && port.next.is_none()
+    }
+
+    /// The room for the end of a line that goes on elsewhere.
+    fn connector_room(&self, element: usize, right: bool) -> Units {
+        match self.level_port(element, right) {
+            Some(place) if self.is_connector(place) => CONNECTOR,
+            _ => Units(0),
+        }
+    }
+
+    /// The signals at the three ports of a point, of which the widest counts.
+    fn widest_signal(&self, element: usize) -> Units {
+        let mut widest = Units(0);
+        for end in self.ends(element) {
+            widest = widest.or_more(self.signal_width(Place { element, end: *end }));
+        }
+        widest
     }
 
     /// Half of the room of an element.
-    pub(crate) fn half(&self, element: usize) -> Units {
-        at(&self.halves, element, LEAST)
+    fn half_of(&self, element: usize) -> Units {
+        let own = match self.element(element) {
+            Element::Track(_) => self.half_of_track(element),
+            Element::Point(_) => self.half_of_point(element),
+            Element::Border(_) => self.half_of_border(element),
+        };
+        own + self
+            .connector_room(element, false)
+            .or_more(self.connector_room(element, true))
     }
-}
 
-/// The signal at a side of an element, on its row.
-fn signal_at(grid: &Grid, element: usize, right: bool) -> Option<usize> {
-    let place = level_port(&grid.ground, element, right)?;
-    grid.ground.yard.signal(place)
-}
-
-/// How much room a signal takes.
-fn signal_width(labels: &Labels, signal: Option<usize>) -> Units {
-    match labels.signal(signal) {
-        Some(name) => SIGNAL.or_more(width(Some(name)) + Units(8)),
-        None => Units(0),
+    fn half_of_track(&self, element: usize) -> Units {
+        let above = width(self.name(element)) + BESIDE + self.signal_room(element, false);
+        let below = width(self.section_name(element)) + BESIDE + self.signal_room(element, true);
+        (LEAST.or_more(above).or_more(below) + Units(1)).half()
     }
-}
 
-/// How far a signal at a side of an element stands away from its joint: it keeps clear of a leg that parts there.
-pub(crate) fn clearance(grid: &Grid, element: usize, right: bool) -> Units {
-    match parting(grid, element, right) {
-        Some(point) if grid.is_drawn_up(point) != right => CLEAR,
-        _ => Units(0),
+    fn half_of_point(&self, element: usize) -> Units {
+        let text = width(self.name(element)).or_more(width(self.section_name(element)));
+        let clear = self
+            .clearance(element, false)
+            .or_more(self.clearance(element, true));
+        POINT.or_more((text + Units(8)).half()) + self.widest_signal(element) + clear
     }
-}
 
-/// The point that parts behind a signal at a side of an element.
-fn parting(grid: &Grid, element: usize, right: bool) -> Option<usize> {
-    let place = level_port(&grid.ground, element, right)?;
-    grid.ground.yard.signal(place)?;
-    let mate = grid.ground.courses.mate(&grid.ground.yard, place)?;
-    let is_parting = grid.ground.yard.kind(mate.element) == Kind::Point
-        && mate.end == leg(grid.ground.main.main(mate.element));
-    if is_parting { Some(mate.element) } else { None }
-}
-
-/// Whether a port is joined to one that the plan doesn't draw beside it.
-pub(crate) fn is_connector(grid: &Grid, place: Place) -> bool {
-    grid.ground.yard.mate(place).is_some()
-        && grid.ground.courses.mate(&grid.ground.yard, place).is_none()
-}
-
-/// The room for the end of a line that goes on elsewhere.
-pub(crate) fn connector(grid: &Grid, element: usize, right: bool) -> Units {
-    match level_port(&grid.ground, element, right) {
-        Some(place) if is_connector(grid, place) => CONNECTOR,
-        _ => Units(0),
+    fn half_of_border(&self, element: usize) -> Units {
+        let text = (width(self.name(element)) + Units(8)).half();
+        let place = Place {
+            element,
+            end: End::End,
+        };
+        let signal = match self.port(place).signal {
+            Some(_) => Units(17),
+            None => Units(0),
+        };
+        BORDER.or_more(text) + signal
     }
-}
-
-/// The signals at the three ports of a point, of which the widest counts.
-fn widest_signal(yard: &Yard, labels: &Labels, element: usize) -> Units {
-    let mut widest = Units(0);
-    for end in [End::Tip, End::Left, End::Right] {
-        let signal = yard.signal(Place { element, end });
-        widest = widest.or_more(signal_width(labels, signal));
-    }
-    widest
-}
-
-/// Half of the room of an element.
-fn half(grid: &Grid, labels: &Labels, element: usize) -> Units {
-    let beside = connector(grid, element, false).or_more(connector(grid, element, true));
-    let own = match grid.ground.yard.kind(element) {
-        Kind::Track => half_of_track(grid, labels, element),
-        Kind::Point => half_of_point(grid, labels, element),
-        Kind::Border => half_of_border(&grid.ground.yard, labels, element),
-    };
-    own + beside
-}
-
-fn half_of_track(grid: &Grid, labels: &Labels, element: usize) -> Units {
-    let left = signal_width(labels, signal_at(grid, element, false))
-        + clearance(grid, element, false);
-    let right = signal_width(labels, signal_at(grid, element, true))
-        + clearance(grid, element, true);
-    let above = width(labels.name(element)) + BESIDE + left;
-    let below = width(labels.section(element)) + BESIDE + right;
-    (LEAST.or_more(above).or_more(below) + Units(1)).half()
-}
-
-fn half_of_point(grid: &Grid, labels: &Labels, element: usize) -> Units {
-    let text = width(labels.name(element)).or_more(width(labels.section(element)));
-    let clear = clearance(grid, element, false).or_more(clearance(grid, element, true));
-    POINT.or_more((text + Units(8)).half())
-        + widest_signal(&grid.ground.yard, labels, element)
-        + clear
-}
-
-fn half_of_border(yard: &Yard, labels: &Labels, element: usize) -> Units {
-    let text = (width(labels.name(element)) + Units(8)).half();
-    let place = Place {
-        element,
-        end: End::End,
-    };
-    let signal = match yard.signal(place) {
-        Some(_) => Units(17),
-        None => Units(0),
-    };
-    BORDER.or_more(text) + signal
 }

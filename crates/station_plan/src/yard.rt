@@ -1,22 +1,12 @@
-//! What is drawn, by numbers: tracks first, then points, then borders, each in table order.
+//! The elements of a layout, by numbers: tracks first, then points, then borders, each in table order.
 
-use crate::lists::put;
-use control_table::layout::{Element, End, Joint, Layout, Port};
-use std::alloc::{AllocError, Global};
-
-/// What an element is.
-#[derive(Clone, Copy, PartialEq, Eq)]
-pub(crate) enum Kind {
-    /// A track.
-    Track,
-    /// A point.
-    Point,
-    /// A border.
-    Border,
-}
+use crate::lists::at;
+use crate::sketch::Sketch;
+use crate::units::Units;
+use control_table::layout::{BorderId, Element, End, PointId, Port, TrackId};
 
 /// A port of an element, which goes by its number.
-#[derive(Clone, Copy, PartialEq, Eq)]
+#[derive(Clone, Copy, PartialEq)]
 pub(crate) struct Place {
     /// The number of the element.
     pub(crate) element: usize,
@@ -24,20 +14,89 @@ pub(crate) struct Place {
     pub(crate) end: End,
 }
 
-/// The elements of a layout with their ports, and what stands there.
-#[derive(Drop)]
-pub(crate) struct Yard {
-    /// What each element is.
-    pub(crate) kinds: Vec<Kind>,
-    /// For each place in `port_number`'s order: the port that it is joined to.
-    pub(crate) mates: Vec<Option<Place>>,
-    /// For each place in that order: the signal that stands there.
-    pub(crate) signals: Vec<Option<usize>>,
-    /// The joints.
-    pub(crate) joints: Vec<(Place, Place)>,
-    tracks: usize,
-    points: usize,
+/// The ways from an element to a side of the plan.
+#[derive(Clone, Copy)]
+pub(crate) struct Ways {
+    /// How many elements the longest one has, with this one.
+    pub(crate) longest: usize,
+    /// How many points one to a border passes at best.
+    pub(crate) points: usize,
 }
+
+/// More points than any way has.
+pub(crate) const FAR: usize = 1000;
+
+/// What is known of an element.
+#[derive(Clone, Copy)]
+pub(crate) struct ElementFacts {
+    /// Whether it lies the other way round: `a`, `tip` at its right, a border at the right of the plan.
+    pub(crate) is_flipped: bool,
+    /// The piece of the layout that it is part of, once it is found.
+    pub(crate) piece: Option<usize>,
+    /// Whether the search for circles has come to it.
+    pub(crate) is_visited: bool,
+    /// Whether that search is still at what lies at its right.
+    pub(crate) is_open: bool,
+    /// The ways to the left.
+    pub(crate) left: Ways,
+    /// The ways to the right.
+    pub(crate) right: Ways,
+    /// How many elements lie at most at its left. A border at the right has the greatest rank.
+    pub(crate) rank: usize,
+    /// The leg by which the row of a point goes on, once it is chosen.
+    pub(crate) main: Option<End>,
+    /// The chain that it is part of, once it is found.
+    pub(crate) chain: Option<usize>,
+    /// Half of the room that it takes on its row.
+    pub(crate) half: Units,
+    /// Where it lies on its row.
+    pub(crate) x: Units,
+    /// Its rightmost place there, as far as it is known.
+    pub(crate) far: Units,
+}
+
+/// An element of which nothing is found yet.
+pub(crate) const UNKNOWN: ElementFacts = ElementFacts {
+    is_flipped: false,
+    piece: None,
+    is_visited: false,
+    is_open: false,
+    left: Ways {
+        longest: 1,
+        points: FAR,
+    },
+    right: Ways {
+        longest: 1,
+        points: FAR,
+    },
+    rank: 0,
+    main: None,
+    chain: None,
+    half: Units(0),
+    x: Units(0),
+    far: Units(0),
+};
+
+/// What is known of a port.
+#[derive(Clone, Copy)]
+pub(crate) struct PortFacts {
+    /// The port that it is joined to.
+    pub(crate) mate: Option<Place>,
+    /// The same, where the joint goes on from left to right.
+    pub(crate) next: Option<Place>,
+    /// The signal that stands there.
+    pub(crate) signal: Option<usize>,
+    /// Whether it is a leg over which a route runs that isn't slow.
+    pub(crate) is_fast: bool,
+}
+
+/// A port at which there is nothing.
+pub(crate) const UNJOINED: PortFacts = PortFacts {
+    mate: None,
+    next: None,
+    signal: None,
+    is_fast: false,
+};
 
 const TRACK_ENDS: [End; 2] = [End::A, End::B];
 
@@ -45,16 +104,7 @@ const POINT_ENDS: [End; 3] = [End::Tip, End::Left, End::Right];
 
 const BORDER_ENDS: [End; 1] = [End::End];
 
-/// The ports of an element.
-pub(crate) fn ends(kind: Kind) -> &'static [End] {
-    match kind {
-        Kind::Track => &TRACK_ENDS,
-        Kind::Point => &POINT_ENDS,
-        Kind::Border => &BORDER_ENDS,
-    }
-}
-
-/// The place of a port within lists of all ports, of which each element has three there.
+/// The place of a port within the list of all ports, of which each element has three there.
 pub(crate) fn port_number(place: Place) -> usize {
     let end = match place.end {
         End::A | End::Tip | End::End => 0,
@@ -64,90 +114,35 @@ pub(crate) fn port_number(place: Place) -> usize {
     place.element.saturating_mul(3).saturating_add(end)
 }
 
-impl Yard {
-    /// No elements.
-    pub(crate) fn empty(alloc: Global) -> Yard {
-        Yard {
-            kinds: Vec::new(alloc),
-            mates: Vec::new(alloc),
-            signals: Vec::new(alloc),
-            joints: Vec::new(alloc),
-            tracks: 0,
-            points: 0,
-        }
-    }
-
-    /// Takes up the elements of a layout.
-    pub(crate) fn lay(&mut self, layout: &Layout) -> Result<(), AllocError> {
-        self.tracks = layout.tracks().len();
-        self.points = layout.points().len();
-        self.add(layout.tracks().len(), Kind::Track)?;
-        self.add(layout.points().len(), Kind::Point)?;
-        self.add(layout.borders().len(), Kind::Border)?;
-        self.join(layout.joints())?;
-        self.stand(layout);
-        Ok(())
-    }
-
-    fn add(&mut self, count: usize, kind: Kind) -> Result<(), AllocError> {
-        for _ in 0..count {
-            self.kinds.push(kind)?;
-            self.add_ports()?;
-        }
-        Ok(())
-    }
-
-    fn add_ports(&mut self) -> Result<(), AllocError> {
-        for _ in 0..3 {
-            self.mates.push(None)?;
-            self.signals.push(None)?;
-        }
-        Ok(())
-    }
-
-    fn join(&mut self, joints: &[Joint]) -> Result<(), AllocError> {
-        for joint in joints {
-            let first = self.place(joint.first);
-            let second = self.place(joint.second);
-            put(&mut self.mates, port_number(first), Some(second));
-            put(&mut self.mates, port_number(second), Some(first));
-            self.joints.push((first, second))?;
-        }
-        Ok(())
-    }
-
-    fn stand(&mut self, layout: &Layout) {
-        for (number, signal) in layout.signals().iter().enumerate() {
-            let place = self.place(signal.at);
-            put(&mut self.signals, port_number(place), Some(number));
-        }
-    }
-
-    /// How many elements there are.
-    pub(crate) fn size(&self) -> usize {
-        self.kinds.len()
-    }
-
+impl Sketch<'_> {
     /// The number of a point.
     pub(crate) fn point(&self, point: usize) -> usize {
-        self.tracks.saturating_add(point)
+        self.layout.tracks().len().saturating_add(point)
     }
 
     /// The number of a border.
     pub(crate) fn border(&self, border: usize) -> usize {
-        self.tracks
-            .saturating_add(self.points)
+        self.point(self.layout.points().len())
             .saturating_add(border)
     }
 
-    /// The place of a number within its table.
-    pub(crate) fn entry(&self, element: usize) -> usize {
-        match self.kind(element) {
-            Kind::Track => element,
-            Kind::Point => element.saturating_sub(self.tracks),
-            Kind::Border => element
-                .saturating_sub(self.tracks)
-                .saturating_sub(self.points),
+    /// The element of a number.
+    pub(crate) fn element(&self, number: usize) -> Element {
+        if number < self.point(0) {
+            Element::Track(TrackId(number))
+        } else if number < self.border(0) {
+            Element::Point(PointId(number.saturating_sub(self.point(0))))
+        } else {
+            Element::Border(BorderId(number.saturating_sub(self.border(0))))
+        }
+    }
+
+    /// The ports of an element.
+    pub(crate) fn ends(&self, element: usize) -> &'static [End] {
+        match self.element(element) {
+            Element::Track(_) => &TRACK_ENDS,
+            Element::Point(_) => &POINT_ENDS,
+            Element::Border(_) => &BORDER_ENDS,
         }
     }
 
@@ -164,27 +159,41 @@ impl Yard {
         }
     }
 
-    /// What an element is.
-    pub(crate) fn kind(&self, element: usize) -> Kind {
-        match self.kinds.get(element) {
-            Some(kind) => *kind,
-            None => Kind::Track,
+    /// What is known of an element.
+    pub(crate) fn facts(&self, element: usize) -> ElementFacts {
+        at(&self.elements, element, UNKNOWN)
+    }
+
+    /// What is known of a port.
+    pub(crate) fn port(&self, place: Place) -> PortFacts {
+        at(&self.ports, port_number(place), UNJOINED)
+    }
+
+    /// Takes up the joints of the layout.
+    pub(crate) fn join(&mut self) {
+        let layout = self.layout;
+        for joint in layout.joints() {
+            let first = self.place(joint.first);
+            let second = self.place(joint.second);
+            self.set_mate(first, second);
+            self.set_mate(second, first);
         }
     }
 
-    /// The port that a port is joined to.
-    pub(crate) fn mate(&self, place: Place) -> Option<Place> {
-        match self.mates.get(port_number(place)) {
-            Some(mate) => *mate,
-            None => None,
+    fn set_mate(&mut self, place: Place, mate: Place) {
+        if let Some(port) = self.ports.get_mut(port_number(place)) {
+            port.mate = Some(mate);
         }
     }
 
-    /// The signal at a port.
-    pub(crate) fn signal(&self, place: Place) -> Option<usize> {
-        match self.signals.get(port_number(place)) {
-            Some(signal) => *signal,
-            None => None,
+    /// Takes up the signals of the layout.
+    pub(crate) fn stand(&mut self) {
+        let layout = self.layout;
+        for (number, signal) in layout.signals().iter().enumerate() {
+            let place = self.place(signal.at);
+            if let Some(port) = self.ports.get_mut(port_number(place)) {
+                port.signal = Some(number);
+            }
         }
     }
 }
