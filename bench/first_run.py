@@ -91,7 +91,7 @@ def chains(crates):
 
 class SideBySide:
     """Libraries, each of which is built once those below it are. The crate with the longest chain behind it is what all others wait
-    for: those that begin beside it leave it room in memory, and work behind it."""
+    for, and has two jobs at least: those that begin beside it leave it room in memory, and work behind it."""
 
     def __init__(self, rt, crates):
         self.rt, self.longest = rt, chains(crates)
@@ -100,8 +100,9 @@ class SideBySide:
         self.running, self.built, self.ended = [], set(), queue.SimpleQueue()
 
     def needs(self, crate):
-        """The most memory that a build takes, in bytes: its processes share most of what they read."""
-        return self.rt.need(crate) * (1 + 0.1 * (self.processors - 1))
+        """The most memory that a build takes, in bytes: measured, a library of statements takes half of what `rt` reckons with at most,
+        and the processes of its jobs share most of what they read."""
+        return 0.6 * self.rt.need(crate)
 
     def begin(self, crate, priority, jobs):
         def work():
@@ -115,21 +116,25 @@ class SideBySide:
         self.running.append(crate)
         threading.Thread(target=work).start()
 
+    def jobs_for(self, waiting):
+        """The jobs of a build: one, unless processors would have nothing to do. For a second job costs half as much again, all in."""
+        return max(1, (self.processors - len(self.running)) // waiting)
+
     def begin_those_that_may(self):
         ready = [it for it in self.left if all(low.name in self.built for low in it.below())]
         first = max([*self.running, *self.left], key=lambda it: self.longest[it.name])
         if first in ready:
             ready.remove(first)
-            self.begin(first, 0, self.processors)
+            self.begin(first, 0, max(2, self.jobs_for(len(ready) + 1)))
         kept = 0 if first in self.running else self.needs(first)
-        for crate in ready:
+        for place, crate in enumerate(ready):
             is_full = len(self.running) >= self.processors
             needs = sum(map(self.needs, self.running)) + self.needs(crate) + kept
             if self.running and (is_full or needs > self.memory):
                 break
-            # what will soon be waited for goes before what won't be for long; a job more costs a fifth of the time all in
+            # what will soon be waited for goes before what won't be for long
             is_near = 2 * self.longest[crate.name] > self.longest[first.name]
-            self.begin(crate, *((10, 2) if is_near else (19, 1)))
+            self.begin(crate, 10 if is_near else 19, self.jobs_for(len(ready) - place))
 
     def are_built(self):
         """Builds them all. Where one can't be, no other one begins, and those that have begun end."""
