@@ -12,6 +12,7 @@ import copy
 import os
 import pathlib
 import queue
+import re
 import shutil
 import subprocess
 import sys
@@ -79,13 +80,20 @@ def build_libraries(rt, name):
     return built
 
 
+def seconds_of_crates():
+    """The seconds of processor time that the proof of each crate takes, as the table of docs/MAP.md has them."""
+    rows = re.findall(r"^\| `(\w+)` \| (\d+) \|", pathlib.Path(f"{ROOT}/docs/MAP.md").read_text(), re.MULTILINE)
+    return {name: int(seconds) for name, seconds in rows}
+
+
 def chains(crates):
-    """Of each crate the lines of the longest chain of crates that begins with it, each below the next."""
-    lines = {it.name: it.count(rb"\n") for it in crates}
-    longest = dict(lines)
+    """Of each crate the seconds of the longest chain of crates that begins with it, each below the next."""
+    seconds = seconds_of_crates()
+    own = {it.name: seconds.get(it.name, 0.1 * it.count(b"\n")) for it in crates}
+    longest = dict(own)
     for crate in reversed(crates):
         for low in crate.below():
-            longest[low.name] = max(longest[low.name], lines[low.name] + longest[crate.name])
+            longest[low.name] = max(longest[low.name], own[low.name] + longest[crate.name])
     return longest
 
 

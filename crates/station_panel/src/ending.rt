@@ -1,7 +1,11 @@
-//! When a panel ends.
+//! When a panel ends, and why.
 
 ghost use Rattle.std.specs.Prelude.{◌≡◌, ◌≤◌, Some};
 ghost use Rattle.station_panel.specs.declared.ending.Ending.TheVariants as ends;
+
+use station_network::station_drive::DriveFault;
+use std::alloc::AllocError;
+use std::io;
 
 /// Up to when a panel is attended.
 #[derive(Clone, Copy, Debug, PartialEq, Eq)]
@@ -19,6 +23,39 @@ pub enum Ending {
     TimeIsOver,
     /// The datagrams that were sent take almost as much memory as they may.
     MemoryIsFull,
+}
+
+/// Why a panel didn't begin, or was broken off.
+#[derive(Clone, Copy, Debug, PartialEq, Eq)]
+pub enum PanelFault {
+    OutOfMemory,
+    /// The record or the address of the page can't be written, or no token can be drawn for the page.
+    CannotRun,
+}
+
+impl From<AllocError> for PanelFault {
+    fn from(_error: AllocError) -> PanelFault {
+        PanelFault::OutOfMemory
+    }
+}
+
+impl From<DriveFault> for PanelFault {
+    fn from(fault: DriveFault) -> PanelFault {
+        match fault {
+            DriveFault::OutOfMemory => PanelFault::OutOfMemory,
+            DriveFault::WriteFailed => PanelFault::CannotRun,
+        }
+    }
+}
+
+impl From<io::Error> for PanelFault {
+    fn from(error: io::Error) -> PanelFault {
+        if error.kind() == io::ErrorKind::OutOfMemory {
+            PanelFault::OutOfMemory
+        } else {
+            PanelFault::CannotRun
+        }
+    }
 }
 
 /// So much memory is left at least where a panel ends: more than the datagrams of a round take.

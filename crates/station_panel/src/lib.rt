@@ -12,12 +12,14 @@ mod memory;
 mod noting;
 mod picture_shown;
 mod seat;
+mod service;
 
 pub use attendance::attend;
 pub use disturbed::Disturbed;
-pub use ending::{Ending, Limits};
+pub use ending::{Ending, Limits, PanelFault};
 pub use noting::Noting;
 pub use seat::places;
+pub use service::serve;
 
 // What a panel is made of.
 pub use panel_connections::{Listens, Loopback, tell_address};

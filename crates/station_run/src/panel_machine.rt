@@ -3,16 +3,12 @@
 ghost use Rattle.std.specs.Prelude.{◌≡◌, ◌≤◌, []};
 ghost use Rattle.station_run.specs.Runs.{CanRun};
 
-use crate::driven_world::Running;
 use crate::failure::RunFailure;
 use crate::machine::{Machine, fail, open};
 use crate::prepared::{Prepared, prepare};
 use replay::station_check::Failure;
-use station_panel::station_network::station_drive::{Clock, Datagrams, Station};
-use station_panel::{
-    Desk, Disturbed, Ending, Limits, Listens, Loopback, Noting, PageAsked, attend, open_desk,
-    places, tell_address,
-};
+use station_panel::station_network::station_drive::{Clock, Datagrams};
+use station_panel::{Ending, Limits, Listens, Loopback, PageAsked, PanelFault, serve};
 use std::alloc::Global;
 use std::fs::Files;
 use std::io::Write;
@@ -109,67 +105,23 @@ pub fn attend_station<
     ensures status { result ≤ 1 }
 {
     let Prepared { station, script: _ } = prepared;
-    let ended = match open_room(rt, alloc, station, net, asked) {
-        Ok(room) => attend_room(rt, alloc, room, clock, recorder, listener, asked, out),
-        Err(failure) => Err(failure),
-    };
-    match ended {
-        Ok(ending) => tell_ending(ending, out),
-        Err(failure) => fail(failure, err),
-    }
-}
-
-/// A station with its network and its desk.
-#[derive(Drop)]
-struct Room<N> {
-    station: Noting<Running>,
-    net: Disturbed<N>,
-    desk: Desk,
-}
-
-/// Makes the desk of a station, and its network.
-fn open_room<R: RandomSource, N: Drop>(
-    rt: &R,
-    alloc: Global,
-    station: Running,
-    net: N,
-    asked: &PanelAsked<'_>,
-) -> Result<Room<N>, RunFailure> {
-    let table = station.table().copy(alloc)?;
-    let desk = open_desk(rt, alloc, table, places(alloc, &station)?, &asked.page)?;
-    let net = Disturbed::of(alloc, net, station.table().layout())?;
-    Ok(Room {
-        station: Noting::of(alloc, station),
-        net,
-        desk,
-    })
-}
-
-/// Tells where the page is, and attends the panel.
-fn attend_room<R: RandomSource, N: Datagrams + Drop, C: Clock, W: Write, L: Listens, O: Write>(
-    rt: &R,
-    alloc: Global,
-    room: Room<N>,
-    clock: &mut C,
-    recorder: &mut W,
-    listener: &mut L,
-    asked: &PanelAsked<'_>,
-    out: &mut O,
-) -> Result<Ending, RunFailure> {
-    let mut room = room;
-    tell_address(asked.page.port, out)?;
-    let ending = attend(
+    let ended = serve(
         rt,
         alloc,
-        &mut room.station,
-        &mut room.net,
+        station,
+        net,
         clock,
         recorder,
         listener,
-        &mut room.desk,
+        &asked.page,
         asked.limits,
-    )?;
-    Ok(ending)
+        out,
+    );
+    match ended {
+        Ok(ending) => tell_ending(ending, out),
+        Err(PanelFault::OutOfMemory) => fail(RunFailure::Failed(Failure::OutOfMemory), err),
+        Err(PanelFault::CannotRun) => fail(RunFailure::CannotRun, err),
+    }
 }
 
 /// Tells why a panel ended, and answers the status to end with.
