@@ -23,7 +23,7 @@ use Rattle.rasta_core_recovery.proofs.WindowNumbers.{as_many, count_both, count_
 
 -- ---- the window of an end that stays in its connection
 
-does_window : {Came : Pdu → Type 0} (l k : LinkState) (ps : List Pdu) (accepted handed : List (List ℕ)) → Does Came l k ps accepted handed → length k.waiting ≤ length l.waiting + length accepted
+pub does_window : {Came : Pdu → Type 0} (l k : LinkState) (ps : List Pdu) (accepted handed : List (List ℕ)) → Does Came l k ps accepted handed → length k.waiting ≤ length l.waiting + length accepted
 does_window l k ps accepted handed (calm s x w a h) = let e = ap length w in omega (arith, e)
 does_window l k ps accepted handed (gives item s x w a h) = let e = ap length w ∙ count_one l.waiting (record { tag = l.sent; item = item }) in let z = ap length a in omega (arith, e, z)
 does_window l k ps accepted handed (takes p c pass s x w a) = let e = ap length w in let f = still_fewer (l.sent - 1 - behind p l) l.waiting in omega (arith, e, f)

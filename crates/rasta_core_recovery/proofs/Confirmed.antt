@@ -14,12 +14,13 @@ use Rattle.rasta_core_run.specs.Run.{Ends}
 use Rattle.rasta_core_run.specs.pdu.Pdu.{Pdu}
 use Rattle.rasta_core_run.specs.body.Body.{Body}
 use Rattle.rasta_core_run.specs.body.Body.TheVariants.{ConnectionRequest, ConnectionResponse, Data, DisconnectionRequest, Heartbeat, RetransmissionRequest, RetransmissionResponse, RetransmittedData}
-use Rattle.rasta_core.specs.EndFlow.{IsAt, IsOf, sent as sent_in, later as waiting_from}
+use Rattle.rasta_core.specs.EndFlow.{EndFlow, IsAt, IsOf, sent as sent_in, later as waiting_from}
 use Rattle.rasta_core.specs.Invariant.{Timely}
 use Rattle.rasta_core.specs.LinkAndFlow.{HasJoined, IsInside, Plays, asking, joined, left}
-use Rattle.rasta_core.specs.Order.{IsAsking, IsClosing, IsRequest, IsSent, IsUnanswered}
+use Rattle.rasta_core.specs.Order.{InOrder, IsAsking, IsClosing, IsRequest, IsSent, IsUnanswered}
 use Rattle.rasta_core.specs.Ordered.{AreTogether}
 use Rattle.rasta_core_recovery.specs.Confirming.{Answers, Confirms, FewWait, IsNumbered, reached_by}
+use Rattle.rasta_core_recovery.specs.ServerConfirming.{exchanged}
 use Rattle.rasta_core_recovery.proofs.Given.{fewer_wait}
 use Rattle.rasta_core_recovery.proofs.StaysIn.{Asks, Does, IsFrom, IsWord, Passes, Speaks, answers, calm, gives, joins, still, takes}
 use Rattle.rasta_core_recovery.proofs.WindowNumbers.{again_later, ahead_is, as_many, at_most, before_is as before_one, behind_is, count_both, count_one, drops_below, given_later, next_is, still_above, waits_most, wire_once}
@@ -72,6 +73,87 @@ within place pdu [] at = absurd at
 within zero pdu (first ∷ flow) at = omega arith
 within (suc place) pdu (first ∷ flow) at = let lt = within place pdu flow at in omega (arith, lt)
 
+-- Two ends in one connection, whichever of them is the client: each of the two may stand in the place of the other.
+pub record Sides (ends : Ends) : Type 0 where
+  pub client : EndFlow
+  pub server : EndFlow
+  pub order : InOrder client server
+  pub client_inside : IsInside ends.client.link client
+  pub server_inside : IsInside ends.server.link server
+  pub client_joined : is_asking ends.client.link ≡ false → HasJoined ends.client.link client server
+  pub server_joined : is_asking ends.server.link ≡ false → HasJoined ends.server.link server client
+  pub client_reached : reached_by ends.client.link ≡ client.reached
+  pub server_reached : reached_by ends.server.link ≡ server.reached
+  pub client_given : client.given ≡ ends.client.given
+  pub client_taken : client.taken ≡ ends.client.taken
+  pub server_given : server.given ≡ ends.server.given
+  pub server_taken : server.taken ≡ ends.server.taken
+
+abbrev pub exchange : (ends : Ends) → Sides ends → Sides (exchanged ends)
+exchange ends s = record {
+  client = s.server;
+  server = s.client;
+  order = record { there = s.order.back; back = s.order.there };
+  client_inside = s.server_inside;
+  server_inside = s.client_inside;
+  client_joined = s.server_joined;
+  server_joined = s.client_joined;
+  client_reached = s.server_reached;
+  server_reached = s.client_reached;
+  client_given = s.server_given;
+  client_taken = s.server_taken;
+  server_given = s.client_given;
+  server_taken = s.client_taken;
+}
+
+module _ (ends : Ends) (sides : Sides ends) where
+  client_fits : ends.client.link.sent < 2 ^ 31
+  client_fits = let c = sides.client_inside.counted in let f = sides.order.there.counts.fits in omega (arith, c, f)
+
+  server_fits : ends.server.link.sent < 2 ^ 31
+  server_fits = let c = sides.server_inside.counted in let f = sides.order.back.counts.fits in omega (arith, c, f)
+
+  -- what the server has taken was given under the PDUs that it came to
+  server_has : length ends.server.taken + waiting_from sides.server.reached ends.client.link.waiting ≤ length ends.client.given
+  server_has =
+      let level = sides.order.there.level
+      in let w = ap (waiting_from sides.server.reached) sides.client_inside.keeps.waiting
+      in let g = ap length sides.client_given
+      in let took = ap length (sym sides.server_taken ∙ sides.order.there.taken)
+      in let m = at_most (sides.client.passed sides.server.reached) sides.client.given
+      in omega (arith, level, w, g, took, m)
+
+  client_has : length ends.client.taken + waiting_from sides.client.reached ends.server.link.waiting ≤ length ends.server.given
+  client_has =
+      let level = sides.order.back.level
+      in let w = ap (waiting_from sides.client.reached) sides.server_inside.keeps.waiting
+      in let g = ap length sides.server_given
+      in let took = ap length (sym sides.client_taken ∙ sides.order.back.taken)
+      in let m = at_most (sides.server.passed sides.client.reached) sides.server.given
+      in omega (arith, level, w, g, took, m)
+
+  -- what of the server's PDUs a PDU of the client confirms is below what the client came to
+  client_confirms : (p : Pdu) → IsOf p sides.client.flow → IsWord p.body → ends.server.link.sent - 1 - behind p ends.server.link < sides.client.reached
+  unfolding behind
+  client_confirms p of word = choose made.confirms
+    where
+      made : IsSent sides.client sides.server.first of.0 p
+      made = sides.order.there.each of.0 p of.1
+
+      choose : (p.confirmed_sequence_number ≡ wire sides.server.first (sides.client.expecting of.0 - 1)) ⊎ IsUnanswered sides.client.flow of.0 p.body
+          → ends.server.link.sent - 1 - behind p ends.server.link < sides.client.reached
+      choose (inr none) = absurd (answered sides.client.flow of.0 p.body word none)
+      choose (inl e) =
+          let first = sides.server_inside.own_first
+          in let counted = sides.server_inside.counted
+          in let some = made.some_expected
+          in let most = made.expected
+          in let reached = sides.order.back.counts.most
+          in let is : ends.server.link.sent - 1 - distance p.confirmed_sequence_number (wire ends.server.link.own_first (before ends.server.link.sent)) ≡ sides.client.expecting of.0 - 1
+          = ap (λ (n : ℕ). ends.server.link.sent - 1 - distance n (wire ends.server.link.own_first (before ends.server.link.sent))) (e ∙ ap (λ (f : ℕ). wire f (sides.client.expecting of.0 - 1)) (sym first))
+          ∙ behind_is ends.server.link.own_first ends.server.link.sent (sides.client.expecting of.0) some (omega (arith, most, reached, counted)) server_fits
+          in omega (arith, is, some, most)
+
 module _ (names : Names) (ends : Ends) (both : Both names ends) where
   server_link : is_asking ends.server.link ≡ false
   server_link = never_asks ends.server.link (ap (λ (i : Identity). is_client i.role) both.timely.server.identity)
@@ -111,61 +193,41 @@ module _ (names : Names) (ends : Ends) (both : Both names ends) where
       choose (asking on) = reads_reached true on.asking both.together.client.reached (sym on.reached)
       choose (left shut keeps) = absurd (false≢true (sym shut ∙ both.client_in))
 
-  client_fits : ends.client.link.sent < 2 ^ 31
-  client_fits = let c = client_inside.counted in let f = both.together.order.there.counts.fits in omega (arith, c, f)
+  pub server_reached_is : reached_by ends.server.link ≡ both.together.server.reached
+  server_reached_is = ap (λ (b : Bool). if b then 1 else ends.server.link.expected) server_link ∙ server_joined.expected
 
-  server_fits : ends.server.link.sent < 2 ^ 31
-  server_fits = let c = server_joined.inside.counted in let f = both.together.order.back.counts.fits in omega (arith, c, f)
+abbrev pub sides_of : (names : Names) (ends : Ends) → Both names ends → Sides ends
+sides_of names ends both = record {
+  client = both.together.client;
+  server = both.together.server;
+  order = both.together.order;
+  client_inside = client_inside names ends both;
+  server_inside = (server_joined names ends both).inside;
+  client_joined = client_joined names ends both;
+  server_joined = λ not. server_joined names ends both;
+  client_reached = reached_is names ends both;
+  server_reached = server_reached_is names ends both;
+  client_given = both.together.client_given;
+  client_taken = both.together.client_taken;
+  server_given = both.together.server_given;
+  server_taken = both.together.server_taken;
+}
 
-  -- what the server has taken was given under the PDUs that it came to
+module _ (names : Names) (ends : Ends) (both : Both names ends) where
   pub server_level : length ends.server.taken + waiting_from both.together.server.reached ends.client.link.waiting ≤ length ends.client.given
-  server_level =
-      let level = both.together.order.there.level
-      in let w = ap (waiting_from both.together.server.reached) client_inside.keeps.waiting
-      in let g = ap length both.together.client_given
-      in let took = ap length (sym both.together.server_taken ∙ both.together.order.there.taken)
-      in let m = at_most (both.together.client.passed both.together.server.reached) both.together.client.given
-      in omega (arith, level, w, g, took, m)
+  server_level = server_has ends (sides_of names ends both)
 
   pub client_level : length ends.client.taken + waiting_from both.together.client.reached ends.server.link.waiting ≤ length ends.server.given
-  client_level =
-      let level = both.together.order.back.level
-      in let w = ap (waiting_from both.together.client.reached) server_joined.inside.keeps.waiting
-      in let g = ap length both.together.server_given
-      in let took = ap length (sym both.together.client_taken ∙ both.together.order.back.taken)
-      in let m = at_most (both.together.server.passed both.together.client.reached) both.together.server.given
-      in omega (arith, level, w, g, took, m)
-
-  -- what of the server's PDUs a PDU of the client confirms is below what the client came to
-  client_confirms : (p : Pdu) → IsOf p both.together.client.flow → IsWord p.body → ends.server.link.sent - 1 - behind p ends.server.link < both.together.client.reached
-  unfolding behind
-  client_confirms p of word = choose made.confirms
-    where
-      made : IsSent both.together.client both.together.server.first of.0 p
-      made = both.together.order.there.each of.0 p of.1
-
-      choose : (p.confirmed_sequence_number ≡ wire both.together.server.first (both.together.client.expecting of.0 - 1)) ⊎ IsUnanswered both.together.client.flow of.0 p.body
-          → ends.server.link.sent - 1 - behind p ends.server.link < both.together.client.reached
-      choose (inr none) = absurd (answered both.together.client.flow of.0 p.body word none)
-      choose (inl e) =
-          let first = server_joined.inside.own_first
-          in let counted = server_joined.inside.counted
-          in let some = made.some_expected
-          in let most = made.expected
-          in let reached = both.together.order.back.counts.most
-          in let is : ends.server.link.sent - 1 - distance p.confirmed_sequence_number (wire ends.server.link.own_first (before ends.server.link.sent)) ≡ both.together.client.expecting of.0 - 1
-          = ap (λ (n : ℕ). ends.server.link.sent - 1 - distance n (wire ends.server.link.own_first (before ends.server.link.sent))) (e ∙ ap (λ (f : ℕ). wire f (both.together.client.expecting of.0 - 1)) (sym first))
-          ∙ behind_is ends.server.link.own_first ends.server.link.sent (both.together.client.expecting of.0) some (omega (arith, most, reached, counted)) server_fits
-          in omega (arith, is, some, most)
+  client_level = client_has ends (sides_of names ends both)
 
 -- ---- the server is called
 
 abbrev pub with_server : EndState → List Sent → ℕ → Ends → Ends
 with_server end sent moment ends = record ends { server = end; sent = sent; moment = moment }
 
-module _ (names : Names) (spare : ℕ) (old : Ends) (end : EndState) (datagrams : List Sent) (moment : ℕ) (before_is : Both names old) (after_is : Both names (with_server end datagrams moment old))
+module _ (spare : ℕ) (old : Ends) (end : EndState) (datagrams : List Sent) (moment : ℕ) (before_is : Sides old) (after_is : Sides (with_server end datagrams moment old))
     (Came : Pdu → Type 0) (ps : List Pdu) (accepted handed : List (List ℕ)) (given_is : end.given ≡ old.server.given ++ accepted) (taken_is : end.taken ≡ old.server.taken ++ handed)
-    (does : Does Came old.server.link end.link ps accepted handed) (of_client : (p : Pdu) → Came p → Passes old.server.link p → IsOf p before_is.together.client.flow) (within_spare : Answers spare (with_server end datagrams moment old)) where
+    (does : Does Came old.server.link end.link ps accepted handed) (of_client : (p : Pdu) → Came p → Passes old.server.link p → IsOf p before_is.client.flow) (within_spare : Answers spare (with_server end datagrams moment old)) where
   abbrev new : Ends
   new = with_server end datagrams moment old
 
@@ -178,13 +240,16 @@ module _ (names : Names) (spare : ℕ) (old : Ends) (end : EndState) (datagrams 
       choose (takes p c pass s x w a) = s
       choose (answers p c pass b s x w a) = s
 
+  joined_then : HasJoined end.link after_is.server after_is.client
+  joined_then = after_is.server_joined server_speaks.joined
+
   -- what is given meanwhile waits above it
   waits_above : (place : ℕ) → place < old.server.link.sent → reached_by old.client.link ≤ place
       → waiting_from (place + 1) old.server.link.waiting + length accepted ≤ waiting_from (place + 1) end.link.waiting
   waits_above place below come = choose does
     where
-      reached : before_is.together.client.reached ≤ place
-      reached = let r = reached_is names old before_is in omega (arith, r, come)
+      reached : before_is.client.reached ≤ place
+      reached = let r = before_is.client_reached in omega (arith, r, come)
 
       choose : Does Came old.server.link end.link ps accepted handed → waiting_from (place + 1) old.server.link.waiting + length accepted ≤ waiting_from (place + 1) end.link.waiting
       choose (calm s x w a h) = let e = ap (waiting_from (place + 1)) w in let z = ap length a in omega (arith, e, z)
@@ -195,13 +260,13 @@ module _ (names : Names) (spare : ℕ) (old : Ends) (end : EndState) (datagrams 
           in omega (arith, e, g, z)
       choose (takes p c pass s x w a) =
           let e = ap (waiting_from (place + 1)) w
-          in let lt = client_confirms names old before_is p (of_client p c pass) pass.word
+          in let lt = client_confirms old before_is p (of_client p c pass) pass.word
           in let d = drops_below (old.server.link.sent - 1 - behind p old.server.link) (place + 1) old.server.link.waiting (omega (arith, lt, reached))
           in let z = ap length a
           in omega (arith, e, d, z)
       choose (answers p c pass b s x w a) =
           let e = ap (waiting_from (place + 1)) w
-          in let lt = client_confirms names old before_is p (of_client p c pass) pass.word
+          in let lt = client_confirms old before_is p (of_client p c pass) pass.word
           in let d = drops_below (old.server.link.sent - 1 - behind p old.server.link) (place + 1) old.server.link.waiting (omega (arith, lt, reached))
           in let m = waits_most (place + 1) (still_waiting (old.server.link.sent - 1 - behind p old.server.link) old.server.link.waiting)
           in let r = again_later (old.server.link.sent + 1) (place + 1) (still_waiting (old.server.link.sent - 1 - behind p old.server.link) old.server.link.waiting) (omega (arith, below))
@@ -237,22 +302,22 @@ module _ (names : Names) (spare : ℕ) (old : Ends) (end : EndState) (datagrams 
     sent = below;
     confirms = λ come. record {
       expecting = end.link.expected;
-      some = let e = server_joined names new after_is in let x = e.expected in let s = after_is.together.order.there.counts.some in omega (arith, x, s);
+      some = let e = joined_then in let x = e.expected in let s = after_is.order.there.counts.some in omega (arith, x, s);
       most = most;
-      confirmed = from.confirms ∙ ap (λ (first : ℕ). wire first (before end.link.expected)) ((server_joined names new after_is).partner_first ∙ sym (client_inside names new after_is).own_first)
-          ∙ ap (wire old.client.link.own_first) (before_is_one (server_joined names new after_is).expected after_is.together.order.there.counts.some);
+      confirmed = from.confirms ∙ ap (λ (first : ℕ). wire first (before end.link.expected)) (joined_then.partner_first ∙ sym after_is.client_inside.own_first)
+          ∙ ap (wire old.client.link.own_first) (before_is_one joined_then.expected after_is.order.there.counts.some);
       had = length end.taken;
       few = omega arith;
-      waits = subst (λ (m : ℕ). length end.taken + waiting_from m old.client.link.waiting ≤ length old.client.given) (sym (server_joined names new after_is).expected) (server_level names new after_is);
+      waits = subst (λ (m : ℕ). length end.taken + waiting_from m old.client.link.waiting ≤ length old.client.given) (sym joined_then.expected) (server_has new after_is);
       answers = let w = within_spare in omega (arith, w);
     };
   }
     where
       most : end.link.expected ≤ old.client.link.sent
-      most = let x = (server_joined names new after_is).expected in let m = after_is.together.order.there.counts.most in let c = (client_inside names new after_is).counted in omega (arith, x, m, c)
+      most = let x = joined_then.expected in let m = after_is.order.there.counts.most in let c = after_is.client_inside.counted in omega (arith, x, m, c)
 
-      before_is_one : end.link.expected ≡ after_is.together.server.reached → 1 ≤ after_is.together.server.reached → before end.link.expected ≡ end.link.expected - 1
-      before_is_one x s = before_one end.link.expected (omega (arith, x, s)) (let f = client_fits names new after_is in omega (arith, most, f))
+      before_is_one : end.link.expected ≡ after_is.server.reached → 1 ≤ after_is.server.reached → before end.link.expected ≡ end.link.expected - 1
+      before_is_one x s = before_one end.link.expected (omega (arith, x, s)) (let f = client_fits new after_is in omega (arith, most, f))
 
 -- ---- the client is called
 
@@ -267,7 +332,7 @@ pub record Moves (spare : ℕ) (old : Ends) (end : EndState) : Type 0 where
   pub waits : (expecting had : ℕ) → expecting ≤ old.client.link.sent → had ≤ length old.server.taken → had + waiting_from expecting old.client.link.waiting ≤ length old.client.given → had + waiting_from expecting end.link.waiting ≤ length end.given
   pub few : length end.taken + length end.link.waiting ≤ length end.given + spare
 
-module _ (names : Names) (spare : ℕ) (old : Ends) (end : EndState) (datagrams : List Sent) (moment : ℕ) (before_is : Both names old) (after_is : Both names (with_client end datagrams moment old))
+module _ (spare : ℕ) (old : Ends) (end : EndState) (datagrams : List Sent) (moment : ℕ) (before_is : Sides old) (after_is : Sides (with_client end datagrams moment old))
     (accepted handed : List (List ℕ)) (given_is : end.given ≡ old.client.given ++ accepted) (taken_is : end.taken ≡ old.client.taken ++ handed) (few_before : FewWait spare old) where
   gave : length end.given ≡ length old.client.given + length accepted
   gave = ap length given_is ∙ count_both old.client.given accepted
@@ -286,7 +351,7 @@ module _ (names : Names) (spare : ℕ) (old : Ends) (end : EndState) (datagrams 
   }
 
   module _ (Came : Pdu → Type 0) (ps : List Pdu) (is_joined : is_asking old.client.link ≡ false) (does : Does Came old.client.link end.link ps accepted handed)
-      (numbered : (p : Pdu) → Came p → Passes old.client.link p → IsNumbered spare old p) (of_server : (p : Pdu) → Came p → Passes old.client.link p → IsOf p before_is.together.server.flow) where
+      (numbered : (p : Pdu) → Came p → Passes old.client.link p → IsNumbered spare old p) (of_server : (p : Pdu) → Came p → Passes old.client.link p → IsOf p before_is.server.flow) where
     at_old : reached_by old.client.link ≡ old.client.link.expected
     at_old = ap (λ (b : Bool). if b then 1 else old.client.link.expected) is_joined
 
@@ -297,14 +362,14 @@ module _ (names : Names) (spare : ℕ) (old : Ends) (end : EndState) (datagrams 
     place_of : (p : Pdu) → Passes old.client.link p → (place : ℕ) → place < 2 ^ 31 → p.sequence_number ≡ wire old.server.link.own_first place → place ≡ old.client.link.expected + ahead p old.client.link
     unfolding ahead
     place_of p pass place fits number =
-        let j = client_joined names old before_is is_joined
-        in let first : old.client.link.partner_first ≡ old.server.link.own_first = j.partner_first ∙ sym (server_joined names old before_is).inside.own_first
+        let j = before_is.client_joined is_joined
+        in let first : old.client.link.partner_first ≡ old.server.link.own_first = j.partner_first ∙ sym before_is.server_inside.own_first
         in let same : distance (wire old.client.link.partner_first old.client.link.expected) p.sequence_number ≡ distance (wire old.server.link.own_first old.client.link.expected) (wire old.server.link.own_first place)
         = ap (λ (f : ℕ). distance (wire f old.client.link.expected) p.sequence_number) first ∙ ap (distance (wire old.server.link.own_first old.client.link.expected)) number
         in let near = ltb-false 200 (distance (wire old.client.link.partner_first old.client.link.expected) p.sequence_number) pass.near
         in let expects = j.expected
-        in let most = before_is.together.order.back.counts.most
-        in let all = before_is.together.order.back.counts.fits
+        in let most = before_is.order.back.counts.most
+        in let all = before_is.order.back.counts.fits
         in let is = ahead_is old.server.link.own_first old.client.link.expected place (omega (arith, expects, most, all)) fits (subst (λ (steps : ℕ). steps ≤ 200) same near)
         in omega (arith, is, same)
 
@@ -313,7 +378,7 @@ module _ (names : Names) (spare : ℕ) (old : Ends) (end : EndState) (datagrams 
       n = numbered p came pass
 
       place_fits : n.place < 2 ^ 31
-      place_fits = let s = n.sent in let f = server_fits names old before_is in omega (arith, s, f)
+      place_fits = let s = n.sent in let f = server_fits old before_is in omega (arith, s, f)
 
       stands : n.place ≡ old.client.link.expected + ahead p old.client.link
       stands = place_of p pass n.place place_fits n.number
@@ -324,16 +389,16 @@ module _ (names : Names) (spare : ℕ) (old : Ends) (end : EndState) (datagrams 
       confirms_is : old.client.link.sent - 1 - behind p old.client.link ≡ c.expecting - 1
       unfolding behind
       confirms_is = ap (λ (m : ℕ). old.client.link.sent - 1 - distance m (wire old.client.link.own_first (before old.client.link.sent))) c.confirmed
-          ∙ behind_is old.client.link.own_first old.client.link.sent c.expecting c.some c.most (client_fits names old before_is)
+          ∙ behind_is old.client.link.own_first old.client.link.sent c.expecting c.some c.most (client_fits old before_is)
 
       still_few : length (still_waiting (old.client.link.sent - 1 - behind p old.client.link) old.client.link.waiting) ≤ waiting_from c.expecting old.client.link.waiting
       still_few =
           let some = c.some
-          in let above = still_above (c.expecting - 1) 0 (sent_in before_is.together.client) before_is.together.client.waiting before_is.together.order.there.waits.rises
+          in let above = still_above (c.expecting - 1) 0 (sent_in before_is.client) before_is.client.waiting before_is.order.there.waits.rises
           in let same : c.expecting - 1 + 1 ≡ c.expecting = omega (arith, some)
           in subst (λ (m : ℕ). length (still_waiting m old.client.link.waiting) ≤ waiting_from c.expecting old.client.link.waiting) (sym confirms_is)
           (subst (λ (m : ℕ). length (still_waiting (c.expecting - 1) old.client.link.waiting) ≤ waiting_from m old.client.link.waiting) same
-          (subst (λ (w : List Unconfirmed). length (still_waiting (c.expecting - 1) w) ≤ waiting_from (c.expecting - 1 + 1) w) (sym (client_inside names old before_is).keeps.waiting) above))
+          (subst (λ (w : List Unconfirmed). length (still_waiting (c.expecting - 1) w) ≤ waiting_from (c.expecting - 1 + 1) w) (sym before_is.client_inside.keeps.waiting) above))
 
       moved : end.link.expected ≡ wire old.client.link.expected (ahead p old.client.link + 1) → end.link.expected ≡ n.place + 1
       moved e =
@@ -344,8 +409,8 @@ module _ (names : Names) (spare : ℕ) (old : Ends) (end : EndState) (datagrams 
 
       few_then : is_asking end.link ≡ false → end.link.expected ≡ n.place + 1 → accepted ≡ [] → length end.link.waiting ≤ waiting_from c.expecting old.client.link.waiting → length end.taken + length end.link.waiting ≤ length end.given + spare
       few_then asks e none wait =
-          let r = sym (reached_is names (with_client end datagrams moment old) after_is) ∙ at_new asks ∙ e
-          in let level = subst (λ (m : ℕ). length end.taken + waiting_from m old.server.link.waiting ≤ length old.server.given) r (client_level names (with_client end datagrams moment old) after_is)
+          let r = sym after_is.client_reached ∙ at_new asks ∙ e
+          in let level = subst (λ (m : ℕ). length end.taken + waiting_from m old.server.link.waiting ≤ length old.server.given) r (client_has (with_client end datagrams moment old) after_is)
           in let a = c.answers
           in let w = c.waits
           in let z = ap length none
@@ -354,41 +419,41 @@ module _ (names : Names) (spare : ℕ) (old : Ends) (end : EndState) (datagrams 
 
       -- where the server asks for a retransmission, it stands still
       asks_still : p.body ≡ RetransmissionRequest → length old.server.taken + waiting_from c.expecting old.client.link.waiting ≤ length old.client.given
-      asks_still body = subst (λ (m : ℕ). length old.server.taken + waiting_from m old.client.link.waiting ≤ length old.client.given) (sym expecting_is) (server_level names old before_is)
+      asks_still body = subst (λ (m : ℕ). length old.server.taken + waiting_from m old.client.link.waiting ≤ length old.client.given) (sym expecting_is) (server_has old before_is)
         where
-          of : IsOf p before_is.together.server.flow
+          of : IsOf p before_is.server.flow
           of = of_server p came pass
 
-          made : IsSent before_is.together.server before_is.together.client.first of.0 p
-          made = before_is.together.order.back.each of.0 p of.1
+          made : IsSent before_is.server before_is.client.first of.0 p
+          made = before_is.order.back.each of.0 p of.1
 
-          there : before_is.together.client.reached ≤ of.0
+          there : before_is.client.reached ≤ of.0
           there =
-              let in_flow = within of.0 p before_is.together.server.flow of.1
-              in let all = before_is.together.order.back.counts.fits
-              in let s = place_of p pass of.0 (omega (arith, in_flow, all)) (made.number ∙ ap (λ (f : ℕ). wire f of.0) (sym (server_joined names old before_is).inside.own_first))
-              in let x = (client_joined names old before_is is_joined).expected
+              let in_flow = within of.0 p before_is.server.flow of.1
+              in let all = before_is.order.back.counts.fits
+              in let s = place_of p pass of.0 (omega (arith, in_flow, all)) (made.number ∙ ap (λ (f : ℕ). wire f of.0) (sym before_is.server_inside.own_first))
+              in let x = (before_is.client_joined is_joined).expected
               in omega (arith, s, x)
 
-          waits_so : IsAsking before_is.together.client before_is.together.server of.0
-          waits_so = before_is.together.order.there.askings of.0 p of.1 body there
+          waits_so : IsAsking before_is.client before_is.server of.0
+          waits_so = before_is.order.there.askings of.0 p of.1 body there
 
-          by_confirms : (p.confirmed_sequence_number ≡ wire before_is.together.client.first (before_is.together.server.expecting of.0 - 1)) ⊎ IsUnanswered before_is.together.server.flow of.0 p.body → c.expecting ≡ before_is.together.server.reached
-          by_confirms (inr none) = absurd (answered before_is.together.server.flow of.0 p.body (subst IsWord (sym body) tt) none)
+          by_confirms : (p.confirmed_sequence_number ≡ wire before_is.client.first (before_is.server.expecting of.0 - 1)) ⊎ IsUnanswered before_is.server.flow of.0 p.body → c.expecting ≡ before_is.server.reached
+          by_confirms (inr none) = absurd (answered before_is.server.flow of.0 p.body (subst IsWord (sym body) tt) none)
           by_confirms (inl e) =
-              let first = (client_inside names old before_is).own_first
+              let first = before_is.client_inside.own_first
               in let some = made.some_expected
               in let still_is = waits_so.still
-              in let most = before_is.together.order.there.counts.most
-              in let all = before_is.together.order.there.counts.fits
+              in let most = before_is.order.there.counts.most
+              in let all = before_is.order.there.counts.fits
               in let one = c.some
               in let up = c.most
-              in let f = client_fits names old before_is
-              in let same = wire_once old.client.link.own_first (c.expecting - 1) (before_is.together.server.expecting of.0 - 1) (omega (arith, up, f)) (omega (arith, still_is, most, all))
-              (sym c.confirmed ∙ e ∙ ap (λ (g : ℕ). wire g (before_is.together.server.expecting of.0 - 1)) (sym first))
+              in let f = client_fits old before_is
+              in let same = wire_once old.client.link.own_first (c.expecting - 1) (before_is.server.expecting of.0 - 1) (omega (arith, up, f)) (omega (arith, still_is, most, all))
+              (sym c.confirmed ∙ e ∙ ap (λ (g : ℕ). wire g (before_is.server.expecting of.0 - 1)) (sym first))
               in omega (arith, same, one, some, still_is)
 
-          expecting_is : c.expecting ≡ before_is.together.server.reached
+          expecting_is : c.expecting ≡ before_is.server.reached
           expecting_is = by_confirms made.confirms
 
     pub client_moves : Moves spare old end

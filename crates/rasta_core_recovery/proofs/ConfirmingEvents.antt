@@ -47,7 +47,7 @@ use Rattle.rasta_core.specs.Timely.{IsKnown}
 use Rattle.rasta_core_run.specs.window.Unconfirmed.{Unconfirmed}
 use Rattle.rasta_core_recovery.specs.Confirming.{Answers, AreIn, Confirming, FewWait, IsConfirmed, IsNumbered, IsSaid, reached_by}
 use Rattle.rasta_core_recovery.proofs.Bridge.{HandsOut, KeepsTime, WrittenIsRead, each_append}
-use Rattle.rasta_core_recovery.proofs.Confirmed.{Both, Moves, asking_moves, client_inside, client_keeps, client_level, client_moves, never_asks, reached_is, server_joined, server_keeps, server_says, server_speaks, with_client, with_server, within, word_closes}
+use Rattle.rasta_core_recovery.proofs.Confirmed.{Both, Moves, asking_moves, client_inside, client_keeps, client_level, client_moves, never_asks, reached_is, server_joined, server_keeps, server_says, server_speaks, sides_of, with_client, with_server, within, word_closes}
 use Rattle.rasta_core_recovery.proofs.Facts.{are_together}
 use Rattle.rasta_core_recovery.proofs.StaysIn.{Asks, Does, IsFrom, IsSettledAt, NothingCame, Passes, Read, Speaks, closing_shuts, opens_asking, opens_on, receives_asking, receives_on, sends_asking, sends_on, ticks_asking, ticks_on}
 use Rattle.rasta_core_recovery.proofs.WindowNumbers.{count_both}
@@ -79,12 +79,12 @@ pub record Laws : Type 0 where
 
 -- ---- lists of datagrams
 
-among : (P : Sent → Type 0) (datagram : Sent) (list : List Sent) → IsAmong datagram list → Each P list → P datagram
+pub among : (P : Sent → Type 0) (datagram : Sent) (list : List Sent) → IsAmong datagram list → Each P list → P datagram
 among P datagram [] is each = absurd is
 among P datagram (first ∷ others) (inl same) each = subst P same each.0
 among P datagram (first ∷ others) (inr is) each = among P datagram others is each.1
 
-turned : {X : Type 0} (P Q : X → Type 0) → ((x : X) → P x → Q x) → (list : List X) → Each P list → Each Q list
+pub turned : {X : Type 0} (P Q : X → Type 0) → ((x : X) → P x → Q x) → (list : List X) → Each P list → Each Q list
 turned P Q turn [] each = tt
 turned P Q turn (first ∷ others) each = (turn first each.0, turned P Q turn others each.1)
 
@@ -93,7 +93,7 @@ second_part P [] other each = each
 second_part P (first ∷ one) other each = second_part P one other each.1
 
 -- the loss of a datagram
-each_without : (P : Sent → Type 0) → ((d : Sent) (is_lost : Bool) → P d → P (record d { is_lost = is_lost })) → (bytes : List ℕ) (list : List Sent) → Each P list → Each P (without_oldest bytes list)
+pub each_without : (P : Sent → Type 0) → ((d : Sent) (is_lost : Bool) → P d → P (record d { is_lost = is_lost })) → (bytes : List ℕ) (list : List Sent) → Each P list → Each P (without_oldest bytes list)
 each_without P turn bytes [] each = tt
 each_without P turn bytes (first ∷ others) each = choose (is_copy bytes first) (each_without P turn bytes others each.1)
   where
@@ -117,7 +117,7 @@ clock_is : (names : Names) (ends : Ends) (who : Role) → Timely names ends → 
 clock_is names ends role.Client timely = timely.client.clock
 clock_is names ends role.Server timely = timely.server.clock
 
-found : Laws → (names : Names) → AreNames names → (who : Role) (ends : Ends) → Timely names ends → (bytes : List ℕ) (connection : ℕ) → MayCall names who (Receives bytes connection) ends → (p : Pdu) → Read (end_of who ends).link bytes p
+pub found : Laws → (names : Names) → AreNames names → (who : Role) (ends : Ends) → Timely names ends → (bytes : List ℕ) (connection : ℕ) → MayCall names who (Receives bytes connection) ends → (p : Pdu) → Read (end_of who ends).link bytes p
     → Passes (end_of who ends).link p → Found names who ends bytes connection p
 found laws names are who ends timely bytes connection may p read pass = choose may
   where
@@ -164,7 +164,7 @@ found laws names are who ends timely bytes connection may p read pass = choose m
 -- ---- calls
 
 -- what came in a call
-abbrev CameBy : LinkState → Call → Pdu → Type 0
+abbrev pub CameBy : LinkState → Call → Pdu → Type 0
 CameBy l Ticks = NothingCame
 CameBy l Opens = NothingCame
 CameBy l (Closes why) = NothingCame
@@ -212,18 +212,21 @@ asks_by (Receives bytes connection) moment end is_in at asks none opened = recei
 
 -- ---- what is handed out
 
+abbrev pub Spells : Names → (Pdu → Type 0) → Sent → Type 0
+Spells names Says datagram = (pdu : Pdu) → reading names.key datagram.bytes ≡ Ok pdu → Says pdu
+
 -- datagrams of the client
 of_client : (names : Names) (spare : ℕ) (ends : Ends) (time : ℕ) (connection : Option ℕ) (datagrams : List (List ℕ)) → Each (IsSaid names spare ends) (handed_out time role.Client connection datagrams)
 of_client names spare ends time connection [] = tt
 of_client names spare ends time connection (bytes ∷ others) = (λ sender same pdu read closes. absurd (cc sender), of_client names spare ends time connection others)
 
--- datagrams of the server
-of_server : WrittenIsRead → (names : Names) (spare : ℕ) (ends : Ends) (time : ℕ) (connection : Option ℕ) (k : LinkState) (n last : ℕ) (ps : List Pdu) → Each IsPdu ps → Row (IsFrom k) n ps last
-    → ((m : ℕ) (pdu : Pdu) → m < last → IsFrom k m pdu → IsNumbered spare ends pdu) → Each (IsSaid names spare ends) (handed_out time role.Server connection (spellings names.key ps))
-of_server law names spare ends time connection k n last [] are row numbered = tt
-of_server law names spare ends time connection k n last (p ∷ ps) are row numbered = (
-  λ sender same pdu read closes. subst (IsNumbered spare ends) (same_pdu pdu read) (numbered n p (let m = row_most (IsFrom k) (n + 1) last ps row.1 in omega (arith, m)) row.0),
-  of_server law names spare ends time connection k (n + 1) last ps are.1 row.1 numbered,
+-- what these datagrams spell
+pub spell : WrittenIsRead → (names : Names) (Says : Pdu → Type 0) (who : Role) (time : ℕ) (connection : Option ℕ) (k : LinkState) (n last : ℕ) (ps : List Pdu) → Each IsPdu ps → Row (IsFrom k) n ps last
+    → ((m : ℕ) (pdu : Pdu) → m < last → IsFrom k m pdu → Says pdu) → Each (Spells names Says) (handed_out time who connection (spellings names.key ps))
+spell law names Says who time connection k n last [] are row says = tt
+spell law names Says who time connection k n last (p ∷ ps) are row says = (
+  λ pdu read. subst Says (same_pdu pdu read) (says n p (let m = row_most (IsFrom k) (n + 1) last ps row.1 in omega (arith, m)) row.0),
+  spell law names Says who time connection k (n + 1) last ps are.1 row.1 says,
 )
   where
     same_pdu : (that : Pdu) → reading names.key (writing names.key p) ≡ Ok that → p ≡ that
@@ -264,26 +267,26 @@ client_enters_none laws names are ends timely (Receives bytes connection) may sa
 
 -- ---- a call
 
-both_of : (names : Names) (ends : Ends) → Timely names ends → Ordered names ends → AreIn ends → Both names ends
+pub both_of : (names : Names) (ends : Ends) → Timely names ends → Ordered names ends → AreIn ends → Both names ends
 both_of names ends timely ordered are_in = record { timely = timely; together = are_together names ends timely ordered are_in.client are_in.server; client_in = are_in.client; server_in = are_in.server }
 
 module _ (laws : Laws) (names : Names) (are : AreNames names) (spare : ℕ) (ends : Ends) (timely : Timely names ends) (ordered : Ordered names ends) where
   -- of the server
   module _ (call : Call) (may : MayCall names role.Server call ends) where
-    abbrev then_is : EndState
+    abbrev pub then_is : EndState
     then_is = end_after (outcome call ends.moment ends.server) ends.moment ends.server
 
-    abbrev sent_then : List Sent
+    abbrev pub sent_then : List Sent
     sent_then = ends.sent ++ handed_out ends.time role.Server (end_after (outcome call ends.moment ends.server) ends.moment ends.server).connection (spellings ends.server.link.identity.key (outcome call ends.moment ends.server).pdus)
 
-    abbrev server_new : Ends
+    abbrev pub server_new : Ends
     server_new = with_server (end_after (outcome call ends.moment ends.server) ends.moment ends.server) sent_then (ends.moment + length (outcome call ends.moment ends.server).pdus) ends
 
-    server_timely : Timely names server_new
+    pub server_timely : Timely names server_new
     unfolding called
     server_timely = laws.time names (Calls role.Server call) ends are timely may
 
-    server_ordered : Ordered names server_new
+    pub server_ordered : Ordered names server_new
     unfolding called
     server_ordered = laws.order names (Calls role.Server call) ends are timely ordered may
 
@@ -294,14 +297,14 @@ module _ (laws : Laws) (names : Names) (are : AreNames names) (spare : ℕ) (end
     key_is = ap (λ (i : Identity). i.key) timely.server.identity
 
     -- it goes on in its connection
-    module _ (in_new : AreIn server_new) (was_in : is_open ends.server.link.phase ≡ true) (before : Confirming names spare ends) (within_spare : Answers spare server_new) where
+    module _ (in_new : AreIn server_new) (was_in : is_open ends.server.link.phase ≡ true) where
       in_old : AreIn ends
       in_old = record { client = in_new.client; server = was_in }
 
-      both_old : Both names ends
+      pub both_old : Both names ends
       both_old = both_of names ends timely ordered in_old
 
-      both_new : Both names server_new
+      pub both_new : Both names server_new
       both_new = both_of names server_new server_timely server_ordered in_new
 
       none : (outcome call ends.moment ends.server).enters ≡ None
@@ -311,23 +314,23 @@ module _ (laws : Laws) (names : Names) (are : AreNames names) (spare : ℕ) (end
           choose None e = refl
           choose (Some c) e = absurd (false≢true (sym (laws.enters call ends.moment c ends.server (ap (λ (i : Identity). i.role) timely.server.identity) e) ∙ was_in))
 
-      given_is : then_is.given ≡ ends.server.given ++ (outcome call ends.moment ends.server).given
+      pub given_is : then_is.given ≡ ends.server.given ++ (outcome call ends.moment ends.server).given
       unfolding end_after
       given_is = ap (λ (e : Option ℕ). kept e ends.server.given ++ (outcome call ends.moment ends.server).given) none
 
-      taken_is : then_is.taken ≡ ends.server.taken ++ (outcome call ends.moment ends.server).taken
+      pub taken_is : then_is.taken ≡ ends.server.taken ++ (outcome call ends.moment ends.server).taken
       unfolding end_after
       taken_is = ap (λ (e : Option ℕ). kept e ends.server.taken ++ (outcome call ends.moment ends.server).taken) none
 
-      connection_is : then_is.connection ≡ ends.server.connection
+      pub connection_is : then_is.connection ≡ ends.server.connection
       unfolding end_after
       connection_is = ap (λ (e : Option ℕ). newer e ends.server.connection) none
 
-      does : Does (CameBy ends.server.link call) ends.server.link then_is.link (outcome call ends.moment ends.server).pdus (outcome call ends.moment ends.server).given (outcome call ends.moment ends.server).taken
+      pub does : Does (CameBy ends.server.link call) ends.server.link then_is.link (outcome call ends.moment ends.server).pdus (outcome call ends.moment ends.server).given (outcome call ends.moment ends.server).taken
       unfolding end_after
       does = does_by call ends.moment ends.server was_in (settled_so laws names ends role.Server timely was_in) (never_asks ends.server.link (ap (λ (i : Identity). is_client i.role) timely.server.identity)) none in_new.server
 
-      in_flow : (c : Call) → c ≡ call → (p : Pdu) → CameBy ends.server.link c p → Passes ends.server.link p → IsOf p both_old.together.client.flow
+      pub in_flow : (c : Call) → c ≡ call → (p : Pdu) → CameBy ends.server.link c p → Passes ends.server.link p → IsOf p both_old.together.client.flow
       in_flow Ticks e p came pass = absurd came
       in_flow Opens e p came pass = absurd came
       in_flow (Closes why) e p came pass = absurd came
@@ -337,57 +340,59 @@ module _ (laws : Laws) (names : Names) (are : AreNames names) (spare : ℕ) (end
           in let same = same_Some f.datagram.connection both_old.together.connection (sym (laws.inside names ends role.Server bytes connection f.datagram timely f.delivered was_in) ∙ both_old.together.of_server)
           in among (IsSpelledIn names role.Client both_old.together.connection both_old.together.client.flow) f.datagram ends.sent f.delivered.was_sent both_old.together.client_flow f.sender same p f.read
 
-      server_goes : IsConfirmed names spare server_new
-      server_goes = record {
-        few = conf.few;
-        said = each_append (IsSaid names spare server_new) ends.sent _ (turned (IsSaid names spare ends) (IsSaid names spare server_new) keeps ends.sent conf.said)
-            (subst (λ (key : Key). Each (IsSaid names spare server_new) (handed_out ends.time role.Server then_is.connection (spellings key (outcome call ends.moment ends.server).pdus))) (sym key_is)
-            (of_server laws.written names spare server_new ends.time then_is.connection then_is.link ends.server.link.sent then_is.link.sent (outcome call ends.moment ends.server).pdus pdus_are speaks.pdus says));
-      }
-        where
-          conf : IsConfirmed names spare ends
-          conf = before in_old
+      module _ (before : Confirming names spare ends) (within_spare : Answers spare server_new) where
+        server_goes : IsConfirmed names spare server_new
+        server_goes = record {
+          few = conf.few;
+          said = each_append (IsSaid names spare server_new) ends.sent _ (turned (IsSaid names spare ends) (IsSaid names spare server_new) keeps ends.sent conf.said)
+              (subst (λ (key : Key). Each (IsSaid names spare server_new) (handed_out ends.time role.Server then_is.connection (spellings key (outcome call ends.moment ends.server).pdus))) (sym key_is)
+              (turned (Spells names (IsNumbered spare server_new)) (IsSaid names spare server_new) (λ d spells sender same pdu read closes. spells pdu read) _
+                (spell laws.written names (IsNumbered spare server_new) role.Server ends.time then_is.connection then_is.link ends.server.link.sent then_is.link.sent (outcome call ends.moment ends.server).pdus pdus_are speaks.pdus says)));
+        }
+          where
+            conf : IsConfirmed names spare ends
+            conf = before in_old
 
-          speaks : Speaks ends.server.link then_is.link (outcome call ends.moment ends.server).pdus
-          speaks = server_speaks names spare ends then_is sent_then _ both_old both_new (CameBy ends.server.link call) (outcome call ends.moment ends.server).pdus (outcome call ends.moment ends.server).given (outcome call ends.moment ends.server).taken
-              given_is taken_is does (in_flow call refl) within_spare
+            speaks : Speaks ends.server.link then_is.link (outcome call ends.moment ends.server).pdus
+            speaks = server_speaks spare ends then_is sent_then _ (sides_of names ends both_old) (sides_of names server_new both_new) (CameBy ends.server.link call) (outcome call ends.moment ends.server).pdus (outcome call ends.moment ends.server).given (outcome call ends.moment ends.server).taken
+                given_is taken_is does (in_flow call refl) within_spare
 
-          keeps : (d : Sent) → IsSaid names spare ends d → IsSaid names spare server_new d
-          keeps d said sender same pdu read closes = server_keeps names spare ends then_is sent_then _ both_old both_new (CameBy ends.server.link call) (outcome call ends.moment ends.server).pdus (outcome call ends.moment ends.server).given (outcome call ends.moment ends.server).taken
-              given_is taken_is does (in_flow call refl) within_spare pdu (said sender (sym connection_is ∙ same) pdu read closes)
+            keeps : (d : Sent) → IsSaid names spare ends d → IsSaid names spare server_new d
+            keeps d said sender same pdu read closes = server_keeps spare ends then_is sent_then _ (sides_of names ends both_old) (sides_of names server_new both_new) (CameBy ends.server.link call) (outcome call ends.moment ends.server).pdus (outcome call ends.moment ends.server).given (outcome call ends.moment ends.server).taken
+                given_is taken_is does (in_flow call refl) within_spare pdu (said sender (sym connection_is ∙ same) pdu read closes)
 
-          says : (m : ℕ) (pdu : Pdu) → m < then_is.link.sent → IsFrom then_is.link m pdu → IsNumbered spare server_new pdu
-          says = server_says names spare ends then_is sent_then _ both_old both_new (CameBy ends.server.link call) (outcome call ends.moment ends.server).pdus (outcome call ends.moment ends.server).given (outcome call ends.moment ends.server).taken
-              given_is taken_is does (in_flow call refl) within_spare
+            says : (m : ℕ) (pdu : Pdu) → m < then_is.link.sent → IsFrom then_is.link m pdu → IsNumbered spare server_new pdu
+            says = server_says spare ends then_is sent_then _ (sides_of names ends both_old) (sides_of names server_new both_new) (CameBy ends.server.link call) (outcome call ends.moment ends.server).pdus (outcome call ends.moment ends.server).given (outcome call ends.moment ends.server).taken
+                given_is taken_is does (in_flow call refl) within_spare
 
   -- of the client
   module _ (call : Call) (may : MayCall names role.Client call ends) where
-    abbrev client_is : EndState
+    abbrev pub client_is : EndState
     client_is = end_after (outcome call ends.moment ends.client) ends.moment ends.client
 
-    abbrev client_sent : List Sent
+    abbrev pub client_sent : List Sent
     client_sent = ends.sent ++ handed_out ends.time role.Client (end_after (outcome call ends.moment ends.client) ends.moment ends.client).connection (spellings ends.client.link.identity.key (outcome call ends.moment ends.client).pdus)
 
-    abbrev client_new : Ends
+    abbrev pub client_new : Ends
     client_new = with_client (end_after (outcome call ends.moment ends.client) ends.moment ends.client) client_sent (ends.moment + length (outcome call ends.moment ends.client).pdus) ends
 
-    client_timely : Timely names client_new
+    pub client_timely : Timely names client_new
     unfolding called
     client_timely = laws.time names (Calls role.Client call) ends are timely may
 
-    client_ordered : Ordered names client_new
+    pub client_ordered : Ordered names client_new
     unfolding called
     client_ordered = laws.order names (Calls role.Client call) ends are timely ordered may
 
-    module _ (in_new : AreIn client_new) (before : Confirming names spare ends) where
+    module _ (in_new : AreIn client_new) where
       client_one_then : ends.server.connection ≡ client_is.connection
       client_one_then = laws.one names client_new client_timely in_new.client in_new.server
 
       -- it enters no connection: the server is in none that begins now
-      enters_none : (outcome call ends.moment ends.client).enters ≡ None
+      pub enters_none : (outcome call ends.moment ends.client).enters ≡ None
       enters_none = client_enters_none laws names are ends timely call may client_one_then
 
-      client_was_in : is_open ends.client.link.phase ≡ true
+      pub client_was_in : is_open ends.client.link.phase ≡ true
       unfolding end_after
       client_was_in = choose (is_open ends.client.link.phase) refl
         where
@@ -398,22 +403,19 @@ module _ (laws : Laws) (names : Names) (are : AreNames names) (spare : ℕ) (end
       client_in_old : AreIn ends
       client_in_old = record { client = client_was_in; server = in_new.server }
 
-      client_both_old : Both names ends
+      pub client_both_old : Both names ends
       client_both_old = both_of names ends timely ordered client_in_old
 
-      client_both_new : Both names client_new
+      pub client_both_new : Both names client_new
       client_both_new = both_of names client_new client_timely client_ordered in_new
 
-      client_given_is : client_is.given ≡ ends.client.given ++ (outcome call ends.moment ends.client).given
+      pub client_given_is : client_is.given ≡ ends.client.given ++ (outcome call ends.moment ends.client).given
       unfolding end_after
       client_given_is = ap (λ (e : Option ℕ). kept e ends.client.given ++ (outcome call ends.moment ends.client).given) enters_none
 
-      client_taken_is : client_is.taken ≡ ends.client.taken ++ (outcome call ends.moment ends.client).taken
+      pub client_taken_is : client_is.taken ≡ ends.client.taken ++ (outcome call ends.moment ends.client).taken
       unfolding end_after
       client_taken_is = ap (λ (e : Option ℕ). kept e ends.client.taken ++ (outcome call ends.moment ends.client).taken) enters_none
-
-      client_conf : IsConfirmed names spare ends
-      client_conf = before client_in_old
 
       client_found_in : (bytes : List ℕ) (connection : ℕ) → Receives bytes connection ≡ call → (p : Pdu) → Read ends.client.link bytes p → Passes ends.client.link p → Found names role.Client ends bytes connection p
       client_found_in bytes connection e p came pass = found laws names are role.Client ends timely bytes connection (subst (λ (c : Call). MayCall names role.Client c ends) (sym e) may) p came pass
@@ -421,16 +423,7 @@ module _ (laws : Laws) (names : Names) (are : AreNames names) (spare : ℕ) (end
       client_own_is : (bytes : List ℕ) (connection : ℕ) (p : Pdu) (f : Found names role.Client ends bytes connection p) → ends.client.connection ≡ Some f.datagram.connection
       client_own_is bytes connection p f = laws.inside names ends role.Client bytes connection f.datagram timely f.delivered client_was_in
 
-      client_numbered : (c : Call) → c ≡ call → (p : Pdu) → CameBy ends.client.link c p → Passes ends.client.link p → IsNumbered spare ends p
-      client_numbered Ticks e p came pass = absurd came
-      client_numbered Opens e p came pass = absurd came
-      client_numbered (Closes why) e p came pass = absurd came
-      client_numbered (Sends item) e p came pass = absurd came
-      client_numbered (Receives bytes connection) e p came pass =
-          let f = client_found_in bytes connection e p came pass
-          in among (IsSaid names spare ends) f.datagram ends.sent f.delivered.was_sent client_conf.said f.sender (laws.one names ends timely client_was_in in_new.server ∙ client_own_is bytes connection p f) p f.read (word_closes p.body pass.word)
-
-      client_in_flow : (c : Call) → c ≡ call → (p : Pdu) → CameBy ends.client.link c p → Passes ends.client.link p → IsOf p client_both_old.together.server.flow
+      pub client_in_flow : (c : Call) → c ≡ call → (p : Pdu) → CameBy ends.client.link c p → Passes ends.client.link p → IsOf p client_both_old.together.server.flow
       client_in_flow Ticks e p came pass = absurd came
       client_in_flow Opens e p came pass = absurd came
       client_in_flow (Closes why) e p came pass = absurd came
@@ -440,26 +433,39 @@ module _ (laws : Laws) (names : Names) (are : AreNames names) (spare : ℕ) (end
           in let same = same_Some f.datagram.connection client_both_old.together.connection (sym (client_own_is bytes connection p f) ∙ client_both_old.together.of_client)
           in among (IsSpelledIn names role.Server client_both_old.together.connection client_both_old.together.server.flow) f.datagram ends.sent f.delivered.was_sent client_both_old.together.server_flow f.sender same p f.read
 
-      moves : Moves spare ends client_is
-      unfolding end_after
-      moves = choose (is_asking ends.client.link) refl
-        where
-          settled_at : IsSettledAt (reading_of ends.client.clock) ends.client.link
-          settled_at = settled_so laws names ends role.Client timely client_was_in
+      module _ (before : Confirming names spare ends) where
+        client_conf : IsConfirmed names spare ends
+        client_conf = before client_in_old
 
-          choose : (b : Bool) → is_asking ends.client.link ≡ b → Moves spare ends client_is
-          choose true e = asking_moves names spare ends client_is client_sent _ client_both_old client_both_new (outcome call ends.moment ends.client).given (outcome call ends.moment ends.client).taken client_given_is client_taken_is client_conf.few e
-              (asks_by call ends.moment ends.client client_was_in settled_at e enters_none in_new.client)
-          choose false e = client_moves names spare ends client_is client_sent _ client_both_old client_both_new (outcome call ends.moment ends.client).given (outcome call ends.moment ends.client).taken client_given_is client_taken_is client_conf.few (CameBy ends.client.link call)
-              (outcome call ends.moment ends.client).pdus e (does_by call ends.moment ends.client client_was_in settled_at e enters_none in_new.client) (client_numbered call refl) (client_in_flow call refl)
+        client_numbered : (c : Call) → c ≡ call → (p : Pdu) → CameBy ends.client.link c p → Passes ends.client.link p → IsNumbered spare ends p
+        client_numbered Ticks e p came pass = absurd came
+        client_numbered Opens e p came pass = absurd came
+        client_numbered (Closes why) e p came pass = absurd came
+        client_numbered (Sends item) e p came pass = absurd came
+        client_numbered (Receives bytes connection) e p came pass =
+            let f = client_found_in bytes connection e p came pass
+            in among (IsSaid names spare ends) f.datagram ends.sent f.delivered.was_sent client_conf.said f.sender (laws.one names ends timely client_was_in in_new.server ∙ client_own_is bytes connection p f) p f.read (word_closes p.body pass.word)
 
-      client_goes : IsConfirmed names spare client_new
-      client_goes = record {
-        few = moves.few;
-        said = each_append (IsSaid names spare client_new) ends.sent _
-            (turned (IsSaid names spare ends) (IsSaid names spare client_new) (λ d said sender same pdu read closes. client_keeps spare ends client_is client_sent _ moves pdu (said sender same pdu read closes)) ends.sent client_conf.said)
-            (of_client names spare client_new ends.time client_is.connection (spellings ends.client.link.identity.key (outcome call ends.moment ends.client).pdus));
-      }
+        moves : Moves spare ends client_is
+        unfolding end_after
+        moves = choose (is_asking ends.client.link) refl
+          where
+            settled_at : IsSettledAt (reading_of ends.client.clock) ends.client.link
+            settled_at = settled_so laws names ends role.Client timely client_was_in
+
+            choose : (b : Bool) → is_asking ends.client.link ≡ b → Moves spare ends client_is
+            choose true e = asking_moves spare ends client_is client_sent _ (sides_of names ends client_both_old) (sides_of names client_new client_both_new) (outcome call ends.moment ends.client).given (outcome call ends.moment ends.client).taken client_given_is client_taken_is client_conf.few e
+                (asks_by call ends.moment ends.client client_was_in settled_at e enters_none in_new.client)
+            choose false e = client_moves spare ends client_is client_sent _ (sides_of names ends client_both_old) (sides_of names client_new client_both_new) (outcome call ends.moment ends.client).given (outcome call ends.moment ends.client).taken client_given_is client_taken_is client_conf.few (CameBy ends.client.link call)
+                (outcome call ends.moment ends.client).pdus e (does_by call ends.moment ends.client client_was_in settled_at e enters_none in_new.client) (client_numbered call refl) (client_in_flow call refl)
+
+        client_goes : IsConfirmed names spare client_new
+        client_goes = record {
+          few = moves.few;
+          said = each_append (IsSaid names spare client_new) ends.sent _
+              (turned (IsSaid names spare ends) (IsSaid names spare client_new) (λ d said sender same pdu read closes. client_keeps spare ends client_is client_sent _ moves pdu (said sender same pdu read closes)) ends.sent client_conf.said)
+              (of_client names spare client_new ends.time client_is.connection (spellings ends.client.link.identity.key (outcome call ends.moment ends.client).pdus));
+        }
 
 -- ---- a server enters the connection
 
@@ -510,15 +516,12 @@ as_many_wait [] = refl
 as_many_wait (first ∷ others) = ap suc (as_many_wait others)
 
 module _ (laws : Laws) (names : Names) (are : AreNames names) (spare : ℕ) (ends : Ends) (timely : Timely names ends) (ordered : Ordered names ends) (bytes : List ℕ) (connection : ℕ) (may : MayCall names role.Server (Receives bytes connection) ends)
-    (in_new : AreIn (server_new laws names are spare ends timely ordered (Receives bytes connection) may)) (shut : is_open ends.server.link.phase ≡ false) where
+    (opened : is_open (server_new laws names are spare ends timely ordered (Receives bytes connection) may).server.link.phase ≡ true) (shut : is_open ends.server.link.phase ≡ false) where
   abbrev entered_ends : Ends
   entered_ends = server_new laws names are spare ends timely ordered (Receives bytes connection) may
 
   entered_timely : Timely names entered_ends
   entered_timely = server_timely laws names are spare ends timely ordered (Receives bytes connection) may
-
-  entered_both : Both names entered_ends
-  entered_both = both_of names entered_ends entered_timely (server_ordered laws names are spare ends timely ordered (Receives bytes connection) may) in_new
 
   -- it takes what comes
   takes_it : is_taken (receiving (reading_of ends.server.clock) bytes ends.server.link).verdict ≡ true
@@ -534,101 +537,106 @@ module _ (laws : Laws) (names : Names) (are : AreNames names) (spare : ℕ) (end
 
       choose : (b : Bool) → is_taken (receiving (reading_of ends.server.clock) bytes ends.server.link).verdict ≡ b → b ≡ true
       choose true e = refl
-      choose false e = absurd (false≢true (sym (laws.stays (Receives bytes connection) ends.moment ends.server shut (none_where e)) ∙ in_new.server))
+      choose false e = absurd (false≢true (sym (laws.stays (Receives bytes connection) ends.moment ends.server shut (none_where e)) ∙ opened))
 
-  delivered_is : (datagram : Sent) × IsDelivered ends bytes connection datagram
+  pub delivered_is : (datagram : Sent) × IsDelivered ends bytes connection datagram
   delivered_is = choose may
     where
       choose : MayCall names role.Server (Receives bytes connection) ends → (datagram : Sent) × IsDelivered ends bytes connection datagram
       choose (inl sent) = sent
       choose (inr other) = absurd (false≢true (sym (laws.idle names ends role.Server bytes timely other).1 ∙ takes_it))
 
-  enters_by : IsOpening names role.Server ends delivered_is.0
+  pub enters_by : IsOpening names role.Server ends delivered_is.0
   enters_by = laws.opening names ends role.Server bytes connection delivered_is.0 are timely delivered_is.1 shut takes_it
 
-  connection_then : entered_ends.server.connection ≡ Some delivered_is.0.connection
+  pub connection_then : entered_ends.server.connection ≡ Some delivered_is.0.connection
   unfolding called
   connection_then = laws.taken names ends role.Server bytes connection delivered_is.0 timely delivered_is.1 takes_it
 
-  entered_one : entered_ends.server.connection ≡ ends.client.connection
-  entered_one = laws.one names entered_ends entered_timely in_new.client in_new.server
+  -- where its client is in a connection
+  module _ (in_new : AreIn entered_ends) where
+    entered_both : Both names entered_ends
+    entered_both = both_of names entered_ends entered_timely (server_ordered laws names are spare ends timely ordered (Receives bytes connection) may) in_new
 
-  -- nothing was sent there before
-  none_before : (d : Sent) → InFlight names (times_of ends timely.of_client timely.of_server timely.newest) d → IsSaid names spare entered_ends d
-  none_before d flies sender same pdu read closes = absurd (over (enters_by.is_new timely.newest was_there))
-    where
-      known : IsKnown (times_of ends timely.of_client timely.of_server timely.newest) role.Server d.at d.connection flies.pdu flies.back
-      known = subst (λ (r : Role). IsKnown (times_of ends timely.of_client timely.of_server timely.newest) r d.at d.connection flies.pdu flies.back) sender flies.known
+    entered_one : entered_ends.server.connection ≡ ends.client.connection
+    entered_one = laws.one names entered_ends entered_timely in_new.client in_new.server
 
-      newest_is : d.connection ≡ timely.newest
-      newest_is = same_Some d.connection timely.newest (sym same ∙ entered_one ∙ known.begun)
+    -- nothing was sent there before
+    none_before : (d : Sent) → InFlight names (times_of ends timely.of_client timely.of_server timely.newest) d → IsSaid names spare entered_ends d
+    none_before d flies sender same pdu read closes = absurd (over (enters_by.is_new timely.newest was_there))
+      where
+        known : IsKnown (times_of ends timely.of_client timely.of_server timely.newest) role.Server d.at d.connection flies.pdu flies.back
+        known = subst (λ (r : Role). IsKnown (times_of ends timely.of_client timely.of_server timely.newest) r d.at d.connection flies.pdu flies.back) sender flies.known
 
-      was_there : ends.server.connection ≡ Some timely.newest
-      was_there = known.entered newest_is tt
+        newest_is : d.connection ≡ timely.newest
+        newest_is = same_Some d.connection timely.newest (sym same ∙ entered_one ∙ known.begun)
 
-      over : timely.newest < delivered_is.0.connection → ⊥
-      over lt = let e = same_Some delivered_is.0.connection d.connection (sym connection_then ∙ same) in omega (arith, lt, e, newest_is)
+        was_there : ends.server.connection ≡ Some timely.newest
+        was_there = known.entered newest_is tt
 
-  first_said : (ps : List Pdu) → Each IsPdu ps → Each IsFirst ps → (time : ℕ) (last : Option ℕ)
-      → Each (IsSpelledIn names role.Server entered_both.together.connection entered_both.together.server.flow) (handed_out time role.Server last (spellings names.key ps)) → Each (IsSaid names spare entered_ends) (handed_out time role.Server last (spellings names.key ps))
-  first_said [] are_pdus first time last spelled = tt
-  first_said (p ∷ ps) are_pdus first time last spelled = (λ sender same pdu read closes. numbered pdu (same_pdu pdu read) closes (spelled.0 sender (same_Some _ entered_both.together.connection (sym same ∙ entered_both.together.of_server)) pdu read), first_said ps are_pdus.1 first.1 time last spelled.1)
-    where
-      same_pdu : (that : Pdu) → reading names.key (writing names.key p) ≡ Ok that → p ≡ that
-      same_pdu that read = let is : reading names.key (writing names.key p) ≡ Ok p = laws.written names.key p are_pdus.0 in cc
+        over : timely.newest < delivered_is.0.connection → ⊥
+        over lt = let e = same_Some delivered_is.0.connection d.connection (sym connection_then ∙ same) in omega (arith, lt, e, newest_is)
 
-      numbered : (pdu : Pdu) → p ≡ pdu → (IsClosing pdu.body → ⊥) → IsOf pdu entered_both.together.server.flow → IsNumbered spare entered_ends pdu
-      numbered pdu is closes of = record {
-        place = of.0;
-        number = made.number ∙ ap (λ (f : ℕ). wire f of.0) (sym joined_is.inside.own_first);
-        sent = let lt = within of.0 pdu entered_both.together.server.flow of.1 in let c = joined_is.inside.counted in omega (arith, lt, c);
-        confirms = λ come. absurd (by_body (subst IsFirst is first.0) come);
-      }
-        where
-          made : IsSent entered_both.together.server entered_both.together.client.first of.0 pdu
-          made = entered_both.together.order.back.each of.0 pdu of.1
+    first_said : (ps : List Pdu) → Each IsPdu ps → Each IsFirst ps → (time : ℕ) (last : Option ℕ)
+        → Each (IsSpelledIn names role.Server entered_both.together.connection entered_both.together.server.flow) (handed_out time role.Server last (spellings names.key ps)) → Each (IsSaid names spare entered_ends) (handed_out time role.Server last (spellings names.key ps))
+    first_said [] are_pdus first time last spelled = tt
+    first_said (p ∷ ps) are_pdus first time last spelled = (λ sender same pdu read closes. numbered pdu (same_pdu pdu read) closes (spelled.0 sender (same_Some _ entered_both.together.connection (sym same ∙ entered_both.together.of_server)) pdu read), first_said ps are_pdus.1 first.1 time last spelled.1)
+      where
+        same_pdu : (that : Pdu) → reading names.key (writing names.key p) ≡ Ok that → p ≡ that
+        same_pdu that read = let is : reading names.key (writing names.key p) ≡ Ok p = laws.written names.key p are_pdus.0 in cc
 
-          joined_is : HasJoined entered_ends.server.link entered_both.together.server entered_both.together.client
-          joined_is = server_joined names entered_ends entered_both
+        numbered : (pdu : Pdu) → p ≡ pdu → (IsClosing pdu.body → ⊥) → IsOf pdu entered_both.together.server.flow → IsNumbered spare entered_ends pdu
+        numbered pdu is closes of = record {
+          place = of.0;
+          number = made.number ∙ ap (λ (f : ℕ). wire f of.0) (sym joined_is.inside.own_first);
+          sent = let lt = within of.0 pdu entered_both.together.server.flow of.1 in let c = joined_is.inside.counted in omega (arith, lt, c);
+          confirms = λ come. absurd (by_body (subst IsFirst is first.0) come);
+        }
+          where
+            made : IsSent entered_both.together.server entered_both.together.client.first of.0 pdu
+            made = entered_both.together.order.back.each of.0 pdu of.1
 
-          by_body : IsFirst pdu → reached_by entered_ends.client.link ≤ of.0 → ⊥
-          by_body (inr closing) come = closes closing
-          by_body (inl response) come =
-              let zero_is = response_first entered_both.together.server of.0 pdu.body response made.carries
-              in let some = entered_both.together.order.back.counts.some
-              in let r = reached_is names entered_ends entered_both
-              in omega (arith, zero_is, some, r, come)
+            joined_is : HasJoined entered_ends.server.link entered_both.together.server entered_both.together.client
+            joined_is = server_joined names entered_ends entered_both
 
-  none_given : length entered_ends.server.given ≡ 0
-  unfolding end_after outcome
-  none_given = ap (λ (b : Bool). length (kept (if not b && is_taken (receiving (reading_of ends.server.clock) bytes ends.server.link).verdict then Some connection else None) ends.server.given ++ [])) shut
-      ∙ ap (λ (b : Bool). length (kept (if b then Some connection else None) ends.server.given ++ [])) takes_it
+            by_body : IsFirst pdu → reached_by entered_ends.client.link ≤ of.0 → ⊥
+            by_body (inr closing) come = closes closing
+            by_body (inl response) come =
+                let zero_is = response_first entered_both.together.server of.0 pdu.body response made.carries
+                in let some = entered_both.together.order.back.counts.some
+                in let r = reached_is names entered_ends entered_both
+                in omega (arith, zero_is, some, r, come)
 
-  are_first : Each IsFirst (outcome (Receives bytes connection) ends.moment ends.server).pdus
-  unfolding outcome
-  are_first = outside_says laws (reading_of ends.server.clock) bytes ends.server.link shut
+    none_given : length entered_ends.server.given ≡ 0
+    unfolding end_after outcome
+    none_given = ap (λ (b : Bool). length (kept (if not b && is_taken (receiving (reading_of ends.server.clock) bytes ends.server.link).verdict then Some connection else None) ends.server.given ++ [])) shut
+        ∙ ap (λ (b : Bool). length (kept (if b then Some connection else None) ends.server.given ++ [])) takes_it
 
-  server_enters : IsConfirmed names spare entered_ends
-  server_enters = record {
-    few =
-        let level = client_level names entered_ends entered_both
-        in let none = none_given
-        in let last = entered_both.together.order.there.waits.last
-        in let many = ap length last.1 ∙ count_both last.0 (items_of entered_both.together.client.waiting)
-        in let waits = as_many_wait entered_both.together.client.waiting
-        in let w = ap length (client_inside names entered_ends entered_both).keeps.waiting
-        in let g = ap length entered_both.together.client_given
-        in omega (arith, level, none, many, waits, w, g);
-    said = each_append (IsSaid names spare entered_ends) ends.sent _ (turned (InFlight names (times_of ends timely.of_client timely.of_server timely.newest)) (IsSaid names spare entered_ends) none_before ends.sent timely.datagrams) first_ones;
-  }
-    where
-      first_ones : Each (IsSaid names spare entered_ends) (handed_out ends.time role.Server entered_ends.server.connection (spellings ends.server.link.identity.key (outcome (Receives bytes connection) ends.moment ends.server).pdus))
-      first_ones = subst (λ (key : Key). Each (IsSaid names spare entered_ends) (handed_out ends.time role.Server entered_ends.server.connection (spellings key (outcome (Receives bytes connection) ends.moment ends.server).pdus)))
-          (sym (ap (λ (i : Identity). i.key) timely.server.identity))
-          (first_said (outcome (Receives bytes connection) ends.moment ends.server).pdus (laws.hands names ends role.Server (Receives bytes connection) timely may) are_first ends.time entered_ends.server.connection
-          (subst (λ (key : Key). Each (IsSpelledIn names role.Server entered_both.together.connection entered_both.together.server.flow) (handed_out ends.time role.Server entered_ends.server.connection (spellings key (outcome (Receives bytes connection) ends.moment ends.server).pdus)))
-          (ap (λ (i : Identity). i.key) timely.server.identity)
-          (second_part (IsSpelledIn names role.Server entered_both.together.connection entered_both.together.server.flow) ends.sent _ entered_both.together.server_flow)))
+    are_first : Each IsFirst (outcome (Receives bytes connection) ends.moment ends.server).pdus
+    unfolding outcome
+    are_first = outside_says laws (reading_of ends.server.clock) bytes ends.server.link shut
+
+    server_enters : IsConfirmed names spare entered_ends
+    server_enters = record {
+      few =
+          let level = client_level names entered_ends entered_both
+          in let none = none_given
+          in let last = entered_both.together.order.there.waits.last
+          in let many = ap length last.1 ∙ count_both last.0 (items_of entered_both.together.client.waiting)
+          in let waits = as_many_wait entered_both.together.client.waiting
+          in let w = ap length (client_inside names entered_ends entered_both).keeps.waiting
+          in let g = ap length entered_both.together.client_given
+          in omega (arith, level, none, many, waits, w, g);
+      said = each_append (IsSaid names spare entered_ends) ends.sent _ (turned (InFlight names (times_of ends timely.of_client timely.of_server timely.newest)) (IsSaid names spare entered_ends) none_before ends.sent timely.datagrams) first_ones;
+    }
+      where
+        first_ones : Each (IsSaid names spare entered_ends) (handed_out ends.time role.Server entered_ends.server.connection (spellings ends.server.link.identity.key (outcome (Receives bytes connection) ends.moment ends.server).pdus))
+        first_ones = subst (λ (key : Key). Each (IsSaid names spare entered_ends) (handed_out ends.time role.Server entered_ends.server.connection (spellings key (outcome (Receives bytes connection) ends.moment ends.server).pdus)))
+            (sym (ap (λ (i : Identity). i.key) timely.server.identity))
+            (first_said (outcome (Receives bytes connection) ends.moment ends.server).pdus (laws.hands names ends role.Server (Receives bytes connection) timely may) are_first ends.time entered_ends.server.connection
+            (subst (λ (key : Key). Each (IsSpelledIn names role.Server entered_both.together.connection entered_both.together.server.flow) (handed_out ends.time role.Server entered_ends.server.connection (spellings key (outcome (Receives bytes connection) ends.moment ends.server).pdus)))
+            (ap (λ (i : Identity). i.key) timely.server.identity)
+            (second_part (IsSpelledIn names role.Server entered_both.together.connection entered_both.together.server.flow) ends.sent _ entered_both.together.server_flow)))
 
 -- ---- time
 
@@ -642,7 +650,7 @@ pub record Alike (one other : EndState) : Type 0 where
   pub taken : other.taken ≡ one.taken
   pub connection : other.connection ≡ one.connection
 
-numbered_alike : (spare : ℕ) (old new : Ends) → Alike old.client new.client → Alike old.server new.server → (pdu : Pdu) → IsNumbered spare old pdu → IsNumbered spare new pdu
+pub numbered_alike : (spare : ℕ) (old new : Ends) → Alike old.client new.client → Alike old.server new.server → (pdu : Pdu) → IsNumbered spare old pdu → IsNumbered spare new pdu
 numbered_alike spare old new c s pdu n = record {
   place = n.place;
   number = n.number ∙ ap (λ (f : ℕ). wire f n.place) (sym s.own_first);
@@ -659,7 +667,7 @@ numbered_alike spare old new c s pdu n = record {
   };
 }
 
-few_alike : (spare : ℕ) (old new : Ends) → Alike old.client new.client → FewWait spare old → FewWait spare new
+pub few_alike : (spare : ℕ) (old new : Ends) → Alike old.client new.client → FewWait spare old → FewWait spare new
 few_alike spare old new c few = let w = ap length c.waiting in let g = ap length c.given in let t = ap length c.taken in omega (arith, w, g, t, few)
 
 -- an end whose clock went on, and that is still in its connection
@@ -730,7 +738,7 @@ anew names spare role.Client clock first ends in_new = absurd (false≢true in_n
 anew names spare role.Server clock first ends in_new = absurd (false≢true in_new.server)
 
 -- a server outside that enters nothing stays outside
-stays_outside : (laws : Laws) (call : Call) (moment : ℕ) (end : EndState) → is_open end.link.phase ≡ false → (outcome call moment end).enters ≡ None → is_open (end_after (outcome call moment end) moment end).link.phase ≡ true → ⊥
+pub stays_outside : (laws : Laws) (call : Call) (moment : ℕ) (end : EndState) → is_open end.link.phase ≡ false → (outcome call moment end).enters ≡ None → is_open (end_after (outcome call moment end) moment end).link.phase ≡ true → ⊥
 unfolding end_after
 stays_outside laws call moment end shut none opened = false≢true (sym (laws.stays call moment end shut none) ∙ opened)
 
@@ -759,7 +767,7 @@ module _ (laws : Laws) (names : Names) (are : AreNames names) (spare : ℕ) (end
   outside_server Opens may in_new shut = absurd (opens_not may in_new shut)
   outside_server (Closes why) may in_new shut = absurd (stays_outside laws (Closes why) ends.moment ends.server shut refl in_new.server)
   outside_server (Sends item) may in_new shut = absurd (stays_outside laws (Sends item) ends.moment ends.server shut refl in_new.server)
-  outside_server (Receives bytes connection) may in_new shut = server_enters laws names are spare ends timely ordered bytes connection may in_new shut
+  outside_server (Receives bytes connection) may in_new shut = server_enters laws names are spare ends timely ordered bytes connection may in_new.server shut in_new
 
   calls_server : (call : Call) → MayCall names role.Server call ends → Confirming names spare ends → (AreIn (called role.Server call ends) → Answers spare (called role.Server call ends)) → Confirming names spare (called role.Server call ends)
   unfolding called

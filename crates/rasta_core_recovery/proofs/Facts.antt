@@ -87,7 +87,7 @@ standing_in l e = ap (λ (b : Bool). if b then Inside (is_asking l) l.own_stamp 
 standing_out : (l : LinkState) → is_open l.phase ≡ false → standing l ≡ Outside l.closed_at
 standing_out l e = ap (λ (b : Bool). if b then Inside (is_asking l) l.own_stamp l.partner_stamp else Outside l.closed_at) e
 
-is_inside : (l : LinkState) → is_open l.phase ≡ true → IsInside (standing l)
+pub is_inside : (l : LinkState) → is_open l.phase ≡ true → IsInside (standing l)
 is_inside l e = subst IsInside (sym (standing_in l e)) tt
 
 is_outside : (l : LinkState) → is_open l.phase ≡ false → IsOutside (standing l)

@@ -63,6 +63,10 @@ pub mod StaysIn
 pub mod Confirmed
 pub mod ConfirmingEvents
 pub mod ClientLeft
+-- How few of a server's items wait.
+pub mod ServerConfirmed
+pub mod ServerLeft
+pub mod ServerWindow
 -- What comes back confirms.
 pub mod InTurn
 pub mod Replies

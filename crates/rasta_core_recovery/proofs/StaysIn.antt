@@ -18,6 +18,7 @@ use Rattle.rasta_core_run.specs.phase.State.{State}
 use Rattle.rasta_core_run.specs.phase.State.TheVariants as state
 use Rattle.rasta_core_run.specs.reason.Reason.{Reason}
 use Rattle.rasta_core_run.specs.reason.Reason.TheVariants as reason
+use Rattle.rasta_core_run.specs.verdict.Verdict.{Verdict}
 use Rattle.rasta_core_run.specs.verdict.Verdict.TheVariants as verdict
 use Rattle.rasta_core_run.specs.window.Unconfirmed.{Unconfirmed}
 use Rattle.rasta_core_run.specs.PduRead.{reading}
@@ -158,87 +159,93 @@ module _ (p : Pdu) (l : LinkState) (is_in : is_open l.phase ≡ true) (joined : 
     unfolding taking
     resumes open_then = took _ [] refl refl refl refl refl refl
 
-  admits : (near : nat_lt sequence_range (ahead p l) ≡ false) (receiver : (p.receiver == l.identity.own) ≡ true) (sender : (p.sender == l.identity.partner) ≡ true)
-      → (body : Body) → p.body ≡ body → (at : Phase) → Fine (admitting (admission body at) p l)
-  unfolding admitting
-  admits near receiver sender (ConnectionRequest o) e at = violated
-  admits near receiver sender (ConnectionResponse o) e at = violated
-  admits near receiver sender RetransmissionRequest e phase.Closed = turns (record { receiver = receiver; sender = sender; near = near; word = subst IsWord (sym e) tt })
-  admits near receiver sender RetransmissionRequest e phase.Start = violated
-  admits near receiver sender RetransmissionRequest e phase.Up = turns (record { receiver = receiver; sender = sender; near = near; word = subst IsWord (sym e) tt })
-  admits near receiver sender RetransmissionRequest e phase.RetransmissionRequested = refused verdict.Discarded
-  admits near receiver sender RetransmissionRequest e phase.RetransmissionRunning = turns (record { receiver = receiver; sender = sender; near = near; word = subst IsWord (sym e) tt })
-  admits near receiver sender RetransmissionResponse e phase.Closed = violated
-  admits near receiver sender RetransmissionResponse e phase.Start = violated
-  admits near receiver sender RetransmissionResponse e phase.Up = violated
-  admits near receiver sender RetransmissionResponse e phase.RetransmissionRequested = resumes (record { receiver = receiver; sender = sender; near = near; word = subst IsWord (sym e) tt })
-  admits near receiver sender RetransmissionResponse e phase.RetransmissionRunning = violated
-  admits near receiver sender (DisconnectionRequest d r) e at = closes
-  admits near receiver sender Heartbeat e phase.RetransmissionRequested = refused verdict.Discarded
-  admits near receiver sender Heartbeat e phase.Closed = turns (record { receiver = receiver; sender = sender; near = near; word = subst IsWord (sym e) tt })
-  admits near receiver sender Heartbeat e phase.Start = turns (record { receiver = receiver; sender = sender; near = near; word = subst IsWord (sym e) tt })
-  admits near receiver sender Heartbeat e phase.Up = turns (record { receiver = receiver; sender = sender; near = near; word = subst IsWord (sym e) tt })
-  admits near receiver sender Heartbeat e phase.RetransmissionRunning = turns (record { receiver = receiver; sender = sender; near = near; word = subst IsWord (sym e) tt })
-  admits near receiver sender (Data x) e phase.RetransmissionRequested = refused verdict.Discarded
-  admits near receiver sender (Data x) e phase.Closed = turns (record { receiver = receiver; sender = sender; near = near; word = subst IsWord (sym e) tt })
-  admits near receiver sender (Data x) e phase.Start = turns (record { receiver = receiver; sender = sender; near = near; word = subst IsWord (sym e) tt })
-  admits near receiver sender (Data x) e phase.Up = turns (record { receiver = receiver; sender = sender; near = near; word = subst IsWord (sym e) tt })
-  admits near receiver sender (Data x) e phase.RetransmissionRunning = turns (record { receiver = receiver; sender = sender; near = near; word = subst IsWord (sym e) tt })
-  admits near receiver sender (RetransmittedData x) e phase.RetransmissionRequested = refused verdict.Discarded
-  admits near receiver sender (RetransmittedData x) e phase.Closed = violated
-  admits near receiver sender (RetransmittedData x) e phase.Start = violated
-  admits near receiver sender (RetransmittedData x) e phase.Up = violated
-  admits near receiver sender (RetransmittedData x) e phase.RetransmissionRunning = turns (record { receiver = receiver; sender = sender; near = near; word = subst IsWord (sym e) tt })
+  -- all that an end in a connection does with what comes, case by case
+  module _ (P : Receipt → Type 0) (refuses : (why : Verdict) → P (refusing why l)) (violates : P (violating l)) (shuts : P (accepting (silent (closed (taking p l)))))
+      (turning : Passes l p → P (in_turn p l)) (resuming : Passes l p → P (accepting (silent (record (taking p l) { phase = phase.RetransmissionRunning })))) where
+    admits : (near : nat_lt sequence_range (ahead p l) ≡ false) (receiver : (p.receiver == l.identity.own) ≡ true) (sender : (p.sender == l.identity.partner) ≡ true)
+        → (body : Body) → p.body ≡ body → (at : Phase) → P (admitting (admission body at) p l)
+    unfolding admitting
+    admits near receiver sender (ConnectionRequest o) e at = violates
+    admits near receiver sender (ConnectionResponse o) e at = violates
+    admits near receiver sender RetransmissionRequest e phase.Closed = turning (record { receiver = receiver; sender = sender; near = near; word = subst IsWord (sym e) tt })
+    admits near receiver sender RetransmissionRequest e phase.Start = violates
+    admits near receiver sender RetransmissionRequest e phase.Up = turning (record { receiver = receiver; sender = sender; near = near; word = subst IsWord (sym e) tt })
+    admits near receiver sender RetransmissionRequest e phase.RetransmissionRequested = refuses verdict.Discarded
+    admits near receiver sender RetransmissionRequest e phase.RetransmissionRunning = turning (record { receiver = receiver; sender = sender; near = near; word = subst IsWord (sym e) tt })
+    admits near receiver sender RetransmissionResponse e phase.Closed = violates
+    admits near receiver sender RetransmissionResponse e phase.Start = violates
+    admits near receiver sender RetransmissionResponse e phase.Up = violates
+    admits near receiver sender RetransmissionResponse e phase.RetransmissionRequested = resuming (record { receiver = receiver; sender = sender; near = near; word = subst IsWord (sym e) tt })
+    admits near receiver sender RetransmissionResponse e phase.RetransmissionRunning = violates
+    admits near receiver sender (DisconnectionRequest d r) e at = shuts
+    admits near receiver sender Heartbeat e phase.RetransmissionRequested = refuses verdict.Discarded
+    admits near receiver sender Heartbeat e phase.Closed = turning (record { receiver = receiver; sender = sender; near = near; word = subst IsWord (sym e) tt })
+    admits near receiver sender Heartbeat e phase.Start = turning (record { receiver = receiver; sender = sender; near = near; word = subst IsWord (sym e) tt })
+    admits near receiver sender Heartbeat e phase.Up = turning (record { receiver = receiver; sender = sender; near = near; word = subst IsWord (sym e) tt })
+    admits near receiver sender Heartbeat e phase.RetransmissionRunning = turning (record { receiver = receiver; sender = sender; near = near; word = subst IsWord (sym e) tt })
+    admits near receiver sender (Data x) e phase.RetransmissionRequested = refuses verdict.Discarded
+    admits near receiver sender (Data x) e phase.Closed = turning (record { receiver = receiver; sender = sender; near = near; word = subst IsWord (sym e) tt })
+    admits near receiver sender (Data x) e phase.Start = turning (record { receiver = receiver; sender = sender; near = near; word = subst IsWord (sym e) tt })
+    admits near receiver sender (Data x) e phase.Up = turning (record { receiver = receiver; sender = sender; near = near; word = subst IsWord (sym e) tt })
+    admits near receiver sender (Data x) e phase.RetransmissionRunning = turning (record { receiver = receiver; sender = sender; near = near; word = subst IsWord (sym e) tt })
+    admits near receiver sender (RetransmittedData x) e phase.RetransmissionRequested = refuses verdict.Discarded
+    admits near receiver sender (RetransmittedData x) e phase.Closed = violates
+    admits near receiver sender (RetransmittedData x) e phase.Start = violates
+    admits near receiver sender (RetransmittedData x) e phase.Up = violates
+    admits near receiver sender (RetransmittedData x) e phase.RetransmissionRunning = turning (record { receiver = receiver; sender = sender; near = near; word = subst IsWord (sym e) tt })
 
-  tests : (p.receiver == l.identity.own) ≡ true → (p.sender == l.identity.partner) ≡ true → Fine (testing p l)
-  unfolding testing
-  tests receiver sender = choose (nat_lt sequence_range (ahead p l)) refl (is_stale p l) (confirms p l)
-    where
-      choose : (a : Bool) → nat_lt sequence_range (ahead p l) ≡ a → (b d : Bool) → Fine (if a then refusing verdict.OutOfRange l else if b then refusing verdict.Stale l else if not d then refusing verdict.BadConfirm l else admitting (admission p.body l.phase) p l)
-      choose true e b d = refused verdict.OutOfRange
-      choose false e true d = refused verdict.Stale
-      choose false e false false = refused verdict.BadConfirm
-      choose false e false true = admits e receiver sender p.body refl l.phase
+    tests : (p.receiver == l.identity.own) ≡ true → (p.sender == l.identity.partner) ≡ true → P (testing p l)
+    unfolding testing
+    tests receiver sender = choose (nat_lt sequence_range (ahead p l)) refl (is_stale p l) (confirms p l)
+      where
+        choose : (a : Bool) → nat_lt sequence_range (ahead p l) ≡ a → (b d : Bool) → P (if a then refusing verdict.OutOfRange l else if b then refusing verdict.Stale l else if not d then refusing verdict.BadConfirm l else admitting (admission p.body l.phase) p l)
+        choose true e b d = refuses verdict.OutOfRange
+        choose false e true d = refuses verdict.Stale
+        choose false e false false = refuses verdict.BadConfirm
+        choose false e false true = admits e receiver sender p.body refl l.phase
 
-  connects : (p.receiver == l.identity.own) ≡ true → (p.sender == l.identity.partner) ≡ true → (body : Body) → Fine (connected body p l)
-  unfolding connected
-  connects receiver sender (ConnectionRequest o) = choose (is_opening_again p l)
-    where
-      choose : (b : Bool) → Fine (if b then refusing verdict.Discarded l else violating l)
-      choose true = refused verdict.Discarded
-      choose false = violated
-  connects receiver sender (ConnectionResponse o) = tests receiver sender
-  connects receiver sender RetransmissionRequest = tests receiver sender
-  connects receiver sender RetransmissionResponse = tests receiver sender
-  connects receiver sender (DisconnectionRequest d r) = tests receiver sender
-  connects receiver sender Heartbeat = tests receiver sender
-  connects receiver sender (Data x) = tests receiver sender
-  connects receiver sender (RetransmittedData x) = tests receiver sender
+    connects : (p.receiver == l.identity.own) ≡ true → (p.sender == l.identity.partner) ≡ true → (body : Body) → P (connected body p l)
+    unfolding connected
+    connects receiver sender (ConnectionRequest o) = choose (is_opening_again p l)
+      where
+        choose : (b : Bool) → P (if b then refusing verdict.Discarded l else violating l)
+        choose true = refuses verdict.Discarded
+        choose false = violates
+    connects receiver sender (ConnectionResponse o) = tests receiver sender
+    connects receiver sender RetransmissionRequest = tests receiver sender
+    connects receiver sender RetransmissionResponse = tests receiver sender
+    connects receiver sender (DisconnectionRequest d r) = tests receiver sender
+    connects receiver sender Heartbeat = tests receiver sender
+    connects receiver sender (Data x) = tests receiver sender
+    connects receiver sender (RetransmittedData x) = tests receiver sender
 
-  by_phase : (p.receiver == l.identity.own) ≡ true → (p.sender == l.identity.partner) ≡ true → (at : Phase) → l.phase ≡ at → Fine (by_state (open_state at) p l)
-  unfolding by_state
-  by_phase receiver sender phase.Closed e = absurd (false≢true (sym (ap is_open e) ∙ is_in))
-  by_phase receiver sender phase.Start e = server (is_client l.identity.role) (started l e joined)
-    where
-      started : (k : LinkState) → k.phase ≡ phase.Start → is_asking k ≡ false → is_client k.identity.role ≡ false
-      started k f not_asking = grind (arith, f, not_asking)
+    by_phase : (p.receiver == l.identity.own) ≡ true → (p.sender == l.identity.partner) ≡ true → (at : Phase) → l.phase ≡ at → P (by_state (open_state at) p l)
+    unfolding by_state
+    by_phase receiver sender phase.Closed e = absurd (false≢true (sym (ap is_open e) ∙ is_in))
+    by_phase receiver sender phase.Start e = server (is_client l.identity.role) (started l e joined)
+      where
+        started : (k : LinkState) → k.phase ≡ phase.Start → is_asking k ≡ false → is_client k.identity.role ≡ false
+        started k f not_asking = grind (arith, f, not_asking)
 
-      server : (b : Bool) → b ≡ false → Fine (if b then asking p.body p l else connected p.body p l)
-      server true f = absurd (false≢true (sym f))
-      server false f = connects receiver sender p.body
-  by_phase receiver sender phase.Up e = connects receiver sender p.body
-  by_phase receiver sender phase.RetransmissionRequested e = connects receiver sender p.body
-  by_phase receiver sender phase.RetransmissionRunning e = connects receiver sender p.body
+        server : (b : Bool) → b ≡ false → P (if b then asking p.body p l else connected p.body p l)
+        server true f = absurd (false≢true (sym f))
+        server false f = connects receiver sender p.body
+    by_phase receiver sender phase.Up e = connects receiver sender p.body
+    by_phase receiver sender phase.RetransmissionRequested e = connects receiver sender p.body
+    by_phase receiver sender phase.RetransmissionRunning e = connects receiver sender p.body
+
+    pub hears_all : l.clock < l.own_stamp + 1800 → P (hearing p l)
+    unfolding hearing
+    hears_all young = choose (p.receiver == l.identity.own) refl (p.sender == l.identity.partner) refl
+      where
+        choose : (a : Bool) → (p.receiver == l.identity.own) ≡ a → (b : Bool) → (p.sender == l.identity.partner) ≡ b
+            → P (if not a then refusing verdict.NotForMe l else if not b then refusing verdict.WrongSender l else by_state (state_at l.clock l) p l)
+        choose false e b f = refuses verdict.NotForMe
+        choose true e false f = refuses verdict.WrongSender
+        choose true e true f = subst (λ (s : State). P (by_state s p l)) (sym (lives_state l is_in young)) (by_phase e f l.phase refl)
 
   hears : l.clock < l.own_stamp + 1800 → Fine (hearing p l)
-  unfolding hearing
-  hears young = choose (p.receiver == l.identity.own) refl (p.sender == l.identity.partner) refl
-    where
-      choose : (a : Bool) → (p.receiver == l.identity.own) ≡ a → (b : Bool) → (p.sender == l.identity.partner) ≡ b
-          → Fine (if not a then refusing verdict.NotForMe l else if not b then refusing verdict.WrongSender l else by_state (state_at l.clock l) p l)
-      choose false e b f = refused verdict.NotForMe
-      choose true e false f = refused verdict.WrongSender
-      choose true e true f = subst (λ (s : State). Fine (by_state s p l)) (sym (lives_state l is_in young)) (by_phase e f l.phase refl)
+  hears = hears_all Fine refused violated closes turns resumes
 
 -- ---- what comes to a client that asks
 
@@ -336,28 +343,31 @@ begins now l is_in settled_at = choose (nat_le connection_limit l.sent) refl
     choose true e = full (ap limited at ∙ rw (is_in, e) refl)
     choose false e = inside (ap limited at ∙ rw (is_in, e) refl)
 
--- an end that closed just now is quiet
-quiet_hears : (p : Pdu) (l : LinkState) → is_open l.phase ≡ false → l.clock < l.closed_at + 6000 → is_open (hearing p l).link.phase ≡ false
+-- an end that closed just now is quiet: it refuses what comes
+quiet_hears : (p : Pdu) (l : LinkState) → is_open l.phase ≡ false → l.clock < l.closed_at + 6000 → (P : Receipt → Type 0) → ((why : Verdict) → P (refusing why l)) → P (hearing p l)
 unfolding hearing state_at by_state deadline
-quiet_hears p l outside quiet = choose (p.receiver == l.identity.own) (p.sender == l.identity.partner)
+quiet_hears p l outside quiet P refuses = choose (p.receiver == l.identity.own) (p.sender == l.identity.partner)
   where
     over : nat_lt l.clock (l.closed_at + 6000) ≡ true
     over = grind (arith, nat_tests, quiet)
 
-    is_quiet : (s : State) → s ≡ state.Quiet → is_open (by_state s p l).link.phase ≡ false
-    is_quiet s e = subst (λ (x : State). is_open (by_state x p l).link.phase ≡ false) (sym e) outside
+    is_quiet : (s : State) → s ≡ state.Quiet → P (by_state s p l)
+    is_quiet s e = subst (λ (x : State). P (by_state x p l)) (sym e) (refuses verdict.Quiet)
 
-    choose : (a b : Bool) → is_open (if not a then refusing verdict.NotForMe l else if not b then refusing verdict.WrongSender l else by_state (state_at l.clock l) p l).link.phase ≡ false
-    choose false b = outside
-    choose true false = outside
+    choose : (a b : Bool) → P (if not a then refusing verdict.NotForMe l else if not b then refusing verdict.WrongSender l else by_state (state_at l.clock l) p l)
+    choose false b = refuses verdict.NotForMe
+    choose true false = refuses verdict.WrongSender
     choose true true = is_quiet (state_at l.clock l) (rw (outside, over) refl)
 
-stays_shut : (what : Result Pdu PduFault) (l : LinkState) → is_open l.phase ≡ false → l.clock < l.closed_at + 6000 → is_open (hearing_bytes what l).link.phase ≡ false
+pub quiet_bytes : (what : Result Pdu PduFault) (l : LinkState) → is_open l.phase ≡ false → l.clock < l.closed_at + 6000 → (P : Receipt → Type 0) → ((why : Verdict) → P (refusing why l)) → P (hearing_bytes what l)
 unfolding hearing_bytes
-stays_shut (Err fault) l outside quiet = outside
-stays_shut (Ok p) l outside quiet = quiet_hears p l outside quiet
+quiet_bytes (Err fault) l outside quiet P refuses = refuses (verdict.Unreadable fault)
+quiet_bytes (Ok p) l outside quiet P refuses = quiet_hears p l outside quiet P refuses
 
-told_shut : (l : LinkState) → (is_open (telling reason.Sequence l).link.phase ≡ false) × ((telling reason.Sequence l).link.clock < (telling reason.Sequence l).link.closed_at + 6000)
+stays_shut : (what : Result Pdu PduFault) (l : LinkState) → is_open l.phase ≡ false → l.clock < l.closed_at + 6000 → is_open (hearing_bytes what l).link.phase ≡ false
+stays_shut what l outside quiet = quiet_bytes what l outside quiet (λ (r : Receipt). is_open r.link.phase ≡ false) (λ why. outside)
+
+pub told_shut : (l : LinkState) → (is_open (telling reason.Sequence l).link.phase ≡ false) × ((telling reason.Sequence l).link.clock < (telling reason.Sequence l).link.closed_at + 6000)
 unfolding telling sending
 told_shut l = (refl, omega arith)
 
@@ -371,7 +381,7 @@ Read l bytes p = reading l.identity.key bytes ≡ Ok p
 
 module _ (now : ℕ) (l : LinkState) (is_in : is_open l.phase ≡ true) (settled_at : IsSettledAt now l) where
   -- a call at an end that is entered
-  entering : (P : Step → Type 0) → P (silent l) → P (telling reason.Sequence l) → P (entered now l)
+  pub entering : (P : Step → Type 0) → P (silent l) → P (telling reason.Sequence l) → P (entered now l)
   entering P as_it_is shut = choose (begins now l is_in settled_at)
     where
       choose : Begins now l → P (entered now l)

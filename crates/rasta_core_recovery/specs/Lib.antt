@@ -3,3 +3,4 @@ pub mod WrongRounds
 pub mod Work
 pub mod Replies
 pub mod Confirming
+pub mod ServerConfirming

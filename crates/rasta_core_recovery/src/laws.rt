@@ -9,6 +9,7 @@ ghost use Rattle.rasta_core_run.specs.State.{confirmed_items};
 ghost use Rattle.rasta_core.specs.Invariant.{Timely};
 ghost use Rattle.rasta_core.specs.Ordered.{Ordered};
 ghost use Rattle.rasta_core_recovery.specs.Confirming.{Answers, AreIn, Confirming, FewLeft, FewWait, HasLeft, Owes};
+ghost use Rattle.rasta_core_recovery.specs.ServerConfirming.{AwaitsAnswers, ClientHasLeft, ClientOwes, FewOfServerLeft, FewOfServerWait, ServerConfirming};
 ghost use Rattle.rasta_core_recovery.specs.Replies.{Accepts, ClientSpeaks, SpeaksAlone, StaysAtWork, in_round, speaking_rounds, with_reply};
 ghost use Rattle.rasta_core_recovery.specs.Rounds.{AreUp, Flow, StayBelowLimit, calm_rounds, comings, events_of, flow_after, gap_rounds, good_round, good_rounds, own_work, recovery_rounds};
 ghost use Rattle.rasta_core_recovery.specs.Work.{AreAtWork, HandOver, HaveRoom, IsAtWork, LeavesOpen, StayBelow, recovery_rounds_at_work, work_round, work_rounds};
@@ -216,6 +217,37 @@ pub fn what_is_taken_confirms()
     ensures few { (names : Names) (ends : Ends) (spare : ℕ) → Confirming names spare ends → AreIn ends → FewWait spare ends }
     ensures left { (names : Names) (event : Event) (ends : Ends) (spare owed : ℕ) → AreNames names → Timely names ends → Ordered names ends → May names event ends → Confirming names spare ends → FewLeft (spare + owed) ends
         → (AreIn ends → HasLeft (happened event ends) → Owes owed (happened event ends)) → FewLeft (spare + owed) (happened event ends) }
+{
+    every_event_keeps_time();
+    every_event_keeps_order();
+    written_is_read();
+    read_was_written();
+    calls_hand_out_pdus();
+    links_are_settled();
+    one_connection();
+    own_connection();
+    opening_is_new();
+    what_is_taken();
+    outside_until_it_enters();
+    connection_begins();
+}
+
+/// What a server takes confirms what its client had taken when it gave that, too. So where a client never gives more items in its
+/// connection than it has taken and so many to spare, the items that wait of its server are no more than those that this has given beyond
+/// what it has taken, and as many to spare, while both are in the connection (*few*): at the beginning (*starts*), and behind every event
+/// behind which the client keeps to that (*kept*). Where the client leaves and the server stays, what the client gave and the server hadn't
+/// taken then, and as many to spare, bounds what waits from then on (*left*); and at every moment, also where the server has left (*ever*).
+pub fn what_a_server_takes_confirms()
+    ensures starts { (names : Names) (start : Start) (spare : ℕ) → ServerConfirming names spare (started names start) }
+    ensures kept { (names : Names) (event : Event) (ends : Ends) (spare : ℕ) → AreNames names → Timely names ends → Ordered names ends → May names event ends → ServerConfirming names spare ends
+        → (AreIn (happened event ends) → AwaitsAnswers spare (happened event ends)) → ServerConfirming names spare (happened event ends) }
+    ensures few { (names : Names) (ends : Ends) (spare : ℕ) → ServerConfirming names spare ends → AreIn ends → FewOfServerWait spare ends }
+    ensures left { (names : Names) (event : Event) (ends : Ends) (spare owed : ℕ) → AreNames names → Timely names ends → Ordered names ends → May names event ends → ServerConfirming names spare ends
+        → FewOfServerLeft (spare + owed) ends → (AreIn ends → ClientHasLeft (happened event ends) → ClientOwes owed (happened event ends)) → FewOfServerLeft (spare + owed) (happened event ends) }
+    ensures ever { (names : Names) (event : Event) (ends : Ends) (spare owed : ℕ) → AreNames names → Timely names ends → Ordered names ends → May names event ends → ServerConfirming names spare ends
+        → FewOfServerLeft (spare + owed) ends → FewOfServerWait (spare + owed) ends
+        → (AreIn (happened event ends) → AwaitsAnswers spare (happened event ends)) → (AreIn ends → ClientHasLeft (happened event ends) → ClientOwes owed (happened event ends))
+        → FewOfServerWait (spare + owed) (happened event ends) }
 {
     every_event_keeps_time();
     every_event_keeps_order();
