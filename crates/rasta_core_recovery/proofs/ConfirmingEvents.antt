@@ -265,6 +265,14 @@ client_enters_none laws names are ends timely (Receives bytes connection) may sa
     choose false e = refl
     choose true e = let was = outside (is_open ends.client.link.phase) (is_taken (receiving (reading_of ends.client.clock) bytes ends.client.link).verdict) e in absurd (not_server (by_may was.0 was.1 may))
 
+-- nor does a server that is in one
+pub server_enters_none : (laws : Laws) (names : Names) (ends : Ends) → Timely names ends → is_open ends.server.link.phase ≡ true → (call : Call) → (outcome call ends.moment ends.server).enters ≡ None
+server_enters_none laws names ends timely opened call = choose (outcome call ends.moment ends.server).enters refl
+  where
+    choose : (found : Option ℕ) → (outcome call ends.moment ends.server).enters ≡ found → found ≡ None
+    choose None e = refl
+    choose (Some c) e = absurd (false≢true (sym (laws.enters call ends.moment c ends.server (ap (λ (i : Identity). i.role) timely.server.identity) e) ∙ opened))
+
 -- ---- a call
 
 pub both_of : (names : Names) (ends : Ends) → Timely names ends → Ordered names ends → AreIn ends → Both names ends
@@ -308,11 +316,7 @@ module _ (laws : Laws) (names : Names) (are : AreNames names) (spare : ℕ) (end
       both_new = both_of names server_new server_timely server_ordered in_new
 
       none : (outcome call ends.moment ends.server).enters ≡ None
-      none = choose (outcome call ends.moment ends.server).enters refl
-        where
-          choose : (found : Option ℕ) → (outcome call ends.moment ends.server).enters ≡ found → found ≡ None
-          choose None e = refl
-          choose (Some c) e = absurd (false≢true (sym (laws.enters call ends.moment c ends.server (ap (λ (i : Identity). i.role) timely.server.identity) e) ∙ was_in))
+      none = server_enters_none laws names ends timely was_in call
 
       pub given_is : then_is.given ≡ ends.server.given ++ (outcome call ends.moment ends.server).given
       unfolding end_after
@@ -347,7 +351,7 @@ module _ (laws : Laws) (names : Names) (are : AreNames names) (spare : ℕ) (end
           said = each_append (IsSaid names spare server_new) ends.sent _ (turned (IsSaid names spare ends) (IsSaid names spare server_new) keeps ends.sent conf.said)
               (subst (λ (key : Key). Each (IsSaid names spare server_new) (handed_out ends.time role.Server then_is.connection (spellings key (outcome call ends.moment ends.server).pdus))) (sym key_is)
               (turned (Spells names (IsNumbered spare server_new)) (IsSaid names spare server_new) (λ d spells sender same pdu read closes. spells pdu read) _
-                (spell laws.written names (IsNumbered spare server_new) role.Server ends.time then_is.connection then_is.link ends.server.link.sent then_is.link.sent (outcome call ends.moment ends.server).pdus pdus_are speaks.pdus says)));
+              (spell laws.written names (IsNumbered spare server_new) role.Server ends.time then_is.connection then_is.link ends.server.link.sent then_is.link.sent (outcome call ends.moment ends.server).pdus pdus_are speaks.pdus says)));
         }
           where
             conf : IsConfirmed names spare ends

@@ -87,7 +87,7 @@ standing_in l e = ap (λ (b : Bool). if b then Inside (is_asking l) l.own_stamp 
 standing_out : (l : LinkState) → is_open l.phase ≡ false → standing l ≡ Outside l.closed_at
 standing_out l e = ap (λ (b : Bool). if b then Inside (is_asking l) l.own_stamp l.partner_stamp else Outside l.closed_at) e
 
-pub is_inside : (l : LinkState) → is_open l.phase ≡ true → IsInside (standing l)
+is_inside : (l : LinkState) → is_open l.phase ≡ true → IsInside (standing l)
 is_inside l e = subst IsInside (sym (standing_in l e)) tt
 
 is_outside : (l : LinkState) → is_open l.phase ≡ false → IsOutside (standing l)
@@ -99,20 +99,26 @@ has_heard l e joined_is = subst HasHeard (sym (standing_in l e ∙ ap (λ (b : B
 of_open : (link : LinkState) → is_open link.phase ≡ false → is_open link.phase ≡ true → ⊥
 of_open link e f = cc
 
--- two ends inside are in one connection, in order
-pub are_together : (names : Names) (ends : Ends) → Timely names ends → Ordered names ends → is_open ends.client.link.phase ≡ true → is_open ends.server.link.phase ≡ true → AreTogether names ends
-are_together names ends timely ordered client_in server_in = of_order ordered
-  where
-    newest_client : ends.client.connection ≡ Some timely.newest
-    newest_client = timely.ends_timed.client.in_newest (is_inside ends.client.link client_in)
+-- a server inside is in the connection that its client began last, whether or not this has left
+pub is_newest : (names : Names) (ends : Ends) (timely : Timely names ends) → is_open ends.server.link.phase ≡ true
+    → (ends.server.connection ≡ Some timely.newest) × (ends.client.connection ≡ Some timely.newest)
+is_newest names ends timely opened = (timely.ends_timed.server.in_newest (is_inside ends.server.link opened), timely.ends_timed.begun (is_inside ends.server.link opened))
 
-    newest_server : ends.server.connection ≡ Some timely.newest
-    newest_server = timely.ends_timed.server.in_newest (is_inside ends.server.link server_in)
+-- and the two are in order there
+pub together_in : (names : Names) (ends : Ends) → Timely names ends → Ordered names ends → is_open ends.server.link.phase ≡ true → AreTogether names ends
+together_in names ends timely ordered opened = of_order ordered
+  where
+    newest : (ends.server.connection ≡ Some timely.newest) × (ends.client.connection ≡ Some timely.newest)
+    newest = is_newest names ends timely opened
 
     of_order : Ordered names ends → AreTogether names ends
-    of_order (unbegun e) = absurd (cc (e, newest_client))
-    of_order (alone a) = absurd (a.not_of_server (newest_server ∙ sym newest_client ∙ a.of_client))
+    of_order (unbegun e) = let n = newest.1 in absurd (cc (e, n))
+    of_order (alone a) = absurd (a.not_of_server (newest.0 ∙ sym newest.1 ∙ a.of_client))
     of_order (together t) = t
+
+-- two ends inside are in one connection, in order
+pub are_together : (names : Names) (ends : Ends) → Timely names ends → Ordered names ends → is_open ends.client.link.phase ≡ true → is_open ends.server.link.phase ≡ true → AreTogether names ends
+are_together names ends timely ordered client_in server_in = together_in names ends timely ordered server_in
 
 each_drop : {X : Type 0} (P : X → Type 0) (n : ℕ) (xs : List X) → Each P xs → Each P (drop n xs)
 each_drop P zero xs each = each

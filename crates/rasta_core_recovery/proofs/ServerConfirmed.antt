@@ -31,27 +31,9 @@ use Rattle.rasta_core_recovery.specs.ServerConfirming.{AwaitsAnswers, IsSaidByCl
 use Rattle.rasta_core_recovery.proofs.Bridge.{each_append}
 use Rattle.rasta_core_recovery.proofs.Confirmed.{Both, Moves, Sides, client_inside, client_joined, client_keeps, client_level, client_moves, exchange, never_asks, server_joined, server_keeps, server_level, server_says, server_speaks, sides_of, within, word_closes}
 use Rattle.rasta_core_recovery.proofs.ConfirmingEvents.{Alike, CameBy, Laws, Spells, among, as_many_wait, asks_by, both_new, both_of, both_old, client_both_new, client_both_old, client_given_is, client_in_flow, client_is, client_new, client_sent, client_taken_is, client_was_in, connection_then, delivered_is, does, does_by, each_without, enters_by, enters_none, few_alike, found, given_is, in_flow, later_alike, numbered_alike, sent_then, server_new, server_ordered, server_timely, settled_so, spell, stays_outside, taken_is, then_is, turned}
-use Rattle.rasta_core_recovery.proofs.Facts.{is_inside}
+use Rattle.rasta_core_recovery.proofs.Facts.{is_newest}
 use Rattle.rasta_core_recovery.proofs.StaysIn.{Asks, Does, IsFrom, IsSettledAt, Passes, Speaks, joins, still}
 use Rattle.rasta_core_recovery.proofs.WindowNumbers.{count_both}
-
--- ---- the connection of a server
-
--- a server in a connection is in the one that its client began last, whether or not this has left
-pub is_newest : (names : Names) (ends : Ends) (timely : Timely names ends) → is_open ends.server.link.phase ≡ true
-    → (ends.server.connection ≡ Some timely.newest) × (ends.client.connection ≡ Some timely.newest)
-is_newest names ends timely opened = (timely.ends_timed.server.in_newest (is_inside ends.server.link opened), timely.ends_timed.begun (is_inside ends.server.link opened))
-
-pub together_in : (names : Names) (ends : Ends) → Timely names ends → Ordered names ends → is_open ends.server.link.phase ≡ true → AreTogether names ends
-together_in names ends timely ordered opened = choose ordered
-  where
-    newest : (ends.server.connection ≡ Some timely.newest) × (ends.client.connection ≡ Some timely.newest)
-    newest = is_newest names ends timely opened
-
-    choose : Ordered names ends → AreTogether names ends
-    choose (unbegun none) = absurd (none-some timely.newest (sym none ∙ newest.1))
-    choose (alone a) = absurd (a.not_of_server (newest.0 ∙ sym newest.1 ∙ a.of_client))
-    choose (together t) = t
 
 -- what waits of a server was given
 pub server_waits : (names : Names) (ends : Ends) → AreTogether names ends → is_open ends.server.link.phase ≡ true → length ends.server.link.waiting ≤ length ends.server.given

@@ -16,17 +16,10 @@ use Rattle.rasta_core_recovery.specs.Confirming.{AreIn}
 use Rattle.rasta_core_recovery.specs.ServerConfirming.{ClientHasLeft, ClientOwes, FewOfServerLeft, ServerConfirming}
 use Rattle.rasta_core_recovery.proofs.ClientLeft.{does_window}
 use Rattle.rasta_core_recovery.proofs.Confirmed.{never_asks}
-use Rattle.rasta_core_recovery.proofs.ConfirmingEvents.{Laws, client_enters_none, client_new, client_timely, does_by, later_alike, server_new, server_ordered, server_timely, settled_so}
-use Rattle.rasta_core_recovery.proofs.ServerConfirmed.{is_newest, server_waits, together_in, was_alone}
+use Rattle.rasta_core_recovery.proofs.ConfirmingEvents.{Laws, client_enters_none, client_new, client_timely, does_by, later_alike, server_enters_none, server_new, server_ordered, server_timely, settled_so}
+use Rattle.rasta_core_recovery.proofs.Facts.{is_newest, together_in}
+use Rattle.rasta_core_recovery.proofs.ServerConfirmed.{server_waits, was_alone}
 use Rattle.rasta_core_recovery.proofs.WindowNumbers.{count_both}
-
--- a server in a connection enters none
-pub server_enters_none : (laws : Laws) (names : Names) (ends : Ends) → Timely names ends → is_open ends.server.link.phase ≡ true → (call : Call) → (outcome call ends.moment ends.server).enters ≡ None
-server_enters_none laws names ends timely opened call = choose (outcome call ends.moment ends.server).enters refl
-  where
-    choose : (found : Option ℕ) → (outcome call ends.moment ends.server).enters ≡ found → found ≡ None
-    choose None e = refl
-    choose (Some c) e = absurd (false≢true (sym (laws.enters call ends.moment c ends.server (ap (λ (i : Identity). i.role) timely.server.identity) e) ∙ opened))
 
 module _ (laws : Laws) (names : Names) (are : AreNames names) (spare owed : ℕ) (ends : Ends) (timely : Timely names ends) (ordered : Ordered names ends)
     (confirming : ServerConfirming names spare ends) (before : FewOfServerLeft (spare + owed) ends) where

@@ -37,10 +37,11 @@ use Rattle.rasta_core.specs.Ordered.{AreTogether, Ordered}
 use Rattle.rasta_core_recovery.specs.Confirming.{AreIn}
 use Rattle.rasta_core_recovery.specs.ServerConfirming.{AwaitsAnswers, ClientHasLeft, ClientOwes, FewOfServerLeft, FewOfServerWait, ServerConfirming}
 use Rattle.rasta_core_recovery.proofs.Confirmed.{never_asks}
-use Rattle.rasta_core_recovery.proofs.ConfirmingEvents.{Laws, settled_so}
+use Rattle.rasta_core_recovery.proofs.ConfirmingEvents.{Laws, server_enters_none, settled_so}
+use Rattle.rasta_core_recovery.proofs.Facts.{together_in}
 use Rattle.rasta_core_recovery.proofs.Fold.{beats_not, not_up}
-use Rattle.rasta_core_recovery.proofs.ServerConfirmed.{event_confirms_servers, together_in}
-use Rattle.rasta_core_recovery.proofs.ServerLeft.{event_left_servers, server_enters_none}
+use Rattle.rasta_core_recovery.proofs.ServerConfirmed.{event_confirms_servers}
+use Rattle.rasta_core_recovery.proofs.ServerLeft.{event_left_servers}
 use Rattle.rasta_core_recovery.proofs.StaysIn.{IsSettledAt, entering, hears_all, quiet_bytes, told_shut}
 use Rattle.rasta_core_recovery.proofs.WindowNumbers.{at_most, count_both, count_one, still_fewer}
 
