@@ -147,6 +147,10 @@ pub mod SectionsRounds
 pub mod NothingDueStops
 pub mod MovesKnown
 pub mod SectionsSensed
+pub mod SectionsInCount
+pub mod SectionsInRound
+pub mod SectionsInSpeech
+pub mod SectionsInTime
 pub mod DueRoutes
 pub mod DueKnown
 pub mod DueProceeding

@@ -31,7 +31,7 @@ unfolding object_after_all
 after_both [] other list = refl
 after_both (first ∷ one) other list = after_both one other _
 
-at_first : (lost : Bool) (now : ℕ) (list : List Section) → object_after_all detection_behaviour (loss_where lost ++ Ticks now ∷ []) list ≡ (if lost then losing list else list)
+pub at_first : (lost : Bool) (now : ℕ) (list : List Section) → object_after_all detection_behaviour (loss_where lost ++ Ticks now ∷ []) list ≡ (if lost then losing list else list)
 unfolding object_after_all
 at_first true now list = refl
 at_first false now list = refl
@@ -60,20 +60,20 @@ module _ (d : DetectorSays) where
     abbrev heard : HostState (List Section)
     heard = (given_in detection_behaviour now input begun).host
 
-    begun_kept : KeptHost begun
+    pub begun_kept : KeptHost begun
     begun_kept = begins_kept detection_behaviour (HasNames d.names) d.version d.own_name d.peer_name d.keep now host kept_so
 
     item_there : item_of part.host ≡ item d
     item_there = item_is detection_behaviour (HasNames d.names) d.version d.own_name d.peer_name d.keep part.host (step_keeps detection_behaviour (HasNames d.names) d.version d.own_name d.peer_name d.keep now input host kept_so)
 
     -- behind what comes, and behind what is paid
-    abbrev come : List Section
+    abbrev pub come : List Section
     come = object_after_all detection_behaviour t.comes begun.object
 
-    abbrev paid : List Section
+    abbrev pub paid : List Section
     paid = object_after_all detection_behaviour t.pays come
 
-    come_named : HasNames d.names come
+    pub come_named : HasNames d.names come
     come_named = names_come d now t.comes t.are_coming begun.object begun_kept.object
 
     abbrev last : List ObjectCall
@@ -84,16 +84,16 @@ module _ (d : DetectorSays) where
         ∙ (ap (λ (l : List Section). object_after_all detection_behaviour ((t.comes ++ t.pays) ++ last) l) (sym t.begun_is)
         ∙ (after_both (t.comes ++ t.pays) last begun.object ∙ (ap (object_after_all detection_behaviour last) (after_both t.comes t.pays begun.object) ∙ at_last t.is_lost (alive_until part.host.link) paid))))
 
-    object_open : is_open part.host.link.phase ≡ true → part.host.object ≡ paid
+    pub object_open : is_open part.host.link.phase ≡ true → part.host.object ≡ paid
     object_open opened = object_so ∙ ap (λ b. if b then losing paid else paid) (t.stays opened)
 
     abbrev pub items : List (List ℕ)
     items = items_given now part.calls (settled now host.link)
 
-    items_are : items ≡ map (item d) (t.own ++ t.reports)
+    pub items_are : items ≡ map (item d) (t.own ++ t.reports)
     items_are = t.gives ∙ ap (λ (f : Report → List ℕ). map f (t.own ++ t.reports)) item_there
 
-    answers_so : All (IsVersionAnswer detection_behaviour d.version) t.says.answers
+    pub answers_so : All (IsVersionAnswer detection_behaviour d.version) t.says.answers
     answers_so = subst (λ (n : ℕ). All (IsVersionAnswer detection_behaviour n) t.says.answers) begun_kept.version_is t.says.are_answers
 
     -- what the host says itself tells a section that owes nothing as it is

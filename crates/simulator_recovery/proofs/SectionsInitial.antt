@@ -85,17 +85,17 @@ module _ (d : DetectorSays) where
                   (stays.0, behind_first (Some (is_told_occupied (states.Occupancy s.occupancy))) (first_is ∙ ap (λ (b : Bool). if b then Some (is_told_occupied (states.Occupancy s.occupancy)) else before) f) ∙ stays.1)
               by_place false f = let rest = later (apart f) before in (rest.0, behind_first before (first_is ∙ ap (λ (b : Bool). if b then Some (is_told_occupied (states.Occupancy s.occupancy)) else before) f) ∙ rest.1)
 
-  abbrev whole_of : List Section → List (List ℕ)
+  abbrev pub whole_of : List Section → List (List ℕ)
   whole_of object = item d (said detection_behaviour (VersionAnswer Match d.version)) ∷ map (item d) (initialisation detection_behaviour object)
 
-  abbrev statuses : List Section → List Report
+  abbrev pub statuses : List Section → List Report
   statuses object = initial_status detection_behaviour most_objects 0 object
 
   completed_none : told d (said detection_behaviour InitialisationCompleted ∷ []) ≡ []
   unfolding told_by_all
   completed_none = ap (λ (l : List Indication). l ++ []) d.tell.completed
 
-  whole_told : (object : List Section) → told_by_all d.peer (whole_of object) ≡ told d (statuses object)
+  pub whole_told : (object : List Section) → told_by_all d.peer (whole_of object) ≡ told d (statuses object)
   unfolding told_by_all
   whole_told object = three (d.tell.answer (said detection_behaviour (VersionAnswer Match d.version)) (Match, refl)) d.tell.start
       (told_both d (statuses object) (said detection_behaviour InitialisationCompleted ∷ []) ∙ (ap (λ (rest : List Indication). told d (statuses object) ++ rest) completed_none ∙ append-nil (told d (statuses object))))
@@ -103,7 +103,7 @@ module _ (d : DetectorSays) where
       three : {a b c e : List Indication} → a ≡ [] → b ≡ [] → c ≡ e → a ++ (b ++ c) ≡ e
       three {a} {b} {c} {e} f g h = ap (λ (l : List Indication). l ++ (b ++ c)) f ∙ (ap (λ (l : List Indication). l ++ c) g ∙ h)
 
-  length_is : (object : List Section) → HasNames d.names object → length object ≡ length d.names
+  pub length_is : (object : List Section) → HasNames d.names object → length object ≡ length d.names
   length_is object named = sym (map_length name_of object) ∙ ap length named
 
   initial_tells : (object : List Section) → HasNames d.names object → (place : ℕ) → place < length d.names → (occupied : Bool) × (told_in d.peer place (whole_of object) ≡ Some occupied)

@@ -188,7 +188,7 @@ told_are_known laws between later_rounds last flowing section reporter once stat
 -- ---- where the window has room
 
 -- the controller of a detector's link
-detector_there : (site : Site) (place : ℕ) → place < length site.detectors → controller_at site (detector_link site place) ≡ Some (Detector place)
+pub detector_there : (site : Site) (place : ℕ) → place < length site.detectors → controller_at site (detector_link site place) ≡ Some (Detector place)
 detector_there site place inside = rw (e, f, g) (ap (λ (n : ℕ). Some (Detector n)) here)
   where
     e : nat_lt (detector_link site place) (length site.signals) ≡ false
@@ -213,7 +213,7 @@ fewer_below link [] last flowing before below = tt
 fewer_below link (first ∷ rounds) last flowing before below = (below.0, fewer_below link rounds last (all_tried first (round stations flowing)) (links_behind first flowing before) below.1)
 
 -- a detector that is ready and has room owes no report
-owes_none : WindowLaws → (site : Site) (table : Table) (world : WorldState) (section : ℕ) (reporter : ℕ × ℕ) → IsStation site → Once site → IsTableOf site table → IsReached site table world → slice_get table.reporters section ≡ Some reporter
+pub owes_none : WindowLaws → (site : Site) (table : Table) (world : WorldState) (section : ℕ) (reporter : ℕ × ℕ) → IsStation site → Once site → IsTableOf site table → IsReached site table world → slice_get table.reporters section ≡ Some reporter
     → IsReadyOn site (detector_link site reporter.0) world → HasRoomToReport table world section → OwesNone table world section
 owes_none laws site table world section reporter station once is_table reached reported ready (r, r_there, room) = by_room (subst (λ (p : ℕ × ℕ). At world.detectors p.0 (λ controller. length controller.host.link.waiting < window_size)) (same_Some r reporter (sym r_there ∙ reported)) room)
   where

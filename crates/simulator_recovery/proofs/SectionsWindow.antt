@@ -84,11 +84,11 @@ full_window l up denied = by_room (nat_lt (length l.waiting) window_size) refl (
 
 -- ---- how many reports are owed
 
-abbrev owed_many : List Section → ℕ
+abbrev pub owed_many : List Section → ℕ
 owed_many [] = 0
 owed_many (first ∷ others) = if first.owes then suc (owed_many others) else owed_many others
 
-many_few : (list : List Section) → owed_many list ≤ length list
+pub many_few : (list : List Section) → owed_many list ≤ length list
 many_few [] = omega arith
 many_few (first ∷ others) = choose first.owes (many_few others)
   where
@@ -104,7 +104,7 @@ none_many (first ∷ others) none = choose first.owes none (none_many others)
     choose true e later = absurd (omega (arith, e))
     choose false e later = later e
 
-paid_many : (list : List Section) (s : Section) → find owes list ≡ Some s → owed_many (paying_sections list) + 1 ≡ owed_many list
+pub paid_many : (list : List Section) (s : Section) → find owes list ≡ Some s → owed_many (paying_sections list) + 1 ≡ owed_many list
 paid_many [] s found = absurd (none-some s found)
 paid_many (first ∷ others) s found = choose first.owes refl found (paid_many others s)
   where

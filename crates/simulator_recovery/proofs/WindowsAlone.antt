@@ -25,7 +25,7 @@ use Rattle.simulator_recovery.proofs.WindowsQuiet.{ready_given}
 use Rattle.simulator_recovery.proofs.WindowsSpoken.{SpeakLaws, count_two, each_two, links_speak}
 
 -- fewer rounds stay below the limit as well
-below_two : (link : ℕ) (one other : List (List Event)) (flowing : Flowing Played) (before : Links) → StayBelowOn link (one ++ other) flowing before → StayBelowOn link one flowing before
+pub below_two : (link : ℕ) (one other : List (List Event)) (flowing : Flowing Played) (before : Links) → StayBelowOn link (one ++ other) flowing before → StayBelowOn link one flowing before
 below_two link [] other flowing before below = tt
 below_two link (first ∷ one) other flowing before below = (below.0, below_two link one other (all_tried first (round stations flowing)) (links_behind first flowing before) below.1)
 
@@ -37,7 +37,7 @@ sent_of (Some link) = link.sent
 abbrev pub sent_on : ℕ → WorldState → ℕ
 sent_on link world = sent_of (slice_get (client_links world.station.ixl) link)
 
-sent_is : (link : ℕ) (world : WorldState) (up : IsUpOn link world) → sent_on link world ≡ up.client.sent
+pub sent_is : (link : ℕ) (world : WorldState) (up : IsUpOn link world) → sent_on link world ≡ up.client.sent
 sent_is link world up = ap sent_of up.client_there
 
 module _ (laws : SpeakLaws) (between : List Event) (flowing : Flowing Played) (place : ℕ) (once : Once flowing.state.sited.site) (station : IsStation flowing.state.sited.site) (is_table : IsTableOf flowing.state.sited.site flowing.state.sited.table)
@@ -58,7 +58,7 @@ module _ (laws : SpeakLaws) (between : List Event) (flowing : Flowing Played) (p
     pub below : StaysBelowLimit flowing.state.sited.site link rounds (all_tried between (round stations flowing))
     pub long : ready_rounds ≤ suc (length rounds)
 
-  good_two : (one other : List (List Event)) → ready_rounds ≤ suc (length one) → Good (one ++ other) → Good one
+  pub good_two : (one other : List (List Event)) → ready_rounds ≤ suc (length one) → Good (one ++ other) → Good one
   good_two one other long good = record {
     works = (each_two (Each IsWork) one other good.works).0;
     can = fewer_time (suc (length one)) (suc (length (one ++ other))) (clocks_of flowing.state.run) (let n = count_two one other in omega (arith, n)) good.can;
@@ -66,19 +66,19 @@ module _ (laws : SpeakLaws) (between : List Event) (flowing : Flowing Played) (p
     long = long;
   }
 
-  ready_at : (rounds : List (List Event)) → Good rounds → IsReadyOn flowing.state.sited.site link (world_at rounds)
+  pub ready_at : (rounds : List (List Event)) → Good rounds → IsReadyOn flowing.state.sited.site link (world_at rounds)
   ready_at rounds good = links_ready laws.ready between rounds flowing link once station is_table reached work good.works good.can below_links good.long good.below
 
   reached_at : (rounds : List (List Event)) → IsReached flowing.state.sited.site flowing.state.sited.table (world_at rounds)
   reached_at rounds = (rounds_reached laws.ready.up.link.times.reach flowing.state.sited (between ∷ rounds) flowing (record { same = refl; reached = reached })).reached
 
-  given_at : (rounds : List (List Event)) (good : Good rounds) → (ready_at rounds good).up.client.given ≡ 2
+  pub given_at : (rounds : List (List Event)) (good : Good rounds) → (ready_at rounds good).up.client.given ≡ 2
   given_at rounds good = ready_given laws.ready.up.link.times.standing laws.ready.stand flowing.state.sited.site flowing.state.sited.table station once (world_at rounds) (reached_at rounds) place inside (ready_at rounds good)
 
   abbrev Found : ℕ → List (List Event) → Type 0
   Found least rounds = SpeaksAloneIn link between least rounds flowing
 
-  find : (least : ℕ) (front : List (List Event)) (one : List Event) (rest : List (List Event)) → least ≤ length front → ready_rounds ≤ suc least → Good ((front ++ one ∷ []) ++ rest)
+  pub find : (least : ℕ) (front : List (List Event)) (one : List Event) (rest : List (List Event)) → least ≤ length front → ready_rounds ≤ suc least → Good ((front ++ one ∷ []) ++ rest)
       → sent_on link (world_at (front ++ one ∷ [])) < sent_on link (world_at ((front ++ one ∷ []) ++ rest)) → Found least ((front ++ one ∷ []) ++ rest)
   find least front one [] far long good more = absurd (omega (arith, more, ap (λ (r : List (List Event)). sent_on link (world_at r)) (append-nil (front ++ one ∷ []))))
   find least front one (two ∷ others) far long good more = choose (nat_lt (sent_on link (world_at (front ++ one ∷ []))) (sent_on link (world_at ((front ++ one ∷ []) ++ two ∷ [])))) refl (find least (front ++ one ∷ []) two others)

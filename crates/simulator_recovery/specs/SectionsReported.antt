@@ -125,3 +125,9 @@ pub record SpeaksAloneIn (link : ℕ) (between : List Event) (least : ℕ) (roun
   pub are : rounds ≡ ((front ++ one ∷ []) ++ two ∷ []) ++ rest
   pub far : least ≤ length front
   pub spoken : HasSpokenAlone link (good_rounds (between ∷ front) flowing).state.run (good_rounds (between ∷ (front ++ one ∷ [])) flowing).state.run (good_rounds (between ∷ ((front ++ one ∷ []) ++ two ∷ [])) flowing).state.run
+
+-- ---- how long a section takes
+
+-- so many good rounds behind its last change a section is known as it is in the field: 320 ms
+abbrev pub section_rounds : ℕ
+section_rounds = 32

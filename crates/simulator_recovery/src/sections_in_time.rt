@@ -1,0 +1,93 @@
+//! Sections are reported as they are, so soon behind their last change.
+
+ghost use Rattle.std.specs.Prelude.{◌≡◌, ◌≤◌, ℕ, suc, List, ◌∷◌, ◌++◌, length, Some, slice_get};
+ghost use Rattle.ixl_table.specs.Table.{IsTableOf};
+ghost use Rattle.simulator_run.specs.layout.Once.{Once};
+ghost use Rattle.simulator_run.specs.layout.Station.{IsStation};
+ghost use Rattle.simulator_run.specs.rasta_core.Each.{Each};
+ghost use Rattle.simulator_run.specs.simulator_event.declared.event.Event.{Event};
+ghost use Rattle.simulator_run.specs.Flow.{Flowing, round, stations};
+ghost use Rattle.simulator_run.specs.Nodes.{detector_link};
+ghost use Rattle.simulator_run.specs.Tried.{Played};
+ghost use Rattle.simulator_headline.specs.Reached.{IsReached};
+ghost use Rattle.simulator_recovery.specs.LinkRounds.{StaysBelowLimit};
+ghost use Rattle.simulator_recovery.specs.Ready.{ready_rounds};
+ghost use Rattle.simulator_recovery.specs.Rounds.{HasTime, IsWork, all_tried, good_rounds};
+ghost use Rattle.simulator_recovery.specs.SectionsReported.{IsKnownAsInTheField, LeavesSection, section_rounds};
+
+use crate::{events_close_no_link, stations_stand_by_their_counts};
+use object_host_theorem::step_takes_and_gives;
+use rasta_core_recovery::{
+    clients_at_work_speak, quiet_clients_confirm_at_once, two_ends_at_work_come_up,
+    two_ends_at_work_hand_over,
+};
+use simulator_headline::reached_worlds_are_safe;
+use simulator_machine_links::{a_client_of_many_makes_a_step, a_node_of_one_link_makes_a_step};
+use simulator_run::a_station_begins_its_links;
+use simulator_run::ixl_rules::control_table::sci_telegram::written_is_read;
+use simulator_run::ixl_rules::ixl_client::{
+    step_hears_what_was_taken, step_is_calls as client_step_is_calls,
+};
+use simulator_run::ixl_rules::rasta_core::{
+    a_node_makes_a_step, each_link_is_a_run, each_link_sees_its_events, items_are_counted,
+    links_keep_order, links_keep_time, one_connection, order_is_safe,
+};
+use simulator_run::object_host::{step_is_calls, step_is_told_to_the_object, steps_keep_a_host};
+use simulator_run::point_ctl::Point;
+use simulator_run::signal_ctl::Signal;
+use simulator_run::tds_ctl::Detection;
+use simulator_run_links::{
+    deliveries_may_come, events_are_those_of_the_links, interlockings_call_their_nodes,
+    layouts_name_their_links, stations_have_links,
+};
+
+/// Sections are reported as they are: from the 1566th good round on, the interlocking knows a section as it is in the field behind 32 rounds,
+/// 320 ms, in which nothing is told of its occupancy, and so it stays as long as nothing is told of it. All else may change as it likes:
+/// requests come, and other sections of the detector are told of as often as you like. The premises are those of `links_are_ready`, of the
+/// link of the section's detector.
+pub fn sections_are_reported()
+    ensures { (between : List Event) (later more : List (List Event)) (flowing : Flowing Played) (section : ℕ) (reporter : ℕ × ℕ) → Once flowing.state.sited.site → IsStation flowing.state.sited.site
+        → IsTableOf flowing.state.sited.site flowing.state.sited.table → IsReached flowing.state.sited.site flowing.state.sited.table flowing.state.run
+        → Each IsWork between → Each (Each IsWork) (later ++ more) → HasTime (suc (length (later ++ more))) flowing.state.run
+        → slice_get flowing.state.sited.table.reporters section ≡ Some reporter → ready_rounds ≤ suc (length later) → section_rounds ≤ length more
+        → StaysBelowLimit flowing.state.sited.site (detector_link flowing.state.sited.site reporter.0) (later ++ more) (all_tried between (round stations flowing))
+        → Each (Each (LeavesSection flowing.state.sited.site flowing.state.sited.table section)) more
+        → IsKnownAsInTheField flowing.state.sited.table (good_rounds (between ∷ (later ++ more)) flowing).state.run section }
+{
+    clients_at_work_speak();
+    quiet_clients_confirm_at_once();
+    each_link_is_a_run();
+    each_link_sees_its_events();
+    events_close_no_link();
+    reached_worlds_are_safe();
+    stations_stand_by_their_counts();
+    two_ends_at_work_come_up();
+    two_ends_at_work_hand_over();
+    a_client_of_many_makes_a_step();
+    a_node_makes_a_step();
+    a_node_of_one_link_makes_a_step();
+    a_station_begins_its_links();
+    client_step_is_calls();
+    deliveries_may_come();
+    events_are_those_of_the_links();
+    interlockings_call_their_nodes();
+    items_are_counted();
+    layouts_name_their_links();
+    links_keep_order();
+    links_keep_time();
+    one_connection();
+    order_is_safe();
+    stations_have_links();
+    step_hears_what_was_taken();
+    step_is_told_to_the_object::<Detection>();
+    steps_keep_a_host::<Signal>();
+    steps_keep_a_host::<Point>();
+    steps_keep_a_host::<Detection>();
+    step_is_calls::<Signal>();
+    step_is_calls::<Point>();
+    step_is_calls::<Detection>();
+    step_takes_and_gives::<Signal>();
+    step_takes_and_gives::<Point>();
+    step_takes_and_gives::<Detection>();
+    written_is_read();
+}
