@@ -1,9 +1,12 @@
 -- What a step keeps of all routes: each goes on as it may, or is set anew.
 use Rattle.std.proofs.Common.{◌≡◌, ◌≢◌, ◌⊎◌, ◌↔◌, inl, inr, ℕ, suc, ◌≤◌, ◌==◌, ◌&&◌, Bool, true, false, if◌then◌else◌, List, length, Option, Some, None, slice_get, refl, sym, ap, subst, ◌∙◌, arith}
 use Rattle.std.specs.Prelude.{◌||◌}
+use Rattle.std.specs.Cmp.{nat_cmp_total, unsigned_tied}
+use Rattle.std.specs.FinSet.{contains, contains-insert, insert}
 use Rattle.std.specs.List.{Contains}
 use Rattle.std.proofs.lemmas.Bool.{false≢true}
 use Rattle.std.proofs.lemmas.Option.{same_Some}
+use Rattle.simulator_run.specs.bit_row.Places.{Places}
 use Rattle.simulator_run.specs.layout.Entries.{Site}
 use Rattle.simulator_run.specs.layout.declared.ids.RouteId.{RouteId}
 use Rattle.simulator_run.specs.rasta_core.Ends.{reading_of}
@@ -44,23 +47,39 @@ use Rattle.simulator_recovery.proofs.StopsGiven.{waiting_set}
 
 -- ---- how a route goes on
 
--- A route goes on: it was set where it is, with no more sections freed.
+-- A route goes on: it was set where it is, with no more sections freed; and once it was given authority it is free, or has seen all that it saw.
 pub record GoesOnward (old new : RouteState) : Type 0 where
   pub set : is_set new.phase ≡ true → is_set old.phase ≡ true
   pub freed : is_set new.phase ≡ true → freed_sections old.phase ≤ freed_sections new.phase
+  pub authorised : was_authorised old.phase ≡ true → is_set new.phase ≡ true → was_authorised new.phase ≡ true
+  pub seen : (place : ℕ) → was_authorised old.phase ≡ true → contains old.passage.seen place ≡ true → contains new.passage.seen place ≡ true
 
-pub same_phase : (old new : RouteState) → new.phase ≡ old.phase → GoesOnward old new
-same_phase old new same = record {
+now_seen : (old new : RouteState) → new.phase ≡ old.phase → ((place : ℕ) → contains old.passage.seen place ≡ true → contains new.passage.seen place ≡ true) → GoesOnward old new
+now_seen old new same seen = record {
   set = λ set. ap is_set (sym same) ∙ set;
   freed = λ set. let equal = ap freed_sections same in omega (arith, equal);
+  authorised = λ was set. ap was_authorised same ∙ was;
+  seen = λ place was. seen place;
 }
 
-looks_onward : (section : ℕ) (occupied : Bool) (other : Row) (route : RouteState) → GoesOnward route (route_looks section occupied other route)
-looks_onward section occupied other route = by_place (place_in section other.sections) refl
+pub same_phase : (old new : RouteState) → new.phase ≡ old.phase → new.passage ≡ old.passage → GoesOnward old new
+same_phase old new same passage = now_seen old new same (λ place was. ap (λ p. contains p.seen place) passage ∙ was)
+
+-- what was seen stays so as more is
+seen_more : (set : Places) (at place : ℕ) → contains set place ≡ true → contains (insert set at) place ≡ true
+seen_more set at place was = contains-insert nat_cmp_total set at place ∙ (ap (λ (b : Bool). b || contains set place) (unsigned_tied place at) ∙ (ap (λ (b : Bool). (place == at) || b) was ∙ either (place == at)))
   where
-    by_place : (found : Option ℕ) → place_in section other.sections ≡ found → GoesOnward route (route_looks section occupied other route)
-    by_place None e = rw e (same_phase route route refl)
-    by_place (Some place) e = rw e (same_phase route _ refl)
+    either : (b : Bool) → (b || true) ≡ true
+    either true = refl
+    either false = refl
+
+looks_onward : (section : ℕ) (occupied : Bool) (other : Row) (route : RouteState) → GoesOnward route (route_looks section occupied other route)
+looks_onward section occupied other route = by_place (place_in section other.sections) refl occupied
+  where
+    by_place : (found : Option ℕ) → place_in section other.sections ≡ found → (b : Bool) → GoesOnward route (route_looks section b other route)
+    by_place None e b = rw e (same_phase route route refl refl)
+    by_place (Some at) e true = rw e (now_seen route _ refl (λ place was. seen_more route.passage.seen at place was))
+    by_place (Some at) e false = rw e (now_seen route _ refl (λ place was. was))
 
 withdrawn_onward : (route : RouteState) → is_proceeding route.phase ≡ true → GoesOnward route (come_to phase.Withdrawn route)
 withdrawn_onward route goes = by_phase route.phase refl goes
@@ -68,7 +87,7 @@ withdrawn_onward route goes = by_phase route.phase refl goes
     by_phase : (p : Phase) → route.phase ≡ p → is_proceeding p ≡ true → GoesOnward route (come_to phase.Withdrawn route)
     by_phase phase.Free e f = absurd (false≢true f)
     by_phase phase.Waiting e f = absurd (false≢true f)
-    by_phase phase.Proceeding e f = record { set = λ set. ap is_set e; freed = λ set. let none = ap freed_sections e in omega (arith, none) }
+    by_phase phase.Proceeding e f = record { set = λ set. ap is_set e; freed = λ set. let none = ap freed_sections e in omega (arith, none); authorised = λ was set. refl; seen = λ place was seen. seen }
     by_phase phase.Withdrawn e f = absurd (false≢true f)
     by_phase (phase.Ended clock done) e f = absurd (false≢true f)
 
@@ -79,22 +98,22 @@ ended_onward now route goes = by_phase route.phase refl goes
     by_phase phase.Free e f = absurd (false≢true f)
     by_phase phase.Waiting e f = absurd (false≢true f)
     by_phase phase.Proceeding e f = absurd (false≢true f)
-    by_phase phase.Withdrawn e f = record { set = λ set. ap is_set e; freed = λ set. let none = ap freed_sections e in omega (arith, none) }
+    by_phase phase.Withdrawn e f = record { set = λ set. ap is_set e; freed = λ set. let none = ap freed_sections e in omega (arith, none); authorised = λ was set. refl; seen = λ place was seen. seen }
     by_phase (phase.Ended clock done) e f = absurd (false≢true f)
 
 freed_onward : (route : RouteState) → GoesOnward route (freed route)
-freed_onward route = record { set = λ set. absurd (false≢true set); freed = λ set. absurd (false≢true set) }
+freed_onward route = record { set = λ set. absurd (false≢true set); freed = λ set. absurd (false≢true set); authorised = λ was set. absurd (false≢true set); seen = λ place was seen. seen }
 
 one_freed_onward : (other : Row) (route : RouteState) (p : Phase) → route.phase ≡ p → GoesOnward route (one_freed other p route)
 one_freed_onward other route (phase.Ended clock done) e = choose (suc done == length other.sections)
   where
     choose : (b : Bool) → GoesOnward route (if b then freed route else come_to (phase.Ended clock (suc done)) route)
     choose true = freed_onward route
-    choose false = record { set = λ set. ap is_set e; freed = λ set. let some = ap freed_sections e in omega (arith, some) }
-one_freed_onward other route phase.Free e = same_phase route route refl
-one_freed_onward other route phase.Waiting e = same_phase route route refl
-one_freed_onward other route phase.Proceeding e = same_phase route route refl
-one_freed_onward other route phase.Withdrawn e = same_phase route route refl
+    choose false = record { set = λ set. ap is_set e; freed = λ set. let some = ap freed_sections e in omega (arith, some); authorised = λ was set. refl; seen = λ place was seen. seen }
+one_freed_onward other route phase.Free e = same_phase route route refl refl
+one_freed_onward other route phase.Waiting e = same_phase route route refl refl
+one_freed_onward other route phase.Proceeding e = same_phase route route refl refl
+one_freed_onward other route phase.Withdrawn e = same_phase route route refl refl
 
 waiting_none : (p : Phase) → is_waiting p ≡ true → freed_sections p ≡ 0
 waiting_none phase.Free e = absurd (false≢true e)
@@ -103,8 +122,20 @@ waiting_none phase.Proceeding e = absurd (false≢true e)
 waiting_none phase.Withdrawn e = absurd (false≢true e)
 waiting_none (phase.Ended clock done) e = absurd (false≢true e)
 
+waiting_first : (p : Phase) → is_waiting p ≡ true → was_authorised p ≡ true → ⊥
+waiting_first phase.Free e was = false≢true e
+waiting_first phase.Waiting e was = false≢true was
+waiting_first phase.Proceeding e was = false≢true e
+waiting_first phase.Withdrawn e was = false≢true e
+waiting_first (phase.Ended clock done) e was = false≢true e
+
 pub authorised_onward : (table : Table) (ixl : IxlState) (other : Row) (route : RouteState) → is_waiting route.phase ≡ true → GoesOnward route (authorised table ixl other route)
-authorised_onward table ixl other route waits = record { set = λ still. waiting_set route.phase waits; freed = λ still. let none = waiting_none route.phase waits in omega (arith, none) }
+authorised_onward table ixl other route waits = record {
+  set = λ still. waiting_set route.phase waits;
+  freed = λ still. let none = waiting_none route.phase waits in omega (arith, none);
+  authorised = λ was set. refl;
+  seen = λ place was. absurd (waiting_first route.phase waits was);
+}
 
 -- ---- a step
 
@@ -166,7 +197,7 @@ module _ (now : ℕ) (table : Table) (P : List RouteState → Type 0) (onward : 
   pub two_rules : (part : StepSoFar) → Held part → Held (ended now table part)
   two_rules part is = over_keeps Held (ending_authority now table) ending_held (count table) (withdrawn now table part) (over_keeps Held (withdrawing now table) withdrawing_held (count table) part is)
 
-  ruled_held : (part : StepSoFar) → Held part → Held (ruled now table part)
+  pub ruled_held : (part : StepSoFar) → Held part → Held (ruled now table part)
   ruled_held part is =
       over_keeps Held (proceeding now table) proceeding_held (count table) (moved now table part)
       (over_keeps Held (moving now table) moving_held (count table) (freed_by_cancel now table part)
@@ -177,7 +208,7 @@ module _ (now : ℕ) (table : Table) (P : List RouteState → Type 0) (onward : 
 
   pub watching_held : (number : ℕ) (part : StepSoFar) → Held part → Held (watching table number part)
   unfolding watching
-  watching_held number part is = route_keeps Held table number _ part (λ other one there here. where_keeps Held (is_proceeding one.phase || is_withdrawn one.phase) part _ (λ due. turned number _ part one here (same_phase one _ refl) is) is) is
+  watching_held number part is = route_keeps Held table number _ part (λ other one there here. where_keeps Held (is_proceeding one.phase || is_withdrawn one.phase) part _ (λ due. turned number _ part one here (same_phase one _ refl refl) is) is) is
 
   looking_held : (look : ℕ × Bool) (part : StepSoFar) → Held part → Held (looking table look part)
   unfolding looking_by
@@ -206,7 +237,7 @@ module _ (now : ℕ) (table : Table) (P : List RouteState → Type 0) (keep : Ro
   obeyed_held : (command : Command) (part : StepSoFar) → refusal now table command part.ixl ≡ None → Holds part → Holds (record part { ixl = obeyed command part.ixl })
   unfolding obeyed
   obeyed_held (commands.Request route) part none is = keep.sets route part.ixl none is
-  obeyed_held (commands.Cancel route) part none is = keep.onward route.0 (λ old. record old { cancelled = true }) part.ixl.routes (λ one here. same_phase one _ refl) is
+  obeyed_held (commands.Cancel route) part none is = keep.onward route.0 (λ old. record old { cancelled = true }) part.ixl.routes (λ one here. same_phase one _ refl refl) is
   obeyed_held commands.Resume part none is = is
 
   commanded_held : (cause : Option Refusal) (command : Command) (part : StepSoFar) → refusal now table command part.ixl ≡ cause → Holds part → Holds (record part { ixl = commanded_by cause command part.ixl })

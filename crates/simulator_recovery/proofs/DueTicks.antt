@@ -16,7 +16,7 @@ use Rattle.simulator_run.specs.ixl_client.ClientSoFar.{begun, calling}
 use Rattle.simulator_run.specs.ixl_client.Step.{fallen, ticking}
 use Rattle.simulator_run.specs.ixl_client.declared.stage.Stage.{Stage}
 use Rattle.simulator_run.specs.ixl_client.declared.stage.Stage.TheVariants as stage
-use Rattle.simulator_run.specs.ixl_rules.Due.{AllClear, AllKnown, IsAvailable, IsClear, IsKnownSignalAtStop, IsSignalReady, Known, KnownStop}
+use Rattle.simulator_run.specs.ixl_rules.Due.{AllClear, AllKnown, IsAvailable, IsClear, IsKnownSignalAtStop, IsSignalReady, Known, KnownStop, ReportedBy}
 use Rattle.simulator_run.specs.ixl_rules.State.{IxlState, KnownDetectorState, KnownPointState, KnownSignalState}
 use Rattle.simulator_run.specs.ixl_rules.Step.{Commands, Datagram, Input, Tick, detector_ticking, known_point_ticking, known_signal_ticking, ticked}
 use Rattle.simulator_run.specs.ixl_rules.StepSoFar.{StepSoFar, begun_with, detector_after, empty_outbox, known_point_after, known_signal_after}
@@ -259,12 +259,17 @@ ticks_bring_nothing now (Commands command) part = nothing_at_first part.ixl
 -- ---- what is known then was known before
 
 module _ (table : Table) (old new : IxlState) (brings : BringsNothing old new) where
-  pub clear_before : (section : ℕ) → IsClear table new section → IsClear table old section
-  clear_before section is =
+  -- a section whose detector was ready, and had told it so
+  pub reported_before : (occupied : Bool) (section : ℕ) → ReportedBy table new section (λ detector place. (is_ready detector.client.stage ≡ true) × (contains detector.occupied place ≡ occupied))
+      → ReportedBy table old section (λ detector place. (is_ready detector.client.stage ≡ true) × (contains detector.occupied place ≡ occupied))
+  reported_before occupied section is =
       let detector = is.2.0
       in let was = brings.detectors is.0.0 detector is.2.1
       in let stands = was.stands (ready_inside detector.client.stage is.2.2.0)
       in (is.0, is.1, (was.was, was.there, (ap is_ready (sym stands.stage) ∙ is.2.2.0, sym (ap (λ (places : Places). contains places is.0.1) stands.occupied) ∙ is.2.2.1)))
+
+  pub clear_before : (section : ℕ) → IsClear table new section → IsClear table old section
+  clear_before = reported_before false
 
   pub all_clear_before : (sections : List ℕ) → AllClear table new sections → AllClear table old sections
   all_clear_before sections all = λ place other within. clear_before _ (all place other within)

@@ -202,3 +202,10 @@ pub mod KnownStation
 pub mod KnownAlways
 pub mod KnownReports
 pub mod KnownBack
+pub mod PassageChanges
+pub mod PassageFits
+pub mod PassageFreed
+pub mod PassageLooks
+pub mod PassageSeen
+pub mod PassageOver
+pub mod PassageStays

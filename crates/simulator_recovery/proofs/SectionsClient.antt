@@ -120,7 +120,7 @@ module _ (occupied : Places) (client : ClientState) where
       choose true f g = refl
       choose false f g = absurd (false≢true (sym f ∙ g))
 
-  after_inside : is_outside client.stage ≡ false → (detector_after occupied client).occupied ≡ occupied
+  pub after_inside : is_outside client.stage ≡ false → (detector_after occupied client).occupied ≡ occupied
   unfolding detector_after
   after_inside e = ap (λ (b : Bool). (if b then out else inside).occupied) e
 

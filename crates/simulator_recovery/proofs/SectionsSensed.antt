@@ -210,7 +210,7 @@ none_both (one ∷ front) others section zero apart at (k, other) = let found = 
 none_both (one ∷ front) others section (suc i) apart at other = none_both front others section i (apart_behind one (front ++ others) apart) at other
 
 -- a section stands in the list of one detector
-one_detector : (detectors : List DetectorEntry) (p q i j : ℕ) (d e : DetectorEntry) (section : SectionId) → Distinct (flat_map (λ (d : DetectorEntry). d.sections) detectors)
+pub one_detector : (detectors : List DetectorEntry) (p q i j : ℕ) (d e : DetectorEntry) (section : SectionId) → Distinct (flat_map (λ (d : DetectorEntry). d.sections) detectors)
     → slice_get detectors p ≡ Some d → slice_get detectors q ≡ Some e → slice_get d.sections i ≡ Some section → slice_get e.sections j ≡ Some section → p ≡ q
 one_detector [] p q i j d e section apart there other at too = absurd (none-some d there)
 one_detector (first ∷ others) zero zero i j d e section apart there other at too = refl

@@ -81,7 +81,7 @@ module _ (law : RequestLaw) (now : ℕ) (table : Table) (point : ℕ) (side : Si
     obeyed_back : (command : Command) → refusal now table command part.ixl ≡ None → HeldIn (obeyed command part.ixl).routes → HeldIn part.ixl.routes
     unfolding obeyed
     obeyed_back (commands.Request route) none held = requested route none held
-    obeyed_back (commands.Cancel route) none held = onward (HeldIn part.ixl.routes) route.0 (λ old. record old { cancelled = true }) part.ixl.routes (λ one here. same_phase one _ refl) (λ still. still) held
+    obeyed_back (commands.Cancel route) none held = onward (HeldIn part.ixl.routes) route.0 (λ old. record old { cancelled = true }) part.ixl.routes (λ one here. same_phase one _ refl refl) (λ still. still) held
     obeyed_back commands.Resume none held = held
 
     commanded_back : (cause : Option Refusal) (command : Command) → refusal now table command part.ixl ≡ cause → HeldIn (commanded_by cause command part.ixl).routes → HeldIn part.ixl.routes

@@ -22,3 +22,4 @@ pub mod Authority
 pub mod RoutesCome
 pub mod SidesOfMoves
 pub mod KnownAgain
+pub mod Passage

@@ -1,0 +1,35 @@
+-- How far a train has gone over a route.
+use Rattle.std.specs.Prelude.{◌≡◌, ◌<◌, ℕ, IsTrue, List, [], ◌∷◌, ◌++◌, Some, length, slice_get}
+use Rattle.std.specs.FinSet.{contains}
+use Rattle.simulator_run.specs.rasta_core.Each.{Each}
+use Rattle.simulator_run.specs.sci_telegram.declared.message.Occupancy.TheVariants.{Clear}
+use Rattle.simulator_run.specs.ixl_rules.Due.{AllClear}
+use Rattle.simulator_run.specs.ixl_rules.State.{IxlState, RouteState}
+use Rattle.simulator_run.specs.ixl_rules.Table.{Row, Table}
+use Rattle.simulator_run.specs.simulator_event.declared.event.Event.{Event}
+use Rattle.simulator_run.specs.Flow.{Flowing, round, stations}
+use Rattle.simulator_run.specs.Nodes.{detector_link}
+use Rattle.simulator_run.specs.Tried.{Played}
+use Rattle.simulator_recovery.specs.LinkRounds.{StaysBelowLimit}
+use Rattle.simulator_recovery.specs.Rounds.{all_tried, good_rounds}
+use Rattle.simulator_recovery.specs.SectionsReported.{HasRoomToReport, LeavesSection}
+
+-- Each section of a route was reported occupied since the route was given authority.
+abbrev pub IsSeen : Row → RouteState → Type 0
+IsSeen row route = (place : ℕ) → place < length row.sections → IsTrue (contains route.passage.seen place)
+
+-- A train has gone over a whole route: each of its sections was reported occupied since the route was given authority, and all are clear.
+pub record IsPassed (table : Table) (ixl : IxlState) (row : Row) (route : RouteState) : Type 0 where
+  pub seen : IsSeen row route
+  pub clear : AllClear table ixl row.sections
+
+-- A section lies clear behind good rounds, and its detector could tell so: nothing was told of it behind the last round; the window of the
+-- detector's link had room behind the round before, and what came behind that; and neither end of this link comes to the limit of PDUs in a
+-- connection.
+pub record IsLeft (section : ℕ) (between : List Event) (later : List (List Event)) (last : List Event) (flowing : Flowing Played) : Type 0 where
+  pub clear : slice_get (good_rounds (between ∷ (later ++ last ∷ [])) flowing).state.run.occupancies section ≡ Some Clear
+  pub untold : Each (LeavesSection flowing.state.sited.site flowing.state.sited.table section) last
+  pub room : HasRoomToReport flowing.state.sited.table (good_rounds (between ∷ later) flowing).state.run section
+  pub reporter : ℕ × ℕ
+  pub reports : slice_get flowing.state.sited.table.reporters section ≡ Some reporter
+  pub below : StaysBelowLimit flowing.state.sited.site (detector_link flowing.state.sited.site reporter.0) (later ++ last ∷ []) (all_tried between (round stations flowing))
