@@ -419,18 +419,22 @@ counts_on count side drive few (for_so_long before there same long) = subst (Cou
 
 -- ---- many rounds
 
+-- what is noted behind a round and what comes behind it
+pub noted_so : (place : ℕ) (found : Option Side) (between : List Event) (flowing : Flowing Played) (drive : Option FoundDriven) → Each IsWork between → slice_get flowing.drives place ≡ Some drive
+    → found_driven (all_tried between (round stations flowing)).state (record { 0 = place }) ≡ found → slice_get (all_tried between (round stations flowing)).drives place ≡ Some (next_drive found drive)
+noted_so place found between flowing drive work there driven_then =
+    ap (λ (list : List (Option FoundDriven)). slice_get list place) (work_drives between (round stations flowing))
+    ∙ next_at (found_driven then_so.state) 0 place then_so.drives drive (ap (λ (list : List (Option FoundDriven)). slice_get list place) (did_drives (due stations flowing) flowing) ∙ there)
+    ∙ ap (λ (n : ℕ). Some (next_drive (found_driven then_so.state (point_at n)) drive)) (from_none place)
+    ∙ ap (λ (one : Option Side). Some (next_drive one drive)) (sym (work_keeps place between (round stations flowing) work) ∙ driven_then)
+  where
+    then_so : Flowing Played
+    then_so = all_did stations (due stations flowing) flowing
+
 module _ (place : ℕ) (side : Side) where
-  -- what is noted behind a round and what comes behind it
   noted : (between : List Event) (flowing : Flowing Played) (drive : Option FoundDriven) → Each IsWork between → slice_get flowing.drives place ≡ Some drive → IsDriven place side (all_tried between (round stations flowing)).state
       → slice_get (all_tried between (round stations flowing)).drives place ≡ Some (next_drive (Some side) drive)
-  noted between flowing drive work there driven_then =
-      ap (λ (list : List (Option FoundDriven)). slice_get list place) (work_drives between (round stations flowing))
-      ∙ next_at (found_driven then_so.state) 0 place then_so.drives drive (ap (λ (list : List (Option FoundDriven)). slice_get list place) (did_drives (due stations flowing) flowing) ∙ there)
-      ∙ ap (λ (n : ℕ). Some (next_drive (found_driven then_so.state (point_at n)) drive)) (from_none place)
-      ∙ ap (λ (found : Option Side). Some (next_drive found drive)) (sym (work_keeps place between (round stations flowing) work) ∙ driven_then)
-    where
-      then_so : Flowing Played
-      then_so = all_did stations (due stations flowing) flowing
+  noted between flowing drive work there driven_then = noted_so place (Some side) between flowing drive work there driven_then
 
   ends_within : (count : ℕ) → count ≤ 50 → (rounds : List (List Event)) (flowing : Flowing Played) (drive : Option FoundDriven) → Each (Each IsWork) rounds → slice_get flowing.drives place ≡ Some drive → WasDriven count side drive
       → IsDrivenBehind place side rounds flowing → length rounds + count ≤ 50

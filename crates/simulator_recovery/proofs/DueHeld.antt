@@ -47,7 +47,7 @@ contains_map f (first ∷ others) one (suc k, few, at) =
     in let more = rest.1
     in (suc rest.0, omega (arith, more), rest.2)
 
-contains_required : (needs : List Need) (one : Need) → Contains needs one → Contains (required needs) (as_point one.point, one.side)
+pub contains_required : (needs : List Need) (one : Need) → Contains needs one → Contains (required needs) (as_point one.point, one.side)
 contains_required needs one within = contains_map (λ (need : Need). (as_point need.point, need.side)) needs one within
 
 one_side : (needs : List Need) → InLayoutOrder (required needs) → (one other : Need) → Contains needs one → Contains needs other → one.point ≡ other.point → one.side ≡ other.side
@@ -258,10 +258,12 @@ module _ (move : MoveLaw) (request : RequestLaw) (site : Site) (table : Table) (
   pub same_points : at_moves.ixl.known_points ≡ (known_in_step site table input world).known_points
   same_points = (until_freed now table seen.ixl seen (refl, refl)).0 ∙ watching_points table (heard_in site table input world)
 
-module _ (move : MoveLaw) (request : RequestLaw) (site : Site) (table : Table) (is_table : IsTableOf site table) (world : WorldState) (reached : IsReached site table world) (point : ℕ) (side : Side) (is : Known world.station.ixl point side) (up : IsUpAtClock world point) where
-  step_known : (input : Input) → IsHeldAt table (interlocking_stepped site table input world).station.ixl point side → KnownInside point side (interlocking_stepped site table input world).station.ixl
+module _ (move : MoveLaw) (request : RequestLaw) (site : Site) (table : Table) (is_table : IsTableOf site table) (world : WorldState) (reached : IsReached site table world) (point : ℕ) (side : Side) where
+  -- a point that is known behind the input of a step, and held at this side behind the step, is known behind it
+  pub heard_known : (input : Input) → KnownInside point side (known_in_step site table input world) → IsHeldAt table (interlocking_stepped site table input world).station.ixl point side
+      → KnownInside point side (interlocking_stepped site table input world).station.ixl
   unfolding interlocking_stepped stepped
-  step_known input held = ticked_inside
+  heard_known input heard held = ticked_inside
     where
       now : ℕ
       now = reading_of world.station.clock
@@ -276,7 +278,7 @@ module _ (move : MoveLaw) (request : RequestLaw) (site : Site) (table : Table) (
       is_last = last move request site table is_table world reached input point side
 
       start_inside : KnownInside point side start.ixl
-      start_inside = subst (λ (ps : List KnownPointState). KnownInside point side (record start.ixl { known_points = ps })) (sym (same_points move request site table is_table world reached input point side)) (known_heard site table input world point side reached is up)
+      start_inside = subst (λ (ps : List KnownPointState). KnownInside point side (record start.ixl { known_points = ps })) (sym (same_points move request site table is_table world reached input point side)) heard
 
       moved_inside : KnownInside point side (moved now table (seen_in site table input world)).ixl
       moved_inside = (over_keeps (Stands move now table (holds_each site table is_table) (in_order_of site table is_table) start.ixl.routes (routes_apart move request site table is_table world reached input point side) point side
@@ -294,6 +296,9 @@ module _ (move : MoveLaw) (request : RequestLaw) (site : Site) (table : Table) (
           in let before_it = ruled_inside was.was was.there (ap is_outside (sym stands.stage) ∙ inside)
           in (ap is_available stands.stage ∙ before_it.0, stands.side ∙ before_it.1)
 
+  step_known : Known world.station.ixl point side → IsUpAtClock world point → (input : Input) → IsHeldAt table (interlocking_stepped site table input world).station.ixl point side → KnownInside point side (interlocking_stepped site table input world).station.ixl
+  step_known is up input = heard_known input (known_heard site table input world point side reached is up)
+
   new_inside : (begins : Beginning) → KnownInside point side (new_ixl site table begins)
   unfolding new_ixl new_client
   new_inside begins known e inside = let found = mapped_at (new_known_point_of site begins) site.points point known e in absurd (false≢true (sym inside ∙ ap (λ (k : KnownPointState). is_outside k.client.stage) found.2))
@@ -304,5 +309,5 @@ held_known move request site table one world point side is_table reached is up h
   inside.0,
   inside.1,
   event_then site table (λ ixl. IsHeldAt table ixl point side → KnownInside point side ixl) world (λ still. known_inside point side world.station.ixl is) one
-      (λ input e. step_known move request site table is_table world reached point side is up input) (λ begins anew still. new_inside move request site table is_table world reached point side is up begins) held inside.0 inside.1 inside.2,
+      (λ input e. step_known move request site table is_table world reached point side is up input) (λ begins anew still. new_inside move request site table is_table world reached point side begins) held inside.0 inside.1 inside.2,
 )

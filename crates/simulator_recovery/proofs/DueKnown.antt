@@ -195,7 +195,7 @@ still_clocked : (now : ℕ) (client : ClientState) → is_up (settled now client
 unfolding clocked fallen
 still_clocked now client up = rw up refl
 
-clocked_side : (now : ℕ) (known : KnownPointState) → is_up (settled now known.client.link).phase ≡ true → is_outside known.client.stage ≡ false
+pub clocked_side : (now : ℕ) (known : KnownPointState) → is_up (settled now known.client.link).phase ≡ true → is_outside known.client.stage ≡ false
     → ((clocked_known_point now known).client.stage ≡ known.client.stage) × ((clocked_known_point now known).side ≡ known.side)
 unfolding known_point_after
 clocked_side now known up inside = choose (is_outside after.stage) refl

@@ -32,7 +32,7 @@ use Rattle.simulator_recovery.proofs.IxlClients.{mapped_at}
 use Rattle.simulator_recovery.proofs.IxlSoFar.{at_itself, at_node, at_other, set_at}
 use Rattle.simulator_recovery.proofs.LinkCounts.{settled_open}
 use Rattle.simulator_recovery.proofs.Lists.{map_both}
-use Rattle.simulator_recovery.proofs.KnownIxl.{PointsKeep, heard_by, moved_by, ticked_by}
+use Rattle.simulator_recovery.proofs.KnownIxl.{PointsHear, PointsKeep, heard_by, moved_by, ticked_by}
 use Rattle.simulator_recovery.proofs.SectionsClient.{ClientLaws, after_both, down_outside, link_is_made, own_keeps, up_inside}
 use Rattle.simulator_recovery.proofs.SectionsTold.{all_both}
 use Rattle.simulator_recovery.proofs.StationTalk.{clocked_link, stays_shut}
@@ -67,7 +67,7 @@ module _ (side : Option Side) (moved : Places) (client : ClientState) where
       choose true f g = refl
       choose false f g = absurd (false≢true (sym f ∙ g))
 
-  after_inside : is_outside client.stage ≡ false → (known_point_after side moved client).side ≡ side
+  pub after_inside : is_outside client.stage ≡ false → (known_point_after side moved client).side ≡ side
   unfolding known_point_after
   after_inside e = ap (λ (b : Bool). (if b then out else inside).side) e
 
@@ -260,9 +260,9 @@ module _ (laws : PointLaws) (now connection : ℕ) where
     unfolding taken_after
     took_none place calls none e = ap (λ (cs : List LinkCall). taken_after now (map (as_call connection) cs) (link_of place) (took place)) none ∙ e
 
-    pub keep : PointsKeep now Clocked Holds
-    keep = record {
-      weaker = λ points calls all place known e. clocked_holds place known (at_node (Point place) calls) (all place known e);
+    pub hear : PointsHear now Clocked Holds
+    hear = record {
+      still = λ points calls all place known e. clocked_holds place known (at_node (Point place) calls) (all place known e);
       hears = λ place known bytes outbox points calls e all.
           let c = all place known e
           in let h = clocked_holds place known (at_node (Point place) calls) c
@@ -276,6 +276,13 @@ module _ (laws : PointLaws) (now connection : ℕ) where
             knows = subst (Knows (heard_by now bytes known outbox)) (taken_then place (at_node (Point place) calls) done.calls known h.link_is)
                 (knows_heard bytes known outbox _ c.counts c.asks (λ opened down. took_none place (at_node (Point place) calls) c.none (c.nothing opened down)) h.knows);
           }) (λ k other f. clocked_holds k other (at_node (Point k) calls) (all k other f));
+      unmoved = λ number points calls all place known e. let found = mapped_at (unmoved_for number) points place known e in subst (λ (x : KnownPointState). HoldsAt place x (at_node (Point place) calls)) (sym found.2) (unmoved_holds number place found.0 (at_node (Point place) calls) (all place found.0 found.1));
+      signal = λ place more points calls all k known e. subst (HoldsAt k known) (sym (at_other (Point k) (Signal place) refl calls more)) (all k known e);
+      detector = λ place more points calls all k known e. subst (HoldsAt k known) (sym (at_other (Point k) (Detector place) refl calls more)) (all k known e);
+    }
+
+    pub keep : PointsKeep now Holds
+    keep = record {
       ticks = λ place known outbox points calls e all.
           let h = all place known e
           in let made = laws.clients.tick now (begun known.client outbox)
@@ -298,7 +305,6 @@ module _ (laws : PointLaws) (now connection : ℕ) where
             counts = subst ClientStandsByCounts (sym (after_client _ _ done.client)) (commanding_stands now (commands.Move side) (begun known.client outbox) h.counts);
             knows = subst (Knows (moved_by now side moved known outbox)) (taken_then place (at_node (Point place) calls) done.calls known h.link_is) (knows_own known moved (begun known.client outbox) done _ refl refl made (commanding_stands now (commands.Move side) (begun known.client outbox) h.counts) (commanding_peer now (commands.Move side) (begun known.client outbox)) h.knows);
           }) all;
-      unmoved = λ number points calls all place known e. let found = mapped_at (unmoved_for number) points place known e in subst (λ (x : KnownPointState). HoldsAt place x (at_node (Point place) calls)) (sym found.2) (unmoved_holds number place found.0 (at_node (Point place) calls) (all place found.0 found.1));
       signal = λ place more points calls all k known e. subst (HoldsAt k known) (sym (at_other (Point k) (Signal place) refl calls more)) (all k known e);
       detector = λ place more points calls all k known e. subst (HoldsAt k known) (sym (at_other (Point k) (Detector place) refl calls more)) (all k known e);
     }

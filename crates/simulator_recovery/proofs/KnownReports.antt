@@ -61,7 +61,8 @@ use Rattle.simulator_recovery.proofs.AlwaysOnLinks.{HasHeld}
 use Rattle.simulator_recovery.proofs.AtLink.{mapped, of_second}
 use Rattle.simulator_recovery.proofs.ClientLinks.{up_open}
 use Rattle.simulator_recovery.proofs.ControllerTells.{Tells}
-use Rattle.simulator_recovery.proofs.ControllersOnLinks.{lists_of}
+use Rattle.simulator_recovery.proofs.ConversationFits.{WrittenIsRead}
+use Rattle.simulator_recovery.proofs.ControllersOnLinks.{Lists, lists_of}
 use Rattle.simulator_recovery.proofs.HandedOver.{client_is, settled_given}
 use Rattle.simulator_recovery.proofs.InOne.{ConnectionLaws, in_one}
 use Rattle.simulator_recovery.proofs.KnownAlways.{KnownLaws, Knowing, knowing_first, knowing_held, knowing_on}
@@ -82,6 +83,80 @@ pub record ComeLaws : Type 0 where
 none_long : (list : List (List ℕ)) → length list ≡ 0 → list ≡ []
 none_long [] e = refl
 none_long (first ∷ others) e = absurd (omega (arith, e))
+
+-- ---- what was given and taken at a moment at which a point's link is up, by whatever links
+
+module _ (laws : ComeLaws) (site : Site) (station : IsStation site) (once : Once site) (world : WorldState) (place : ℕ) (few : place < length site.points) (up : IsUpOn (point_link site place) world) (connection : ℕ)
+    (is_in : slice_get world.station.connections (point_link site place) ≡ Some (Some connection)) (has : HasLinks site world) where
+  abbrev at_link : ℕ
+  at_link = point_link site place
+
+  within_links : at_link < links site
+  within_links = omega (arith, few)
+
+  timely_in : AreTimely (links site) (names_at site) (links_in has)
+  timely_in = laws.known.expected.talked.links.time (links site) (names_at site) has.events (begun (names_at site) starts_at_zero) named (laws.known.expected.talked.links.begins (links site) (names_at site) starts_at_zero named) has.may
+    where
+      named : AreLinks (links site) (names_at site)
+      named = laws.known.expected.talked.links.named site station once
+
+  pub one_in : AreInOne at_link (links_in has)
+  one_in = in_one laws.connection site at_link world (links_in has) within_links timely_in has.are up
+
+  same_in : one_in.connection ≡ connection
+  same_in =
+      let id = at_place (partners site) at_link (subst (λ (n : ℕ). at_link < n) (sym (partners_length site)) within_links)
+      in let there = (has.are.clients at_link id.0 id.1).connection_is ∙ ap Some one_in.client
+      in same_Some one_in.connection connection (same_Some (Some one_in.connection) (Some connection) (sym there ∙ is_in))
+
+  pub off_in : IsReadOff (reports_in site place connection world) connection ((links_in has).ends at_link).server ((links_in has).ends at_link).client
+  off_in = laws.read_off site world once station has at_link within_links role.Server connection (one_in.server ∙ ap Some same_in)
+
+  pub took_in : IsTakenOf (reports_in site place connection world) ((links_in has).ends at_link).client
+  took_in = off_in.taken (one_in.client ∙ ap Some same_in)
+
+  pub open_in : is_open ((links_in has).ends at_link).client.link.phase ≡ true
+  open_in = ap (λ (l : LinkState). is_open l.phase) (client_is site at_link within_links world (links_in has) has.are up) ∙ up_open (settled (reading_of world.station.clock) up.client).phase up.client_up
+
+  pub count_in : up.client.taken ≡ length ((links_in has).ends at_link).client.taken
+  count_in = sym (settled_taken (reading_of world.station.clock) up.client) ∙ ap (λ (l : LinkState). l.taken) (sym (client_is site at_link within_links world (links_in has) has.are up))
+      ∙ counted_taken ((links_in has).ends at_link).client took_in.counted open_in
+
+-- ---- a report tells its side
+
+module _ (written : WrittenIsRead) (site : Site) (name : List ℕ) (peer : PeerState) (is_peer : IsPeer peer) (peer_is : peer ≡ peer_for protocols.Point site name (name ∷ [])) (host : HostState PointState) (lists : Lists)
+    (tells : Tells point_behaviour Any (spoken site) name site.station.name (points_keep site) host lists) (side : Side) where
+  abbrev position_report : Report
+  position_report = own_report (message.Point (PointPosition (position_of side)))
+
+  matched : AreMatched point_behaviour peer host
+  matched = subst (λ (p : PeerState). AreMatched point_behaviour p host) (sym peer_is) (record { own_name = tells.kept_so.peer_is; name = tells.kept_so.own_is; version = tells.kept_so.version_is; protocol = refl })
+
+  alone : peer.objects ≡ peer.name ∷ []
+  alone = subst (λ (p : PeerState). p.objects ≡ p.name ∷ []) (sym peer_is) refl
+
+  report_read : reading (item_of host position_report) ≡ Ok (telegram_of position_report host)
+  report_read = written (telegram_of position_report host) (record {
+    sender = subst IsName (sym matched.name) is_peer.name;
+    receiver = subst IsName (sym matched.own_name) is_peer.own_name;
+    message = tt;
+  })
+
+  own_is : place_of peer host.own_name ≡ Some 0
+  own_is = (reports_own written point_behaviour peer is_peer host matched alone (message.Point (PointPosition (position_of side))) (states.Position (position_of side)) refl matched.protocol refl).of
+
+  report_told : told_by peer (reading (item_of host position_report)) ≡ record { place = 0; state = states.Position (position_of side) } ∷ []
+  report_told = ap (told_by peer) report_read ∙ ap (λ (found : Option ℕ). told_of found (Some (states.Position (position_of side)))) own_is
+
+  side_is : (one : Side) → side_of (states.Position (position_of one)) ≡ Some one
+  side_is sides.Right = refl
+  side_is sides.Left = refl
+
+  pub report_tells : (front : List (List ℕ)) → side_told peer (front ++ item_of host position_report ∷ []) ≡ Some side
+  unfolding told_by_all
+  report_tells front = told_both peer front (item_of host position_report ∷ []) ∙ (ap (λ list. side_heard (list ++ []) (side_told peer front)) report_told ∙ side_is side)
+
+-- ---- a report that comes
 
 module _ (laws : ComeLaws) (site : Site) (table : Table) (station : IsStation site) (once : Once site) (is_table : IsTableOf site table) (old new : WorldState) (was_reached : IsReached site table old) (reached : IsReached site table new) (place : ℕ) (few : place < length site.points)
     (side : Side) (comes : ReportsCome site place old new) (last : ReportsLast site place side comes.connection old) (ready : IsReadyOn site (point_link site place) new) where
@@ -106,36 +181,21 @@ module _ (laws : ComeLaws) (site : Site) (table : Table) (station : IsStation si
   below : at < links site
   below = omega (arith, few)
 
-  timely : (has : HasLinks site new) → AreTimely (links site) (names_at site) (links_in has)
-  timely has = laws.known.expected.talked.links.time (links site) (names_at site) has.events (begun (names_at site) starts_at_zero) named (laws.known.expected.talked.links.begins (links site) (names_at site) starts_at_zero named) has.may
-    where
-      named : AreLinks (links site) (names_at site)
-      named = laws.known.expected.talked.links.named site station once
+  -- what was given and taken then
+  abbrev one : (has : HasLinks site new) → AreInOne at (links_in has)
+  one has = one_in laws site station once new place few up comes.connection comes.is_in has
 
-  -- ---- what was given and taken, by whatever links
+  abbrev off : (has : HasLinks site new) → IsReadOff (reports_in site place comes.connection new) comes.connection ((links_in has).ends at).server ((links_in has).ends at).client
+  off has = off_in laws site station once new place few up comes.connection comes.is_in has
 
-  module _ (has : HasLinks site new) where
-    one : AreInOne at (links_in has)
-    one = in_one laws.connection site at new (links_in has) below (timely has) has.are up
+  abbrev took : (has : HasLinks site new) → IsTakenOf (reports_in site place comes.connection new) ((links_in has).ends at).client
+  took has = took_in laws site station once new place few up comes.connection comes.is_in has
 
-    connection_is : one.connection ≡ comes.connection
-    connection_is =
-        let id = at_place (partners site) at (subst (λ (n : ℕ). at < n) (sym (partners_length site)) below)
-        in let there = (has.are.clients at id.0 id.1).connection_is ∙ ap Some one.client
-        in same_Some one.connection comes.connection (same_Some (Some one.connection) (Some comes.connection) (sym there ∙ comes.is_in))
+  abbrev client_open : (has : HasLinks site new) → is_open ((links_in has).ends at).client.link.phase ≡ true
+  client_open has = open_in laws site station once new place few up comes.connection comes.is_in has
 
-    off : IsReadOff (reports_in site place comes.connection new) comes.connection ((links_in has).ends at).server ((links_in has).ends at).client
-    off = laws.read_off site new once station has at below role.Server comes.connection (one.server ∙ ap Some connection_is)
-
-    took : IsTakenOf (reports_in site place comes.connection new) ((links_in has).ends at).client
-    took = off.taken (one.client ∙ ap Some connection_is)
-
-    client_open : is_open ((links_in has).ends at).client.link.phase ≡ true
-    client_open = ap (λ (l : LinkState). is_open l.phase) (client_is site at below new (links_in has) has.are up) ∙ up_open (settled (reading_of new.station.clock) up.client).phase up.client_up
-
-    taken_count : up.client.taken ≡ length ((links_in has).ends at).client.taken
-    taken_count = sym (settled_taken (reading_of new.station.clock) up.client) ∙ ap (λ (l : LinkState). l.taken) (sym (client_is site at below new (links_in has) has.are up))
-        ∙ counted_taken ((links_in has).ends at).client took.counted client_open
+  abbrev taken_count : (has : HasLinks site new) → up.client.taken ≡ length ((links_in has).ends at).client.taken
+  taken_count has = count_in laws site station once new place few up comes.connection comes.is_in has
 
   -- ---- the point
 
@@ -169,37 +229,11 @@ module _ (laws : ComeLaws) (site : Site) (table : Table) (station : IsStation si
   abbrev report : Report
   report = own_report (message.Point (PointPosition (position_of side)))
 
-  matched : AreMatched point_behaviour known.0.client.peer host
-  matched = subst (λ (p : PeerState). AreMatched point_behaviour p host) (sym peer_is) (record { own_name = tells.kept_so.peer_is; name = tells.kept_so.own_is; version = tells.kept_so.version_is; protocol = refl })
-    where
-      tells : Tells point_behaviour Any (spoken site) entry.0.name site.station.name (points_keep site) host (lists_of ((links_in was_held.has).ends at).server)
-      tells = was_held.holds.stands.telling.of_points place last.controller last.there entry.0 entry.1
-
-  alone : known.0.client.peer.objects ≡ known.0.client.peer.name ∷ []
-  alone = subst (λ (p : PeerState). p.objects ≡ p.name ∷ []) (sym peer_is) refl
-
-  report_read : reading (item_of host report) ≡ Ok (telegram_of report host)
-  report_read = laws.known.expected.written (telegram_of report host) (record {
-    sender = subst IsName (sym matched.name) is_peer.name;
-    receiver = subst IsName (sym matched.own_name) is_peer.own_name;
-    message = tt;
-  })
-
-  own_is : place_of known.0.client.peer host.own_name ≡ Some 0
-  own_is = (reports_own laws.known.expected.written point_behaviour known.0.client.peer is_peer host matched alone (message.Point (PointPosition (position_of side))) (states.Position (position_of side)) refl matched.protocol refl).of
-
-  report_told : told_by known.0.client.peer (reading (item_of host report)) ≡ record { place = 0; state = states.Position (position_of side) } ∷ []
-  report_told = ap (told_by known.0.client.peer) report_read
-      ∙ ap (λ (found : Option ℕ). told_of found (Some (states.Position (position_of side)))) own_is
-
-  side_is : (one : Side) → side_of (states.Position (position_of one)) ≡ Some one
-  side_is sides.Right = refl
-  side_is sides.Left = refl
+  alone_is : known.0.client.peer.objects ≡ known.0.client.peer.name ∷ []
+  alone_is = subst (λ (p : PeerState). p.objects ≡ p.name ∷ []) (sym peer_is) refl
 
   last_told : side_told known.0.client.peer (last.front ++ item_of host report ∷ []) ≡ Some side
-  unfolding told_by_all
-  last_told = told_both known.0.client.peer last.front (item_of host report ∷ [])
-      ∙ (ap (λ list. side_heard (list ++ []) (side_told known.0.client.peer last.front)) report_told ∙ side_is side)
+  last_told = report_tells laws.known.expected.written site entry.0.name known.0.client.peer is_peer peer_is host (lists_of ((links_in was_held.has).ends at).server) (was_held.holds.stands.telling.of_points place last.controller last.there entry.0 entry.1) side last.front
 
   -- ---- all is answered
 
@@ -263,7 +297,7 @@ module _ (laws : ComeLaws) (site : Site) (table : Table) (station : IsStation si
     available stage.AwaitsReport e (c, waits) =
         let given = ap length c.are
         in let moves = map_length (commanded known.0.client.peer) c.commands
-        in let objects = ap length alone
+        in let objects = ap length alone_is
         in let count = given_count
         in let many = taken_many
         in let same = ap length same_told

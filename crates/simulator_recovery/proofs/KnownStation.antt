@@ -39,7 +39,7 @@ use Rattle.simulator_recovery.proofs.IxlClients.{mapped_at}
 use Rattle.simulator_recovery.proofs.IxlSoFar.{at_node}
 use Rattle.simulator_recovery.proofs.LinkCounts.{settled_open}
 use Rattle.simulator_recovery.proofs.Lists.{at_place}
-use Rattle.simulator_recovery.proofs.KnownClient.{Clocked, ClockedAt, PointLaws, Holds, Knows, after_client, keep, knows_clocked}
+use Rattle.simulator_recovery.proofs.KnownClient.{Clocked, ClockedAt, PointLaws, Holds, Knows, after_client, hear, keep, knows_clocked}
 use Rattle.simulator_recovery.proofs.SectionsEvents.{CanStep, event_kept}
 use Rattle.simulator_recovery.proofs.KnownIxl.{step_held}
 use Rattle.simulator_recovery.proofs.StationTalk.{Before, SameLists, TalkLaws, Talking, at_link_is, before, clocked_link, took}
@@ -111,7 +111,8 @@ module _ (clients : PointLaws) (laws : TalkLaws) (site : Site) (table : Table) (
   after = run_links (interlocking_events site table input connection world.station) network
 
   held : Holds clients now connection link_of took_of (length site.points) done.ixl.known_points done.calls
-  held = step_held now table (Clocked clients now connection link_of took_of (length site.points)) (Holds clients now connection link_of took_of (length site.points)) (keep clients now connection link_of took_of (length site.points)) (key_of site) input (begun_with world.station.ixl empty_outbox) clocked_all
+  held = step_held now table (Clocked clients now connection link_of took_of (length site.points)) (Holds clients now connection link_of took_of (length site.points)) (Holds clients now connection link_of took_of (length site.points))
+      (hear clients now connection link_of took_of (length site.points)) (keep clients now connection link_of took_of (length site.points)) (λ points calls all. all) (key_of site) input (begun_with world.station.ixl empty_outbox) clocked_all
 
   step_knows : AllKnow site done.ixl after
   step_knows place known e = subst (Knows known) (sym (is_after.taken ∙ taken_is)) (held place known e).knows

@@ -192,8 +192,6 @@ mod SidesRoutes
 mod SidesStep
 mod SidesMoves
 mod SidesDrives
-mod SidesReports
-pub mod MovesBegin
 pub mod AuthorityFree
 pub mod AuthorityRoundFrees
 pub mod KnownIxl
@@ -209,3 +207,24 @@ pub mod PassageLooks
 pub mod PassageSeen
 pub mod PassageOver
 pub mod PassageStays
+pub mod RoomRecent
+pub mod RoomConfirms
+pub mod RoomSteps
+pub mod RoomEvents
+pub mod RoomWindows
+pub mod RoomBehind
+pub mod HeldNeeds
+pub mod HeldClient
+pub mod HeldPoints
+pub mod HeldStation
+pub mod HeldRoutes
+pub mod HeldCome
+pub mod HeldRounds
+pub mod BeginsYoung
+pub mod BeginsReports
+pub mod BeginsStep
+pub mod BeginsWalk
+pub mod BeginsRound
+pub mod BeginsMoment
+pub mod BeginsTaken
+pub mod BeginsAnswered

@@ -495,7 +495,7 @@ pub data AfterReceipt (now : ℕ) (bytes : List ℕ) (taken given : ℕ) (l : Li
   comes_in : is_open (settled now l).phase ≡ false → (receiving now bytes l).items ≡ [] → HasCounted 0 0 (receiving now bytes l).link → AfterReceipt now bytes taken given l
 
 -- an end that is quiet stays outside
-settled_is : (now : ℕ) (l : LinkState) → is_open l.phase ≡ true → now < deadline l → settled now l ≡ record l { clock = now }
+pub settled_is : (now : ℕ) (l : LinkState) → is_open l.phase ≡ true → now < deadline l → settled now l ≡ record l { clock = now }
 unfolding settled
 settled_is now l is_in lives =
     ap (λ (b : Bool). if b && nat_le (deadline l) now then record l { phase = phase.Closed; closed_at = deadline l; clock = now } else record l { clock = now }) is_in

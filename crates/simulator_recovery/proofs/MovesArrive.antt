@@ -32,7 +32,7 @@ use Rattle.simulator_recovery.proofs.PointCounts.{begins_so}
 no_move : (telegram : Telegram) (point : PointState) → is_answered point.progress ≡ false → is_some (move_taken telegram point) ≡ true → ⊥
 no_move telegram point waits fits = false≢true (subst (λ (b : Bool). is_some (if b then commanded_by telegram.message else None) ≡ true) waits fits)
 
-none_comes : (now : ℕ) (comes : List ObjectCall) (point : PointState) → AreComing now comes → AllFit point_behaviour comes point → is_answered point.progress ≡ false → contacts_in comes ≡ [] → comes ≡ []
+pub none_comes : (now : ℕ) (comes : List ObjectCall) (point : PointState) → AreComing now comes → AllFit point_behaviour comes point → is_answered point.progress ≡ false → contacts_in comes ≡ [] → comes ≡ []
 unfolding AllFit contacts_in
 none_comes now [] point coming fits waits none = refl
 none_comes now (Takes at telegram ∷ others) point coming fits waits none = absurd (no_move telegram point waits fits.0)
@@ -82,7 +82,7 @@ one_comes now contact (Loses ∷ others) point coming fits waits one = absurd co
 
 -- ---- what is paid
 
-pays_driving : (pays : List ObjectCall) (point : PointState) (side : Side) (since : ℕ) → ArePayments pays → point.progress ≡ progress.Driving side since → (object_after_all point_behaviour pays point).progress ≡ progress.Driving side since
+pub pays_driving : (pays : List ObjectCall) (point : PointState) (side : Side) (since : ℕ) → ArePayments pays → point.progress ≡ progress.Driving side since → (object_after_all point_behaviour pays point).progress ≡ progress.Driving side since
 unfolding object_after_all
 pays_driving [] point side since are e = e
 pays_driving (Pays ∷ others) point side since are e = pays_driving others (paying point) side since are (drives_on point.progress e)
@@ -96,7 +96,7 @@ pays_driving (Keeps moment ∷ others) point side since are e = absurd are
 pays_driving (Loses ∷ others) point side since are e = absurd are
 
 -- where nothing is owed nothing is paid
-pays_nothing : (pays : List ObjectCall) (point : PointState) → ArePayments pays → point.progress ≡ progress.Answered → (reports_paid point_behaviour pays point ≡ []) × ((object_after_all point_behaviour pays point).progress ≡ progress.Answered)
+pub pays_nothing : (pays : List ObjectCall) (point : PointState) → ArePayments pays → point.progress ≡ progress.Answered → (reports_paid point_behaviour pays point ≡ []) × ((object_after_all point_behaviour pays point).progress ≡ progress.Answered)
 unfolding object_after_all reports_paid
 pays_nothing [] point are e = (refl, e)
 pays_nothing (Pays ∷ others) point are e =
@@ -109,7 +109,7 @@ pays_nothing (Keeps moment ∷ others) point are e = absurd are
 pays_nothing (Loses ∷ others) point are e = absurd are
 
 -- A point that has arrived reports where it lies, or waits.
-pays_arrived : (pays : List ObjectCall) (point : PointState) → ArePayments pays → point.progress ≡ progress.Arrived
+pub pays_arrived : (pays : List ObjectCall) (point : PointState) → ArePayments pays → point.progress ≡ progress.Arrived
     → ((reports_paid point_behaviour pays point ≡ position_report point ∷ []) × ((object_after_all point_behaviour pays point).progress ≡ progress.Answered))
     ⊎ ((reports_paid point_behaviour pays point ≡ []) × ((object_after_all point_behaviour pays point).progress ≡ progress.Arrived))
 unfolding object_after_all reports_paid

@@ -1,5 +1,5 @@
--- What a point's controller is behind good rounds: it answers its moves, its reports come over, and a drive goes on till its report.
-use Rattle.std.proofs.Common.{◌≡◌, ◌⊎◌, inl, inr, ℕ, suc, ◌∙◌, ◌+◌, ◌*◌, ◌≤◌, ◌<◌, nat_le, Bool, true, false, List, [], ◌∷◌, ◌++◌, append-nil, append_assoc, length, map, Some, None, slice_get, refl, sym, ap, subst, arith, leb-true, leb-false, ltb-true}
+-- What a point's controller is behind good rounds: its reports come over, and a drive goes on till its report.
+use Rattle.std.proofs.Common.{◌≡◌, ◌⊎◌, inl, inr, ℕ, suc, ◌∙◌, ◌+◌, ◌*◌, ◌-◌, ◌≤◌, ◌<◌, nat_le, true, false, List, [], ◌∷◌, ◌++◌, append_assoc, length, map, Some, slice_get, refl, sym, ap, subst, arith}
 use Rattle.std.proofs.lemmas.Bool.Decides.{nat_tests}
 use Rattle.std.proofs.lemmas.List.{length-append}
 use Rattle.std.proofs.lemmas.Option.{same_Some}
@@ -19,17 +19,13 @@ use Rattle.simulator_run.specs.rasta_core.identity.Role.TheVariants as role
 use Rattle.simulator_run.specs.sci_telegram.declared.message.Message.TheVariants as message
 use Rattle.simulator_run.specs.sci_telegram.declared.message.PointMessage.TheVariants.{PointPosition}
 use Rattle.simulator_run.specs.sci_telegram.declared.message.Side.{Side}
-use Rattle.simulator_run.specs.object_host.Host.{HostState}
-use Rattle.simulator_run.specs.object_host.Made.{commands_of}
 use Rattle.simulator_run.specs.object_host.Told.{item_of}
 use Rattle.simulator_run.specs.point_ctl.Drive.{PointState, drive_end, own_report}
-use Rattle.simulator_run.specs.point_ctl.History.{unanswered}
-use Rattle.simulator_run.specs.point_ctl.declared.progress.Progress.{Progress}
 use Rattle.simulator_run.specs.point_ctl.declared.progress.Progress.TheVariants as progress
 use Rattle.simulator_run.specs.ixl_rules.Table.{SitedTable}
 use Rattle.simulator_run.specs.simulator_event.declared.event.Event.{Event}
 use Rattle.simulator_run.specs.Flow.{Flowing, position_of, round, round_of_time, stations}
-use Rattle.simulator_run.specs.Links.{AreLinksOf, ServerEnd, client_links, names_at, starts_at_zero}
+use Rattle.simulator_run.specs.Links.{AreLinksOf, ServerEnd, names_at, starts_at_zero}
 use Rattle.simulator_run.specs.Nodes.{links, partners, point_link}
 use Rattle.simulator_run.specs.State.{ClockedControllerState, WorldState}
 use Rattle.simulator_run.specs.Tried.{Played, after}
@@ -40,26 +36,25 @@ use Rattle.simulator_headline.specs.Reached.{IsReached, IsReadOff, IsTakenOf, en
 use Rattle.simulator_run.specs.rasta_core.Names.{partner_of}
 use Rattle.simulator_recovery.specs.HandedOver.{HasHandedOver}
 use Rattle.simulator_recovery.specs.LinkRounds.{IsUpOn, StaysBelowLimit, all_events_tried, behind_time, calls_of_round, event_of, links_behind, time_of_round}
-use Rattle.simulator_recovery.specs.Moves.{AreAnswered, HasRoomAt, HasRoomBehind, IsDriven, IsDrivenBehind, ReportsCome, last_side, reports_in}
+use Rattle.simulator_recovery.specs.Moves.{IsDriven, IsDrivenBehind, ReportsCome, reports_in}
 use Rattle.simulator_recovery.specs.Ready.{IsReadyOn, ready_rounds}
 use Rattle.simulator_recovery.specs.Rounds.{HasTime, IsWork, LeavesFresh, all_tried, clocks_of, good_rounds}
 use Rattle.simulator_recovery.proofs.Addressed.{partners_length}
 use Rattle.simulator_recovery.proofs.AtWork.{of_both}
 use Rattle.simulator_recovery.proofs.ClientLinks.{up_open}
 use Rattle.simulator_recovery.proofs.ComeUp.{BehindRounds, Begun, begun_so, behind_rounds, rounds_open}
-use Rattle.simulator_recovery.proofs.DrivenPoints.{drives_end}
 use Rattle.simulator_recovery.proofs.HandedOver.{hands_over, server_is}
 use Rattle.simulator_recovery.proofs.LinkCounts.{settled_open}
 use Rattle.simulator_recovery.proofs.LinkRounds.{HasThese, all_followed, are_links, links_both, may_both, tried_followed}
 use Rattle.simulator_recovery.proofs.Lists.{at_place}
-use Rattle.simulator_recovery.proofs.MovesBegin.{IsNewHere, round_new}
-use Rattle.simulator_recovery.proofs.MovesLists.{below_limit, drives_kept, each_split, given_both, kept_on, longer_front, point_clock, same_front}
+use Rattle.simulator_recovery.proofs.MovesLists.{below_limit, each_split, given_both, longer_front, point_clock}
 use Rattle.simulator_recovery.proofs.MovesMoment.{MomentLaws, PointAt, point_at}
 use Rattle.simulator_recovery.proofs.MovesPaid.{IsFull, IsPaid}
-use Rattle.simulator_recovery.proofs.MovesReported.{Comes, ReportLaws, Walked, drives_still, has_told, round_comes, timed_clock, timed_host}
+use Rattle.simulator_recovery.proofs.MovesReported.{Comes, ReportLaws, Walked, drives_still, has_told, round_comes, timed_clock}
 use Rattle.simulator_recovery.proofs.MovesRound.{IsLeft, driven_there, left_behind, left_drives, left_paid}
 use Rattle.simulator_recovery.proofs.ProceedsStays.{below_before}
-use Rattle.simulator_recovery.proofs.Ready.{IsUpBehind, ReadyLaws, all_over, count_front, fewer_time, front_of, links_ready}
+use Rattle.simulator_recovery.proofs.Ready.{IsUpBehind, Last, ReadyLaws, all_over, count_front, fewer_time, front_of, last_of, links_ready}
+use Rattle.simulator_recovery.proofs.RoomBehind.{HasRoomAt, HasRoomBehind}
 use Rattle.simulator_recovery.proofs.Rounds.{reached_on, rounds_reached, take_their_time}
 use Rattle.simulator_recovery.proofs.Sends.{leaves_fresh}
 use Rattle.simulator_recovery.proofs.StaysOpen.{rounds_stay}
@@ -73,28 +68,21 @@ pub record AnswerLaws : Type 0 where
   pub read_off : (site : Site) (world : WorldState) → Once site → IsStation site → (has : HasLinks site world) → (link : ℕ) → link < links site → (who : Role) (connection : ℕ)
       → (end_at who link has).connection ≡ Some connection → IsReadOff (given_on site world link who connection) connection (end_at who link has) (end_at (partner_of who) link has)
 
--- what a move in progress is at one moment
-one_waits : (how : Progress) → unanswered how ≤ 1
-one_waits progress.Answered = omega arith
-one_waits (progress.Driving side since) = omega arith
-one_waits progress.Arrived = omega arith
-one_waits progress.TimedOut = omega arith
-
 -- two ways to say that a link is up tell the same
-same_client : {link : ℕ} {world : WorldState} (one other : IsUpOn link world) → one.client ≡ other.client
+pub same_client : {link : ℕ} {world : WorldState} (one other : IsUpOn link world) → one.client ≡ other.client
 same_client one other = same_Some one.client other.client (sym one.client_there ∙ other.client_there)
 
-same_server : {link : ℕ} {world : WorldState} (one other : IsUpOn link world) → one.server ≡ other.server
+pub same_server : {link : ℕ} {world : WorldState} (one other : IsUpOn link world) → one.server ≡ other.server
 same_server one other = same_Some one.server other.server (sym one.server_there ∙ other.server_there)
 
 -- From one good round to the next.
-record Passing (link : ℕ) (old new : WorldState) : Type 0 where
-  over : HasHandedOver link old new
-  connection : ℕ
-  was_in : slice_get old.station.connections link ≡ Some (Some connection)
-  is_in : slice_get new.station.connections link ≡ Some (Some connection)
-  more : List OnLink
-  sent : new.sent ≡ old.sent ++ more
+pub record Passing (link : ℕ) (old new : WorldState) : Type 0 where
+  pub over : HasHandedOver link old new
+  pub connection : ℕ
+  pub was_in : slice_get old.station.connections link ≡ Some (Some connection)
+  pub is_in : slice_get new.station.connections link ≡ Some (Some connection)
+  pub more : List OnLink
+  pub sent : new.sent ≡ old.sent ++ more
 
 module _ (laws : AnswerLaws) (between : List Event) (flowing : Flowing Played) (place : ℕ) (once : Once flowing.state.sited.site) (station : IsStation flowing.state.sited.site) (is_table : IsTableOf flowing.state.sited.site flowing.state.sited.table)
     (reached : IsReached flowing.state.sited.site flowing.state.sited.table flowing.state.run) (work : Each IsWork between) (few : place < length flowing.state.sited.site.points) where
@@ -113,7 +101,7 @@ module _ (laws : AnswerLaws) (between : List Event) (flowing : Flowing Played) (
   abbrev pub world_at : List (List Event) → WorldState
   world_at rounds = (then_at rounds).state.run
 
-  below : link < links site
+  pub below : link < links site
   below = omega (arith, few)
 
   -- what is so of rounds
@@ -147,13 +135,13 @@ module _ (laws : AnswerLaws) (between : List Event) (flowing : Flowing Played) (
     pub point : PointAt site (world_at rounds) place up_at
     point = point_at laws.moment site flowing.state.sited.table station once is_table (world_at rounds) reached_at place few ready_at
 
-    clock_at : (c : ClockedControllerState PointState) → slice_get (world_at rounds).points place ≡ Some c → c.clock ≤ 9000000000000000
+    pub clock_at : (c : ClockedControllerState PointState) → slice_get (world_at rounds).points place ≡ Some c → c.clock ≤ 9000000000000000
     clock_at c e = point_clock (λ clock. clock ≤ 9000000000000000) (world_at rounds) place c e
         (subst (Each (λ clock. clock ≤ 9000000000000000)) (sym (take_their_time laws.ready.up.link.times (between ∷ rounds) flowing once station reached (work, a.works) a.can))
         (below_limit (suc (length rounds)) (clocks_of flowing.state.run) a.can))
 
   -- from one round to the next
-  passes : (front : List (List Event)) (last : List Event) → ready_rounds ≤ suc (length front) → Are (front ++ last ∷ []) → Passing link (world_at front) (world_at (front ++ last ∷ []))
+  pub passes : (front : List (List Event)) (last : List Event) → ready_rounds ≤ suc (length front) → Are (front ++ last ∷ []) → Passing link (world_at front) (world_at (front ++ last ∷ []))
   passes front last long a = record {
     over = hands_over laws.ready between front last flowing link once station is_table reached work a.works a.can below (omega (arith, long)) a.room;
     connection = over.connection;
@@ -194,301 +182,45 @@ module _ (laws : AnswerLaws) (between : List Event) (flowing : Flowing Played) (
 
   -- ---- what a controller is behind a round
 
-  module _ (front : List (List Event)) (last : List Event) (a : Are (front ++ last ∷ [])) (long : ready_rounds ≤ suc (length front)) where
-    abbrev last_point : PointAt site (world_at (front ++ last ∷ [])) place (up_at (front ++ last ∷ []) a)
-    last_point = point (front ++ last ∷ []) a
+  module _ (rounds : List (List Event)) (a : Are rounds) where
+    abbrev here : PointAt site (world_at rounds) place (up_at rounds a)
+    here = point rounds a
 
-    last_left : IsLeft last_point.controller
-    last_left = subst (λ (f : Flowing Played). (c : ClockedControllerState PointState) → slice_get f.state.run.points place ≡ Some c → IsLeft c) (sym (last_round front last next))
-        (left_behind last (then_at front) place (each_split (Each IsWork) front (last ∷ []) a.works).1.0
-        (subst (λ (s : SitedTable). place < length s.site.points) (sym (sited_at front (front_are front (last ∷ []) long a))) few)) last_point.controller last_point.there
-
-    last_up : is_up (settled (reading_of last_point.controller.clock) last_point.controller.host.link).phase ≡ true
-    last_up = ap (λ (s : ServerEnd). is_up (settled (reading_of s.clock) s.link).phase) (sym last_point.server_same) ∙ (up_at (front ++ last ∷ []) a).server_up
-
-    last_still_up : is_up last_point.controller.host.link.phase ≡ true
-    last_still_up = sym (ap (λ (l : LinkState). is_up l.phase) (settled_open (reading_of last_point.controller.clock) last_point.controller.host.link (up_open _ last_up)).0) ∙ last_up
-
-    -- it owes no report
-    paid_at : HasRoomAt place (then_at (front ++ last ∷ [])).state → (IsPaid last_point.controller.host.object.progress → ⊥) → ⊥
-    paid_at room unpaid = choose (left_paid laws.moment.owed.makes last_point.controller last_left last_point.completed)
+    -- the last round has left it so
+    left_here : IsLeft here.controller
+    left_here = by_last (last_of (length rounds - 1) rounds (let l = a.long in omega (arith, l)))
       where
-        choose : IsPaid last_point.controller.host.object.progress ⊎ IsFull last_point.controller.host.link → ⊥
-        choose (inl paid_now) = unpaid paid_now
-        choose (inr full) = let all = full last_still_up in let some = room last_point.controller last_point.there in omega (arith, all, some)
+        by_last : Last (length rounds - 1) rounds → IsLeft here.controller
+        by_last l = left_behind l.last (then_at l.front) place works (subst (λ (s : SitedTable). place < length s.site.points) (sym same) few) here.controller
+            (subst (λ (f : Flowing Played). slice_get f.state.run.points place ≡ Some here.controller) (ap then_at l.are ∙ last_round l.front l.last next) here.there)
+          where
+            works : Each IsWork l.last
+            works = (each_split (Each IsWork) l.front (l.last ∷ []) (subst (Each (Each IsWork)) l.are a.works)).1.0
+
+            same : (then_at l.front).state.sited ≡ flowing.state.sited
+            same = (rounds_reached laws.ready.up.link.times.reach flowing.state.sited (between ∷ l.front) flowing (record { same = refl; reached = reached })).same
+
+    up_here : is_up (settled (reading_of here.controller.clock) here.controller.host.link).phase ≡ true
+    up_here = ap (λ (s : ServerEnd). is_up (settled (reading_of s.clock) s.link).phase) (sym here.server_same) ∙ (up_at rounds a).server_up
+
+    pub inside_here : is_open (settled (reading_of here.controller.clock) here.controller.host.link).phase ≡ true
+    inside_here = up_open _ up_here
+
+    still_up : is_up here.controller.host.link.phase ≡ true
+    still_up = sym (ap (λ (l : LinkState). is_up l.phase) (settled_open (reading_of here.controller.clock) here.controller.host.link inside_here).0) ∙ up_here
+
+    -- with room in its window it owes no report
+    pub paid_here : HasRoomAt place (then_at rounds).state → IsPaid here.controller.host.object.progress
+    paid_here room = choose (left_paid laws.moment.owed.makes here.controller left_here here.completed)
+      where
+        choose : IsPaid here.controller.host.object.progress ⊎ IsFull here.controller.host.link → IsPaid here.controller.host.object.progress
+        choose (inl paid) = paid
+        choose (inr full) = let all = full still_up in let some = room here.controller here.there in absurd (omega (arith, all, some))
 
     -- a drive is found
-    driven_at : (side : Side) (since : ℕ) → last_point.controller.host.object.progress ≡ progress.Driving side since → IsDriven place side (then_at (front ++ last ∷ [])).state
-    driven_at side since e = driven_there place side (then_at (front ++ last ∷ [])).state last_point.controller (subst (λ (s : SitedTable). place < length s.site.points) (sym (sited_at (front ++ last ∷ []) a)) few) last_point.there
-        (left_drives laws.moment.owed.makes last_point.controller last_left last_up (clock_at (front ++ last ∷ []) a last_point.controller last_point.there) side since e)
-
-  -- ---- so many items that the interlocking had given
-
-  module _ (given : ℕ) where
-    -- the controller has answered them
-    abbrev Answered : List (List Event) → Type 0
-    Answered rounds = (c : ClockedControllerState PointState) → slice_get (world_at rounds).points place ≡ Some c → 2 + given ≤ c.host.link.given
-
-    -- and has taken them
-    abbrev Took : (rounds : List (List Event)) → Are rounds → Type 0
-    Took rounds a = given ≤ (up_at rounds a).server.link.taken
-
-    -- it has answered fewer
-    abbrev Short : (rounds : List (List Event)) → Are rounds → Type 0
-    Short rounds a = (up_at rounds a).server.link.given < 2 + given
-
-    given_is : (rounds : List (List Event)) (a : Are rounds) (c : ClockedControllerState PointState) → slice_get (world_at rounds).points place ≡ Some c → (up_at rounds a).server.link.given ≡ c.host.link.given
-    given_is rounds a c e = let p = point rounds a in ap (λ (s : ServerEnd). s.link.given) p.server_same ∙ ap (λ (x : ClockedControllerState PointState). x.host.link.given) (same_Some p.controller c (sym p.there ∙ e))
-
-    answered_so : (rounds : List (List Event)) (a : Are rounds) → 2 + given ≤ (up_at rounds a).server.link.given → Answered rounds
-    answered_so rounds a done c e = let same = given_is rounds a c e in omega (arith, done, same)
-
-    count_of : (rounds : List (List Event)) (a : Are rounds) → Answered rounds → 2 + given ≤ (up_at rounds a).server.link.given
-    count_of rounds a done = let p = point rounds a in let all = done p.controller p.there in let same = given_is rounds a p.controller p.there in omega (arith, all, same)
-
-    -- what is answered stays so
-    stays_answered : (front : List (List Event)) (last : List Event) → ready_rounds ≤ suc (length front) → Are front → Are (front ++ last ∷ []) → Answered front → Answered (front ++ last ∷ [])
-    stays_answered front last long f a done =
-        let p = passes front last long a
-        in let all = count_of front f done
-        in let over = p.over.to_interlocking
-        in let was = ap (λ (s : ServerEnd). s.link.given) (same_server p.over.before (up_at front f))
-        in let is = ap (λ (l : LinkState). l.taken) (same_client p.over.behind (up_at (front ++ last ∷ []) a))
-        in let fewer = (point (front ++ last ∷ []) a).fewer
-        in answered_so (front ++ last ∷ []) a (omega (arith, all, over, was, is, fewer))
-
-    answered_on : (rest front : List (List Event)) → ready_rounds ≤ suc (length front) → Are front → Are (front ++ rest) → Answered front → Answered (front ++ rest)
-    answered_on [] front long f a done = subst Answered (sym (append-nil front)) done
-    answered_on (one ∷ rest) front long f a done =
-        let longer : ready_rounds ≤ suc (length (front ++ one ∷ [])) = (let n = count_front front one in omega (arith, long, n))
-        in let whole = subst Are (sym (append_assoc front (one ∷ []) rest)) a
-        in let on = front_are (front ++ one ∷ []) rest longer whole
-        in subst Answered (append_assoc front (one ∷ []) rest) (answered_on rest (front ++ one ∷ []) longer on whole (stays_answered front one long f on done))
-
-    -- what was taken stays so
-    took_on : (front : List (List Event)) (last : List Event) → ready_rounds ≤ suc (length front) → (f : Are front) (a : Are (front ++ last ∷ [])) → given ≤ (up_at front f).client.given → Took (front ++ last ∷ []) a
-    took_on front last long f a gave =
-        let p = passes front last long a
-        in let over = p.over.to_controller
-        in let was = ap (λ (l : LinkState). l.given) (same_client p.over.before (up_at front f))
-        in let is = ap (λ (s : ServerEnd). s.link.taken) (same_server p.over.behind (up_at (front ++ last ∷ []) a))
-        in omega (arith, gave, over, was, is)
-
-    gave_so : (rounds : List (List Event)) (a : Are rounds) → Took rounds a → given ≤ (up_at rounds a).client.given
-    gave_so rounds a took =
-        let p = point rounds a
-        in let all = ap length p.begins
-        in let parts = length-append ((links_in p.has).ends link).server.taken p.rest
-        in let g = p.client_given
-        in let t = p.server_taken
-        in omega (arith, took, all, parts, g, t)
-
-    -- a move is in progress
-    abbrev Drives : (rounds : List (List Event)) → Are rounds → Side → Type 0
-    Drives rounds a side = (since : ℕ) × ((point rounds a).controller.host.object.progress ≡ progress.Driving side since)
-
-    record AtWork (rounds : List (List Event)) (a : Are rounds) : Type 0 where
-      side : Side
-      drives : Drives rounds a side
-      driven : IsDriven place side (then_at rounds).state
-
-    -- what was taken and isn't answered is driven for
-    at_work : (front : List (List Event)) (last : List Event) (a : Are (front ++ last ∷ [])) → ready_rounds ≤ suc (length front) → Took (front ++ last ∷ []) a → Short (front ++ last ∷ []) a → HasRoomAt place (then_at (front ++ last ∷ [])).state → AtWork (front ++ last ∷ []) a
-    at_work front last a long took short room = by_progress p.controller.host.object.progress refl
-      where
-        rounds : List (List Event)
-        rounds = front ++ last ∷ []
-
-        p : PointAt site (world_at rounds) place (up_at rounds a)
-        p = point rounds a
-
-        by_progress : (how : Progress) → p.controller.host.object.progress ≡ how → AtWork rounds a
-        by_progress progress.Answered e = let none = ap unanswered e in let balance = p.balance in absurd (omega (arith, none, balance, took, short))
-        by_progress (progress.Driving side since) e = record { side = side; drives = (since, e); driven = driven_at front last a long side since e }
-        by_progress progress.Arrived e = absurd (paid_at front last a long room (λ paid_now. subst IsPaid e paid_now))
-        by_progress progress.TimedOut e = absurd (paid_at front last a long room (λ paid_now. subst IsPaid e paid_now))
-
-    -- for the same side as a round before
-    same_side : (front : List (List Event)) (last : List Event) → ready_rounds ≤ suc (length front) → (f : Are front) (a : Are (front ++ last ∷ [])) → Took front f → Took (front ++ last ∷ []) a → Short front f → Short (front ++ last ∷ []) a
-        → (side other : Side) → Drives front f side → Drives (front ++ last ∷ []) a other → side ≡ other
-    same_side front last long f a took_p took_q short_p short_q side other drives_p drives_q =
-        same_Some side other (sym (p.owes.last side drives_p.0 drives_p.1) ∙ ap (λ (items : List (List ℕ)). last_side None (commands_of items)) (sym same_taken) ∙ q.owes.last other drives_q.0 drives_q.1)
-      where
-        rounds : List (List Event)
-        rounds = front ++ last ∷ []
-
-        p : PointAt site (world_at front) place (up_at front f)
-        p = point front f
-
-        q : PointAt site (world_at rounds) place (up_at rounds a)
-        q = point rounds a
-
-        pass : Passing link (world_at front) (world_at rounds)
-        pass = passes front last long a
-
-        taken_p : List (List ℕ)
-        taken_p = ((links_in p.has).ends link).server.taken
-
-        taken_q : List (List ℕ)
-        taken_q = ((links_in q.has).ends link).server.taken
-
-        connection_p : p.one.connection ≡ pass.connection
-        connection_p = same_Some p.one.connection pass.connection (same_Some (Some p.one.connection) (Some pass.connection) (sym p.connections ∙ pass.was_in))
-
-        connection_q : q.one.connection ≡ pass.connection
-        connection_q = same_Some q.one.connection pass.connection (same_Some (Some q.one.connection) (Some pass.connection) (sym q.connections ∙ pass.is_in))
-
-        given_p : ((links_in p.has).ends link).client.given ≡ given_on site (world_at front) link role.Client pass.connection
-        given_p = (laws.read_off site (world_at front) once station p.has link below role.Client p.one.connection p.one.client).given ∙ ap (given_on site (world_at front) link role.Client) connection_p
-
-        given_q : ((links_in q.has).ends link).client.given ≡ given_on site (world_at rounds) link role.Client pass.connection
-        given_q = (laws.read_off site (world_at rounds) once station q.has link below role.Client q.one.connection q.one.client).given ∙ ap (given_on site (world_at rounds) link role.Client) connection_q
-
-        longer : given_on site (world_at rounds) link role.Client pass.connection ≡ given_on site (world_at front) link role.Client pass.connection ++ items_given (names_at site link) role.Client pass.connection (of_link link pass.more)
-        longer = ap (λ (list : List OnLink). items_given (names_at site link) role.Client pass.connection (of_link link list)) pass.sent
-            ∙ ap (items_given (names_at site link) role.Client pass.connection) (of_both link (world_at front).sent pass.more)
-            ∙ given_both (names_at site link) role.Client pass.connection (of_link link (world_at front).sent) (of_link link pass.more)
-
-        all_same : taken_q ++ q.rest ≡ taken_p ++ (p.rest ++ items_given (names_at site link) role.Client pass.connection (of_link link pass.more))
-        all_same = sym q.begins ∙ given_q ∙ longer ∙ ap (λ (list : List (List ℕ)). list ++ items_given (names_at site link) role.Client pass.connection (of_link link pass.more)) (sym given_p ∙ p.begins)
-            ∙ append_assoc taken_p p.rest (items_given (names_at site link) role.Client pass.connection (of_link link pass.more))
-
-        as_many : length taken_q ≡ length taken_p
-        as_many =
-            let balance_p = p.balance
-            in let balance_q = q.balance
-            in let one_p = one_waits p.controller.host.object.progress
-            in let one_q = one_waits q.controller.host.object.progress
-            in let count_p = p.server_taken
-            in let count_q = q.server_taken
-            in omega (arith, balance_p, balance_q, one_p, one_q, count_p, count_q, took_p, took_q, short_p, short_q)
-
-        same_taken : taken_q ≡ taken_p
-        same_taken = same_front taken_q taken_p q.rest (p.rest ++ items_given (names_at site link) role.Client pass.connection (of_link link pass.more)) all_same as_many
-
-    decide : (n m : ℕ) → (n ≤ m) ⊎ (m < n)
-    decide n m = choose (nat_le n m) refl
-      where
-        choose : (b : Bool) → nat_le n m ≡ b → (n ≤ m) ⊎ (m < n)
-        choose true e = inl (leb-true n m e)
-        choose false e = inr (leb-false n m e)
-
-    -- As long as it isn't answered it is driven, round by round.
-    goes_on : (rest front : List (List Event)) → ready_rounds ≤ suc (length front) → (f : Are front) → Are (front ++ rest) → Took front f → Short front f → (side : Side) → Drives front f side → HasRoomBehind place rest (then_at front)
-        → Answered (front ++ rest) ⊎ IsDrivenBehind place side rest (then_at front)
-    goes_on [] front long f a took short side drives room = inr tt
-    goes_on (one ∷ rest) front long f a took short side drives room = choose (decide (2 + given) (up_at on on_are).server.link.given)
-        (λ short_then work_then. goes_on rest on longer on_are whole took_then short_then (AtWork.side work_then) (AtWork.drives work_then) (subst (HasRoomBehind place rest) (sym last_is) room.1))
-      where
-        on : List (List Event)
-        on = front ++ one ∷ []
-
-        longer : ready_rounds ≤ suc (length on)
-        longer = let n = count_front front one in omega (arith, long, n)
-
-        whole : Are (on ++ rest)
-        whole = subst Are (sym (append_assoc front (one ∷ []) rest)) a
-
-        on_are : Are on
-        on_are = front_are on rest longer whole
-
-        took_then : Took on on_are
-        took_then = took_on front one long f on_are (gave_so front f took)
-
-        last_is : then_at on ≡ all_tried one (round stations (then_at front))
-        last_is = last_round front one next
-
-        choose : (2 + given ≤ (up_at on on_are).server.link.given) ⊎ ((up_at on on_are).server.link.given < 2 + given)
-            → ((s : Short on on_are) (w : AtWork on on_are) → Answered (on ++ rest) ⊎ IsDrivenBehind place w.side rest (then_at on))
-            → Answered (front ++ one ∷ rest) ⊎ IsDrivenBehind place side (one ∷ rest) (then_at front)
-        choose (inl done) more = inl (subst Answered (append_assoc front (one ∷ []) rest) (answered_on rest on longer on_are whole (answered_so on on_are done)))
-        choose (inr short_then) more = then_so work_then (more short_then work_then)
-          where
-            work_then : AtWork on on_are
-            work_then = at_work front one on_are long took_then short_then (subst (λ (f : Flowing Played). HasRoomAt place f.state) (sym last_is) room.0)
-
-            then_so : (w : AtWork on on_are) → Answered (on ++ rest) ⊎ IsDrivenBehind place w.side rest (then_at on) → Answered (front ++ one ∷ rest) ⊎ IsDrivenBehind place side (one ∷ rest) (then_at front)
-            then_so w (inl done) = inl (subst Answered (append_assoc front (one ∷ []) rest) done)
-            then_so w (inr driven) =
-                let same = same_side front one long f on_are took took_then short short_then side w.side drives w.drives
-                in inr (subst (λ (s : Side). IsDrivenBehind place s (one ∷ rest) (then_at front)) (sym same) (subst (λ (g : Flowing Played). IsDriven place w.side g.state) last_is w.driven, subst (IsDrivenBehind place w.side rest) last_is driven))
-
-  -- 51 rounds later the controller has answered, and the interlocking knows it in the next one
-  pub answers_behind : (later_rounds : List (List Event)) (first : List Event) (rest : List (List Event)) (last : List Event) → ready_rounds ≤ suc (length later_rounds) → (f : Are later_rounds) → Are (later_rounds ++ ((first ∷ rest) ++ last ∷ [])) → length rest ≡ 50
-      → length site.points ≤ length flowing.drives → HasRoomBehind place (first ∷ rest) (then_at later_rounds) → AreAnswered link (world_at later_rounds) (world_at (later_rounds ++ ((first ∷ rest) ++ last ∷ [])))
-  answers_behind later_rounds first rest last long f a many notes room = record {
-    before = up_at later_rounds f;
-    behind = up_at (later_rounds ++ ((first ∷ rest) ++ last ∷ [])) a;
-    answered = known_then;
-  }
-    where
-      given : ℕ
-      given = (up_at later_rounds f).client.given
-
-      on : List (List Event)
-      on = later_rounds ++ first ∷ []
-
-      then_rounds : List (List Event)
-      then_rounds = later_rounds ++ (first ∷ rest)
-
-      long_on : ready_rounds ≤ suc (length on)
-      long_on = let n = count_front later_rounds first in omega (arith, long, n)
-
-      long_then : ready_rounds ≤ suc (length then_rounds)
-      long_then = let n = length-append later_rounds (first ∷ rest) in omega (arith, long, n)
-
-      last_are : Are (then_rounds ++ last ∷ [])
-      last_are = subst Are (sym (append_assoc later_rounds (first ∷ rest) (last ∷ []))) a
-
-      then_are : Are then_rounds
-      then_are = front_are then_rounds (last ∷ []) long_then last_are
-
-      whole : Are (on ++ rest)
-      whole = subst Are (sym (append_assoc later_rounds (first ∷ []) rest)) then_are
-
-      on_are : Are on
-      on_are = front_are on rest long_on whole
-
-      took : Took given on on_are
-      took = took_on given later_rounds first long f on_are (omega arith)
-
-      last_is : then_at on ≡ all_tried first (round stations (then_at later_rounds))
-      last_is = last_round later_rounds first next
-
-      noted : length (then_at later_rounds).state.sited.site.points ≤ length (then_at later_rounds).drives
-      noted = let kept = drives_kept later_rounds next ∙ kept_on between flowing in subst (λ (s : SitedTable). length s.site.points ≤ length (then_at later_rounds).drives) (sym (sited_at later_rounds f)) (omega (arith, notes, kept))
-
-      works_then : Each (Each IsWork) (first ∷ rest)
-      works_then = (each_split (Each IsWork) later_rounds (first ∷ rest) then_are.works).1
-
-      answered_then : Answered given then_rounds
-      answered_then = choose (decide given (2 + given) (up_at on on_are).server.link.given)
-        where
-          choose : (2 + given ≤ (up_at on on_are).server.link.given) ⊎ ((up_at on on_are).server.link.given < 2 + given) → Answered given then_rounds
-          choose (inl done) = subst (Answered given) (append_assoc later_rounds (first ∷ []) rest) (answered_on given rest on long_on on_are whole (answered_so given on on_are done))
-          choose (inr short) = by_end (goes_on given rest on long_on on_are whole took short w.side w.drives (subst (HasRoomBehind place rest) (sym last_is) room.1))
-            where
-              w : AtWork given on on_are
-              w = at_work given later_rounds first on_are long took short (subst (λ (g : Flowing Played). HasRoomAt place g.state) (sym last_is) room.0)
-
-              by_end : Answered given (on ++ rest) ⊎ IsDrivenBehind place w.side rest (then_at on) → Answered given then_rounds
-              by_end (inl done) = subst (Answered given) (append_assoc later_rounds (first ∷ []) rest) done
-              by_end (inr driven) =
-                  let most = drives_end (first ∷ rest) (then_at later_rounds) place w.side works_then noted
-                  (subst (λ (g : Flowing Played). IsDriven place w.side g.state) last_is w.driven, subst (IsDrivenBehind place w.side rest) last_is driven)
-                  in absurd (omega (arith, most, many))
-
-      known_then : 2 + given ≤ (up_at (later_rounds ++ ((first ∷ rest) ++ last ∷ [])) a).client.taken
-      known_then =
-          let p = passes then_rounds last long_then last_are
-          in let all = count_of given then_rounds then_are answered_then
-          in let over = p.over.to_interlocking
-          in let was = ap (λ (s : ServerEnd). s.link.given) (same_server p.over.before (up_at then_rounds then_are))
-          in let is = taken_same (then_rounds ++ last ∷ []) (later_rounds ++ ((first ∷ rest) ++ last ∷ [])) (append_assoc later_rounds (first ∷ rest) (last ∷ [])) p.over.behind (up_at (later_rounds ++ ((first ∷ rest) ++ last ∷ [])) a)
-          in omega (arith, all, over, was, is)
-        where
-          taken_same : (one other : List (List Event)) → one ≡ other → (x : IsUpOn link (world_at one)) (y : IsUpOn link (world_at other)) → x.client.taken ≡ y.client.taken
-          taken_same one other same x y = ap (λ (l : LinkState). l.taken) (same_Some x.client y.client (sym x.client_there ∙ ap (λ (r : List (List Event)). slice_get (client_links (world_at r).station.ixl) link) same ∙ y.client_there))
+    pub driven_here : (side : Side) (since : ℕ) → here.controller.host.object.progress ≡ progress.Driving side since → IsDriven place side (then_at rounds).state
+    driven_here side since e = driven_there place side (then_at rounds).state here.controller (subst (λ (s : SitedTable). place < length s.site.points) (sym (sited_at rounds a)) few) here.there
+        (left_drives laws.moment.owed.makes here.controller left_here inside_here (clock_at rounds a here.controller here.there) side since e)
 
   -- ---- reports come over
 
@@ -566,7 +298,7 @@ module _ (laws : AnswerLaws) (between : List Event) (flowing : Flowing Played) (
       let r = reached_at rounds a
       in subst (IsWhole site) (sym r.after) (laws.ready.up.link.times.standing site flowing.state.sited.table r.outset r.events station once r.lies r.can).whole
 
-  these_at : (rounds : List (List Event)) (a : Are rounds) → HasThese flowing.state.sited (then_at rounds).state (links_in (point rounds a).has)
+  pub these_at : (rounds : List (List Event)) (a : Are rounds) → HasThese flowing.state.sited (then_at rounds).state (links_in (point rounds a).has)
   these_at rounds a = record {
     same = sited_at rounds a;
     whole = whole_at rounds a;
@@ -579,39 +311,10 @@ module _ (laws : AnswerLaws) (between : List Event) (flowing : Flowing Played) (
     abbrev timed_at : Played
     timed_at = after (then_at front).state (round_of_time (then_at front).state.sited.site)
 
-    timed_found : (one : ClockedControllerState PointState) × (slice_get timed_at.run.points place ≡ Some one)
+    pub timed_found : (one : ClockedControllerState PointState) × (slice_get timed_at.run.points place ≡ Some one)
     timed_found =
         let many = (tried_followed laws.ready.up.link flowing.state.sited station once (round_of_time (then_at front).state.sited.site) (then_at front).state (links_in (point front f).has) (these_at front f)).has.whole.points
         in at_place timed_at.run.points place (omega (arith, few, many))
-
-  -- a drive that wasn't there before has begun in the round
-  pub young_at : (front : List (List Event)) (last : List Event) (f : Are front) (a : Are (front ++ last ∷ [])) (side : Side) (since : ℕ) → ((point front f).controller.host.object.progress ≡ progress.Driving side since → ⊥)
-      → (point (front ++ last ∷ []) a).controller.host.object.progress ≡ progress.Driving side since → reading_of (point (front ++ last ∷ []) a).controller.clock + 510 < drive_end since
-  young_at front last f a side since not_before drives = choose (new.1 side since drives)
-    where
-      p : PointAt site (world_at front) place (up_at front f)
-      p = point front f
-
-      q : PointAt site (world_at (front ++ last ∷ [])) place (up_at (front ++ last ∷ []) a)
-      q = point (front ++ last ∷ []) a
-
-      one : ClockedControllerState PointState
-      one = (timed_found front f).0
-
-      new : IsNewHere laws.moment.owed.makes (λ s n. p.controller.host.object.progress ≡ progress.Driving s n) (reading_of one.clock) q.controller
-      new = round_new laws.moment.owed.makes (λ s n. p.controller.host.object.progress ≡ progress.Driving s n) (reading_of one.clock) place last (then_at front) (each_split (Each IsWork) front (last ∷ []) a.works).1.0
-          (λ c e. (ap (λ (x : ClockedControllerState PointState). reading_of x.clock) (same_Some c one (sym e ∙ (timed_found front f).1)), λ s n g. inl (sym (ap (λ (h : HostState PointState). h.object.progress) (timed_host (then_at front) place p.controller c p.there e)) ∙ g)))
-          q.controller (subst (λ (w : Flowing Played). slice_get w.state.run.points place ≡ Some q.controller) (last_round front last next) q.there)
-
-      far : (n : ℕ) → n ≤ 9000000000000000 → n + 510 < drive_end n
-      far n small = ltb-true (n + 510) (drive_end n) (grind (arith, nat_tests, small))
-
-      small_at : (clock : ℕ) → clock ≤ 9000000000000000 → reading_of clock ≤ 9000000000000000
-      small_at clock less = omega (arith, less)
-
-      choose : (p.controller.host.object.progress ≡ progress.Driving side since) ⊎ (since ≡ reading_of one.clock) → reading_of q.controller.clock + 510 < drive_end since
-      choose (inl was) = absurd (not_before was)
-      choose (inr begun_now) = subst (λ (n : ℕ). reading_of q.controller.clock + 510 < drive_end n) (sym (begun_now ∙ sym new.0)) (far (reading_of q.controller.clock) (small_at q.controller.clock (clock_at (front ++ last ∷ []) a q.controller q.there)))
 
   module _ (told : ReportLaws) (side : Side) (since connection : ℕ) where
     abbrev pub IsIn : List (List Event) → Type 0
@@ -696,8 +399,8 @@ module _ (laws : AnswerLaws) (between : List Event) (flowing : Flowing Played) (
             same_Some ((then_network.ends link).client.connection) (Some connection) (sym (has_then.are.clients link id.0 id.1).connection_is ∙ subst (λ (w : Flowing Played). slice_get w.state.run.station.connections link ≡ Some (Some connection)) last_is inside_then),
             ap (λ (l : LinkState). is_open l.phase) (server_is site link below then_old.state.run then_network has_then.are then_up) ∙ up_open (settled (reading_of then_up.server.clock) then_up.server.link).phase then_up.server_up,
           ))
-          (λ c there arrived. paid_at front last a long room (λ paid_now. subst IsPaid (ap (λ (x : ClockedControllerState PointState). x.host.object.progress)
-          (same_Some (point rounds a).controller c (sym (point rounds a).there ∙ subst (λ (w : Flowing Played). slice_get w.state.run.points place ≡ Some c) (sym last_is) there)) ∙ arrived) paid_now))
+          (λ c there arrived. subst IsPaid (ap (λ (x : ClockedControllerState PointState). x.host.object.progress)
+          (same_Some (point rounds a).controller c (sym (point rounds a).there ∙ subst (λ (w : Flowing Played). slice_get w.state.run.points place ≡ Some c) (sym last_is) there)) ∙ arrived) (paid_here rounds a room))
         where
           id : (one : ℕ) × (slice_get (partners site) link ≡ Some one)
           id = at_place (partners site) link (subst (λ (n : ℕ). link < n) (sym (partners_length site)) below)
@@ -793,4 +496,4 @@ module _ (laws : AnswerLaws) (between : List Event) (flowing : Flowing Played) (
               parts = ap (λ (list : List (List Event)). one ∷ list) by.parts;
               reported = subst (λ (list : List (List Event)). ReportedAt list before) (append_assoc front (one ∷ []) by.done) by.reported;
             })
-            then_so (inr driven) = inr (subst (λ (g : Flowing Played). IsDriven place side g.state) last_so (driven_at front one on_are long side since drives.is_driving), subst (IsDrivenBehind place side rest) last_so driven)
+            then_so (inr driven) = inr (subst (λ (g : Flowing Played). IsDriven place side g.state) last_so (driven_here on on_are side since drives.is_driving), subst (IsDrivenBehind place side rest) last_so driven)

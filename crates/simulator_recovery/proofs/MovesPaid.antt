@@ -242,7 +242,7 @@ module _ (Was : Side → ℕ → Type 0) (now : ℕ) where
   pays_new (Loses ∷ others) point are before = absurd are
 
   -- behind a step from where it is found
-  found_new : (input : Input) (host : HostState PointState) → IsPointStep now input host (host_step point_behaviour now input host) → IsNew Was now (found_by now host).progress → IsNew Was now (host_step point_behaviour now input host).host.object.progress
+  pub found_new : (input : Input) (host : HostState PointState) → IsPointStep now input host (host_step point_behaviour now input host) → IsNew Was now (found_by now host).progress → IsNew Was now (host_step point_behaviour now input host).host.object.progress
   unfolding object_after_all
   found_new input host step found side since e = choose step.tells.is_lost (sym (object_after now input host step) ∙ e)
     where

@@ -75,13 +75,13 @@ pub record ReportLaws : Type 0 where
 -- ---- what a step gives, where the link is open before it
 
 module _ (laws : TellLaws point_behaviour) (input : HostInput) (connection : ℕ) (c : ClockedControllerState PointState) (ends : Ends) (link_is : ends.server.link ≡ settled (reading_of c.clock) c.host.link) (clock_is : ends.server.clock ≡ c.clock) where
-  enters_none : (i : HostInput) → is_open ends.server.link.phase ≡ true → entering i connection ends ≡ None
+  pub enters_none : (i : HostInput) → is_open ends.server.link.phase ≡ true → entering i connection ends ≡ None
   unfolding outcome
   enters_none inputs.Tick opened = refl
   enters_none (inputs.Sense contact) opened = refl
   enters_none (inputs.Datagram bytes) opened = rw opened refl
 
-  given_then : is_open ends.server.link.phase ≡ true → (called_all connection (step_of point_behaviour input c).calls ends).server.given ≡ ends.server.given ++ items_given (reading_of c.clock) (step_of point_behaviour input c).calls (settled (reading_of c.clock) c.host.link)
+  pub given_then : is_open ends.server.link.phase ≡ true → (called_all connection (step_of point_behaviour input c).calls ends).server.given ≡ ends.server.given ++ items_given (reading_of c.clock) (step_of point_behaviour input c).calls (settled (reading_of c.clock) c.host.link)
   unfolding stepped
   given_then opened = ap (λ (s : HostSoFar PointState). (called_all connection s.calls ends).server.given) (sym done_is) ∙ laws.kind.given input connection (world point_behaviour points_tell 1 laws.kind input connection 0 c ends link_is clock_is)
       ∙ ap (λ (n : ℕ). kept (entering input connection ends) ends.server.given ++ items_given n (world_step point_behaviour input (world point_behaviour points_tell 1 laws.kind input connection 0 c ends link_is clock_is)).calls ends.server.link) (ap reading_of clock_is)
@@ -95,15 +95,15 @@ module _ (laws : TellLaws point_behaviour) (input : HostInput) (connection : ℕ
 -- ---- the events of a round
 
 -- not for this point's controller
-abbrev IsElsewhere : ℕ → Event → Type 0
+abbrev pub IsElsewhere : ℕ → Event → Type 0
 IsElsewhere place one = (input : HostInput) → IsInputOf place one input → ⊥
 
 -- its contact doesn't tell
-abbrev IsPlain : Event → Type 0
+abbrev pub IsPlain : Event → Type 0
 IsPlain (event.Reach point position) = ⊥
 IsPlain one = IsCalm one
 
-plain_calm : (one : Event) → IsPlain one → IsCalm one
+pub plain_calm : (one : Event) → IsPlain one → IsCalm one
 plain_calm (event.Request command) plain = plain
 plain_calm (event.Occupy section occupancy) plain = plain
 plain_calm (event.Tick node) plain = plain
@@ -113,7 +113,7 @@ plain_calm (event.Lose bytes) plain = plain
 plain_calm (event.Reach point position) plain = absurd plain
 plain_calm (event.Restart node clock first) plain = plain
 
-plain_input : (place : ℕ) (one : Event) (input : HostInput) → IsPlain one → IsInputOf place one input → contacts_of input ≡ []
+pub plain_input : (place : ℕ) (one : Event) (input : HostInput) → IsPlain one → IsInputOf place one input → contacts_of input ≡ []
 plain_input place (event.Request command) input plain is = absurd is
 plain_input place (event.Occupy section occupancy) input plain is = absurd is
 plain_input place (event.Tick node) input plain is = ap contacts_of is
@@ -123,7 +123,7 @@ plain_input place (event.Lose bytes) input plain is = absurd is
 plain_input place (event.Reach point position) input plain is = absurd plain
 plain_input place (event.Restart node clock first) input plain is = absurd is
 
-at_its_side : (side : Side) (position : Position) → is_at side position ≡ true → position ≡ position_of side
+pub at_its_side : (side : Side) (position : Position) → is_at side position ≡ true → position ≡ position_of side
 at_its_side sides.Right positions.Right e = refl
 at_its_side sides.Left positions.Left e = refl
 at_its_side sides.Right positions.Left e = absurd (false≢true e)
@@ -206,22 +206,22 @@ module _ (laws : ReportLaws) (sited : SitedTable) (station : IsStation sited.sit
   report = own_report (message.Point (PointPosition (position_of side)))
 
   -- a station at this reading of the controller's clock, with its links
-  record Is (played : Played) (network : Links) (c : ClockedControllerState PointState) : Type 0 where
-    has : HasThese sited played network
-    there : slice_get played.run.points place ≡ Some c
-    clock : reading_of c.clock ≡ now
+  pub record Is (played : Played) (network : Links) (c : ClockedControllerState PointState) : Type 0 where
+    pub has : HasThese sited played network
+    pub there : slice_get played.run.points place ≡ Some c
+    pub clock : reading_of c.clock ≡ now
 
-  abbrev end : Links → EndState
+  abbrev pub end : Links → EndState
   end network = (network.ends link).server
 
-  abbrev SameNow : Links → Type 0
+  abbrev pub SameNow : Links → Type 0
   SameNow network = IsSame laws.stay names ((are_links laws.link sited station once).each link below) connection (seen link network)
 
-  abbrev LateNow : Links → Type 0
+  abbrev pub LateNow : Links → Type 0
   LateNow network = IsLate laws.stay names ((are_links laws.link sited station once).each link below) connection (seen link network)
 
   -- the end of the controller
-  end_is : (played : Played) (network : Links) (c : ClockedControllerState PointState) → Is played network c → ((end network).link ≡ settled (reading_of c.clock) c.host.link) × ((end network).clock ≡ c.clock)
+  pub end_is : (played : Played) (network : Links) (c : ClockedControllerState PointState) → Is played network c → ((end network).link ≡ settled (reading_of c.clock) c.host.link) × ((end network).clock ≡ c.clock)
   end_is played network c is =
       let id = at_place (partners sited.site) link (subst (λ (n : ℕ). link < n) (sym (partners_length sited.site)) below)
       in let s = is.has.are.servers link id.0 id.1
@@ -242,10 +242,10 @@ module _ (laws : ReportLaws) (sited : SitedTable) (station : IsStation sited.sit
     told : SameNow network → is_open (end network).link.phase ≡ true → c.host.object.progress ≡ progress.Answered → (end network).given ≡ before ++ item_of c.host report ∷ [] → Second c network
     owed : c.host.object.progress ≡ progress.Arrived → Second c network
 
-  record On (P : ClockedControllerState PointState → Links → Type 0) (played : Played) (network : Links) : Type 0 where
-    c : ClockedControllerState PointState
-    is : Is played network c
-    state : P c network
+  pub record On (P : ClockedControllerState PointState → Links → Type 0) (played : Played) (network : Links) : Type 0 where
+    pub c : ClockedControllerState PointState
+    pub is : Is played network c
+    pub state : P c network
 
   -- ---- an event that is tried
 
@@ -280,7 +280,7 @@ module _ (laws : ReportLaws) (sited : SitedTable) (station : IsStation sited.sit
     same_then same = subst (Stays laws.stay names ((are_links laws.link sited station once).each link below) connection (seen link network)) (sym seen_then)
         (run_stays laws.stay names ((are_links laws.link sited station once).each link below) connection (run_on link (events_tried one played) network) (seen link network) (on_calls link (events_tried one played) network called) may_then (is.has.timely.each link below) same)
 
-    gone_then : LateNow network ⊎ (SameNow network × (is_open (end network).link.phase ≡ false)) → LateNow then_network ⊎ (SameNow then_network × (is_open (end then_network).link.phase ≡ false))
+    pub gone_then : LateNow network ⊎ (SameNow network × (is_open (end network).link.phase ≡ false)) → LateNow then_network ⊎ (SameNow then_network × (is_open (end then_network).link.phase ≡ false))
     gone_then (inl late) = inl (late_then late)
     gone_then (inr (same, shut)) = choose (same_then same)
       where
@@ -288,10 +288,10 @@ module _ (laws : ReportLaws) (sited : SitedTable) (station : IsStation sited.sit
         choose (inl late) = inl late
         choose (inr (still, shuts)) = inr (still, shuts shut)
 
-    new : (one : ClockedControllerState PointState) × (slice_get then_played.run.points place ≡ Some one)
+    pub new : (one : ClockedControllerState PointState) × (slice_get then_played.run.points place ≡ Some one)
     new = let many = followed.has.whole.points in at_place then_played.run.points place (omega (arith, few, many))
 
-    happened_so : PointEvent link place one c new.0 network then_network
+    pub happened_so : PointEvent link place one c new.0 network then_network
     happened_so = choose (refusal_of one played) refl new.0 new.1
       where
         choose : (why : Option Refused) → refusal_of one played ≡ why → (x : ClockedControllerState PointState) → slice_get (world_where why played (record played { run = happens played.sited.site played.sited.table one played.run })).run.points place ≡ Some x
@@ -309,7 +309,7 @@ module _ (laws : ReportLaws) (sited : SitedTable) (station : IsStation sited.sit
         choose (stays e f) = ap (λ (x : ClockedControllerState PointState). x.clock) e
         choose (steps input at moment of e f) = ap (λ (x : ClockedControllerState PointState). x.clock) e
 
-    is_then : Is then_played then_network new.0
+    pub is_then : Is then_played then_network new.0
     is_then = record { has = followed.has; there = new.1; clock = ap reading_of clock_then ∙ is.clock }
 
     -- where the controller stays as it is, its link does
@@ -393,7 +393,7 @@ module _ (laws : ReportLaws) (sited : SitedTable) (station : IsStation sited.sit
                 (given_so ∙ ap (λ (list : List (List ℕ)). before ++ list) (reports.gives ∙ ap (λ (p : Position). item_of part.host (own_report (message.Point (PointPosition p))) ∷ []) (at_its_side side position there))
                 ∙ ap (λ (h : HostState PointState). before ++ item_of h report ∷ []) (sym host_is))
 
-    by_links : {P : Type 0} → SameNow network → (LateNow then_network ⊎ (SameNow then_network × (is_open (end then_network).link.phase ≡ false)) → P) → (SameNow then_network → is_open (end then_network).link.phase ≡ true → P) → P
+    pub by_links : {P : Type 0} → SameNow network → (LateNow then_network ⊎ (SameNow then_network × (is_open (end then_network).link.phase ≡ false)) → P) → (SameNow then_network → is_open (end then_network).link.phase ≡ true → P) → P
     by_links {P} same left on = choose (same_then same)
       where
         by_open : SameNow then_network → (b : Bool) → is_open (end then_network).link.phase ≡ b → P
@@ -424,12 +424,12 @@ module _ (laws : ReportLaws) (sited : SitedTable) (station : IsStation sited.sit
 
   -- ---- lists of events
 
-  joined : (P : ClockedControllerState PointState → Links → Type 0) (front rest : List Event) (played : Played) (network : Links)
+  pub joined : (P : ClockedControllerState PointState → Links → Type 0) (front rest : List Event) (played : Played) (network : Links)
       → On P (after_each rest (after_each front played)) (run_links (all_events_tried rest (after_each front played)) (run_links (all_events_tried front played) network)) → On P (after_each (front ++ rest) played) (run_links (all_events_tried (front ++ rest) played) network)
   joined P front rest played network on = subst (λ (w : Played). On P w (run_links (all_events_tried (front ++ rest) played) network)) (sym (after_both front rest played))
       (subst (On P (after_each rest (after_each front played))) (sym (ap (λ (events : List LinksEvent). run_links events network) (events_both front rest played) ∙ links_both (all_events_tried front played) (all_events_tried rest (after_each front played)) network)) on)
 
-  next_of : (P : ClockedControllerState PointState → Links → Type 0) (one : Event) (others : List Event) (played : Played) (network : Links) → On P (after_each others (after played one)) (run_links (all_events_tried others (after played one)) (run_links (events_tried one played) network))
+  pub next_of : (P : ClockedControllerState PointState → Links → Type 0) (one : Event) (others : List Event) (played : Played) (network : Links) → On P (after_each others (after played one)) (run_links (all_events_tried others (after played one)) (run_links (events_tried one played) network))
       → On P (after_each (one ∷ others) played) (run_links (all_events_tried (one ∷ others) played) network)
   next_of P one others played network on = subst (On P (after_each others (after played one))) (sym (links_both (events_tried one played) (all_events_tried others (after played one)) network)) on
 
@@ -440,7 +440,7 @@ module _ (laws : ReportLaws) (sited : SitedTable) (station : IsStation sited.sit
       in next_of First one others played network (plain_walk others plain.1 (after played one) (run_links (events_tried one played) network)
       (record { c = (new played network one calm on.c on.is).0; is = is_then played network one calm on.c on.is; state = plain_first played network one calm on.c on.is plain.0 on.state }))
 
-  abbrev IsQuiet : Event → Type 0
+  abbrev pub IsQuiet : Event → Type 0
   IsQuiet one = IsCalm one × IsElsewhere place one
 
   quiet_first : (list : List Event) → Each IsQuiet list → (played : Played) (network : Links) → On First played network → On First (after_each list played) (run_links (all_events_tried list played) network)
@@ -457,7 +457,7 @@ module _ (laws : ReportLaws) (sited : SitedTable) (station : IsStation sited.sit
 
   -- ---- the events of a round
 
-  reach_quiet : (passed at : ℕ) (drive : Option FoundDriven) → at ≢ place → Each IsQuiet (map event_of (reach passed at drive))
+  pub reach_quiet : (passed at : ℕ) (drive : Option FoundDriven) → at ≢ place → Each IsQuiet (map event_of (reach passed at drive))
   reach_quiet passed at None differ = tt
   reach_quiet passed at (Some drive) differ = choose (nat_lt drive.rounds 50)
     where
@@ -465,7 +465,7 @@ module _ (laws : ReportLaws) (sited : SitedTable) (station : IsStation sited.sit
       choose true = tt
       choose false = ((tt, λ input is. differ is.0), tt)
 
-  reaches_quiet : (passed at : ℕ) (drives : List (Option FoundDriven)) → place < at → Each IsQuiet (map event_of (reaches passed at drives))
+  pub reaches_quiet : (passed at : ℕ) (drives : List (Option FoundDriven)) → place < at → Each IsQuiet (map event_of (reaches passed at drives))
   unfolding reaches
   reaches_quiet passed at [] beyond = tt
   reaches_quiet passed at (drive ∷ drives) beyond = subst (Each IsQuiet) (sym (map_both event_of (reach passed at drive) (reaches passed (suc at) drives)))
@@ -510,18 +510,18 @@ module _ (laws : ReportLaws) (sited : SitedTable) (station : IsStation sited.sit
   delivery_plain at None = tt
   delivery_plain at (Some arrival) = (tt, tt)
 
-  deliveries_plain : (arrival : ℕ → Option (NodeId × List ℕ)) (at more : ℕ) → Each IsPlain (map event_of (deliveries arrival at more))
+  pub deliveries_plain : (arrival : ℕ → Option (NodeId × List ℕ)) (at more : ℕ) → Each IsPlain (map event_of (deliveries arrival at more))
   unfolding deliveries
   deliveries_plain arrival at zero = tt
   deliveries_plain arrival at (suc more) = subst (Each IsPlain) (sym (map_both event_of (delivery at (arrival at)) (deliveries arrival (suc at) more)))
       (each_both IsPlain (map event_of (delivery at (arrival at))) (map event_of (deliveries arrival (suc at) more)) (delivery_plain at (arrival at)) (deliveries_plain arrival (suc at) more))
 
-  ticks_plain : (passed at more : ℕ) → Each IsPlain (map event_of (ticks passed at more))
+  pub ticks_plain : (passed at more : ℕ) → Each IsPlain (map event_of (ticks passed at more))
   unfolding ticks
   ticks_plain passed at zero = tt
   ticks_plain passed at (suc more) = (tt, ticks_plain passed (suc at) more)
 
-  work_quiet : (between : List Event) → Each IsWork between → Each IsQuiet between
+  pub work_quiet : (between : List Event) → Each IsWork between → Each IsQuiet between
   work_quiet [] work = tt
   work_quiet (one ∷ others) work = ((work_calm one work.0, elsewhere one work.0), work_quiet others work.1)
     where
@@ -579,11 +579,11 @@ module _ (laws : ReportLaws) (sited : SitedTable) (station : IsStation sited.sit
     abbrev timed_network : Links
     timed_network = run_links (time_of_round flowing) network
 
-    timed_has : HasThese sited timed timed_network
+    pub timed_has : HasThese sited timed timed_network
     timed_has = (tried_followed laws.link sited station once (round_of_time flowing.state.sited.site) flowing.state network has).has
 
     -- the ends are in the connection that they were in, and have given what they had
-    same_lists : (((timed_network.ends link).client.connection ≡ (network.ends link).client.connection) × ((timed_network.ends link).server.connection ≡ (network.ends link).server.connection)) × ((timed_network.ends link).server.given ≡ (network.ends link).server.given)
+    pub same_lists : (((timed_network.ends link).client.connection ≡ (network.ends link).client.connection) × ((timed_network.ends link).server.connection ≡ (network.ends link).server.connection)) × ((timed_network.ends link).server.given ≡ (network.ends link).server.given)
     unfolding events_of end_later
     same_lists = choose (refusal_of (round_of_time flowing.state.sited.site) flowing.state)
       where

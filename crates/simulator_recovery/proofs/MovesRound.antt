@@ -8,7 +8,7 @@ use Rattle.simulator_run.specs.layout.Entries.{Site}
 use Rattle.simulator_run.specs.rasta_core.Clock.{alive_until, deadline, settled}
 use Rattle.simulator_run.specs.rasta_core.Each.{Each}
 use Rattle.simulator_run.specs.rasta_core.Ends.{reading_of}
-use Rattle.simulator_run.specs.rasta_core.State.{is_open, is_up}
+use Rattle.simulator_run.specs.rasta_core.State.{is_open}
 use Rattle.simulator_run.specs.sci_telegram.declared.message.Occupancy.{Occupancy}
 use Rattle.simulator_run.specs.sci_telegram.declared.message.Side.{Side}
 use Rattle.simulator_run.specs.object_host.Host.{HostState, is_completed}
@@ -33,6 +33,7 @@ use Rattle.simulator_run.specs.Nodes.{Node, links, node_at, point_link}
 use Rattle.simulator_run.specs.Refusals.{driven_at, driven_by, refusal, refused_where}
 use Rattle.simulator_run.specs.State.{ClockedControllerState, WorldState}
 use Rattle.simulator_run.specs.Tried.{Played, after, world_where}
+use Rattle.simulator_run.specs.Tried.{driven as found_driven}
 use Rattle.simulator_recovery.specs.Moves.{IsDriven}
 use Rattle.simulator_recovery.specs.Rounds.{IsWork, all_tried}
 use Rattle.simulator_recovery.proofs.Clocks.{IsCalm}
@@ -40,7 +41,6 @@ use Rattle.simulator_recovery.proofs.DrivenPoints.{did_both, did_sited}
 use Rattle.simulator_recovery.proofs.LinkCounts.{settled_open}
 use Rattle.simulator_recovery.proofs.MovesMoment.{point_controller}
 use Rattle.simulator_recovery.proofs.MovesPaid.{IsFresh, IsFull, IsPaid, step_done, step_fresh}
-use Rattle.simulator_recovery.proofs.ClientLinks.{up_open}
 use Rattle.simulator_recovery.proofs.Rounds.{calm_keeps, reaches_calm, ticks_calm, tried_keeps, work_calm}
 
 -- ---- a step was made
@@ -236,12 +236,9 @@ module _ (makes : MakesStep) (c : ClockedControllerState PointState) (left : IsL
   pub left_paid : is_completed c.host.stage ≡ true → IsPaid c.host.object.progress ⊎ IsFull c.host.link
   left_paid completed = subst (λ (h : HostState PointState). IsPaid h.object.progress ⊎ IsFull h.link) (sym left.is) (step_done now left.input left.before (ap (λ (h : HostState PointState). is_completed h.stage) (sym left.is) ∙ completed))
 
-  module _ (up : is_up (settled now c.host.link).phase ≡ true) (early : c.clock ≤ 9000000000000000) where
-    opened : is_open c.host.link.phase ≡ true
-    opened = (settled_open now c.host.link (up_open _ up)).1
-
+  module _ (inside : is_open (settled now c.host.link).phase ≡ true) (early : c.clock ≤ 9000000000000000) where
     lives : now < deadline c.host.link
-    lives = (settled_open now c.host.link (up_open _ up)).2
+    lives = (settled_open now c.host.link inside).2
 
     small : now ≤ 9000000000000000
     small = less c.clock early
@@ -287,8 +284,12 @@ driver_there place [] c e = absurd (none-some c e)
 driver_there zero (one ∷ points) c e = ap driven_by (same_Some one c e)
 driver_there (suc place) (one ∷ points) c e = driver_there place points c e
 
-pub driven_there : (place : ℕ) (side : Side) (world : Played) (c : ClockedControllerState PointState) → place < length world.sited.site.points → slice_get world.run.points place ≡ Some c → driven_by c ≡ Some side → IsDriven place side world
-driven_there place side world c few there drives = ap (λ (b : Bool). if b then driven_at place world.run.points else None) (below place (length world.sited.site.points) few) ∙ driver_there place world.run.points c there ∙ drives
+-- what is found of a point
+pub found_there : (place : ℕ) (world : Played) (c : ClockedControllerState PointState) → place < length world.sited.site.points → slice_get world.run.points place ≡ Some c → found_driven world (record { 0 = place }) ≡ driven_by c
+found_there place world c few there = ap (λ (b : Bool). if b then driven_at place world.run.points else None) (below place (length world.sited.site.points) few) ∙ driver_there place world.run.points c there
   where
     below : (n m : ℕ) → n < m → nat_lt n m ≡ true
     below n m less = grind (arith, nat_tests, less)
+
+pub driven_there : (place : ℕ) (side : Side) (world : Played) (c : ClockedControllerState PointState) → place < length world.sited.site.points → slice_get world.run.points place ≡ Some c → driven_by c ≡ Some side → IsDriven place side world
+driven_there place side world c few there drives = found_there place world c few there ∙ drives

@@ -65,7 +65,7 @@ module _ (link : ℕ) where
   own_events at same (first ∷ others) network = ap (λ (b : Bool). (if b then link_events.Calls role.Server first ∷ [] else link_events.Elsewhere (length (sent_by role.Server first (seen at network))) ∷ []) ++ run_on link (map (λ call. CallsOn at role.Server call) others) (happened_to (CallsOn at role.Server first) network)) same
       ∙ ap (λ (list : List LinkEvent). link_events.Calls role.Server first ∷ list) (own_events at same others (happened_to (CallsOn at role.Server first) network))
 
-  restart_lists : (who : Role) (clock : ℕ) (firsts : ℕ → ℕ) (numbers : List ℕ) (network : Links) → Each KeepsLists (run_on link (restarts_of who clock firsts numbers) network)
+  pub restart_lists : (who : Role) (clock : ℕ) (firsts : ℕ → ℕ) (numbers : List ℕ) (network : Links) → Each KeepsLists (run_on link (restarts_of who clock firsts numbers) network)
   restart_lists who clock firsts [] network = tt
   restart_lists who clock firsts (first ∷ others) network = each_both KeepsLists (events_on link (RestartsOn first who clock (firsts first)) network) _ (by_link (link == first)) (restart_lists who clock firsts others (happened_to (RestartsOn first who clock (firsts first)) network))
     where

@@ -123,7 +123,7 @@ FewAt (Point place) client = GivesFew true client
 FewAt _ client = Unit {0}
 
 -- a client of a point gives at most two items more than it has taken
-given_few : (site : Site) (place : ℕ) (client : ClientState) (given taken : List (List ℕ)) → ClientSaid site (Point place) client.peer (length taken) given → length given ≤ length taken + 2
+pub given_few : (site : Site) (place : ℕ) (client : ClientState) (given taken : List (List ℕ)) → ClientSaid site (Point place) client.peer (length taken) given → length given ≤ length taken + 2
 given_few site place client given taken (nothing none) = let n = ap length none in omega (arith, n)
 given_few site place client given taken (checked one) = let n = ap length one in omega (arith, n)
 given_few site place client given taken (asked c) = let n = ap length c.are in let m = map_length (commanded client.peer) c.commands in by_waits (omega (arith, n)) m c.waits

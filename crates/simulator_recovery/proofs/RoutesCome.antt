@@ -37,7 +37,7 @@ use Rattle.simulator_recovery.specs.Counts.{AllStandByCounts}
 use Rattle.simulator_recovery.specs.LinkRounds.{StaysBelowLimit, behind_time, event_of}
 use Rattle.simulator_recovery.specs.NothingDue.{HasAspect, IsUpAtClock, KeepsSetting, Waits}
 use Rattle.simulator_recovery.specs.Ready.{IsReadyOn, ready_rounds}
-use Rattle.simulator_recovery.specs.RoutesCome.{AcceptsRequest, AreBelowLimit, AreLinksUp, EachBehind, AreKnownWithin, HasClearSections, IsClientUp, IsKnownWithin, IsOnCourse, IsSignalUp, StaysClear, StaysSet, Throughout, and_request, as_request_comes, events_of_round}
+use Rattle.simulator_recovery.specs.RoutesCome.{AreBelowLimit, AreLinksUp, EachBehind, AreKnownWithin, HasClearSections, IsClientUp, IsKnownWithin, IsOnCourse, IsSignalUp, StaysSet, Throughout, events_of_round}
 use Rattle.simulator_recovery.specs.Rounds.{HasTime, IsWork, all_tried, clocks_of, good_rounds}
 use Rattle.simulator_recovery.specs.Shows.{ProceedsAt, ProceedsThrough, RouteProceeds, ShowsThrough}
 use Rattle.simulator_recovery.proofs.Addressed.{at_front}
@@ -48,11 +48,11 @@ use Rattle.simulator_recovery.proofs.LinkRounds.{after_each, round_tried}
 use Rattle.simulator_recovery.proofs.Lists.{at_place, each_both, map_length}
 use Rattle.simulator_recovery.proofs.ProceedsRounds.{ShowsLaws}
 use Rattle.simulator_recovery.proofs.ProceedsStays.{below_before, stays_shown}
-use Rattle.simulator_recovery.proofs.Ready.{ReadyLaws, count_front, fewer_time, links_ready}
-use Rattle.simulator_recovery.proofs.Rounds.{IsAt, ReachLaws, round_reached, rounds_reached, tried_happens, tried_reached, work_reached}
+use Rattle.simulator_recovery.proofs.Ready.{ReadyLaws, fewer_time, links_ready}
+use Rattle.simulator_recovery.proofs.Rounds.{IsAt, ReachLaws, rounds_reached, tried_reached}
 use Rattle.simulator_recovery.proofs.RoutesGround.{CourseLaws, course_behind, course_ends, course_proceeds, each_of, known_behind, ready_behind}
 use Rattle.simulator_recovery.proofs.RoutesRounds.{UpLaws, up_throughout}
-use Rattle.simulator_recovery.proofs.StopComes.{entry_there, last_round, last_tried}
+use Rattle.simulator_recovery.proofs.StopComes.{entry_there}
 
 -- ---- the links of a route
 
@@ -63,7 +63,7 @@ module _ (site : Site) (world : WorldState) (whole : IsWhole site world) where
       in let a = at_place world.station.ixl.known_signals place (omega (arith, few, many))
       in (a.0, a.1, at_front _ _ place a.0.client (mapped (λ (k : KnownSignalState). k.client) world.station.ixl.known_signals place a.0 a.1))
 
-  point_there : (place : ℕ) → place < length site.points → (known : KnownPointState) × (slice_get world.station.ixl.known_points place ≡ Some known) × (slice_get (client_states world.station.ixl) (point_link site place) ≡ Some known.client)
+  pub point_there : (place : ℕ) → place < length site.points → (known : KnownPointState) × (slice_get world.station.ixl.known_points place ≡ Some known) × (slice_get (client_states world.station.ixl) (point_link site place) ≡ Some known.client)
   point_there place few =
       let many = whole.clients.known_points
       in let a = at_place world.station.ixl.known_points place (omega (arith, few, many))
@@ -101,7 +101,7 @@ module _ (laws : CourseLaws) (ready_laws : ReadyLaws) (sited : SitedTable) (stat
   abbrev pub Proceeds : WorldState → Type 0
   Proceeds world = At world.station.ixl.routes number HasAspect × AllKnown world.station.ixl row.needs
 
-  happens_way : (one : Event) (world : WorldState) → IsReached sited.site sited.table world → KeepsSetting sited.site number one → IsOnWay world → AreLinksUp row (happens sited.site sited.table one world)
+  pub happens_way : (one : Event) (world : WorldState) → IsReached sited.site sited.table world → KeepsSetting sited.site number one → IsOnWay world → AreLinksUp row (happens sited.site sited.table one world)
       → AllClear sited.table (happens sited.site sited.table one world).station.ixl row.sections → IsOnWay (happens sited.site sited.table one world)
   happens_way one world reached keeps is up clear = record {
     course = course_behind laws sited.site sited.table is_table number row row_there one world reached keeps is.up up is.ready clear is.course;
@@ -115,33 +115,30 @@ module _ (laws : CourseLaws) (ready_laws : ReadyLaws) (sited : SitedTable) (stat
 
   -- what holds of a world on its way goes on to the world that an event leaves, where the route's links are up and its sections clear
   pub record WayGoesOn (P : WorldState → Type 0) : Type 0 where
-    pub on : (one : Event) (world : WorldState) → IsReached sited.site sited.table world → KeepsSetting sited.site number one → IsOnWay world → AreLinksUp row (happens sited.site sited.table one world)
+    pub on : (one : Event) (world : WorldState) → IsReached sited.site sited.table world → refusal sited.site one world ≡ None → KeepsSetting sited.site number one → IsOnWay world → AreLinksUp row (happens sited.site sited.table one world)
         → AllClear sited.table (happens sited.site sited.table one world).station.ixl row.sections → P world → P (happens sited.site sited.table one world)
 
   pub proceeds_on : WayGoesOn Proceeds
-  proceeds_on = record { on = happens_proceeds }
+  proceeds_on = record { on = λ one world reached none. happens_proceeds one world reached }
 
   pub nothing_on : WayGoesOn (λ world. Unit {0})
-  nothing_on = record { on = λ one world reached keeps is up clear so. tt }
+  nothing_on = record { on = λ one world reached none keeps is up clear so. tt }
 
   module _ (P : WorldState → Type 0) (goes : WayGoesOn P) where
     abbrev pub Way : WorldState → Type 0
     Way world = IsOnWay world × P world
 
     tried_way : (one : Event) (world : Played) → IsAt sited world → KeepsSetting sited.site number one → Way world.run → AreLinksUp row (after world one).run → HasClearSections row (after world one) → Way (after world one).run
-    tried_way one world at keeps is = by_refusal (refusal_of one world)
+    tried_way one world at keeps is = by_refusal (refusal_of one world) refl
       where
-        behind : Played
-        behind = record world { run = happens world.sited.site world.sited.table one world.run }
+        happened_so : (s : SitedTable) → s ≡ sited → refusal s.site one world.run ≡ None → AreLinksUp row (happens s.site s.table one world.run) → AllClear s.table (happens s.site s.table one world.run).station.ixl row.sections → Way (happens s.site s.table one world.run)
+        happened_so s same = subst (λ (t : SitedTable). refusal t.site one world.run ≡ None → AreLinksUp row (happens t.site t.table one world.run) → AllClear t.table (happens t.site t.table one world.run).station.ixl row.sections → Way (happens t.site t.table one world.run)) (sym same)
+            (λ none up clear. (happens_way one world.run at.reached keeps is.0 up clear, goes.on one world.run at.reached none keeps is.0 up clear is.1))
 
-        happened_so : (s : SitedTable) → s ≡ sited → AreLinksUp row (happens s.site s.table one world.run) → AllClear s.table (happens s.site s.table one world.run).station.ixl row.sections → Way (happens s.site s.table one world.run)
-        happened_so s same = subst (λ (t : SitedTable). AreLinksUp row (happens t.site t.table one world.run) → AllClear t.table (happens t.site t.table one world.run).station.ixl row.sections → Way (happens t.site t.table one world.run)) (sym same)
-            (λ up clear. (happens_way one world.run at.reached keeps is.0 up clear, goes.on one world.run at.reached keeps is.0 up clear is.1))
-
-        by_refusal : (why : Option Refused) → AreLinksUp row (world_where why world (record world { run = happens world.sited.site world.sited.table one world.run })).run
+        by_refusal : (why : Option Refused) → refusal_of one world ≡ why → AreLinksUp row (world_where why world (record world { run = happens world.sited.site world.sited.table one world.run })).run
             → HasClearSections row (world_where why world (record world { run = happens world.sited.site world.sited.table one world.run })) → Way (world_where why world (record world { run = happens world.sited.site world.sited.table one world.run })).run
-        by_refusal (Some why) up clear = is
-        by_refusal None up clear = happened_so world.sited at.same up clear
+        by_refusal (Some why) e up clear = is
+        by_refusal None e up clear = happened_so world.sited at.same e up clear
 
     events_way : (events : List Event) (world : Played) → IsAt sited world → Each (KeepsSetting sited.site number) events → Way world.run → EachBehind (λ w. AreLinksUp row w.run) events world → EachBehind (HasClearSections row) events world
         → Way (after_each events world).run
@@ -217,12 +214,12 @@ module _ (laws : CourseLaws) (ready_laws : ReadyLaws) (sited : SitedTable) (stat
   Clear world = AllClear sited.table world.station.ixl row.sections
 
   pub clear_on : WayGoesOn Clear
-  clear_on = record { on = λ one world reached keeps is up clear so. clear }
+  clear_on = record { on = λ one world reached none keeps is up clear so. clear }
 
   -- and what is known of its points stays known
   pub known_on : (need : Need) → Contains row.needs need → WayGoesOn (λ world. Known world.station.ixl need.point need.side)
   known_on need within = record {
-    on = λ one world reached keeps is up clear known. known_behind laws sited.site sited.table is_table number row row_there one world reached keeps is.up up need within (happens_way one world reached keeps is up clear).course known;
+    on = λ one world reached none keeps is up clear known. known_behind laws sited.site sited.table is_table number row row_there one world reached keeps is.up up need within (happens_way one world reached keeps is up clear).course known;
   }
 
   -- ---- the links of the route, through rounds
@@ -336,11 +333,15 @@ module _ (laws : ComesLaws) (between : List Event) (flowing : Flowing Played) (n
       };
     }
 
-    -- the course goes on, and the sections stay clear
+    -- the course goes on, and so does what goes on over each event of it
+    pub goes_behind : (P : WorldState → Type 0) → WayGoesOn laws.course laws.up.ready sited station once is_table number row row_there P → Throughout (HasClearSections row) more (behind later_rounds) → IsOnCourse (behind later_rounds).state.run.station.ixl number row
+        → P (behind later_rounds).state.run → IsOnWay laws.course laws.up.ready sited station once is_table number row row_there (good_rounds more (behind later_rounds)).state.run × P (good_rounds more (behind later_rounds)).state.run
+    goes_behind P goes clear course is = rounds_way laws.course laws.up.ready sited station once is_table number row row_there P goes more (behind later_rounds) (at_behind later_rounds) keeps (way_before course, is) all_up clear
+
+    -- and the sections stay clear
     way_behind : Throughout (HasClearSections row) more (behind later_rounds) → IsOnCourse (behind later_rounds).state.run.station.ixl number row → AllClear sited.table (behind later_rounds).state.run.station.ixl row.sections
         → IsOnWay laws.course laws.up.ready sited station once is_table number row row_there (good_rounds more (behind later_rounds)).state.run × AllClear sited.table (good_rounds more (behind later_rounds)).state.run.station.ixl row.sections
-    way_behind clear course cleared = rounds_way laws.course laws.up.ready sited station once is_table number row row_there (λ world. AllClear sited.table world.station.ixl row.sections)
-        (clear_on laws.course laws.up.ready sited station once is_table number row row_there) more (behind later_rounds) (at_behind later_rounds) keeps (way_before course, cleared) all_up clear
+    way_behind clear course cleared = goes_behind (λ world. AllClear sited.table world.station.ixl row.sections) (clear_on laws.course laws.up.ready sited station once is_table number row row_there) clear course cleared
 
   -- rounds, and others behind them
   joined : (one other : List (List Event)) (start : Flowing Played) → good_rounds (one ++ other) start ≡ good_rounds other (good_rounds one start)
@@ -494,70 +495,3 @@ module _ (laws : CourseLaws) (reach : ReachLaws) (site : Site) (table : Table) (
   pub proceeds_at_once : AllKnown then_is.station.ixl row.needs → IsSignalReady then_is.station.ixl row.entry → At then_is.station.ixl.routes route.0 HasAspect
   proceeds_at_once known ready = course_ends laws site table is_table route.0 row row_there then_is (reach.on site table (event.Request (commands.Request route)) world reached never_refused) (accepted_goes_on site table world route accepted)
       (known, accepted_clear site table world route laws.requests row row_there accepted, ready)
-
--- ---- from the request on
-
-module _ (laws : ComesLaws) (between : List Event) (later_rounds : List (List Event)) (before : List Event) (more still : List (List Event)) (flowing : Flowing Played) (route : RouteId) (row : Row) (once : Once flowing.state.sited.site)
-    (station : IsStation flowing.state.sited.site) (is_table : IsTableOf flowing.state.sited.site flowing.state.sited.table) (reached : IsReached flowing.state.sited.site flowing.state.sited.table flowing.state.run) (work : Each IsWork between)
-    (works : Each (Each IsWork) later_rounds) (before_works : Each IsWork before) (more_works : Each (Each IsWork) more) (still_works : Each (Each IsWork) still)
-    (can : HasTime (suc (length (((later_rounds ++ and_request route before ∷ []) ++ more) ++ still))) flowing.state.run) (long : ready_rounds ≤ suc (suc (length later_rounds))) (row_there : slice_get flowing.state.sited.table.rows route.0 ≡ Some row)
-    (below : AreBelowLimit flowing.state.sited.site row (((later_rounds ++ and_request route before ∷ []) ++ more) ++ still) (all_tried between (round stations flowing)))
-    (accepts : AcceptsRequest route (as_request_comes (between ∷ later_rounds) before flowing).state)
-    (stays : StaysClear route.0 row (more ++ still) (good_rounds (between ∷ (later_rounds ++ and_request route before ∷ [])) flowing))
-    (found : AreKnownWithin row more (good_rounds (between ∷ (later_rounds ++ and_request route before ∷ [])) flowing)) where
-  abbrev asking : Event
-  asking = event.Request (commands.Request route)
-
-  abbrev with_request : List (List Event)
-  with_request = later_rounds ++ and_request route before ∷ []
-
-  abbrev first_data : SitedTable
-  first_data = flowing.state.sited
-
-  abbrev base : Flowing Played
-  base = good_rounds (between ∷ with_request) flowing
-
-  arrives : Flowing Played
-  arrives = as_request_comes (between ∷ later_rounds) before flowing
-
-  rounds_at : (rounds : List (List Event)) → IsAt first_data (good_rounds (between ∷ rounds) flowing).state
-  rounds_at rounds = rounds_reached laws.up.ready.up.link.times.reach first_data (between ∷ rounds) flowing (record { same = refl; reached = reached })
-
-  arrives_at : IsAt first_data arrives.state
-  unfolding arrives
-  arrives_at = work_reached laws.up.ready.up.link.times.reach first_data before (round stations (good_rounds (between ∷ later_rounds) flowing)) (round_reached laws.up.ready.up.link.times.reach first_data (good_rounds (between ∷ later_rounds) flowing) (rounds_at later_rounds))
-
-  not_refused : refusal arrives.state.sited.site asking arrives.state.run ≡ None
-  unfolding refusal
-  not_refused = refl
-
-  base_is : base.state.run ≡ happens first_data.site first_data.table asking arrives.state.run
-  unfolding arrives
-  base_is = ap (λ (f : Flowing Played). f.state.run) (last_round (between ∷ later_rounds) (and_request route before) flowing)
-      ∙ (ap (λ (w : Played). w.run) (last_tried before asking (round stations (good_rounds (between ∷ later_rounds) flowing)) ∙ tried_happens arrives.state asking not_refused)
-      ∙ ap (λ (s : SitedTable). happens s.site s.table asking arrives.state.run) arrives_at.same)
-
-  accepted_here : answered first_data.site first_data.table asking arrives.state.run ≡ answer.Accepted
-  unfolding arrives
-  accepted_here = subst (λ (s : SitedTable). answered s.site s.table asking arrives.state.run ≡ answer.Accepted) arrives_at.same accepts
-
-  is_set : StaysSet route.0 row (more ++ still) base
-  is_set = record {
-    course = subst (λ (w : WorldState). IsOnCourse w.station.ixl route.0 row) (sym base_is) (accepted_course first_data.site first_data.table arrives.state.run route accepted_here row row_there);
-    clear = subst (λ (s : SitedTable). AllClear s.table base.state.run.station.ixl row.sections) (sym (rounds_at with_request).same)
-        (subst (λ (w : WorldState). AllClear first_data.table w.station.ixl row.sections) (sym base_is) (accepted_clear first_data.site first_data.table arrives.state.run route laws.course.requests row row_there accepted_here));
-    stays_clear = stays.stays_clear;
-    kept = stays.kept;
-  }
-
-  request_works : Each (Each IsWork) with_request
-  request_works = each_both (Each IsWork) later_rounds (and_request route before ∷ []) works (each_both IsWork before (asking ∷ []) before_works (tt, tt), tt)
-
-  request_long : ready_rounds ≤ suc (length with_request)
-  request_long = let n = count_front later_rounds (and_request route before) in omega (arith, long, n)
-
-  pub accepted_proceeds : At (good_rounds (between ∷ (with_request ++ more)) flowing).state.run.station.ixl.routes route.0 HasAspect
-  accepted_proceeds = route_proceeds laws between with_request more still flowing route.0 row once station is_table reached work request_works more_works still_works can request_long row_there below is_set found
-
-  pub accepted_comes : ShowsThrough row.entry row.aspect still (good_rounds (between ∷ (with_request ++ more)) flowing)
-  accepted_comes = route_comes laws between with_request more still flowing route.0 row once station is_table reached work request_works more_works still_works can request_long row_there below is_set found

@@ -127,7 +127,7 @@ step_waits site table k row row_there input world leaves is = by_course (over_ke
 
 -- ---- a link that is up by the clock
 
-settled_inside : (now : ℕ) (client : ClientState) → is_outside client.stage ≡ not (is_up client.link.phase) → is_up (settled now client.link).phase ≡ true → is_outside client.stage ≡ false
+pub settled_inside : (now : ℕ) (client : ClientState) → is_outside client.stage ≡ not (is_up client.link.phase) → is_up (settled now client.link).phase ≡ true → is_outside client.stage ≡ false
 settled_inside now client outside up = outside ∙ ap not (ap (λ (l : LinkState). is_up l.phase) (sym (settled_open now client.link (up_open (settled now client.link).phase up)).0) ∙ up)
 
 -- ---- the course of a route over an event

@@ -6,7 +6,7 @@ use Rattle.ixl_table.specs.Table.{IsTableOf}
 use Rattle.object_host_theorem.specs.Signal.{last_indicated}
 use Rattle.simulator_machine.specs.Lists.{last_of}
 use Rattle.simulator_machine.specs.Machine.{Machine}
-use Rattle.simulator_machine.specs.Signal.{Aspect as MachineAspect, Proceed as MachineProceed, Signal, Stop as MachineStop}
+use Rattle.simulator_machine.specs.Signal.{Aspect as MachineAspect, Proceed as MachineProceed, Stop as MachineStop}
 use Rattle.simulator_machine_links.specs.Items.{all_said, aspect_seen, aspects_in, aspects_of, said_by}
 use Rattle.simulator_run.specs.layout.Entries.{Site}
 use Rattle.simulator_run.specs.layout.Once.{Once}

@@ -539,7 +539,7 @@ module _ (laws : TalkLaws) (site : Site) (table : Table) (is_table : IsTableOf s
     gave_behind_step = is_after.given ∙ ap (λ (n : ℕ). given_after n (at_link (link_at site node) (map (node_call site connection) done.calls)) (link_of node) (gave network (link_at site node))) clock_is
         ∙ ap (λ (cs : List Call). given_after now cs (link_of node) (gave network (link_at site node))) calls_are
 
-    took_behind_step : took after (link_at site node) ≡ taken_after now (map (as_call connection) (at_node node done.calls)) (link_of node) (took network (link_at site node))
+    pub took_behind_step : took after (link_at site node) ≡ taken_after now (map (as_call connection) (at_node node done.calls)) (link_of node) (took network (link_at site node))
     took_behind_step = is_after.taken ∙ ap (λ (n : ℕ). taken_after n (at_link (link_at site node) (map (node_call site connection) done.calls)) (link_of node) (took network (link_at site node))) clock_is
         ∙ ap (λ (cs : List Call). taken_after now cs (link_of node) (took network (link_at site node))) calls_are
 

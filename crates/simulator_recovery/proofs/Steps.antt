@@ -420,6 +420,11 @@ module _ (now : ℕ) (table : Table) where
         in let all = hears_then node bytes clocked (given now table key (Datagram bytes) clocked) (ruled now table (seen_so (Datagram bytes))) heard (ruled_so (Datagram bytes))
         in (all.more, (all.each, all.calls))
 
+    -- a datagram that comes to no client: something is said at most
+    pub others_say : (bytes : List ℕ) → given now table key (Datagram bytes) clocked ≡ clocked → Grows IsSaidAt part.calls (stepped now table key (Datagram bytes) part).calls
+    unfolding stepped ticked
+    others_say bytes none = grows_then IsSaidAt part.calls _ _ (subst (λ (heard : StepSoFar). Grows IsSaidAt part.calls heard.calls) (sym none) (grows_none IsSaidAt part.calls)) (ruled_so (Datagram bytes)).says
+
     -- a tick: something is said at most, and then all links tick and open
     pub tick_ticks : (front : List (Node × LinkCall)) × (Each IsSaidAt front × ((stepped now table key Tick part).calls ≡ (part.calls ++ front) ++ all_ticks part.ixl))
     unfolding stepped given

@@ -23,3 +23,5 @@ pub mod RoutesCome
 pub mod SidesOfMoves
 pub mod KnownAgain
 pub mod Passage
+pub mod BeginsOfMoves
+pub mod HeldPoints

@@ -4,7 +4,6 @@ use Rattle.simulator_run.specs.layout.Entries.{Site}
 use Rattle.simulator_run.specs.ixl_rules.Due.{At}
 use Rattle.simulator_run.specs.rasta_core.Ends.{reading_of}
 use Rattle.simulator_run.specs.rasta_core.Links.{seen}
-use Rattle.simulator_run.specs.rasta_core.Parameters.{window_size}
 use Rattle.simulator_run.specs.rasta_core.Run.{Ends}
 use Rattle.simulator_run.specs.rasta_core.State.{is_open}
 use Rattle.simulator_run.specs.rasta_core.identity.Role.TheVariants.{Server}
@@ -80,16 +79,6 @@ HasTakenMoves given controller = 2 + given ≤ controller.host.link.given + unan
 
 -- ---- what is answered
 
--- The window of a point's controller isn't full.
-abbrev pub HasRoomAt : ℕ → Played → Type 0
-HasRoomAt place world = (controller : ClockedControllerState PointState) → slice_get world.run.points place ≡ Some controller → length controller.host.link.waiting < window_size
-
--- So it is behind each of these good rounds.
-abbrev pub HasRoomBehind : ℕ → List (List Event) → Flowing Played → Type 0
-HasRoomBehind place [] flowing = Unit {0}
-HasRoomBehind place (between ∷ later) flowing =
-    HasRoomAt place (all_tried between (round stations flowing)).state × HasRoomBehind place later (all_tried between (round stations flowing))
-
 -- so many good rounds later each move that was given is answered: 520 ms
 abbrev pub move_rounds : ℕ
 move_rounds = 52
@@ -138,11 +127,6 @@ drive_time = 510
 -- a point's controller drives to this side for a move that it took at this reading of its clock
 abbrev pub DrivesSince : ℕ → Side → ℕ → WorldState → Type 0
 DrivesSince place side since world = At world.points place (λ (controller : ClockedControllerState PointState). controller.host.object.progress ≡ Driving side since)
-
--- It does so at a later moment, and didn't at an earlier one.
-pub record BeginsToDrive (place : ℕ) (side : Side) (since : ℕ) (old new : WorldState) : Type 0 where
-  pub before : DrivesSince place side since old → ⊥
-  pub behind : DrivesSince place side since new
 
 -- From one moment to a later one, in one connection, the interlocking's end of a point's link has taken all that the controller had sent
 -- by the first, in that order. What it has taken is a beginning of what the controller has sent by the second. The items sent are those

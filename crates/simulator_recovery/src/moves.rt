@@ -17,11 +17,14 @@ ghost use Rattle.simulator_run.specs.Tried.{Played};
 ghost use Rattle.simulator_headline.specs.Reached.{IsReached};
 ghost use Rattle.simulator_recovery.specs.HandedOver.{HasHandedOver};
 ghost use Rattle.simulator_recovery.specs.LinkRounds.{StaysBelowLimit};
-ghost use Rattle.simulator_recovery.specs.Moves.{AreAnswered, BeginsToDrive, HasRoomBehind, HasTakenMoves, HaveOwed, IsDrivenBehind, IsDriving, ReportComesBehind, ReportsBehind, ReportsCome, drive_rounds, drive_time, move_rounds};
+ghost use Rattle.simulator_recovery.specs.Moves.{AreAnswered, DrivesSince, HasTakenMoves, HaveOwed, IsDrivenBehind, ReportsBehind, ReportsCome, drive_rounds, move_rounds};
 ghost use Rattle.simulator_recovery.specs.Ready.{IsReadyOn, ready_rounds};
 ghost use Rattle.simulator_recovery.specs.Rounds.{HasTime, IsWork, all_tried, good_rounds};
 
-use crate::{events_close_no_link, stations_stand_by_their_counts};
+use crate::{
+    events_close_no_link, points_controllers_never_fill_their_windows, reports_of_drives_come_back,
+    stations_stand_by_their_counts,
+};
 use object_host_theorem::{point_makes_a_step, step_takes_and_gives};
 use rasta_core_recovery::{two_ends_at_work_come_up, two_ends_at_work_hand_over};
 use simulator_headline::{items_are_read_off_the_datagrams, reached_worlds_are_safe};
@@ -120,16 +123,15 @@ pub fn moves_come_over()
 }
 
 /// Each move is answered: behind each good round from the 1566th on, the moves that a point was given by then are answered 52 good rounds
-/// later, 520 ms: the interlocking has taken a report for each, whatever requests and occupancies come between the rounds. So it
-/// is where the window of the point's controller isn't full behind these rounds. The premises are else those of `links_are_ready`, of
-/// the point's link; and the flow notes of each point for how long it was found driven.
+/// later, 520 ms: the interlocking has taken a report for each, whatever requests and occupancies come between the rounds. No report
+/// waits for the window of the point's controller (`points_controllers_never_fill_their_windows`). The premises are those of
+/// `links_are_ready`, of the point's link; and the flow notes of each point for how long it was found driven.
 pub fn moves_are_answered()
     ensures { (between : List Event) (later more : List (List Event)) (flowing : Flowing Played) (place : ℕ) → Once flowing.state.sited.site → IsStation flowing.state.sited.site
         → IsTableOf flowing.state.sited.site flowing.state.sited.table → IsReached flowing.state.sited.site flowing.state.sited.table flowing.state.run
         → Each IsWork between → Each (Each IsWork) (later ++ more) → HasTime (suc (length (later ++ more))) flowing.state.run → place < length flowing.state.sited.site.points
         → length flowing.state.sited.site.points ≤ length flowing.drives → ready_rounds ≤ suc (length later) → length more ≡ move_rounds
         → StaysBelowLimit flowing.state.sited.site (point_link flowing.state.sited.site place) (later ++ more) (all_tried between (round stations flowing))
-        → HasRoomBehind place more (good_rounds (between ∷ later) flowing)
         → AreAnswered (point_link flowing.state.sited.site place) (good_rounds (between ∷ later) flowing).state.run (good_rounds (between ∷ (later ++ more)) flowing).state.run }
 {
     a_client_of_many_makes_a_step();
@@ -165,114 +167,27 @@ pub fn moves_are_answered()
     two_ends_at_work_hand_over();
     stations_stand_by_their_counts();
     events_close_no_link();
+    points_controllers_never_fill_their_windows();
     items_are_read_off_the_datagrams();
+    every_event_keeps_time();
+    outside_until_it_enters();
+    servers_enter_once();
 }
 
-/// Drives end with their reports: where behind a good round, from the 1566th on, a point's controller drives for a move, and 510 ms later
-/// that drive won't have come to its limit, then behind one of the next 51 good rounds the controller has answered the move, in the same
-/// connection, and has sent one item more there: the report that the point lies at the side it was driven to. So it is whatever requests
-/// and occupancies come between the rounds, and where the controller's window isn't full behind them. The premises are else those of
-/// `moves_are_answered`.
+/// Drives end with their reports: where behind a good round, from the 1566th on, a point's controller drives for a move, then behind one of the
+/// next 50 good rounds the controller has answered the move, in the same connection, and has sent one item more there: the report that the
+/// point lies at the side it was driven to. So it is whenever the drive began, and whatever requests and occupancies come between the
+/// rounds. The premises are else those of `reports_of_drives_come_back`.
 pub fn drives_end_with_their_reports()
     ensures { (between : List Event) (later more : List (List Event)) (flowing : Flowing Played) (place : ℕ) (side : Side) (since : ℕ) → Once flowing.state.sited.site → IsStation flowing.state.sited.site
         → IsTableOf flowing.state.sited.site flowing.state.sited.table → IsReached flowing.state.sited.site flowing.state.sited.table flowing.state.run
         → Each IsWork between → Each (Each IsWork) (later ++ more) → HasTime (suc (length (later ++ more))) flowing.state.run → place < length flowing.state.sited.site.points
         → length flowing.state.sited.site.points ≤ length flowing.drives → ready_rounds ≤ suc (length later) → length more ≡ suc drive_rounds
         → StaysBelowLimit flowing.state.sited.site (point_link flowing.state.sited.site place) (later ++ more) (all_tried between (round stations flowing))
-        → HasRoomBehind place more (good_rounds (between ∷ later) flowing)
-        → IsDriving place side since drive_time (good_rounds (between ∷ later) flowing).state.run
+        → DrivesSince place side since (good_rounds (between ∷ later) flowing).state.run
         → ReportsBehind flowing.state.sited.site place side more (good_rounds (between ∷ later) flowing) }
 {
-    a_client_of_many_makes_a_step();
-    a_node_makes_a_step();
-    a_node_of_one_link_makes_a_step();
-    a_station_begins_its_links();
-    deliveries_may_come();
-    events_are_those_of_the_links();
-    interlockings_call_their_nodes();
-    items_are_counted();
-    layouts_name_their_links();
-    links_keep_order();
-    links_keep_time();
-    one_connection();
-    order_is_safe();
-    point_makes_a_step();
-    stations_have_links();
-    steps_keep_a_host::<Signal>();
-    steps_keep_a_host::<Point>();
-    steps_keep_a_host::<Detection>();
-    step_is_calls::<Signal>();
-    step_is_calls::<Point>();
-    step_is_calls::<Detection>();
-    step_takes_and_gives::<Signal>();
-    step_takes_and_gives::<Point>();
-    step_takes_and_gives::<Detection>();
-    step_tells_what_was_taken::<Point>();
-    written_is_read();
-    reached_worlds_are_safe();
-    each_link_sees_its_events();
-    each_link_is_a_run();
-    two_ends_at_work_come_up();
-    two_ends_at_work_hand_over();
-    stations_stand_by_their_counts();
-    events_close_no_link();
-    items_are_read_off_the_datagrams();
-    every_event_keeps_time();
-    outside_until_it_enters();
-    servers_enter_once();
-}
-
-/// New drives end with their reports: where a point's controller drives for a move behind a good round and didn't behind the one before,
-/// which is the 1566th or a later one, then behind one of the next 51 good rounds it has answered this move, in the same connection, and
-/// has sent one item more there: the report that the point lies at the side it was driven to. So a move that is taken in good rounds
-/// doesn't time out. The premises are else those of `drives_end_with_their_reports`.
-pub fn new_drives_end_with_their_reports()
-    ensures { (between one : List Event) (later more : List (List Event)) (flowing : Flowing Played) (place : ℕ) (side : Side) (since : ℕ) → Once flowing.state.sited.site → IsStation flowing.state.sited.site
-        → IsTableOf flowing.state.sited.site flowing.state.sited.table → IsReached flowing.state.sited.site flowing.state.sited.table flowing.state.run
-        → Each IsWork between → Each (Each IsWork) ((later ++ one ∷ []) ++ more) → HasTime (suc (length ((later ++ one ∷ []) ++ more))) flowing.state.run → place < length flowing.state.sited.site.points
-        → length flowing.state.sited.site.points ≤ length flowing.drives → ready_rounds ≤ suc (length later) → length more ≡ suc drive_rounds
-        → StaysBelowLimit flowing.state.sited.site (point_link flowing.state.sited.site place) ((later ++ one ∷ []) ++ more) (all_tried between (round stations flowing))
-        → HasRoomBehind place more (good_rounds (between ∷ (later ++ one ∷ [])) flowing)
-        → BeginsToDrive place side since (good_rounds (between ∷ later) flowing).state.run (good_rounds (between ∷ (later ++ one ∷ [])) flowing).state.run
-        → ReportsBehind flowing.state.sited.site place side more (good_rounds (between ∷ (later ++ one ∷ [])) flowing) }
-{
-    a_client_of_many_makes_a_step();
-    a_node_makes_a_step();
-    a_node_of_one_link_makes_a_step();
-    a_station_begins_its_links();
-    deliveries_may_come();
-    events_are_those_of_the_links();
-    interlockings_call_their_nodes();
-    items_are_counted();
-    layouts_name_their_links();
-    links_keep_order();
-    links_keep_time();
-    one_connection();
-    order_is_safe();
-    point_makes_a_step();
-    stations_have_links();
-    steps_keep_a_host::<Signal>();
-    steps_keep_a_host::<Point>();
-    steps_keep_a_host::<Detection>();
-    step_is_calls::<Signal>();
-    step_is_calls::<Point>();
-    step_is_calls::<Detection>();
-    step_takes_and_gives::<Signal>();
-    step_takes_and_gives::<Point>();
-    step_takes_and_gives::<Detection>();
-    step_tells_what_was_taken::<Point>();
-    written_is_read();
-    reached_worlds_are_safe();
-    each_link_sees_its_events();
-    each_link_is_a_run();
-    two_ends_at_work_come_up();
-    two_ends_at_work_hand_over();
-    stations_stand_by_their_counts();
-    events_close_no_link();
-    items_are_read_off_the_datagrams();
-    every_event_keeps_time();
-    outside_until_it_enters();
-    servers_enter_once();
+    reports_of_drives_come_back();
 }
 
 /// Reports come back: from one good round to the next, from the 1566th on, the interlocking's end of a point's link takes all that the
@@ -321,59 +236,6 @@ pub fn reports_come_back()
     stations_stand_by_their_counts();
     events_close_no_link();
     items_are_read_off_the_datagrams();
-}
-
-/// Reports of new drives come back: where a point's controller drives for a move behind a good round and didn't behind the one before,
-/// which is the 1566th or a later one, then within the next 52 good rounds, 520 ms, it reports, as its next item in this connection, that
-/// the point lies at the side it was driven to, and the interlocking's end takes this report. The premises are else those of
-/// `moves_are_answered`.
-pub fn reports_of_new_drives_come_back()
-    ensures { (between one : List Event) (later more : List (List Event)) (flowing : Flowing Played) (place : ℕ) (side : Side) (since : ℕ) → Once flowing.state.sited.site → IsStation flowing.state.sited.site
-        → IsTableOf flowing.state.sited.site flowing.state.sited.table → IsReached flowing.state.sited.site flowing.state.sited.table flowing.state.run
-        → Each IsWork between → Each (Each IsWork) ((later ++ one ∷ []) ++ more) → HasTime (suc (length ((later ++ one ∷ []) ++ more))) flowing.state.run → place < length flowing.state.sited.site.points
-        → length flowing.state.sited.site.points ≤ length flowing.drives → ready_rounds ≤ suc (length later) → length more ≡ move_rounds
-        → StaysBelowLimit flowing.state.sited.site (point_link flowing.state.sited.site place) ((later ++ one ∷ []) ++ more) (all_tried between (round stations flowing))
-        → HasRoomBehind place more (good_rounds (between ∷ (later ++ one ∷ [])) flowing)
-        → BeginsToDrive place side since (good_rounds (between ∷ later) flowing).state.run (good_rounds (between ∷ (later ++ one ∷ [])) flowing).state.run
-        → ReportComesBehind flowing.state.sited.site place side more (good_rounds (between ∷ (later ++ one ∷ [])) flowing) }
-{
-    a_client_of_many_makes_a_step();
-    a_node_makes_a_step();
-    a_node_of_one_link_makes_a_step();
-    a_station_begins_its_links();
-    deliveries_may_come();
-    events_are_those_of_the_links();
-    interlockings_call_their_nodes();
-    items_are_counted();
-    layouts_name_their_links();
-    links_keep_order();
-    links_keep_time();
-    one_connection();
-    order_is_safe();
-    point_makes_a_step();
-    stations_have_links();
-    steps_keep_a_host::<Signal>();
-    steps_keep_a_host::<Point>();
-    steps_keep_a_host::<Detection>();
-    step_is_calls::<Signal>();
-    step_is_calls::<Point>();
-    step_is_calls::<Detection>();
-    step_takes_and_gives::<Signal>();
-    step_takes_and_gives::<Point>();
-    step_takes_and_gives::<Detection>();
-    step_tells_what_was_taken::<Point>();
-    written_is_read();
-    reached_worlds_are_safe();
-    each_link_sees_its_events();
-    each_link_is_a_run();
-    two_ends_at_work_come_up();
-    two_ends_at_work_hand_over();
-    stations_stand_by_their_counts();
-    events_close_no_link();
-    items_are_read_off_the_datagrams();
-    every_event_keeps_time();
-    outside_until_it_enters();
-    servers_enter_once();
 }
 
 /// A point whose moves are answered is available: where those are answered that it was given by an earlier moment, and it was given no

@@ -29,7 +29,9 @@ ghost use Rattle.simulator_recovery.specs.RoutesCome.{AcceptsRequest, AreBelowLi
 ghost use Rattle.simulator_recovery.specs.Rounds.{HasTime, IsWork, all_tried, good_rounds};
 ghost use Rattle.simulator_recovery.specs.Shows.{ShowsThrough};
 
-use crate::{events_close_no_link, stations_stand_by_their_counts};
+use crate::{
+    accepted_settings_move_their_points, events_close_no_link, stations_stand_by_their_counts,
+};
 use rasta_core_recovery::{two_ends_at_work_come_up, two_ends_at_work_hand_over};
 use simulator_headline::{
     every_world_is_safe, reached_worlds_are_safe, represented_worlds_are_seen,
@@ -183,32 +185,9 @@ pub fn accepted_routes_come()
         → AreKnownWithin row more (good_rounds (between ∷ (later ++ and_request route before ∷ [])) flowing)
         → ShowsThrough row.entry row.aspect still (good_rounds (between ∷ ((later ++ and_request route before ∷ []) ++ more)) flowing) }
 {
-    every_world_is_safe();
-    represented_worlds_are_seen();
-    order_is_safe();
+    accepted_settings_are_on_course();
+    accepted_settings_move_their_points();
     reached_worlds_are_safe();
+    routes_come();
     stations_have_links();
-    layouts_name_their_links();
-    events_are_those_of_the_links();
-    each_link_sees_its_events();
-    each_link_is_a_run();
-    links_keep_time();
-    two_ends_at_work_come_up();
-    two_ends_at_work_hand_over();
-    stations_stand_by_their_counts();
-    events_close_no_link();
-    every_event_keeps_order();
-    every_event_keeps_time();
-    every_run_keeps_order();
-    every_run_keeps_time();
-    items_are_counted();
-    one_connection();
-    opening_is_new();
-    outside_until_it_enters();
-    starts_in_time();
-    what_is_taken();
-    move_is_given_where_due();
-    request_is_accepted_where_admissible();
-    stop_is_given_where_due();
-    proceed_is_given_where_due();
 }

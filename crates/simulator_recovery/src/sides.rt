@@ -17,25 +17,21 @@ ghost use Rattle.simulator_run.specs.State.{WorldState};
 ghost use Rattle.simulator_run.specs.Tried.{Played};
 ghost use Rattle.simulator_headline.specs.Reached.{IsReached};
 ghost use Rattle.simulator_recovery.specs.LinkRounds.{StaysBelowLimit};
-ghost use Rattle.simulator_recovery.specs.Moves.{BeginsToDrive, DrivesSince, HasRoomBehind, ReportComesBehind, move_rounds};
+ghost use Rattle.simulator_recovery.specs.Moves.{DrivesSince, ReportComesBehind, drive_rounds};
 ghost use Rattle.simulator_recovery.specs.NothingDue.{HasAspect, Waits};
 ghost use Rattle.simulator_recovery.specs.Ready.{IsReadyOn, ready_rounds};
 ghost use Rattle.simulator_recovery.specs.Rounds.{HasTime, IsWork, all_tried, good_rounds};
 ghost use Rattle.simulator_recovery.specs.SidesOfMoves.{AwaitsMove, HaveMovesWhereHeld};
 
-use crate::{events_close_no_link, stations_stand_by_their_counts};
+use crate::{good_rounds_are_events, links_are_ready, reports_of_drives_come_back};
 use object_host_theorem::{point_makes_a_step, step_takes_and_gives};
-use rasta_core_recovery::{two_ends_at_work_come_up, two_ends_at_work_hand_over};
 use simulator_headline::{items_are_read_off_the_datagrams, reached_worlds_are_safe};
-use simulator_machine_links::{
-    a_client_of_many_makes_a_step, a_node_of_one_link_makes_a_step, servers_enter_once,
-};
+use simulator_machine_links::{a_client_of_many_makes_a_step, a_node_of_one_link_makes_a_step};
 use simulator_run::a_station_begins_its_links;
 use simulator_run::ixl_rules::control_table::sci_telegram::written_is_read;
 use simulator_run::ixl_rules::rasta_core::{
-    a_node_makes_a_step, each_link_is_a_run, each_link_sees_its_events, every_event_keeps_time,
-    items_are_counted, links_keep_order, links_keep_time, one_connection, order_is_safe,
-    outside_until_it_enters,
+    a_node_makes_a_step, items_are_counted, links_keep_order, links_keep_time, one_connection,
+    order_is_safe,
 };
 use simulator_run::ixl_rules::{move_is_given_where_due, request_is_accepted_where_admissible};
 use simulator_run::object_host::{step_is_calls, step_tells_what_was_taken, steps_keep_a_host};
@@ -115,58 +111,20 @@ pub fn driven_points_go_where_routes_want()
     request_is_accepted_where_admissible();
 }
 
-/// Drives are reported where routes want them: where a point's controller begins to drive in a good round from the 1566th on, and a set
-/// route holds the point at a side behind that round, then within the next 52 good rounds, 520 ms, it reports, as its next item in this
-/// connection, that the point lies at this side, and the interlocking's end takes this report. The premises are else those of
-/// `moves_are_answered`.
+/// Drives are reported where routes want them: where a point's controller drives for a move behind a good round from the 1566th on, and set
+/// routes hold the point at a side then, it reports within the next 51 good rounds, 510 ms, as its next item in this connection, that
+/// the point lies at this side, and the interlocking's end takes this report. The premises are else those of `reports_of_drives_come_back`.
 pub fn drives_are_reported_where_routes_want()
-    ensures { (between one : List Event) (later more : List (List Event)) (flowing : Flowing Played) (place : ℕ) (side to : Side) (since : ℕ) → Once flowing.state.sited.site → IsStation flowing.state.sited.site
+    ensures { (between : List Event) (later more : List (List Event)) (flowing : Flowing Played) (place : ℕ) (side to : Side) (since : ℕ) → Once flowing.state.sited.site → IsStation flowing.state.sited.site
         → IsTableOf flowing.state.sited.site flowing.state.sited.table → IsReached flowing.state.sited.site flowing.state.sited.table flowing.state.run
-        → Each IsWork between → Each (Each IsWork) ((later ++ one ∷ []) ++ more) → HasTime (suc (length ((later ++ one ∷ []) ++ more))) flowing.state.run → place < length flowing.state.sited.site.points
-        → length flowing.state.sited.site.points ≤ length flowing.drives → ready_rounds ≤ suc (length later) → length more ≡ move_rounds
-        → StaysBelowLimit flowing.state.sited.site (point_link flowing.state.sited.site place) ((later ++ one ∷ []) ++ more) (all_tried between (round stations flowing))
-        → HasRoomBehind place more (good_rounds (between ∷ (later ++ one ∷ [])) flowing)
-        → BeginsToDrive place to since (good_rounds (between ∷ later) flowing).state.run (good_rounds (between ∷ (later ++ one ∷ [])) flowing).state.run
-        → IsHeldAt flowing.state.sited.table (good_rounds (between ∷ (later ++ one ∷ [])) flowing).state.run.station.ixl place side
-        → ReportComesBehind flowing.state.sited.site place side more (good_rounds (between ∷ (later ++ one ∷ [])) flowing) }
+        → Each IsWork between → Each (Each IsWork) (later ++ more) → HasTime (suc (length (later ++ more))) flowing.state.run → place < length flowing.state.sited.site.points
+        → length flowing.state.sited.site.points ≤ length flowing.drives → ready_rounds ≤ suc (length later) → length more ≡ suc drive_rounds
+        → StaysBelowLimit flowing.state.sited.site (point_link flowing.state.sited.site place) (later ++ more) (all_tried between (round stations flowing))
+        → DrivesSince place to since (good_rounds (between ∷ later) flowing).state.run → IsHeldAt flowing.state.sited.table (good_rounds (between ∷ later) flowing).state.run.station.ixl place side
+        → ReportComesBehind flowing.state.sited.site place side more (good_rounds (between ∷ later) flowing) }
 {
-    a_client_of_many_makes_a_step();
-    a_node_makes_a_step();
-    a_node_of_one_link_makes_a_step();
-    a_station_begins_its_links();
-    deliveries_may_come();
-    events_are_those_of_the_links();
-    interlockings_call_their_nodes();
-    items_are_counted();
-    layouts_name_their_links();
-    links_keep_order();
-    links_keep_time();
-    one_connection();
-    order_is_safe();
-    point_makes_a_step();
-    stations_have_links();
-    steps_keep_a_host::<Signal>();
-    steps_keep_a_host::<Point>();
-    steps_keep_a_host::<Detection>();
-    step_is_calls::<Signal>();
-    step_is_calls::<Point>();
-    step_is_calls::<Detection>();
-    step_takes_and_gives::<Signal>();
-    step_takes_and_gives::<Point>();
-    step_takes_and_gives::<Detection>();
-    step_tells_what_was_taken::<Point>();
-    written_is_read();
-    reached_worlds_are_safe();
-    each_link_sees_its_events();
-    each_link_is_a_run();
-    two_ends_at_work_come_up();
-    two_ends_at_work_hand_over();
-    stations_stand_by_their_counts();
-    events_close_no_link();
-    items_are_read_off_the_datagrams();
-    every_event_keeps_time();
-    outside_until_it_enters();
-    servers_enter_once();
-    move_is_given_where_due();
-    request_is_accepted_where_admissible();
+    driven_points_go_where_routes_want();
+    good_rounds_are_events();
+    links_are_ready();
+    reports_of_drives_come_back();
 }

@@ -1,180 +1,34 @@
-use Rattle.simulator_recovery.proofs.RoutesCome.{accepted_comes, accepted_proceeds}
+use Rattle.std.specs.Prelude.{[], ◌∷◌, ◌++◌}
+use Rattle.simulator_recovery.specs.RoutesCome.{and_request}
+use Rattle.simulator_recovery.specs.Rounds.{good_rounds}
+use Rattle.simulator_recovery.proofs.HeldRounds.{accepted_set, accepted_there, base_at, request_works, with_one}
+use Rattle.simulator_recovery.proofs.Rounds.{TimeLaws}
 use Rattle.simulator_recovery.proofs.routes.accepted_routes_come.Goals as goal
 
 pub returns-clause-proceeds : goal.returns-clause-proceeds
-returns-clause-proceeds c = accepted_proceeds (record {
-  course = record {
-    requests = c.request_is_accepted_where_admissible.ensures.accepted;
-    moves = c.move_is_given_where_due.ensures;
-    stops = c.stop_is_given_where_due.ensures;
-    proceeds = c.proceed_is_given_where_due.ensures;
-  };
-  up = record {
-    ready = record {
-      up = record {
-        link = record {
-          times = record { reach = record { on = c.reached_worlds_are_safe.ensures.on }; standing = c.stations_have_links.ensures.run };
-          named = c.layouts_name_their_links.ensures;
-          exactly = c.events_are_those_of_the_links.ensures.exactly;
-          whole = c.events_are_those_of_the_links.ensures.whole;
-          time = c.links_keep_time.ensures.run;
-          sees = c.each_link_sees_its_events.ensures.run;
-          may = c.each_link_sees_its_events.ensures.may_run;
-        };
-        stays = record { reach = record { on = c.reached_worlds_are_safe.ensures.on }; closes = c.events_close_no_link.ensures };
-        arriving = record {
-          standing = c.stations_have_links.ensures.run;
-          are_links = c.layouts_name_their_links.ensures;
-          begins = c.links_keep_time.ensures.starts;
-          time = c.links_keep_time.ensures.run;
-        };
-        sees_one = c.each_link_sees_its_events.ensures.event;
-        runs = c.each_link_is_a_run.ensures.runs;
-        up = c.two_ends_at_work_come_up.ensures;
-      };
-      over = c.two_ends_at_work_hand_over.ensures;
-      stand = c.stations_stand_by_their_counts.ensures;
-    };
-    held = record {
-      connection = record {
-        time = c.every_event_keeps_time.ensures;
-        counted = c.one_connection.ensures.counted;
-        opening = c.opening_is_new.ensures;
-        nothing = c.what_is_taken.ensures.nothing;
-        stays = c.outside_until_it_enters.ensures.stays;
-      };
-      time = c.every_run_keeps_time.ensures;
-      order = c.every_run_keeps_order.ensures;
-      counts = c.items_are_counted.ensures.counted;
-    };
-    order_starts = c.every_event_keeps_order.ensures.starts;
-    time_starts = c.starts_in_time.ensures;
-  };
-  shows = record {
-    ready = record {
-      up = record {
-        link = record {
-          times = record { reach = record { on = c.reached_worlds_are_safe.ensures.on }; standing = c.stations_have_links.ensures.run };
-          named = c.layouts_name_their_links.ensures;
-          exactly = c.events_are_those_of_the_links.ensures.exactly;
-          whole = c.events_are_those_of_the_links.ensures.whole;
-          time = c.links_keep_time.ensures.run;
-          sees = c.each_link_sees_its_events.ensures.run;
-          may = c.each_link_sees_its_events.ensures.may_run;
-        };
-        stays = record { reach = record { on = c.reached_worlds_are_safe.ensures.on }; closes = c.events_close_no_link.ensures };
-        arriving = record {
-          standing = c.stations_have_links.ensures.run;
-          are_links = c.layouts_name_their_links.ensures;
-          begins = c.links_keep_time.ensures.starts;
-          time = c.links_keep_time.ensures.run;
-        };
-        sees_one = c.each_link_sees_its_events.ensures.event;
-        runs = c.each_link_is_a_run.ensures.runs;
-        up = c.two_ends_at_work_come_up.ensures;
-      };
-      over = c.two_ends_at_work_hand_over.ensures;
-      stand = c.stations_stand_by_their_counts.ensures;
-    };
-    aspects = record {
-      signals = record {
-        seen = c.every_world_is_safe.ensures.seen;
-        shows = c.represented_worlds_are_seen.ensures.seen;
-        connection = record { up = c.one_connection.ensures.up; some = c.one_connection.ensures.some };
-        counted = c.items_are_counted.ensures.counted;
-        safe = c.order_is_safe.ensures;
-      };
-      reach = record { on = c.reached_worlds_are_safe.ensures.on };
-      at = c.reached_worlds_are_safe.ensures.at;
-    };
-  };
-})
+returns-clause-proceeds c = λ between later before more still flowing route row once station is_table reached work works before_works more_works still_works can long row_there below accepts stays known.
+    let laws : TimeLaws = record { reach = record { on = c.reached_worlds_are_safe.ensures.on }; standing = c.stations_have_links.ensures.run }
+    in let site = flowing.state.sited.site
+    in let table = flowing.state.sited.table
+    in let rounds = later ++ and_request route before ∷ []
+    in let at = base_at laws between later before flowing route reached accepts
+    in let accepted = accepted_there laws between later before flowing route reached accepts
+    in let set = accepted_set flowing.state.sited route row (more ++ still) (good_rounds (between ∷ rounds) flowing) at.same accepted
+    (c.accepted_settings_are_on_course.ensures.course site table accepted.world route row is_table accepted.reached row_there accepted.accepted)
+    (c.accepted_settings_move_their_points.ensures.clear site table accepted.world route row row_there accepted.accepted) stays
+    in c.routes_come.ensures.proceeds between rounds more still flowing route.0 row once station is_table reached work (request_works later route before works before_works) more_works still_works can
+    (with_one later (and_request route before) long) row_there below set known
 
 pub returns-clause-shows : goal.returns-clause-shows
-returns-clause-shows c = accepted_comes (record {
-  course = record {
-    requests = c.request_is_accepted_where_admissible.ensures.accepted;
-    moves = c.move_is_given_where_due.ensures;
-    stops = c.stop_is_given_where_due.ensures;
-    proceeds = c.proceed_is_given_where_due.ensures;
-  };
-  up = record {
-    ready = record {
-      up = record {
-        link = record {
-          times = record { reach = record { on = c.reached_worlds_are_safe.ensures.on }; standing = c.stations_have_links.ensures.run };
-          named = c.layouts_name_their_links.ensures;
-          exactly = c.events_are_those_of_the_links.ensures.exactly;
-          whole = c.events_are_those_of_the_links.ensures.whole;
-          time = c.links_keep_time.ensures.run;
-          sees = c.each_link_sees_its_events.ensures.run;
-          may = c.each_link_sees_its_events.ensures.may_run;
-        };
-        stays = record { reach = record { on = c.reached_worlds_are_safe.ensures.on }; closes = c.events_close_no_link.ensures };
-        arriving = record {
-          standing = c.stations_have_links.ensures.run;
-          are_links = c.layouts_name_their_links.ensures;
-          begins = c.links_keep_time.ensures.starts;
-          time = c.links_keep_time.ensures.run;
-        };
-        sees_one = c.each_link_sees_its_events.ensures.event;
-        runs = c.each_link_is_a_run.ensures.runs;
-        up = c.two_ends_at_work_come_up.ensures;
-      };
-      over = c.two_ends_at_work_hand_over.ensures;
-      stand = c.stations_stand_by_their_counts.ensures;
-    };
-    held = record {
-      connection = record {
-        time = c.every_event_keeps_time.ensures;
-        counted = c.one_connection.ensures.counted;
-        opening = c.opening_is_new.ensures;
-        nothing = c.what_is_taken.ensures.nothing;
-        stays = c.outside_until_it_enters.ensures.stays;
-      };
-      time = c.every_run_keeps_time.ensures;
-      order = c.every_run_keeps_order.ensures;
-      counts = c.items_are_counted.ensures.counted;
-    };
-    order_starts = c.every_event_keeps_order.ensures.starts;
-    time_starts = c.starts_in_time.ensures;
-  };
-  shows = record {
-    ready = record {
-      up = record {
-        link = record {
-          times = record { reach = record { on = c.reached_worlds_are_safe.ensures.on }; standing = c.stations_have_links.ensures.run };
-          named = c.layouts_name_their_links.ensures;
-          exactly = c.events_are_those_of_the_links.ensures.exactly;
-          whole = c.events_are_those_of_the_links.ensures.whole;
-          time = c.links_keep_time.ensures.run;
-          sees = c.each_link_sees_its_events.ensures.run;
-          may = c.each_link_sees_its_events.ensures.may_run;
-        };
-        stays = record { reach = record { on = c.reached_worlds_are_safe.ensures.on }; closes = c.events_close_no_link.ensures };
-        arriving = record {
-          standing = c.stations_have_links.ensures.run;
-          are_links = c.layouts_name_their_links.ensures;
-          begins = c.links_keep_time.ensures.starts;
-          time = c.links_keep_time.ensures.run;
-        };
-        sees_one = c.each_link_sees_its_events.ensures.event;
-        runs = c.each_link_is_a_run.ensures.runs;
-        up = c.two_ends_at_work_come_up.ensures;
-      };
-      over = c.two_ends_at_work_hand_over.ensures;
-      stand = c.stations_stand_by_their_counts.ensures;
-    };
-    aspects = record {
-      signals = record {
-        seen = c.every_world_is_safe.ensures.seen;
-        shows = c.represented_worlds_are_seen.ensures.seen;
-        connection = record { up = c.one_connection.ensures.up; some = c.one_connection.ensures.some };
-        counted = c.items_are_counted.ensures.counted;
-        safe = c.order_is_safe.ensures;
-      };
-      reach = record { on = c.reached_worlds_are_safe.ensures.on };
-      at = c.reached_worlds_are_safe.ensures.at;
-    };
-  };
-})
+returns-clause-shows c = λ between later before more still flowing route row once station is_table reached work works before_works more_works still_works can long row_there below accepts stays known.
+    let laws : TimeLaws = record { reach = record { on = c.reached_worlds_are_safe.ensures.on }; standing = c.stations_have_links.ensures.run }
+    in let site = flowing.state.sited.site
+    in let table = flowing.state.sited.table
+    in let rounds = later ++ and_request route before ∷ []
+    in let at = base_at laws between later before flowing route reached accepts
+    in let accepted = accepted_there laws between later before flowing route reached accepts
+    in let set = accepted_set flowing.state.sited route row (more ++ still) (good_rounds (between ∷ rounds) flowing) at.same accepted
+    (c.accepted_settings_are_on_course.ensures.course site table accepted.world route row is_table accepted.reached row_there accepted.accepted)
+    (c.accepted_settings_move_their_points.ensures.clear site table accepted.world route row row_there accepted.accepted) stays
+    in c.routes_come.ensures.shows between rounds more still flowing route.0 row once station is_table reached work (request_works later route before works before_works) more_works still_works can
+    (with_one later (and_request route before) long) row_there below set known

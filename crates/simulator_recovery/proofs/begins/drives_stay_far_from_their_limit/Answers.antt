@@ -1,9 +1,9 @@
 use Rattle.simulator_run.specs.rasta_core.identity.Role.TheVariants as role
-use Rattle.simulator_recovery.proofs.MovesAnswered.{reported_anew}
-use Rattle.simulator_recovery.proofs.moves.new_drives_end_with_their_reports.Goals as goal
+use Rattle.simulator_recovery.proofs.BeginsReports.{stays_far}
+use Rattle.simulator_recovery.proofs.begins.drives_stay_far_from_their_limit.Goals as goal
 
 pub returns : goal.returns
-returns c = reported_anew (record {
+returns c = stays_far (record {
   ready = record {
     up = record {
       link = record {
@@ -95,9 +95,4 @@ returns c = reported_anew (record {
     counted = c.items_are_counted.ensures.counted;
   };
   read_off = c.items_are_read_off_the_datagrams.ensures;
-}) (record {
-  time = c.every_event_keeps_time.ensures;
-  counted = c.one_connection.ensures.counted;
-  once = c.servers_enter_once.ensures;
-  stays = c.outside_until_it_enters.ensures.stays;
 })

@@ -1,0 +1,35 @@
+use Rattle.std.proofs.Common.{inl}
+use Rattle.std.specs.Prelude.{[], ◌∷◌, ◌++◌}
+use Rattle.simulator_run.specs.Flow.{round, stations}
+use Rattle.simulator_run.specs.Nodes.{point_link}
+use Rattle.simulator_recovery.specs.RoutesCome.{and_request}
+use Rattle.simulator_recovery.specs.Rounds.{all_tried, good_rounds}
+use Rattle.simulator_recovery.proofs.HeldNeeds.{needs_there}
+use Rattle.simulator_recovery.proofs.HeldRounds.{accepted_known, accepted_set, accepted_there, base_at, below_front, fewer, longer, movable_or, point_below, request_works}
+use Rattle.simulator_recovery.proofs.Rounds.{TimeLaws}
+use Rattle.simulator_recovery.proofs.held.accepted_routes_come_in_time.Goals as goal
+
+pub returns : goal.returns
+returns c = λ between later before more still flowing route row once station is_table reached work works before_works more_works still_works can notes long many row_there below accepts stays may.
+    let laws : TimeLaws = record { reach = record { on = c.reached_worlds_are_safe.ensures.on }; standing = c.stations_have_links.ensures.run }
+    in let site = flowing.state.sited.site
+    in let table = flowing.state.sited.table
+    in let rounds = later ++ and_request route before ∷ []
+    in let next = all_tried between (round stations flowing)
+    in let start = good_rounds (between ∷ rounds) flowing
+    in let rounds_works = request_works later route before works before_works
+    in let at = base_at laws between later before flowing route reached accepts
+    in let accepted = accepted_there laws between later before flowing route reached accepts
+    in let set = accepted_set flowing.state.sited route row (more ++ still) start at.same accepted
+    (c.accepted_settings_are_on_course.ensures.course site table accepted.world route row is_table accepted.reached row_there accepted.accepted)
+    (c.accepted_settings_move_their_points.ensures.clear site table accepted.world route row row_there accepted.accepted) stays
+    in let some = fewer rounds more flowing.state.run (fewer (rounds ++ more) still flowing.state.run can)
+    in let some_below = below_front site row rounds more next (below_front site row (rounds ++ more) still next below)
+    in c.set_routes_come_in_time.ensures between (and_request route before) later more still flowing route.0 row once station is_table reached work rounds_works more_works still_works
+    can notes long many row_there below set
+    (λ need within. let few = needs_there site table station is_table route.0 row row_there need within
+    in inl (movable_or laws site table station once start.state.run at.reached need few
+    (c.links_are_ready.ensures between rounds flowing (point_link site need.point) once station is_table reached work rounds_works some
+    (point_below site need.point few) (longer later (and_request route before) long) (some_below.points need within))
+    (accepted_known site table route start.state.run accepted need
+    (c.accepted_settings_move_their_points.ensures.points site table accepted.world route row need row_there within accepted.accepted)) (may need within)))

@@ -1,0 +1,45 @@
+-- What a route needs of its points as it is set, and how it comes.
+use Rattle.std.specs.Prelude.{◌≡◌, ◌⊎◌, ℕ, false, List}
+use Rattle.std.specs.FinSet.{contains}
+use Rattle.std.specs.List.{Contains}
+use Rattle.simulator_run.specs.ixl_rules.Due.{At, IsClear, IsHeldWithAuthority, Known}
+use Rattle.simulator_run.specs.ixl_rules.State.{IxlState}
+use Rattle.simulator_run.specs.ixl_rules.Table.{Need, Row, Table}
+use Rattle.simulator_run.specs.simulator_event.declared.event.Event.{Event}
+use Rattle.simulator_run.specs.Flow.{Flowing}
+use Rattle.simulator_run.specs.State.{WorldState}
+use Rattle.simulator_run.specs.Tried.{Played}
+use Rattle.simulator_recovery.specs.NothingDue.{HasAspect}
+use Rattle.simulator_recovery.specs.Rounds.{good_rounds}
+use Rattle.simulator_recovery.specs.RoutesCome.{AreKnownWithin}
+use Rattle.simulator_recovery.specs.Shows.{ShowsThrough}
+use Rattle.simulator_recovery.specs.SidesOfMoves.{AwaitsMove}
+
+-- A point may be moved: its own section is known to be clear, and no route with authority holds it.
+pub record MayBeMoved (table : Table) (ixl : IxlState) (point : ℕ) : Type 0 where
+  pub clear : At table.point_sections point (IsClear table ixl)
+  pub unheld : IsHeldWithAuthority table ixl point → ⊥
+
+-- It may be moved for this route: it got no move in this connection since the route was set.
+pub record IsFreeFor (table : Table) (ixl : IxlState) (number point : ℕ) : Type 0 where
+  pub may : MayBeMoved table ixl point
+  pub unmoved : At ixl.known_points point (λ known. contains known.moved number ≡ false)
+
+-- A point that a route requires is known at its side, or on its way: the interlocking awaits the report of its move.
+abbrev pub IsKnownOrOnItsWay : Need → WorldState → Type 0
+IsKnownOrOnItsWay need world = Known world.station.ixl need.point need.side ⊎ AwaitsMove need.point world
+
+-- Each point that a route requires is so, or may be moved.
+abbrev pub MayHaveItsPoints : Table → Row → WorldState → Type 0
+MayHaveItsPoints table row world = (need : Need) → Contains row.needs need → IsKnownOrOnItsWay need world ⊎ MayBeMoved table world.station.ixl need.point
+
+-- Each is so, or may be moved for this route. So none has been moved for it in vain.
+abbrev pub MayYetHaveItsPoints : Table → ℕ → Row → WorldState → Type 0
+MayYetHaveItsPoints table number row world = (need : Need) → Contains row.needs need → IsKnownOrOnItsWay need world ⊎ IsFreeFor table world.station.ixl number need.point
+
+-- A route comes by the end of these rounds: within them each of its points is known at its side at the end of one, behind them it has its aspect,
+-- and its lamp shows this from the next round on, and through the rounds that follow.
+pub record ComesBy (number : ℕ) (row : Row) (rounds still : List (List Event)) (start : Flowing Played) : Type 0 where
+  pub points : AreKnownWithin row rounds start
+  pub proceeds : At (good_rounds rounds start).state.run.station.ixl.routes number HasAspect
+  pub shows : ShowsThrough row.entry row.aspect still (good_rounds rounds start)
