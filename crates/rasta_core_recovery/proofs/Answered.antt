@@ -1,5 +1,5 @@
 -- A client that joins by the response of a server that has said nothing else: what it says then is known, and what it has heard.
-use Rattle.std.proofs.Common.{◌≡◌, ℕ, ◌∙◌, ◌+◌, ◌-◌, ◌≤◌, ◌<◌, ◌⊎◌, inl, inr, Bool, true, false, List, [], ◌∷◌, ◌++◌, refl, sym, subst, arith, ltb-false}
+use Rattle.std.proofs.Common.{◌≡◌, ℕ, ◌∙◌, ◌+◌, ◌≤◌, ◌<◌, ◌⊎◌, inl, inr, Bool, true, false, List, [], ◌∷◌, ◌++◌, refl, sym, subst, arith, ltb-false}
 use Rattle.rasta_core_run.specs.Sequence.{wire, stamp}
 use Rattle.rasta_core_run.specs.State.{LinkState, is_asking}
 use Rattle.rasta_core_run.specs.PdusHandedOut.{Step, header_of}
@@ -7,17 +7,13 @@ use Rattle.rasta_core_run.specs.Receipt.{ahead, hearing}
 use Rattle.rasta_core_run.specs.header.Header.{Header}
 use Rattle.rasta_core_run.specs.pdu.Pdu.{Pdu}
 use Rattle.rasta_core_run.specs.Each.{Each}
-use Rattle.rasta_core_run.specs.Names.{Names}
-use Rattle.rasta_core_recovery.proofs.Links.{Pair, heard}
-use Rattle.rasta_core_recovery.proofs.Words.{IsSimple, Says, says_then, simple_talk, voice_of, Chain, says_chain}
+use Rattle.rasta_core_recovery.proofs.Links.{heard}
+use Rattle.rasta_core_recovery.proofs.Words.{IsSimple, Says, says_then}
 use Rattle.rasta_core_recovery.proofs.Deed.{Deed, leaves, keeps, asks, takes, hears, Passes}
 use Rattle.rasta_core_recovery.proofs.Fold.{Out, Lively, heard_case, Next, gone_next, stays_next}
-use Rattle.rasta_core_recovery.proofs.Course.{Joined, lively, speaks_now}
+use Rattle.rasta_core_recovery.proofs.Course.{Joined, lively}
 use Rattle.rasta_core_recovery.proofs.Asks.{AskDeed, ask_leaves, ask_keeps, ask_joins, Asks, asks_asking, asks_lively, asks_hears}
-use Rattle.rasta_core_recovery.proofs.Facts.{IsFirst, Shares, Facts}
-use Rattle.rasta_core_recovery.proofs.Pasts.{Past}
-use Rattle.rasta_core_recovery.proofs.Converse.{Talk}
-use Rattle.rasta_core_recovery.proofs.Seen.{BothIn, joined_of, server_not_asking}
+use Rattle.rasta_core_recovery.proofs.Facts.{IsFirst}
 
 -- it keeps a stamp of lately
 pub record IsStamped (m l : LinkState) : Type 0 where
@@ -130,61 +126,4 @@ module _ (now : ℕ) (m : LinkState) where
 pub record HasEntered (m l : LinkState) (s : Step) : Type 0 where
   pub says : Says IsSimple (header_of s.link) l.sent s.pdus s.link.sent
   pub heard : IsStamped m s.link
-
--- so it is known from then on what is under way: nothing to the client, for its server heard nothing
-pub talk_answered : (names : Names) (p q : Pair) → Facts names q → Past q.client → Past q.server → BothIn q → is_asking q.client ≡ false → HasEntered p.server p.client (record { link = q.client; pdus = q.to_server })
-    → q.to_client ≡ [] → q.server.expected ≤ p.client.sent → q.server.own_stamp ≤ p.server.clock → q.server.clock ≡ p.server.clock + 10 → Talk names q.client.clock p.server.clock false false q
-talk_answered names p q facts client_past server_past in_it joined entered none most old clock = record {
-  client = facts.client;
-  server = facts.server;
-  client_kept = entered.heard.reading;
-  server_kept = shares.1.kept.reading;
-  to_client = record {
-    is = client_is;
-    first = shares.0.first;
-    some = shares.0.some;
-    most = shares.0.most;
-    kept_is = entered.heard.kept_is;
-    before = omega (arith, entered.heard.before, clock);
-    low = omega (arith, entered.heard.recent);
-    sent_before = server_past.said in_it.server;
-    number = q.server.sent;
-    count = q.server.expected - 1;
-    reading = shares.1.kept.reading;
-    chain = subst (λ (ps : List Pdu). Chain (voice_of q.server) q.server.sent (q.server.expected - 1) shares.1.kept.reading ps q.server.sent (q.server.expected - 1) shares.1.kept.reading) (sym none) (refl, omega arith, omega arith);
-    since = omega (arith, shares.1.kept.recent);
-    mode = (entered.heard.before, old);
-    later = omega (arith, clock);
-    young = λ e. absurd (cc e);
-    deaf = λ e. (shares.0.most, client_is.own);
-  };
-  to_server = record {
-    is = server_is;
-    first = shares.1.first;
-    some = shares.1.some;
-    most = shares.1.most;
-    kept_is = shares.1.kept.kept_is;
-    before = shares.1.kept.before;
-    low = omega (arith, shares.1.kept.recent);
-    sent_before = client_past.said in_it.client;
-    number = p.client.sent;
-    count = q.client.expected - 1;
-    reading = entered.heard.reading;
-    chain = says_chain IsSimple simple_talk (voice_of q.client) q.client p.client.sent q.client.sent (q.client.expected - 1) entered.heard.reading q.to_server
-        (speaks_now q.client.clock q.client entered.heard.reading client_is shares.0.some (omega (arith, shares.0.most, shares.1.fits)) entered.heard.kept_is) entered.says;
-    since = omega (arith, entered.heard.recent);
-    mode = (shares.1.kept.before, client_is.own);
-    later = omega arith;
-    young = λ e. absurd (cc e);
-    deaf = λ e. (most, old);
-  };
-}
-  where
-    shares : Shares q.client q.server × Shares q.server q.client
-    shares = facts.shares in_it.client joined in_it.server
-
-    client_is : Joined q.client.clock q.client
-    client_is = joined_of q.client in_it.client joined (facts.client_young in_it.client)
-
-    server_is : Joined q.server.clock q.server
-    server_is = joined_of q.server in_it.server (server_not_asking names q.server facts.server) (facts.server_young in_it.server)
+  pub expected : s.link.expected ≡ 1

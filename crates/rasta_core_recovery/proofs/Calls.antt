@@ -50,7 +50,7 @@ pub ticking_beats : (now : ℕ) (l : LinkState) → Lives now l → (is_up l.pha
 unfolding ticking beating
 ticking_beats now l lives due = ap (λ (s : Step). then_do s beating) (entered_lives now l lives) ∙ rw due refl
 
-not_down : (p : Phase) → is_open p ≡ true → is_down (open_state p) ≡ false
+pub not_down : (p : Phase) → is_open p ≡ true → is_down (open_state p) ≡ false
 not_down phase.Closed o = cc
 not_down phase.Start o = refl
 not_down phase.Up o = refl

@@ -88,7 +88,7 @@ pub turned : {X : Type 0} (P Q : X → Type 0) → ((x : X) → P x → Q x) →
 turned P Q turn [] each = tt
 turned P Q turn (first ∷ others) each = (turn first each.0, turned P Q turn others each.1)
 
-second_part : {X : Type 0} (P : X → Type 0) (one other : List X) → Each P (one ++ other) → Each P other
+pub second_part : {X : Type 0} (P : X → Type 0) (one other : List X) → Each P (one ++ other) → Each P other
 second_part P [] other each = each
 second_part P (first ∷ one) other each = second_part P one other each.1
 
@@ -109,17 +109,17 @@ pub record Found (names : Names) (who : Role) (ends : Ends) (bytes : List ℕ) (
   pub sender : datagram.sender ≡ partner_of who
   pub read : reading names.key datagram.bytes ≡ Ok p
 
-identity_is : (names : Names) (ends : Ends) (who : Role) → Timely names ends → (end_of who ends).link.identity ≡ identity_of who names
+pub identity_is : (names : Names) (ends : Ends) (who : Role) → Timely names ends → (end_of who ends).link.identity ≡ identity_of who names
 identity_is names ends role.Client timely = timely.client.identity
 identity_is names ends role.Server timely = timely.server.identity
 
-clock_is : (names : Names) (ends : Ends) (who : Role) → Timely names ends → (end_of who ends).link.clock ≡ reading_of (end_of who ends).clock
+pub clock_is : (names : Names) (ends : Ends) (who : Role) → Timely names ends → (end_of who ends).link.clock ≡ reading_of (end_of who ends).clock
 clock_is names ends role.Client timely = timely.client.clock
 clock_is names ends role.Server timely = timely.server.clock
 
-pub found : Laws → (names : Names) → AreNames names → (who : Role) (ends : Ends) → Timely names ends → (bytes : List ℕ) (connection : ℕ) → MayCall names who (Receives bytes connection) ends → (p : Pdu) → Read (end_of who ends).link bytes p
-    → Passes (end_of who ends).link p → Found names who ends bytes connection p
-found laws names are who ends timely bytes connection may p read pass = choose may
+pub found_by : Laws → (names : Names) → AreNames names → (who : Role) (ends : Ends) → Timely names ends → (bytes : List ℕ) (connection : ℕ) → MayCall names who (Receives bytes connection) ends → (p : Pdu) → Read (end_of who ends).link bytes p
+    → (p.receiver == (end_of who ends).link.identity.own) ≡ true → (p.sender == (end_of who ends).link.identity.partner) ≡ true → Found names who ends bytes connection p
+found_by laws names are who ends timely bytes connection may p read receiver sender = choose may
   where
     id : (end_of who ends).link.identity ≡ identity_of who names
     id = identity_is names ends who timely
@@ -128,10 +128,10 @@ found laws names are who ends timely bytes connection may p read pass = choose m
     reads = subst (λ (key : Key). reading key bytes ≡ Ok p) (ap (λ (i : Identity). i.key) id) read
 
     for : p.receiver ≡ name_of who names
-    for = eqb-true p.receiver (end_of who ends).link.identity.own pass.receiver ∙ ap (λ (i : Identity). i.own) id
+    for = eqb-true p.receiver (end_of who ends).link.identity.own receiver ∙ ap (λ (i : Identity). i.own) id
 
     from : p.sender ≡ name_of (partner_of who) names
-    from = eqb-true p.sender (end_of who ends).link.identity.partner pass.sender ∙ ap (λ (i : Identity). i.partner) id
+    from = eqb-true p.sender (end_of who ends).link.identity.partner sender ∙ ap (λ (i : Identity). i.partner) id
 
     choose : MayCall names who (Receives bytes connection) ends → Found names who ends bytes connection p
     choose (inr (inl damaged)) = absurd (damaged (laws.intact names.key bytes p reads))
@@ -161,6 +161,10 @@ found laws names are who ends timely bytes connection may p read pass = choose m
         by_role role.Server role.Client e = refl
         by_role role.Server role.Server e = absurd (are.differ (sym e))
 
+pub found : Laws → (names : Names) → AreNames names → (who : Role) (ends : Ends) → Timely names ends → (bytes : List ℕ) (connection : ℕ) → MayCall names who (Receives bytes connection) ends → (p : Pdu) → Read (end_of who ends).link bytes p
+    → Passes (end_of who ends).link p → Found names who ends bytes connection p
+found laws names are who ends timely bytes connection may p read pass = found_by laws names are who ends timely bytes connection may p read pass.receiver pass.sender
+
 -- ---- calls
 
 -- what came in a call
@@ -188,7 +192,7 @@ settled_so laws names ends who timely is_in = record {
   young = young_is (reading_of (end_of who ends).clock) (end_of who ends).link is_in (laws.settled names ends who timely) (clock_is names ends who timely);
 }
 
-not_entered : (b : Bool) (moment : ℕ) → (if b then Some moment else None) ≡ None → b ≡ false
+pub not_entered : (b : Bool) (moment : ℕ) → (if b then Some moment else None) ≡ None → b ≡ false
 not_entered false moment e = refl
 not_entered true moment e = absurd (none-some moment (sym e))
 
@@ -528,7 +532,7 @@ module _ (laws : Laws) (names : Names) (are : AreNames names) (spare : ℕ) (end
   entered_timely = server_timely laws names are spare ends timely ordered (Receives bytes connection) may
 
   -- it takes what comes
-  takes_it : is_taken (receiving (reading_of ends.server.clock) bytes ends.server.link).verdict ≡ true
+  pub takes_it : is_taken (receiving (reading_of ends.server.clock) bytes ends.server.link).verdict ≡ true
   unfolding end_after outcome
   takes_it = choose (is_taken (receiving (reading_of ends.server.clock) bytes ends.server.link).verdict) refl
     where
@@ -559,10 +563,10 @@ module _ (laws : Laws) (names : Names) (are : AreNames names) (spare : ℕ) (end
 
   -- where its client is in a connection
   module _ (in_new : AreIn entered_ends) where
-    entered_both : Both names entered_ends
+    pub entered_both : Both names entered_ends
     entered_both = both_of names entered_ends entered_timely (server_ordered laws names are spare ends timely ordered (Receives bytes connection) may) in_new
 
-    entered_one : entered_ends.server.connection ≡ ends.client.connection
+    pub entered_one : entered_ends.server.connection ≡ ends.client.connection
     entered_one = laws.one names entered_ends entered_timely in_new.client in_new.server
 
     -- nothing was sent there before
@@ -675,7 +679,7 @@ pub few_alike : (spare : ℕ) (old new : Ends) → Alike old.client new.client �
 few_alike spare old new c few = let w = ap length c.waiting in let g = ap length c.given in let t = ap length c.taken in omega (arith, w, g, t, few)
 
 -- an end whose clock went on, and that is still in its connection
-settled_open : (now : ℕ) (l : LinkState) → is_open (settled now l).phase ≡ true → (settled now l ≡ record l { clock = now }) × (is_open l.phase ≡ true)
+pub settled_open : (now : ℕ) (l : LinkState) → is_open (settled now l).phase ≡ true → (settled now l ≡ record l { clock = now }) × (is_open l.phase ≡ true)
 unfolding settled
 settled_open now l = choose (is_open l.phase) (nat_le (deadline l) now) refl
   where
@@ -751,7 +755,7 @@ module _ (laws : Laws) (names : Names) (are : AreNames names) (spare : ℕ) (end
   NewEnds call may = server_new laws names are spare ends timely ordered call may
 
   -- nor does it open: the client's connection isn't one that begins now
-  opens_not : (may : MayCall names role.Server Opens ends) → AreIn (NewEnds Opens may) → is_open ends.server.link.phase ≡ false → ⊥
+  pub opens_not : (may : MayCall names role.Server Opens ends) → AreIn (NewEnds Opens may) → is_open ends.server.link.phase ≡ false → ⊥
   unfolding outcome end_after
   opens_not may in_new shut = choose (opens (reading_of ends.server.clock) ends.server.link) refl
     where

@@ -37,7 +37,7 @@ pub record Way (partner_start own_start : ℕ) (tuned : Bool) (kept other_kept :
   pub count : ℕ
   pub reading : ℕ
   pub chain : Chain (voice_of m) number count reading ps m.sent (m.expected - 1) other_kept
-  pub since : own_start ≤ reading + 5000
+  pub since : own_start ≤ reading + 6000
   pub mode : WayMode tuned partner_start kept l m number count reading ps
   pub later : partner_start ≤ m.clock
   -- a tuned end has heard something that was said since that reading; one that isn't has missed nothing yet that it expects, or
@@ -158,7 +158,7 @@ way_goes start own_start tuned other_tuned kept other_kept l m ps qs s r there b
   count = m.expected - 1;
   reading = other_kept;
   chain = u.says.chain;
-  since = back.low;
+  since = let b = back.low in omega (arith, b);
   mode = choose t.then_tuned refl t.mode;
   later = omega (arith, there.later, u.says.is.clock);
   young = λ e. young_then t.then_tuned e t.mode;

@@ -1,15 +1,13 @@
 -- A connection that both ends stay in becomes healthy soon, or its server never hears of a stamp of the good rounds.
-use Rattle.std.proofs.Common.{◌≡◌, ℕ, suc, ◌∙◌, ◌+◌, ◌-◌, ◌^◌, ◌≤◌, ◌<◌, Bool, false, true, [], ap, subst, arith}
-use Rattle.rasta_core_run.specs.State.{is_open, is_asking}
+use Rattle.std.proofs.Common.{◌≡◌, ℕ, suc, ◌∙◌, ◌+◌, ◌-◌, ◌^◌, ◌≤◌, ◌<◌, Bool, false, true, ap, subst, arith}
+use Rattle.rasta_core_run.specs.State.{is_open}
 use Rattle.rasta_core_run.specs.Names.{Names}
 use Rattle.rasta_core_recovery.proofs.Links.{Pair, end_round, pair_round, pair_rounds}
 use Rattle.rasta_core_recovery.proofs.Healthy.{Healthy}
 use Rattle.rasta_core_recovery.proofs.Turn.{Turn}
 use Rattle.rasta_core_recovery.proofs.Converse.{Talk, Goes, server_round, server_bounds_of, server_turn}
-use Rattle.rasta_core_recovery.proofs.Asks.{Asks, asks_asking}
 use Rattle.rasta_core_recovery.proofs.Sealed.{ServerAlone, Lasting, Fate, tuned_soon, old_ever, fate_of_both}
-use Rattle.rasta_core_recovery.proofs.Seen.{Rooms, Seen, BothIn, Rows, Stay, NearBy, joined_of, server_not_asking, rounds_add, seen_later, stay_later, talk_begins, talk_step, near_by, healthy_after}
-use Rattle.rasta_core_recovery.proofs.Entered.{talk_answers}
+use Rattle.rasta_core_recovery.proofs.Seen.{Seen, Stay, NearBy, rounds_add, seen_later, stay_later, talk_step, near_by, healthy_after}
 
 -- They were healthy long before so many rounds, or the server knows no own stamp that is younger than this reading, nor does it in the next round.
 pub data HealthyOrOld (names : Names) (n : ℕ) (p : Pair) (reading : ℕ) : Type 0 where
@@ -103,28 +101,3 @@ module _ (names : Names) (b n : ℕ) (p : Pair) (base : b ≤ 2) (long : 103 ≤
       finish (old_ever s then_s) =
           let at = same (n - b) n (omega (arith, long, base)) in let then_at = same (suc (n - b)) (suc n) (omega (arith, long, base)) in
           ever_old (omega (arith, s, ap (λ (q : Pair). q.server.own_stamp) at)) (λ then_in. omega (arith, then_s (ap (λ (q : Pair). is_open q.server.phase) then_at ∙ then_in), ap (λ (q : Pair). q.server.own_stamp) then_at))
-
--- where the numbers of what is said go on from the first round, it is known two rounds later what is under way
-pub rows_early : (names : Names) (n : ℕ) (p : Pair) → 103 ≤ n → n ≤ 1000 → Seen names n p → Stay n p → Rows p (pair_round p) → HealthyOrOld names n p (p.server.clock + 10)
-rows_early names n p long short seen stay rows = early_from names 2 n p (omega arith) long short seen stay (p.server.clock + 10) (omega (arith, seen.server_clock 2))
-    (subst (λ (r : ℕ). Talk names (pair_rounds 2 p).client.clock r false false (pair_rounds 2 p)) (omega (arith, seen.server_clock 1)) talk)
-  where
-    in1 : BothIn (pair_round p)
-    in1 = stay.both 1 (omega (arith, long))
-
-    rooms1 : Rooms (pair_round p)
-    rooms1 = seen.room 1 (omega (arith, long))
-
-    talk : Talk names (pair_rounds 2 p).client.clock (pair_round p).server.clock false false (pair_rounds 2 p)
-    talk = talk_begins names (pair_round p) p.client.sent p.server.sent (seen.facts 1) (seen.facts 2) (seen.client_past 2) (seen.server_past 2) in1 rows.joined (stay.both 2 (omega (arith, long)))
-        (omega (arith, rooms1.client in1.client)) (omega (arith, rooms1.server in1.server)) rows.client rows.server
-
--- where the client joined by the response of a server that had said nothing else, it is known at once
-pub answered_early : (names : Names) (n : ℕ) (p : Pair) → 103 ≤ n → n ≤ 1000 → Seen names n p → Stay n p → p.to_server ≡ [] → Asks p.client.clock p.client → is_asking (pair_round p).client ≡ false → HealthyOrOld names n p p.server.clock
-answered_early names n p long short seen stay mute asks joined = early_from names 1 n p (omega arith) long short seen stay p.server.clock (omega (arith, seen.server_clock 1))
-    (talk_answers names p ((seen.facts 0).calls now_in.client (asks_asking p.client.clock p.client asks) now_in.server) mute asks
-    (joined_of p.server now_in.server (server_not_asking names p.server (seen.facts 0).server) ((seen.facts 0).server_young now_in.server))
-    (seen.facts 1) (seen.client_past 1) (seen.server_past 1) (stay.both 1 (omega (arith, long))) joined)
-  where
-    now_in : BothIn p
-    now_in = stay.both 0 (omega arith)

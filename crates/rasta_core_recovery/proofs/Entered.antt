@@ -7,8 +7,7 @@ use Rattle.rasta_core_run.specs.header.Header.{Header}
 use Rattle.rasta_core_run.specs.pdu.Pdu.{Pdu}
 use Rattle.rasta_core_run.specs.body.Body.TheVariants.{Heartbeat}
 use Rattle.rasta_core_run.specs.Each.{Each}
-use Rattle.rasta_core_run.specs.Names.{Names}
-use Rattle.rasta_core_recovery.proofs.Links.{Pair, all_heard, worked, end_round, pair_round}
+use Rattle.rasta_core_recovery.proofs.Links.{all_heard, worked, end_round}
 use Rattle.rasta_core_recovery.proofs.Healthy.{beats}
 use Rattle.rasta_core_recovery.proofs.Calls.{at_reading, spoken}
 use Rattle.rasta_core_recovery.proofs.Words.{IsSimple, Says, says_then}
@@ -16,11 +15,8 @@ use Rattle.rasta_core_recovery.proofs.Fold.{Out, Next, gone_next, stays_next, al
 use Rattle.rasta_core_recovery.proofs.Course.{Joined, lively}
 use Rattle.rasta_core_recovery.proofs.Turn.{reading_joined, Ended, gone_end, done, ends}
 use Rattle.rasta_core_recovery.proofs.Asks.{Asks, asks_asking, asks_lively, reading_asks, not_up}
-use Rattle.rasta_core_recovery.proofs.Facts.{IsFirst, Calls, Facts}
-use Rattle.rasta_core_recovery.proofs.Pasts.{Past}
-use Rattle.rasta_core_recovery.proofs.Converse.{Talk}
-use Rattle.rasta_core_recovery.proofs.Seen.{BothIn}
-use Rattle.rasta_core_recovery.proofs.Answered.{HasMet, Answered, Answers, answers_none, answers_then, answered_step, HasEntered, talk_answered}
+use Rattle.rasta_core_recovery.proofs.Facts.{IsFirst}
+use Rattle.rasta_core_recovery.proofs.Answered.{HasMet, Answered, Answers, answers_none, answers_then, answered_step, HasEntered}
 
 -- ---- the client
 
@@ -37,15 +33,19 @@ unfolding pdu_of
 beats_say false k = refl
 beats_say true k = (ap (λ (n : ℕ). pdu_of (header_of (spoken true k)) n Heartbeat) (one_less k.sent), tt, refl)
 
+expected_stays : (b : Bool) (k : LinkState) → (spoken b k).expected ≡ k.expected
+expected_stays false k = refl
+expected_stays true k = refl
+
 stamp_stays : (b : Bool) (k : LinkState) → (spoken b k).partner_stamp ≡ k.partner_stamp
 stamp_stays false k = refl
 stamp_stays true k = refl
 
 -- where it has joined behind the round
-abbrev EntersBy : LinkState → LinkState → Step → Type 0
+abbrev pub EntersBy : LinkState → LinkState → Step → Type 0
 EntersBy m l s = is_open s.link.phase ≡ true → is_asking s.link ≡ false → HasEntered m l s
 
-entered : (now : ℕ) (m : LinkState) (ps : List Pdu) (l : LinkState) → Asks l.clock l → Each (IsFirst m) ps → now ≡ l.clock + 10 → EntersBy m l (end_round now ps l)
+pub entered : (now : ℕ) (m : LinkState) (ps : List Pdu) (l : LinkState) → Asks l.clock l → Each (IsFirst m) ps → now ≡ l.clock + 10 → EntersBy m l (end_round now ps l)
 entered now m ps l is first at = choose (begins now l at (ap is_open is.starts) is.young)
   where
     j : LinkState
@@ -63,6 +63,7 @@ entered now m ps l is first at = choose (begins now l at (ap is_open is.starts) 
     met_then k qs met o (done b e calm up) = subst (λ (s : Step). EntersBy m l (record { link = s.link; pdus = qs ++ s.pdus })) (sym e) (λ in_it joined. record {
       says = says_then IsSimple (header_of (spoken b k)) l.sent k.sent (spoken b k).sent qs (beats b (spoken b k)) (subst (λ (h : Header). Says IsSimple h l.sent qs k.sent) (sym (same_header b k)) (o.says met.is.joined)) (beats_say b k);
       heard = let s = o.heard met.is.joined (asks_asking l.clock l is) in record { reading = s.reading; kept_is = stamp_stays b k ∙ s.kept_is; before = s.before; recent = s.recent };
+      expected = expected_stays b k ∙ met.expected;
     })
 
     asks_then : (k : LinkState) (qs : List Pdu) → Asks now k → Work now k (worked now l.identity.role k) → EntersBy m l (record { link = (worked now l.identity.role k).link; pdus = qs ++ (worked now l.identity.role k).pdus })
@@ -98,19 +99,3 @@ server_silent now l is down at = choose (begins now l at is.connected is.young)
     choose : Begins now l → Out now (end_round now [] l).link ⊎ (end_round now [] l ≡ silent (at_reading now l))
     choose (late left) = inl (stays_out now [] l left)
     choose (on e young) = worked_then young e (works now l.identity.role (at_reading now l) (lively now (at_reading now l) (reading_joined now l is at young)))
-
--- ---- both
-
-pub talk_answers : (names : Names) (p : Pair) → Calls p.client p.server p.to_client → p.to_server ≡ [] → Asks p.client.clock p.client → Joined p.server.clock p.server
-    → Facts names (pair_round p) → Past (pair_round p).client → Past (pair_round p).server → BothIn (pair_round p) → is_asking (pair_round p).client ≡ false → Talk names (pair_round p).client.clock p.server.clock false false (pair_round p)
-unfolding pair_round
-talk_answers names p calls mute asks served facts client_past server_past in_it joined =
-    by (subst (λ (ps : List Pdu). Out (p.server.clock + 10) (end_round (p.server.clock + 10) ps p.server).link ⊎ (end_round (p.server.clock + 10) ps p.server ≡ silent (at_reading (p.server.clock + 10) p.server))) (sym mute)
-    (server_silent (p.server.clock + 10) p.server served calls.down refl))
-  where
-    by : Out (p.server.clock + 10) (end_round (p.server.clock + 10) p.to_server p.server).link ⊎ (end_round (p.server.clock + 10) p.to_server p.server ≡ silent (at_reading (p.server.clock + 10) p.server))
-        → Talk names (pair_round p).client.clock p.server.clock false false (pair_round p)
-    by (inl left) = absurd (cc (left.is_out, in_it.server))
-    by (inr e) = talk_answered names p (pair_round p) facts client_past server_past in_it joined
-        (entered (p.client.clock + 10) p.server p.to_client p.client asks calls.first refl in_it.client joined)
-        (ap (λ (s : Step). s.pdus) e) (omega (arith, ap (λ (s : Step). s.link.expected) e, calls.most)) (omega (arith, ap (λ (s : Step). s.link.own_stamp) e, served.own)) (ap (λ (s : Step). s.link.clock) e)

@@ -63,6 +63,10 @@ pub record IsFirst (m : LinkState) (p : Pdu) : Type 0 where
 pub record Calls (l m : LinkState) (ps : List Pdu) : Type 0 where
   pub down : is_up m.phase ≡ false
   pub most : m.expected ≤ l.sent
+  pub some : 1 ≤ l.sent
+  pub said : 1 ≤ m.sent
+  pub alone : m.sent ≤ 1
+  pub partner : m.partner_first ≡ l.own_first
   pub first : Each (IsFirst m) ps
 
 pub record Facts (names : Names) (p : Pair) : Type 0 where
@@ -87,7 +91,7 @@ standing_in l e = ap (λ (b : Bool). if b then Inside (is_asking l) l.own_stamp 
 standing_out : (l : LinkState) → is_open l.phase ≡ false → standing l ≡ Outside l.closed_at
 standing_out l e = ap (λ (b : Bool). if b then Inside (is_asking l) l.own_stamp l.partner_stamp else Outside l.closed_at) e
 
-is_inside : (l : LinkState) → is_open l.phase ≡ true → IsInside (standing l)
+pub is_inside : (l : LinkState) → is_open l.phase ≡ true → IsInside (standing l)
 is_inside l e = subst IsInside (sym (standing_in l e)) tt
 
 is_outside : (l : LinkState) → is_open l.phase ≡ false → IsOutside (standing l)
@@ -120,16 +124,16 @@ together_in names ends timely ordered opened = of_order ordered
 pub are_together : (names : Names) (ends : Ends) → Timely names ends → Ordered names ends → is_open ends.client.link.phase ≡ true → is_open ends.server.link.phase ≡ true → AreTogether names ends
 are_together names ends timely ordered client_in server_in = together_in names ends timely ordered server_in
 
-each_drop : {X : Type 0} (P : X → Type 0) (n : ℕ) (xs : List X) → Each P xs → Each P (drop n xs)
+pub each_drop : {X : Type 0} (P : X → Type 0) (n : ℕ) (xs : List X) → Each P xs → Each P (drop n xs)
 each_drop P zero xs each = each
 each_drop P (suc n) [] each = tt
 each_drop P (suc n) (x ∷ xs) each = each_drop P n xs each.1
 
-each_map : {X : Type 0} (P Q : X → Type 0) → ((x : X) → P x → Q x) → (xs : List X) → Each P xs → Each Q xs
+pub each_map : {X : Type 0} (P Q : X → Type 0) → ((x : X) → P x → Q x) → (xs : List X) → Each P xs → Each Q xs
 each_map P Q f [] each = tt
 each_map P Q f (x ∷ xs) each = (f x each.0, each_map P Q f xs each.1)
 
-each_both : {X : Type 0} (P Q : X → Type 0) (xs : List X) → Each P xs → Each Q xs → Each (λ x. P x × Q x) xs
+pub each_both : {X : Type 0} (P Q : X → Type 0) (xs : List X) → Each P xs → Each Q xs → Each (λ x. P x × Q x) xs
 each_both P Q [] a b = tt
 each_both P Q (x ∷ xs) a b = ((a.0, b.0), each_both P Q xs a.1 b.1)
 
@@ -141,7 +145,7 @@ only_place (first ∷ []) (suc place) pdu one is = absurd is
 only_place (first ∷ (second ∷ others)) (suc place) pdu one is = absurd (omega (arith, one))
 
 -- what holds of what each datagram of an end that can come is read as, holds of each PDU that comes
-each_read : (key : Key) (Q : Pdu → Type 0) (who : Role) (time : ℕ) (ds : List Sent) (ps : List Pdu) → Each (λ d. d.sender ≡ who → can_come time d ≡ true → (pdu : Pdu) → reading key d.bytes ≡ Ok pdu → Q pdu) ds
+pub each_read : (key : Key) (Q : Pdu → Type 0) (who : Role) (time : ℕ) (ds : List Sent) (ps : List Pdu) → Each (λ d. d.sender ≡ who → can_come time d ≡ true → (pdu : Pdu) → reading key d.bytes ≡ Ok pdu → Q pdu) ds
     → AreRead key (bytes_from who (arriving time ds)) ps → Each Q ps
 each_read key Q who time [] [] each are = tt
 each_read key Q who time [] (p ∷ ps) each are = absurd are
@@ -210,10 +214,10 @@ module _ (names : Names) (f : Flow) (p : Pair) (m : Mirrors names f p) (ordered 
       let young = timely.ends_timed.server.young (is_inside s is_in) in
       (omega (arith, own, read, before), omega (arith, own, young), omega (arith, own, read, young))
 
-  young_client : is_open c.phase ≡ true → Young c
+  pub young_client : is_open c.phase ≡ true → Young c
   young_client is_in = let t = client_time is_in in let at = timely.client.clock in record { own = omega (arith, t.0, at); young = omega (arith, t.1, at) }
 
-  young_server : is_open s.phase ≡ true → Young s
+  pub young_server : is_open s.phase ≡ true → Young s
   young_server is_in = let t = server_time is_in in let at = timely.server.clock in record { own = omega (arith, t.0, at); young = omega (arith, t.1, at) }
 
   client_keeps : is_open c.phase ≡ true → is_asking c ≡ false → is_open s.phase ≡ true → Kept c s
@@ -349,7 +353,7 @@ module _ (names : Names) (f : Flow) (p : Pair) (m : Mirrors names f p) (ordered 
   none_read key (b ∷ bs) ps e are = cc
 
   -- a datagram that can come is of the newest connection
-  in_newest : (d : Sent) → InFlight names times d → can_come (f.ends.time + 10000) d ≡ true → (d.connection ≡ timely.newest) × (f.ends.time + 10000 ≤ d.at + lifetime)
+  pub in_newest : (d : Sent) → InFlight names times d → can_come (f.ends.time + 10000) d ≡ true → (d.connection ≡ timely.newest) × (f.ends.time + 10000 ≤ d.at + lifetime)
   in_newest d flies e = (choose (nat_le d.connection timely.newest) (nat_le timely.newest d.connection) refl refl, late)
     where
       both_true : (a b : Bool) → (a && b) ≡ true → b ≡ true
@@ -401,6 +405,10 @@ module _ (names : Names) (f : Flow) (p : Pair) (m : Mirrors names f p) (ordered 
           both y a = record {
             down = down (is_up s.phase) refl;
             most = omega (arith, y.expected, t.order.there.counts.most, a.inside.counted);
+            some = omega (arith, a.inside.counted, a.inside.alone a.asking);
+            said = omega (arith, y.inside.counted, one);
+            alone = omega (arith, y.inside.counted, one);
+            partner = y.partner_first ∙ sym a.inside.own_first;
             first = each_read names.key (IsFirst s) role.Server (f.ends.time + 10000) (drop f.passed f.ends.sent) p.to_client
                 (each_map _ _ (λ d known. first_of d known.0 known.1) (drop f.passed f.ends.sent) (each_drop _ f.passed f.ends.sent (each_both (InFlight names times) (IsSpelledIn names role.Server t.connection t.server.flow) f.ends.sent timely.datagrams t.server_flow))) m.to_client;
           }

@@ -20,9 +20,9 @@ use Rattle.rasta_core_recovery.proofs.Turn.{Either, gone, so}
 use Rattle.rasta_core_recovery.proofs.Asks.{Asks, AsksOn, InIt, IsTalkPdu, asks_asking, asking_is, in_round, alone_round, server_talks}
 use Rattle.rasta_core_recovery.proofs.Facts.{Young, IsLately, Facts}
 use Rattle.rasta_core_recovery.proofs.Pasts.{Past}
-use Rattle.rasta_core_recovery.proofs.Seen.{Seen, BothIn, Rows, Stay, rows_after, rows_joining, round_first, rounds_add, seen_on, seen_later, joined_of, server_not_asking, lives_through}
+use Rattle.rasta_core_recovery.proofs.Seen.{Seen, BothIn, Stay, round_first, rounds_add, seen_on, seen_later, joined_of, server_not_asking, lives_through}
 use Rattle.rasta_core_recovery.proofs.Entered.{server_silent}
-use Rattle.rasta_core_recovery.proofs.Early.{HealthyOrOld, soon_healthy, ever_old, rows_early, answered_early}
+use Rattle.rasta_core_recovery.proofs.Early.{HealthyOrOld, soon_healthy, ever_old}
 
 -- healthy after so many rounds at most
 pub record Comes (names : Names) (most : ℕ) (p : Pair) : Type 0 where
@@ -187,15 +187,15 @@ out_comes names n p long seen shut = let r = waits_comes names 599 (n - 599) p (
 to_role : (names : Names) (l : LinkState) → l.identity ≡ identity_of role.Server names → l.identity.role ≡ role.Server
 to_role names l e = ap (λ i. i.role) e
 
-record OutAt (most : ℕ) (p : Pair) : Type 0 where
-  rounds : ℕ
-  soon : rounds ≤ most
-  is_out : is_open (pair_rounds rounds p).client.phase ≡ false
+pub record OutAt (most : ℕ) (p : Pair) : Type 0 where
+  pub rounds : ℕ
+  pub soon : rounds ≤ most
+  pub is_out : is_open (pair_rounds rounds p).client.phase ≡ false
 
 -- a client that went out in the last round
-record JustOut (l : LinkState) : Type 0 where
-  is_out : is_open l.phase ≡ false
-  lately : l.clock < l.closed_at + 10
+pub record JustOut (l : LinkState) : Type 0 where
+  pub is_out : is_open l.phase ≡ false
+  pub lately : l.clock < l.closed_at + 10
 
 -- and its server was outside before
 record OutAlone (most : ℕ) (p : Pair) : Type 0 where
@@ -237,7 +237,7 @@ server_leaves_now : (p : Pair) → Joined p.server.clock p.server → is_open (p
 unfolding pair_round
 server_leaves_now p is shut = just_out p.to_server p.server is shut
 
-server_joined : (names : Names) (p : Pair) → Facts names p → is_open p.server.phase ≡ true → Joined p.server.clock p.server
+pub server_joined : (names : Names) (p : Pair) → Facts names p → is_open p.server.phase ≡ true → Joined p.server.clock p.server
 server_joined names p facts is_in = joined_of p.server is_in (server_not_asking names p.server facts.server) (facts.server_young is_in)
 
 -- a client inside that has joined goes out, or stays so
@@ -364,14 +364,14 @@ out_at_comes names most n p long seen o =
     (out_comes names (n - o.rounds) (pair_rounds o.rounds p) (omega (arith, long, o.soon)) (seen_later names o.rounds (n - o.rounds) p (subst (λ (k : ℕ). Seen names k p) (omega (arith, long, o.soon)) seen)) o.is_out)
 
 -- one of the two is outside after one of these rounds, the client having joined until then
-data Leaves (n : ℕ) (p : Pair) : Type 0 where
+pub data Leaves (n : ℕ) (p : Pair) : Type 0 where
   client_leaves : OutAt n p → Leaves n p
   server_leaves : (k : ℕ) → k ≤ n → Joined (pair_rounds k p).client.clock (pair_rounds k p).client → is_open (pair_rounds k p).server.phase ≡ false → Leaves n p
 
 -- or both stay
-record Stays (n : ℕ) (p : Pair) : Type 0 where
-  stay : Stay n p
-  joined : Joined (pair_rounds n p).client.clock (pair_rounds n p).client
+pub record Stays (n : ℕ) (p : Pair) : Type 0 where
+  pub stay : Stay n p
+  pub joined : Joined (pair_rounds n p).client.clock (pair_rounds n p).client
 
 -- both stayed until these rounds, and are inside after the last
 all_stay : (n : ℕ) (p : Pair) → Joined (pair_rounds n p).client.clock (pair_rounds n p).client → ((k : ℕ) → k < n → BothIn (pair_rounds k p)) → is_open (pair_rounds n p).server.phase ≡ true → Stays n p
@@ -407,11 +407,11 @@ search_then : (n : ℕ) (p : Pair) → Leaves n p ⊎ Stays n p → Leaves (suc 
 search_then n p (inl l) = inl (leaves_later n p l)
 search_then n p (inr s) = search_on n p s
 
-search : (n : ℕ) (p : Pair) → Joined p.client.clock p.client → Leaves n p ⊎ Stays n p
+pub search : (n : ℕ) (p : Pair) → Joined p.client.clock p.client → Leaves n p ⊎ Stays n p
 search zero p j = last_server zero p j (λ k lt. absurd (omega (arith, lt))) (is_open p.server.phase) refl
 search (suc n) p j = search_then n p (search n p j)
 
-search_from : (fuel m n : ℕ) (p : Pair) → n ≡ m + fuel → Stays m p → Leaves n p ⊎ Stays n p
+pub search_from : (fuel m n : ℕ) (p : Pair) → n ≡ m + fuel → Stays m p → Leaves n p ⊎ Stays n p
 search_from zero m n p e s = inr (subst (λ (k : ℕ). Stays k p) (omega (arith, e)) s)
 search_from (suc fuel) m n p e s = subst (λ (k : ℕ). Leaves k p ⊎ Stays k p) (omega (arith, e)) (search_then (m + fuel) p (search_from fuel m (m + fuel) p refl s))
 
@@ -474,7 +474,7 @@ module _ (names : Names) (n : ℕ) (p : Pair) (long : 1000 ≤ n) (seen : Seen n
   both_last more (ever_old d then_d) =
       server_first (server_late next (server_joined names next (seen.facts (suc m)) (more.stay.both (suc m) (omega arith)).server) (omega (arith, d, seen.server_clock (suc m), over))) (joined_step next more.joined)
 
-  stays_comes : Comes names (m + 1383) p
+  pub stays_comes : Comes names (m + 1383) p
   stays_comes = choose (early m (omega arith) (omega arith) s.stay)
     where
       both_stay : (b : Bool) → is_open next.server.phase ≡ b → Joined next.client.clock next.client → Comes names (m + 1383) p
@@ -490,29 +490,14 @@ module _ (names : Names) (n : ℕ) (p : Pair) (long : 1000 ≤ n) (seen : Seen n
           follow (inr j) = both_stay (is_open next.server.phase) refl j
 
 -- one of them leaves in these rounds
-leaves_comes : (names : Names) (m n : ℕ) (p : Pair) → m ≤ 200 → 1000 ≤ n → Seen names n p → Leaves m p → Comes names (m + 1383) p
+pub leaves_comes : (names : Names) (m n : ℕ) (p : Pair) → m ≤ 200 → 1000 ≤ n → Seen names n p → Leaves m p → Comes names (m + 1383) p
 leaves_comes names m n p few long seen (client_leaves o) = out_at_comes names m n p (omega (arith, few, long)) seen o
 leaves_comes names m n p few long seen (server_leaves k most j shut) =
     comes_later names k 784 (m + 1383) p (omega (arith, most))
     (alone_comes names (n - k) (pair_rounds k p) (omega (arith, few, long, most)) (seen_later names k (n - k) p (subst (λ (i : ℕ). Seen names i p) (omega (arith, few, long, most)) seen)) j shut)
 
-seen_narrow : (names : Names) (k n : ℕ) (p : Pair) → k ≤ n → Seen names n p → Seen names k p
+pub seen_narrow : (names : Names) (k n : ℕ) (p : Pair) → k ≤ n → Seen names n p → Seen names k p
 seen_narrow names k n p most seen = record { facts = seen.facts; client_clock = seen.client_clock; server_clock = seen.server_clock; client_past = seen.client_past; server_past = seen.server_past; room = λ i le. seen.room i (omega (arith, le, most)) }
-
--- the client has joined, now or in the first round
-rows_come : (names : Names) (n : ℕ) (p : Pair) → 1000 ≤ n → Seen names n p → (BothIn p → BothIn (pair_round p) → Rows p (pair_round p)) → Leaves 179 p ⊎ Stays 179 p → Comes names 1562 p
-rows_come names n p long seen rows (inl l) = leaves_comes names 179 n p (omega arith) long seen l
-rows_come names n p long seen rows (inr s) = stays_comes names n p long seen 179 (p.server.clock + 10) (omega arith) s (omega arith)
-    (λ k least most stay. rows_early names k p (omega (arith, least)) (omega (arith, most)) (seen_narrow names k n p (omega (arith, most, long)) seen) stay (rows (stay.both 0 (omega arith)) (stay.both 1 (omega (arith, least)))))
-
-joined_comes : (names : Names) (n : ℕ) (p : Pair) → 1000 ≤ n → Seen names n p → Joined p.client.clock p.client → Comes names 1562 p
-joined_comes names n p long seen joined = rows_come names n p long seen (λ now_in then_in. rows_after p joined (server_joined names p (seen.facts 0) now_in.server) then_in) (search 179 p joined)
-
--- the same where it joined by the response of a server that had said nothing else
-answered_come : (names : Names) (n : ℕ) (p : Pair) → 1000 ≤ n → Seen names n p → p.to_server ≡ [] → Asks p.client.clock p.client → is_asking (pair_round p).client ≡ false → Leaves 178 p ⊎ Stays 178 p → Comes names 1561 p
-answered_come names n p long seen mute asks joined (inl l) = leaves_comes names 178 n p (omega arith) long seen l
-answered_come names n p long seen mute asks joined (inr s) = stays_comes names n p long seen 178 p.server.clock (omega arith) s (omega arith)
-    (λ k least most stay. answered_early names k p (omega (arith, least)) (omega (arith, most)) (seen_narrow names k n p (omega (arith, most, long)) seen) stay mute asks joined)
 
 -- a client that asks, and joins in this round: where its server is outside it left lately, for it has said something that comes
 called_lately : (names : Names) (p : Pair) → Facts names p → Asks p.client.clock p.client → Joined (pair_round p).client.clock (pair_round p).client → is_open p.server.phase ≡ false → p.server.clock ≤ p.server.closed_at + 1804
@@ -528,7 +513,7 @@ called_lately names p facts is j shut = choose p.to_client refl (facts.called (a
     choose (q ∷ qs) e each = each.0
 
 -- what it comes to where its server is inside, too
-joining : (names : Names) (most n : ℕ) (p : Pair) → 785 ≤ most → 1000 ≤ n → Seen names n p → Asks p.client.clock p.client → Joined (pair_round p).client.clock (pair_round p).client → (Stays 1 p → is_open p.server.phase ≡ true → Comes names most p) → Comes names most p
+pub joining : (names : Names) (most n : ℕ) (p : Pair) → 785 ≤ most → 1000 ≤ n → Seen names n p → Asks p.client.clock p.client → Joined (pair_round p).client.clock (pair_round p).client → (Stays 1 p → is_open p.server.phase ≡ true → Comes names most p) → Comes names most p
 joining names most n p many long seen is j goes_on = by_server (is_open p.server.phase) refl
   where
     left_alone : is_open (pair_round p).server.phase ≡ false → Comes names most p
@@ -546,15 +531,8 @@ joining names most n p many long seen is j goes_on = by_server (is_open p.server
     by_server true e = both_in (is_open (pair_round p).server.phase) refl e
     by_server false e = left_alone (ap (λ (l : LinkState). is_open l.phase) (server_quiet p e (omega (arith, called_lately names p (seen.facts 0) is j e))) ∙ e)
 
-joining_comes : (names : Names) (n : ℕ) (p : Pair) → 1000 ≤ n → Seen names n p → Asks p.client.clock p.client → Joined (pair_round p).client.clock (pair_round p).client → Comes names 1562 p
-joining_comes names n p long seen is j = joining names 1562 n p (omega arith) long seen is j (λ s e. rows_come names n p long seen (λ now_in then_in. rows_joining p is (server_joined names p (seen.facts 0) now_in.server) j.joined then_in) (search_from 178 1 179 p (omega arith) s))
-
--- and where it said nothing in the round before
-answered_comes : (names : Names) (n : ℕ) (p : Pair) → 1000 ≤ n → Seen names n p → p.to_server ≡ [] → Asks p.client.clock p.client → Joined (pair_round p).client.clock (pair_round p).client → Comes names 1561 p
-answered_comes names n p long seen mute is j = joining names 1561 n p (omega arith) long seen is j (λ s e. answered_come names n p long seen mute is j.joined (search_from 177 1 178 p (omega arith) s))
-
 -- an end inside has joined, or asks
-in_it_of : (l : LinkState) → is_open l.phase ≡ true → Young l → InIt l.clock l
+pub in_it_of : (l : LinkState) → is_open l.phase ≡ true → Young l → InIt l.clock l
 in_it_of l is_in young = choose (is_asking l) refl
   where
     choose : (b : Bool) → is_asking l ≡ b → InIt l.clock l
@@ -562,12 +540,12 @@ in_it_of l is_in young = choose (is_asking l) refl
     choose true e = inr (asking_is l.clock l refl e young.young young.own)
 
 -- what a round makes of a client that asks: it goes out, has joined, or asks on and has said nothing
-data Asking (p : Pair) : Type 0 where
+pub data Asking (p : Pair) : Type 0 where
   goes_out : is_open (pair_round p).client.phase ≡ false → Asking p
   joins : Joined (pair_round p).client.clock (pair_round p).client → Asking p
   asks_on : Asks (pair_round p).client.clock (pair_round p).client → (pair_round p).to_server ≡ [] → (pair_round p).client.own_stamp ≡ p.client.own_stamp → Asking p
 
-asking_step : (p : Pair) → Asks p.client.clock p.client → Asking p
+pub asking_step : (p : Pair) → Asks p.client.clock p.client → Asking p
 unfolding pair_round
 asking_step p is = choose (in_round (p.client.clock + 10) p.to_client p.client (inr is) refl)
   where
@@ -583,11 +561,11 @@ asking_step p is = choose (in_round (p.client.clock + 10) p.to_client p.client (
 
 -- it asks, has said nothing in the last round, and what is under way to it opens nothing; its server knows no own stamp that is younger
 -- than this reading
-record Stuck (reading : ℕ) (p : Pair) : Type 0 where
-  asks : Asks p.client.clock p.client
-  mute : p.to_server ≡ []
-  inside : is_open p.server.phase ≡ true → p.server.own_stamp ≤ reading
-  talk : Each IsTalkPdu p.to_client
+pub record Stuck (reading : ℕ) (p : Pair) : Type 0 where
+  pub asks : Asks p.client.clock p.client
+  pub mute : p.to_server ≡ []
+  pub inside : is_open p.server.phase ≡ true → p.server.own_stamp ≤ reading
+  pub talk : Each IsTalkPdu p.to_client
 
 -- a server to which nothing comes, and whose client asks, goes out or stands as before
 server_waits : (names : Names) (p : Pair) → Facts names p → Asks p.client.clock p.client → p.to_server ≡ [] → is_open p.server.phase ≡ true → Out (p.server.clock + 10) (pair_round p).server ⊎ ((pair_round p).server ≡ at_reading (p.server.clock + 10) p.server)
@@ -599,7 +577,7 @@ server_waits names p facts is mute e = choose (server_silent (p.server.clock + 1
     choose (inl left) = inl (subst (λ (ps : List Pdu). Out (p.server.clock + 10) (end_round (p.server.clock + 10) ps p.server).link) (sym mute) left)
     choose (inr same) = inr (ap (λ (ps : List Pdu). (end_round (p.server.clock + 10) ps p.server).link) mute ∙ ap (λ (s : Step). s.link) same)
 
-inside_then : (names : Names) (reading : ℕ) (p : Pair) → Facts names p → Asks p.client.clock p.client → p.to_server ≡ [] → (is_open p.server.phase ≡ true → p.server.own_stamp ≤ reading) → is_open (pair_round p).server.phase ≡ true → (pair_round p).server.own_stamp ≤ reading
+pub inside_then : (names : Names) (reading : ℕ) (p : Pair) → Facts names p → Asks p.client.clock p.client → p.to_server ≡ [] → (is_open p.server.phase ≡ true → p.server.own_stamp ≤ reading) → is_open (pair_round p).server.phase ≡ true → (pair_round p).server.own_stamp ≤ reading
 inside_then names reading p facts is mute inside then_in = by_server (is_open p.server.phase) refl
   where
     served : is_open p.server.phase ≡ true → Out (p.server.clock + 10) (pair_round p).server ⊎ ((pair_round p).server ≡ at_reading (p.server.clock + 10) p.server) → (pair_round p).server.own_stamp ≤ reading
@@ -610,7 +588,7 @@ inside_then names reading p facts is mute inside then_in = by_server (is_open p.
     by_server true e = served e (server_waits names p facts is mute e)
     by_server false e = absurd (cc (ap (λ (l : LinkState). is_open l.phase) (server_stays names p facts e (inl mute)) ∙ e, then_in))
 
-no_opening : (names : Names) (p : Pair) → Facts names p → p.to_server ≡ [] → Each IsTalkPdu (pair_round p).to_client
+pub no_opening : (names : Names) (p : Pair) → Facts names p → p.to_server ≡ [] → Each IsTalkPdu (pair_round p).to_client
 unfolding pair_round
 no_opening names p facts none = subst (λ (ps : List Pdu). Each IsTalkPdu (end_round (p.server.clock + 10) ps p.server).pdus) (sym none) (server_talks (p.server.clock + 10) p.server (to_role names p.server facts.server))
 
@@ -628,7 +606,7 @@ asked_alone p is talk = choose (alone_round (p.client.clock + 10) p.to_client p.
     choose (so a) = inr (subst (λ (n : ℕ). Asks n c.link) (sym a.asks.clock) a.asks, a.silent, a.own)
 
 -- and where its time is over it goes out
-client_late : (p : Pair) → is_open p.client.phase ≡ true → p.client.clock < p.client.own_stamp + 1800 → p.client.own_stamp + 1800 ≤ p.client.clock + 10 → JustOut (pair_round p).client × ((pair_round p).to_server ≡ [])
+pub client_late : (p : Pair) → is_open p.client.phase ≡ true → p.client.clock < p.client.own_stamp + 1800 → p.client.own_stamp + 1800 ≤ p.client.clock + 10 → JustOut (pair_round p).client × ((pair_round p).to_server ≡ [])
 unfolding pair_round
 client_late p is_in young over = choose (begins (p.client.clock + 10) p.client refl is_in young)
   where
@@ -646,7 +624,7 @@ stuck_step names reading p facts stuck = choose (asked_alone p stuck.asks stuck.
     choose (inr (asks, mute, own)) = inr (record { asks = asks; mute = mute; inside = inside_then names reading p facts stuck.asks stuck.mute stuck.inside; talk = no_opening names p facts stuck.mute }, own)
 
 -- Its time is over in the next round. Its server is outside then, or a round later: so it isn't quiet any more as the client asks again.
-over_comes : (names : Names) (reading n : ℕ) (p : Pair) → 1000 ≤ n → Seen names n p → Stuck reading p → p.client.own_stamp + 1800 ≤ p.client.clock + 10 → reading + 1780 ≤ p.server.clock → Comes names 1383 p
+pub over_comes : (names : Names) (reading n : ℕ) (p : Pair) → 1000 ≤ n → Seen names n p → Stuck reading p → p.client.own_stamp + 1800 ≤ p.client.clock + 10 → reading + 1780 ≤ p.server.clock → Comes names 605 p
 over_comes names reading n p long seen stuck over server_over = by_server (is_open (pair_round p).server.phase) refl
   where
     left : JustOut (pair_round p).client × ((pair_round p).to_server ≡ [])
@@ -655,20 +633,20 @@ over_comes names reading n p long seen stuck over server_over = by_server (is_op
     seen1 : Seen names (n - 1) (pair_round p)
     seen1 = seen_on names (n - 1) p (subst (λ (k : ℕ). Seen names k p) (omega (arith, long)) seen)
 
-    both : is_open (pair_round p).server.phase ≡ true → Comes names 1383 p
+    both : is_open (pair_round p).server.phase ≡ true → Comes names 605 p
     both e =
         let own = inside_then names reading p (seen.facts 0) stuck.asks stuck.mute stuck.inside e in
         let out = server_late (pair_round p) (server_joined names (pair_round p) (seen.facts 1) e) (omega (arith, own, server_over, seen.server_clock 1)) in
         let on = client_quiet (pair_round p) left.0.is_out (omega (arith, left.0.lately)) in
-        comes_later names 2 603 1383 p (omega arith) (both_left names (n - 2) (pair_rounds 2 p) (omega (arith, long)) (seen_later names 2 (n - 2) p (subst (λ (k : ℕ). Seen names k p) (omega (arith, long)) seen))
+        comes_later names 2 603 605 p (omega arith) (both_left names (n - 2) (pair_rounds 2 p) (omega (arith, long)) (seen_later names 2 (n - 2) p (subst (λ (k : ℕ). Seen names k p) (omega (arith, long)) seen))
         (ap (λ (l : LinkState). is_open l.phase) on ∙ left.0.is_out) out.is_out (omega (arith, left.0.lately, ap (λ (l : LinkState). l.clock) on, ap (λ (l : LinkState). l.closed_at) on)) (omega (arith, out.lately)))
 
-    by_server : (b : Bool) → is_open (pair_round p).server.phase ≡ b → Comes names 1383 p
+    by_server : (b : Bool) → is_open (pair_round p).server.phase ≡ b → Comes names 605 p
     by_server true e = both e
-    by_server false e = comes_later names 1 603 1383 p (omega arith) (opens_quickly names 599 (n - 600) 599 (pair_round p) (subst (λ (k : ℕ). Seen names k (pair_round p)) (omega (arith, long)) seen1) left.0.is_out e (inl left.1)
+    by_server false e = comes_later names 1 603 605 p (omega arith) (opens_quickly names 599 (n - 600) 599 (pair_round p) (subst (λ (k : ℕ). Seen names k (pair_round p)) (omega (arith, long)) seen1) left.0.is_out e (inl left.1)
         (omega (arith, left.0.lately)) (omega (arith, (seen.server_past 1).closed e)) (omega (arith, (seen.client_past 1).closed left.0.is_out)))
 
-stuck_comes : (names : Names) (reading fuel n : ℕ) (p : Pair) → 1000 ≤ n → Seen names (fuel + n) p → Stuck reading p → p.client.own_stamp + 1800 ≤ p.client.clock + 10 * fuel + 10 → reading + 1780 ≤ p.server.clock + 10 * fuel → Comes names (fuel + 1383) p
+pub stuck_comes : (names : Names) (reading fuel n : ℕ) (p : Pair) → 1000 ≤ n → Seen names (fuel + n) p → Stuck reading p → p.client.own_stamp + 1800 ≤ p.client.clock + 10 * fuel + 10 → reading + 1780 ≤ p.server.clock + 10 * fuel → Comes names (fuel + 1383) p
 stuck_comes names reading zero n p long seen stuck over server_over = let r = over_comes names reading n p long (subst (λ (k : ℕ). Seen names k p) (omega arith) seen) stuck (omega (arith, over)) (omega (arith, server_over)) in
     record { rounds = r.rounds; soon = omega (arith, r.soon); healthy = r.healthy }
 stuck_comes names reading (suc fuel) n p long seen stuck over server_over = choose (λ s k e f. stuck_comes names reading fuel n (pair_round p) long s k e f) (stuck_step names reading p (seen.facts 0) stuck)
@@ -682,40 +660,3 @@ stuck_comes names reading (suc fuel) n p long seen stuck over server_over = choo
     choose : Again → (is_open (pair_round p).client.phase ≡ false) ⊎ (Stuck reading (pair_round p) × ((pair_round p).client.own_stamp ≡ p.client.own_stamp)) → Comes names (suc fuel + 1383) p
     choose again (inl shut) = comes_later names 1 1383 (suc fuel + 1383) p (omega arith) (out_comes names (fuel + n) (pair_round p) (omega (arith, long)) seen1 shut)
     choose again (inr (still, own)) = comes_later names 1 (fuel + 1383) (suc fuel + 1383) p (omega arith) (again seen1 still (omega (arith, over, own, seen.client_clock 1)) (omega (arith, server_over, seen.server_clock 1)))
-
--- a client that asks, and has asked and said nothing in the last round
-asks_twice : (names : Names) (n : ℕ) (p : Pair) → 1500 ≤ n → Seen names n p → Asks p.client.clock p.client → p.client.own_stamp + 10 ≤ p.client.clock → p.to_server ≡ [] → Comes names 1561 p
-asks_twice names n p long seen is asked none = choose (asking_step p is)
-  where
-    seen1 : Seen names (n - 1) (pair_round p)
-    seen1 = seen_on names (n - 1) p (subst (λ (k : ℕ). Seen names k p) (omega (arith, long)) seen)
-
-    choose : Asking p → Comes names 1561 p
-    choose (goes_out shut) = comes_later names 1 1383 1561 p (omega arith) (out_comes names (n - 1) (pair_round p) (omega (arith, long)) seen1 shut)
-    choose (joins j) = answered_comes names n p (omega (arith, long)) seen none is j
-    choose (asks_on a mute own) = comes_later names 1 1560 1561 p (omega arith)
-        (stuck_comes names p.server.clock 177 (n - 178) (pair_round p) (omega (arith, long)) (subst (λ (k : ℕ). Seen names k (pair_round p)) (omega (arith, long)) seen1)
-        (record { asks = a; mute = mute; inside = inside_then names p.server.clock p (seen.facts 0) is none (λ e. ((seen.facts 0).server_young e).own); talk = no_opening names p (seen.facts 0) none })
-        (omega (arith, own, asked, seen.client_clock 1)) (omega (arith, seen.server_clock 1)))
-
--- ---- the sum
-
--- two ends, whatever has happened before
-pub all_comes : (names : Names) (n : ℕ) (p : Pair) → 1562 ≤ n → Seen names n p → Comes names 1562 p
-all_comes names n p long seen = by_phase (is_open p.client.phase) refl
-  where
-    seen1 : Seen names (n - 1) (pair_round p)
-    seen1 = seen_on names (n - 1) p (subst (λ (k : ℕ). Seen names k p) (omega (arith, long)) seen)
-
-    asked : Asks p.client.clock p.client → Asking p → Comes names 1562 p
-    asked is (goes_out shut) = comes_later names 1 1383 1562 p (omega arith) (out_comes names (n - 1) (pair_round p) (omega (arith, long)) seen1 shut)
-    asked is (joins j) = joining_comes names n p (omega (arith, long)) seen is j
-    asked is (asks_on a mute own) = comes_later names 1 1561 1562 p (omega arith) (asks_twice names (n - 1) (pair_round p) (omega (arith, long)) seen1 a (omega (arith, own, is.own, seen.client_clock 1)) mute)
-
-    inside : InIt p.client.clock p.client → Comes names 1562 p
-    inside (inl j) = joined_comes names n p (omega (arith, long)) seen j
-    inside (inr a) = asked a (asking_step p a)
-
-    by_phase : (b : Bool) → is_open p.client.phase ≡ b → Comes names 1562 p
-    by_phase false e = let r = out_comes names n p (omega (arith, long)) seen e in record { rounds = r.rounds; soon = omega (arith, r.soon); healthy = r.healthy }
-    by_phase true e = inside (in_it_of p.client e ((seen.facts 0).client_young e))

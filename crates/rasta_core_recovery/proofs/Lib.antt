@@ -74,3 +74,20 @@ pub mod Confirms
 pub mod Heartbeats
 pub mod HeartbeatsAlone
 pub mod ConfirmsAtOnce
+-- Nothing that is sent falls.
+pub mod FallsLists
+pub mod FallsCalls
+pub mod FallsGoes
+pub mod FallsEnters
+pub mod FallsEvents
+pub mod FallsAlways
+-- The first good round.
+pub mod FirstAsked
+pub mod FirstGrants
+pub mod FirstWaits
+pub mod FirstRises
+pub mod FirstHears
+pub mod FirstTalk
+pub mod FirstFates
+pub mod FirstWork
+pub mod FirstWorkWaits

@@ -85,7 +85,7 @@ request names first at = record {
   body = ConnectionRequest own_opening;
 }
 
-not_quiet : (now closed_at : ℕ) → closed_at + 6000 ≤ now → nat_lt now (closed_at + 6000) ≡ false
+pub not_quiet : (now closed_at : ℕ) → closed_at + 6000 ≤ now → nat_lt now (closed_at + 6000) ≡ false
 not_quiet now closed_at h = grind (arith, nat_tests)
 
 -- the client opens
@@ -98,7 +98,7 @@ client_opens names clock closed_at left h = rw (not_quiet _ _ h) refl
 lives_now : (at : ℕ) → nat_le (at + 1800) at ≡ false
 lives_now at = grind (arith, nat_tests)
 
-same_eq : (a : ℕ) → (a == a) ≡ true
+pub same_eq : (a : ℕ) → (a == a) ≡ true
 same_eq a = grind (arith, nat_tests)
 
 -- a client that asked waits
@@ -153,7 +153,7 @@ pub server_rests : (names : Names) (clock closed_at : ℕ) (left : Left)
 unfolding end_round all_heard worked settled deadline ticking entered limited beating
 server_rests names clock closed_at left = refl
 
-server_waits : (names : Names) (closed_at first at clock : ℕ) (pdu : Pdu) → at ≤ clock → clock + 10 < at + 1800
+pub server_waits : (names : Names) (closed_at first at clock : ℕ) (pdu : Pdu) → at ≤ clock → clock + 10 < at + 1800
     → end_round (clock + 10) [] (granted_link names (clock) closed_at first pdu at)
     ≡ record { link = granted_link names (clock + 10) closed_at first pdu at; pdus = [] }
 unfolding end_round all_heard worked settled deadline ticking opening opens entered limited beating state_at requesting beginning sending header_of pdu_of
@@ -194,7 +194,7 @@ first_beat names clock first pdu = record {
   body = Heartbeat;
 }
 
-client_joins : (names : Names) (closed_at first at clock server_first reading : ℕ) → at ≤ clock → clock + 10 < at + 1800 → first < 2 ^ 32
+pub client_joins : (names : Names) (closed_at first at clock server_first reading : ℕ) → at ≤ clock → clock + 10 < at + 1800 → first < 2 ^ 32
     → end_round (clock + 10) (response names server_first (request names first at) reading ∷ []) (asking_link names (clock) closed_at first at)
     ≡ record {
       link = joined_link names (clock + 10) closed_at first at (response names server_first (request names first at) reading);
@@ -240,7 +240,7 @@ up_link names clock closed_at first pdu at heard_stamp = record {
   taken = 0;
 }
 
-server_comes_up : (names : Names) (closed_at first asked server_first at clock beat : ℕ) → at ≤ clock → clock + 10 < at + 300 → first < 2 ^ 32 → server_first < 2 ^ 32
+pub server_comes_up : (names : Names) (closed_at first asked server_first at clock beat : ℕ) → at ≤ clock → clock + 10 < at + 300 → first < 2 ^ 32 → server_first < 2 ^ 32
     → end_round (clock + 10) (first_beat names beat first (response names server_first (request names first asked) at) ∷ []) (granted_link names (clock) closed_at server_first (request names first asked) at)
     ≡ record { link = up_link names (clock + 10) closed_at server_first (request names first asked) at (stamp beat); pdus = [] }
 unfolding hearing by_state connected testing ahead behind age admitting in_turn bringing taking still_waiting deadline state_at
@@ -272,7 +272,7 @@ server_comes_up names closed_at first asked server_first at clock beat g h fits 
     silent_now = let g' = g in let h' = h in grind (arith, nat_tests)
 
 -- a client that joined, a round later
-client_up : (names : Names) (clock closed_at first at : ℕ) (pdu : Pdu) → clock + 10 < at + 1800
+pub client_up : (names : Names) (clock closed_at first at : ℕ) (pdu : Pdu) → clock + 10 < at + 1800
     → end_round (clock + 10) [] (joined_link names clock closed_at first at pdu) ≡ silent (record (joined_link names clock closed_at first at pdu) { clock = clock + 10 })
 client_up names clock closed_at first at pdu h = calm_round _ _ (record { connected = refl; young = h; room = omega arith }) calm
   where

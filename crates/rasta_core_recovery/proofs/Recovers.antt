@@ -19,7 +19,15 @@ use Rattle.rasta_core_recovery.proofs.Facts.{facts}
 use Rattle.rasta_core_recovery.proofs.Happen.{may_happen}
 use Rattle.rasta_core_recovery.proofs.Pasts.{Past, Pasts, OwnBefore, run_past, starts_past}
 use Rattle.rasta_core_recovery.proofs.Seen.{Rooms, Seen, rounds_add, seen_later, healthy_for}
-use Rattle.rasta_core_recovery.proofs.Fates.{Comes, all_comes}
+use Rattle.rasta_core_recovery.proofs.Fates.{Comes}
+use Rattle.rasta_core_recovery.specs.Falls.{NothingFalls}
+use Rattle.rasta_core_recovery.proofs.ConfirmingEvents.{Laws as EventLaws}
+use Rattle.rasta_core_recovery.proofs.FallsEvents.{event_rises}
+use Rattle.rasta_core_recovery.proofs.FallsAlways.{starts_rising}
+use Rattle.rasta_core_recovery.proofs.FirstAsked.{Asked, event_asked, starts_asked}
+use Rattle.rasta_core_recovery.proofs.FirstFates.{AskingOn, Climbing, first_comes}
+use Rattle.rasta_core_recovery.proofs.FirstGrants.{asking_of}
+use Rattle.rasta_core_recovery.proofs.FirstRises.{climbs}
 use Rattle.rasta_core_recovery.proofs.Gaps.{Lasts, lasts_later, UpNow, Goes, up_now, up_later, up_of, goes_for, calm_for}
 
 abbrev pub KeepsOrder : Type 0
@@ -33,12 +41,15 @@ pub record Laws : Type 0 where
   pub order : KeepsOrder
   pub written : WrittenIsRead
   pub hands : HandsOut
+  pub events : EventLaws
 
 -- what holds of two ends
 pub record Holds (names : Names) (ends : Ends) : Type 0 where
   pub timely : Timely names ends
   pub ordered : Ordered names ends
   pub pasts : Pasts ends
+  pub rising : NothingFalls names ends
+  pub asked : Asked names ends
 
 own_before : (names : Names) (ends : Ends) → Timely names ends → OwnBefore ends.client.link × OwnBefore ends.server.link
 own_before names ends is = (
@@ -57,6 +68,8 @@ holds_run laws names are (e ∷ events) ends is may = holds_run laws names are e
   timely = laws.time names e ends are is.timely may.0;
   ordered = laws.order names e ends are is.timely is.ordered may.0;
   pasts = run_past laws.time names are (own_before names) (e ∷ []) ends is.timely is.pasts (may.0, tt);
+  rising = event_rises laws.events names e ends are is.timely is.ordered may.0 is.rising;
+  asked = event_asked laws.events names e ends are is.timely may.0 is.asked;
 }) may.1
 
 module _ (laws : Laws) (names : Names) (are : AreNames names) (f : Flow) (start : Holds names f.ends) where
@@ -95,6 +108,18 @@ module _ (laws : Laws) (names : Names) (are : AreNames names) (f : Flow) (start 
       room = λ k most. rooms_of (good_rounds k f).ends (pair_rounds k p) (mirrors k).client (mirrors k).server (room k most);
     }
 
+    climbing : Climbing p
+    climbing k both = climbs names (good_rounds k f) (pair_rounds k p) (mirrors k) (holds k).ordered client_in server_in ((holds k).rising (record { client = client_in; server = server_in }))
+      where
+        client_in : is_open (good_rounds k f).ends.client.link.phase ≡ true
+        client_in = ap (λ (l : LinkState). is_open l.phase) (mirrors k).client ∙ both.client
+
+        server_in : is_open (good_rounds k f).ends.server.link.phase ≡ true
+        server_in = ap (λ (l : LinkState). is_open l.phase) (mirrors k).server ∙ both.server
+
+    askings : AskingOn names p
+    askings k asks = asking_of names (good_rounds k f) (pair_rounds k p) (mirrors k) (holds k).ordered (holds k).asked asks
+
     healthy_then : (n : ℕ) → recovery_rounds ≤ n → StayBelowLimit n f → Healthy names 1 (pair_rounds n p)
     healthy_then n long room = subst (Healthy names 1) (rounds_add (n - comes.rounds) comes.rounds p ∙ ap (λ (k : ℕ). pair_rounds k p) (omega (arith, whole)))
         (healthy_for names (n - comes.rounds) (n - comes.rounds) (pair_rounds comes.rounds p) (seen_later names comes.rounds (n - comes.rounds) p (subst (λ (k : ℕ). Seen names k p) (sym whole) all)) (omega arith) comes.healthy)
@@ -102,8 +127,8 @@ module _ (laws : Laws) (names : Names) (are : AreNames names) (f : Flow) (start 
         all : Seen names n p
         all = seen n room
 
-        comes : Comes names 1562 p
-        comes = all_comes names n p long all
+        comes : Comes names 1561 p
+        comes = first_comes names n p long all climbing askings
 
         whole : comes.rounds + (n - comes.rounds) ≡ n
         whole = omega (arith, long, comes.soon)
@@ -150,6 +175,8 @@ holds_after laws names start events are may = holds_run laws names are events (s
   timely = laws.starts_timely names start are;
   ordered = laws.starts_ordered names start;
   pasts = starts_past names start;
+  rising = starts_rising names start;
+  asked = starts_asked names start;
 }) may
 
 pub recovers : Laws → (names : Names) (start : Start) (events : List Event) (passed n : ℕ) → AreNames names → MayRun names events (started names start) → recovery_rounds ≤ n

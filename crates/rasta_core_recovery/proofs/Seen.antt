@@ -1,5 +1,5 @@
 -- Two ends through good rounds: what is so after each of them, and how a connection that both stay in becomes healthy.
-use Rattle.std.proofs.Common.{◌≡◌, ℕ, zero, suc, ◌∙◌, ◌+◌, ◌*◌, ◌-◌, ◌^◌, ◌≤◌, ◌<◌, Bool, true, false, List, [], refl, sym, ap, subst, arith}
+use Rattle.std.proofs.Common.{◌≡◌, ℕ, zero, suc, ◌∙◌, ◌+◌, ◌*◌, ◌-◌, ◌≤◌, ◌<◌, Bool, true, false, List, [], refl, sym, ap, subst, arith}
 use Rattle.rasta_core_run.specs.State.{LinkState, is_open, is_asking, is_up}
 use Rattle.rasta_core_run.specs.PdusHandedOut.{Step}
 use Rattle.rasta_core_run.specs.identity.Role.TheVariants as role
@@ -10,14 +10,13 @@ use Rattle.rasta_core_recovery.proofs.Healthy.{beats, count, IsRecent, IsSteady,
 use Rattle.rasta_core_recovery.proofs.Words.{Row, Voice, voice_of, IsNumbered, Chain, chain_ends}
 use Rattle.rasta_core_recovery.proofs.Course.{Joined}
 use Rattle.rasta_core_recovery.proofs.Fold.{Begins, late, on, begins, stays_out}
-use Rattle.rasta_core_recovery.proofs.TunedEnds.{Round}
-use Rattle.rasta_core_recovery.proofs.Turn.{Either, gone, so, Numbers, numbers, Spoke, loosely}
+use Rattle.rasta_core_recovery.proofs.Turn.{Either, gone, so, Numbers, numbers}
 use Rattle.rasta_core_recovery.proofs.Converse.{Way, Talk, GoesQuietly, talks_on}
 use Rattle.rasta_core_recovery.proofs.Asks.{Asks}
 use Rattle.rasta_core_recovery.proofs.Joins.{joins_row}
 use Rattle.rasta_core_recovery.proofs.Returned.{IsReturned, IsBehind, own_behind}
 use Rattle.rasta_core_run.specs.Each.{Each}
-use Rattle.rasta_core_recovery.proofs.Facts.{Young, Kept, Shares, Facts}
+use Rattle.rasta_core_recovery.proofs.Facts.{Young, Facts}
 use Rattle.rasta_core_recovery.proofs.Pasts.{Past}
 use Rattle.rasta_core_recovery.proofs.Health.{reading_up, near_kept, client_due, server_due, client_steady, server_steady, client_said, server_said, health_kept}
 
@@ -79,7 +78,7 @@ pub record Rows (p q : Pair) : Type 0 where
   pub client : Row (IsNumbered (voice_of q.client)) p.client.sent q.to_server q.client.sent
   pub server : Row (IsNumbered (voice_of q.server)) p.server.sent q.to_client q.server.sent
 
-server_says : (p : Pair) → Joined p.server.clock p.server → BothIn (pair_round p) → Numbers (p.server.clock + 10) p.server (end_round (p.server.clock + 10) p.to_server p.server)
+pub server_says : (p : Pair) → Joined p.server.clock p.server → BothIn (pair_round p) → Numbers (p.server.clock + 10) p.server (end_round (p.server.clock + 10) p.to_server p.server)
 unfolding pair_round
 server_says p s then_in = choose (numbers (p.server.clock + 10) p.to_server p.server s refl)
   where
@@ -105,63 +104,8 @@ pub rows_joining : (p : Pair) → Asks p.client.clock p.client → Joined p.serv
 unfolding pair_round
 rows_joining p c s joined then_in = record { joined = joined; client = joins_row (p.client.clock + 10) p.to_client p.client c refl then_in.client joined; server = (server_says p s then_in).row }
 
--- a round in which the numbers of what comes go on
-abbrev pub loose_round : ℕ → LinkState → LinkState → List Pdu → Round
-loose_round kept l m ps = record { now = l.clock + 10; said_at = m.clock; end = m.sent; confirmed = 0; returned = 0; voice = voice_of m; kept = kept; own = l.own_stamp; tuned = false; before = l; number = l.expected; count = 0; reading = 0; pdus = ps }
-
-loose_says : (l m : LinkState) (n : ℕ) (ps : List Pdu) (k : Kept l m) → Joined l.clock l → Shares l m → m.sent < 2 ^ 31 → Row (IsNumbered (voice_of m)) n ps m.sent
-    → is_open (end_round (l.clock + 10) ps l).link.phase ≡ true → Spoke (loose_round k.reading l m ps) l (end_round (l.clock + 10) ps l)
-loose_says l m n ps k is shares fits row then_in = choose (loosely (loose_round k.reading l m ps) (record { level = omega arith; fits = fits; old = omega arith; stamped = refl; kept = k.before }) l is refl (sym shares.first) shares.some shares.most k.kept_is n row)
-  where
-    choose : Either (l.clock + 10) (end_round (l.clock + 10) ps l).link (Spoke (loose_round k.reading l m ps) l (end_round (l.clock + 10) ps l)) → Spoke (loose_round k.reading l m ps) l (end_round (l.clock + 10) ps l)
-    choose (gone left) = absurd (cc (left.is_out, then_in))
-    choose (so says) = says
-
--- one direction after such a round, since readings of the clocks that no end has taken more than
-way_from : (partner_start own_start : ℕ) (l m : LinkState) (ps qs : List Pdu) (s r : Step) (k : Kept l m) (j : Kept m l) → (t : Spoke (loose_round k.reading l m ps) l s) → (u : Spoke (loose_round j.reading m l qs) m r)
-    → Shares s.link r.link → m.clock ≤ partner_start → partner_start ≤ r.link.clock → own_start ≤ s.link.clock → r.link.own_stamp ≤ partner_start → s.link.own_stamp ≤ own_start → Past r.link → is_open r.link.phase ≡ true
-    → Way partner_start own_start false t.kept u.kept s.link r.link r.pdus
-way_from partner_start own_start l m ps qs s r k j t u shares from later own_later partner_old own_old past partner_in = record {
-  is = record { clock = refl; connected = t.is.connected; joined = t.is.joined; young = omega (arith, t.is.young, t.is.clock); own = omega (arith, t.is.own, t.is.clock) };
-  first = shares.first;
-  some = shares.some;
-  most = shares.most;
-  kept_is = t.kept_is;
-  before = omega (arith, t.kept_before, u.is.clock);
-  low = omega (arith, u.is.clock, k.recent, t.since, later);
-  sent_before = past.said partner_in;
-  number = m.sent;
-  count = m.expected - 1;
-  reading = j.reading;
-  chain = u.chain;
-  since = omega (arith, t.is.clock, j.recent, own_later);
-  mode = (omega (arith, t.kept_before, from), partner_old);
-  later = later;
-  young = λ e. absurd (cc e);
-  deaf = λ e. (t.most, own_old);
-}
-
--- What both say from then on, from a round of two that have joined, where the server knows no own stamp that is younger than before it.
-pub talk_from : (names : Names) (p q : Pair) (now : Shares p.client p.server × Shares p.server p.client) → Facts names q → Past q.client → Past q.server → BothIn q
-    → Spoke (loose_round now.0.kept.reading p.client p.server p.to_client) p.client (record { link = q.client; pdus = q.to_server })
-    → Spoke (loose_round now.1.kept.reading p.server p.client p.to_server) p.server (record { link = q.server; pdus = q.to_client })
-    → q.server.own_stamp ≤ p.server.clock → Talk names q.client.clock p.server.clock false false q
-talk_from names p q now facts client_past server_past in_it x y old = record {
-  client = facts.client;
-  server = facts.server;
-  client_kept = x.kept;
-  server_kept = y.kept;
-  to_client = way_from p.server.clock q.client.clock p.client p.server p.to_client p.to_server (record { link = q.client; pdus = q.to_server }) (record { link = q.server; pdus = q.to_client }) now.0.kept now.1.kept x y later.0
-      (omega arith) (omega (arith, y.is.clock)) (omega arith) old (omega (arith, x.is.own, x.is.clock)) server_past in_it.server;
-  to_server = way_from q.client.clock p.server.clock p.server p.client p.to_server p.to_client (record { link = q.server; pdus = q.to_client }) (record { link = q.client; pdus = q.to_server }) now.1.kept now.0.kept y x later.1
-      (omega (arith, x.is.clock)) (omega arith) (omega (arith, y.is.clock)) (omega (arith, x.is.own, x.is.clock)) old client_past in_it.client;
-}
-  where
-    later : Shares q.client q.server × Shares q.server q.client
-    later = facts.shares in_it.client x.is.joined in_it.server
-
 -- the server knows no own stamp that is younger than before a round in which nothing younger is returned to it
-server_behind : (p : Pair) → Joined p.server.clock p.server → Each (IsReturned p.server.clock) p.to_server → is_open (pair_round p).server.phase ≡ true → (pair_round p).server.own_stamp ≤ p.server.clock
+pub server_behind : (p : Pair) → Joined p.server.clock p.server → Each (IsReturned p.server.clock) p.to_server → is_open (pair_round p).server.phase ≡ true → (pair_round p).server.own_stamp ≤ p.server.clock
 unfolding pair_round
 server_behind p is each then_in = choose (own_behind p.server.clock (p.server.clock + 10) refl p.to_server p.server refl is each)
   where
@@ -171,34 +115,6 @@ server_behind p is each then_in = choose (own_behind p.server.clock (p.server.cl
     choose : Either (p.server.clock + 10) s.link (IsBehind p.server.clock (p.server.clock + 10) s.link) → s.link.own_stamp ≤ p.server.clock
     choose (gone left) = absurd (cc (left.is_out, then_in))
     choose (so b) = b.own
-
-pub talk_begins : (names : Names) (p : Pair) (n m : ℕ) → Facts names p → Facts names (pair_round p) → Past (pair_round p).client → Past (pair_round p).server → BothIn p → is_asking p.client ≡ false → BothIn (pair_round p)
-    → p.client.sent < 2 ^ 31 → p.server.sent < 2 ^ 31 → Row (IsNumbered (voice_of p.client)) n p.to_server p.client.sent → Row (IsNumbered (voice_of p.server)) m p.to_client p.server.sent
-    → Talk names (pair_round p).client.clock p.server.clock false false (pair_round p)
-unfolding pair_round
-talk_begins names p n m facts then_facts client_past server_past now_in joined then_in client_fits server_fits client_row server_row =
-    talk_from names p (pair_round p) now then_facts client_past server_past then_in x y (server_behind p server_is (facts.returned now_in.server) then_in.server)
-  where
-    c : Step
-    c = end_round (p.client.clock + 10) p.to_client p.client
-
-    s : Step
-    s = end_round (p.server.clock + 10) p.to_server p.server
-
-    now : Shares p.client p.server × Shares p.server p.client
-    now = facts.shares now_in.client joined now_in.server
-
-    client_is : Joined p.client.clock p.client
-    client_is = joined_of p.client now_in.client joined (facts.client_young now_in.client)
-
-    server_is : Joined p.server.clock p.server
-    server_is = joined_of p.server now_in.server (server_not_asking names p.server facts.server) (facts.server_young now_in.server)
-
-    x : Spoke (loose_round now.0.kept.reading p.client p.server p.to_client) p.client c
-    x = loose_says p.client p.server m p.to_client now.0.kept client_is now.0 server_fits server_row then_in.client
-
-    y : Spoke (loose_round now.1.kept.reading p.server p.client p.to_server) p.server s
-    y = loose_says p.server p.client n p.to_server now.1.kept server_is now.1 client_fits client_row then_in.server
 
 -- while both stay
 pub record Stay (n : ℕ) (p : Pair) : Type 0 where

@@ -364,7 +364,7 @@ unfolding hearing_bytes
 quiet_bytes (Err fault) l outside quiet P refuses = refuses (verdict.Unreadable fault)
 quiet_bytes (Ok p) l outside quiet P refuses = quiet_hears p l outside quiet P refuses
 
-stays_shut : (what : Result Pdu PduFault) (l : LinkState) → is_open l.phase ≡ false → l.clock < l.closed_at + 6000 → is_open (hearing_bytes what l).link.phase ≡ false
+pub stays_shut : (what : Result Pdu PduFault) (l : LinkState) → is_open l.phase ≡ false → l.clock < l.closed_at + 6000 → is_open (hearing_bytes what l).link.phase ≡ false
 stays_shut what l outside quiet = quiet_bytes what l outside quiet (λ (r : Receipt). is_open r.link.phase ≡ false) (λ why. outside)
 
 pub told_shut : (l : LinkState) → (is_open (telling reason.Sequence l).link.phase ≡ false) × ((telling reason.Sequence l).link.clock < (telling reason.Sequence l).link.closed_at + 6000)

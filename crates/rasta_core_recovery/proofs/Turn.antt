@@ -13,10 +13,10 @@ use Rattle.rasta_core_run.specs.Each.{Each}
 use Rattle.rasta_core_recovery.proofs.Links.{heard, all_heard, worked, end_round}
 use Rattle.rasta_core_recovery.proofs.Healthy.{beats, waits}
 use Rattle.rasta_core_recovery.proofs.Calls.{at_reading, spoken}
-use Rattle.rasta_core_recovery.proofs.Words.{IsTalk, IsPlain, plain_talk, Row, Voice, voice_of, IsNumbered, Chain, chain_lower, chain_then, row_then, row_most, says_row, says_chain}
+use Rattle.rasta_core_recovery.proofs.Words.{IsTalk, IsPlain, plain_talk, Row, Voice, voice_of, IsNumbered, Chain, chain_then, row_then, says_row, says_chain}
 use Rattle.rasta_core_recovery.proofs.Deed.{Deed, leaves, keeps, asks, takes, hears}
 use Rattle.rasta_core_recovery.proofs.Fold.{Out, heard_case, Next, gone_next, stays_next, all_hear, Work, gone_work, calm_work, beats_work, works, Begins, late, on, begins, stays_out, works_out, round_on}
-use Rattle.rasta_core_recovery.proofs.Course.{Joined, lively, Goes, goes_none, goes_then, voice_goes, taken_joined, placed, answers_chain, asked_chain, asked_joined, asked_goes, taken_goes}
+use Rattle.rasta_core_recovery.proofs.Course.{Joined, lively, Goes, goes_none, goes_then, voice_goes, taken_joined, asked_joined, asked_goes, taken_goes}
 use Rattle.rasta_core_recovery.proofs.TunedEnds.{IsPlainPdu, IsNoAnswerPdu, not_before, IsShut, IsOutdated, Reached, unheard, waiting, off, low, Deaf, each_append, Round, Bounds, Ghost, Tuned, HasHeard, HasWaited, Mode, Hearing, Answers, tunes}
 
 -- an end that waits for a retransmission is up
@@ -213,24 +213,10 @@ pub record Notes (x : Round) (then_tuned : Bool) (s : Step) : Type 0 where
   pub outdated_on : x.tuned ≡ false → IsOutdated x x.before → (then_tuned ≡ false) × (s.link.phase ≡ x.before.phase)
 
 module _ (x : Round) (bounds : Bounds x) where
-  pub record Loose (g : ℕ) (ps : List Pdu) (l : LinkState) : Type 0 where
-    pub is : Joined x.now l
-    pub first : x.voice.first ≡ l.partner_first
-    pub some : 1 ≤ l.expected
-    pub most : l.expected ≤ x.end
-    pub kept_is : l.partner_stamp ≡ stamp g
-    pub kept_before : g ≤ x.said_at
-    pub since : x.kept ≤ g
-    pub number : ℕ
-    pub row : Row (IsNumbered x.voice) number ps x.end
-
   pub record Linked (g : ℕ) (l : LinkState) (ps : List Pdu) (h : ℕ) (k : LinkState) : Type 0 where
     pub goes : Goes x.now l ps k
     pub rises : l.expected ≤ k.expected
     pub chain : Chain (voice_of l) l.sent (l.expected - 1) g ps k.sent (k.expected - 1) h
-
-  pub linked_none : (g : ℕ) (l : LinkState) → Linked g l [] g l
-  linked_none g l = record { goes = goes_none x.now l; rises = omega arith; chain = (refl, omega arith, omega arith) }
 
   pub linked_then : (g h i : ℕ) (l k j : LinkState) (ps qs : List Pdu) → Linked g l ps h k → Linked h k qs i j → Linked g l (ps ++ qs) i j
   linked_then g h i l k j ps qs a b = record {
@@ -238,70 +224,6 @@ module _ (x : Round) (bounds : Bounds x) where
     rises = omega (arith, a.rises, b.rises);
     chain = chain_then (voice_of l) _ _ _ k.sent (k.expected - 1) h _ _ _ ps qs a.chain (subst (λ (v : Voice). Chain v k.sent (k.expected - 1) h qs j.sent (j.expected - 1) i) (voice_goes x.now l k ps a.goes) b.chain);
   }
-
-  loose_one : (g : ℕ) (p : Pdu) (ps : List Pdu) (l k : LinkState) (qs : List Pdu) → Loose g (p ∷ ps) l → Deed p l k qs → Out x.now k ⊎ ((h : ℕ) × Loose h ps k × Linked g l qs h k)
-  loose_one g p ps l k qs is (leaves why left) = inl (record { clock = left.clock ∙ is.is.clock; is_out = left.is_out; quiet = omega (arith, left.closed_at, is.is.clock); lately = omega (arith, left.closed_at, is.is.clock) })
-  loose_one g p ps l k qs is (keeps b same none) = inr (
-    g,
-    subst (Loose g ps) (sym same) (record { is = is.is; first = is.first; some = is.some; most = is.most; kept_is = is.kept_is; kept_before = is.kept_before; since = is.since; number = is.number + 1; row = is.row.1 }),
-    subst (λ (j : LinkState). Linked g l qs g j) (sym same) (subst (λ (rs : List Pdu). Linked g l rs g l) (sym none) (linked_none g l)),
-  )
-  loose_one g p ps l k qs is (asks passes apart a) = let e = a.link in let f = ap (λ (j : LinkState). j.expected) e in inr (
-    g,
-    record {
-      is = asked_joined x.now l k qs is.is a;
-      first = is.first ∙ sym (ap (λ (j : LinkState). j.partner_first) e);
-      some = omega (arith, is.some, f);
-      most = omega (arith, is.most, f);
-      kept_is = ap (λ (j : LinkState). j.partner_stamp) e ∙ is.kept_is;
-      kept_before = is.kept_before;
-      since = is.since;
-      number = is.number + 1;
-      row = is.row.1;
-    },
-    record {
-      goes = asked_goes x.now l k qs is.is a;
-      rises = omega (arith, f);
-      chain = subst (λ (y : ℕ). Chain (voice_of l) l.sent (l.expected - 1) g qs k.sent (y - 1) g) (sym f) (asked_chain x.now g l k qs is.is a is.some (omega (arith, is.most, bounds.fits)) is.kept_is);
-    },
-  )
-  loose_one g p ps l k qs is (takes passes t) =
-      let before_end : is.number < x.end = let m = row_most (IsNumbered x.voice) (is.number + 1) x.end ps is.row.1 in omega (arith, m) in
-      let at = placed x.voice is.number x.end p l is.first is.row.0.number before_end bounds.fits is.most passes.near in
-      let stamped : p.time_stamp ≡ stamp x.said_at = is.row.0.stamped ∙ bounds.stamped in
-      let answered = answers_chain x.now is.number x.said_at p l k qs is.is t at.1 (omega (arith, before_end, bounds.fits)) stamped in
-      inr (
-        x.said_at,
-        record {
-          is = taken_joined x.now p l k qs is.is passes t;
-          first = is.first ∙ sym t.stays.partner_first;
-          some = omega (arith, t.expected, at.1);
-          most = omega (arith, t.expected, at.1, before_end);
-          kept_is = t.partner_stamp ∙ stamped;
-          kept_before = omega arith;
-          since = bounds.kept;
-          number = is.number + 1;
-          row = is.row.1;
-        },
-        record {
-          goes = taken_goes x.now p l k qs is.is t;
-          rises = omega (arith, t.expected, at.0, at.1);
-          chain = chain_lower (voice_of l) l.sent l.sent is.number (l.expected - 1) x.said_at g qs k.sent (k.expected - 1) x.said_at refl (omega (arith, at.0)) is.kept_before
-              (subst (λ (y : ℕ). Chain (voice_of l) l.sent is.number x.said_at qs k.sent y x.said_at) (omega (arith, t.expected, at.1)) answered);
-        },
-      )
-
-  pub loose_step : (g : ℕ) (p : Pdu) (ps : List Pdu) (l : LinkState) → Loose g (p ∷ ps) l → Next ℕ x.now Loose Linked g l ps (heard x.now p l)
-  loose_step g p ps l is = choose (heard_case x.now p l (lively x.now l is.is))
-    where
-      next : Out x.now (heard x.now p l).link ⊎ ((h : ℕ) × Loose h ps (heard x.now p l).link × Linked g l (heard x.now p l).pdus h (heard x.now p l).link) → Next ℕ x.now Loose Linked g l ps (heard x.now p l)
-      next (inl left) = gone_next left
-      next (inr (h, a, b)) = stays_next h a b
-
-      choose : Out x.now (heard x.now p l).link ⊎ ((l.sent < 2147483000) × ((heard x.now p l).link ≡ (hearing p l).link) × ((heard x.now p l).pdus ≡ (hearing p l).pdus)) → Next ℕ x.now Loose Linked g l ps (heard x.now p l)
-      choose (inl left) = gone_next left
-      choose (inr (room, e, f)) = next (loose_one g p ps l (heard x.now p l).link (heard x.now p l).pdus is
-          (subst (λ (k : LinkState). Deed p l k (heard x.now p l).pdus) (sym e) (subst (λ (qs : List Pdu). Deed p l (hearing p l).link qs) (sym f) (hears p l is.is.connected is.is.joined (omega (arith, is.is.young, is.is.clock))))))
 
   -- the end's own work after it
   says_then : (l j k : LinkState) (qs : List Pdu) (g h : ℕ) (b : Bool) → j ≡ at_reading x.now l → g ≡ x.kept → Joined x.now k → 1 ≤ k.expected → k.expected ≤ x.end → k.partner_stamp ≡ stamp h → x.kept ≤ h → h ≤ x.said_at
@@ -347,33 +269,6 @@ module _ (x : Round) (bounds : Bounds x) where
       either : ((spoken b k).sent_at ≡ j.sent_at) ⊎ ((spoken b k).sent_at ≡ x.now) → ((spoken b k).sent_at ≡ l.sent_at) ⊎ ((spoken b k).sent_at ≡ x.now)
       either (inl e) = inl (e ∙ ap (λ (y : LinkState). y.sent_at) same)
       either (inr e) = inr e
-
-  pub loosely : (l : LinkState) → Joined l.clock l → x.now ≡ l.clock + 10 → x.voice.first ≡ l.partner_first → 1 ≤ l.expected → l.expected ≤ x.end → l.partner_stamp ≡ stamp x.kept → (n : ℕ) → Row (IsNumbered x.voice) n x.pdus x.end
-      → Either x.now (end_round x.now x.pdus l).link (Spoke x l (end_round x.now x.pdus l))
-  loosely l is at first some most kept_is n row = choose (begins x.now l at is.connected is.young)
-    where
-      j : LinkState
-      j = at_reading x.now l
-
-      Goal : Step → Type 0
-      Goal s = Either x.now s.link (Spoke x l s)
-
-      heard_all : Step
-      heard_all = all_heard x.now x.pdus j
-
-      ended : (k : LinkState) (qs : List Pdu) (h : ℕ) → Loose h [] k → Linked x.kept j qs h k → Ended x.now k (worked x.now l.identity.role k) → Goal (record { link = (worked x.now l.identity.role k).link; pdus = qs ++ (worked x.now l.identity.role k).pdus })
-      ended k qs h a o (gone_end left) = gone left
-      ended k qs h a o (done b e calm up) = subst (λ (s : Step). Goal (record { link = s.link; pdus = qs ++ s.pdus })) (sym e)
-          (so (says_then l j k qs x.kept h b refl refl a.is a.some a.most a.kept_is a.since a.kept_before o calm))
-
-      heard_then : Next ℕ x.now Loose Linked x.kept j [] heard_all → Goal (then_do heard_all (λ k. worked x.now l.identity.role k))
-      heard_then (gone_next left) = gone (works_out x.now l.identity.role heard_all.link left)
-      heard_then (stays_next h a o) = ended heard_all.link heard_all.pdus h a o (ends x.now l.identity.role heard_all.link a.is)
-
-      choose : Begins x.now l → Goal (end_round x.now x.pdus l)
-      choose (late left) = gone (stays_out x.now x.pdus l left)
-      choose (on e young) = subst Goal (sym (round_on x.now x.pdus l e)) (heard_then (all_hear ℕ x.now Loose Linked (λ g l a. linked_none g l) linked_then loose_step x.pdus x.kept j
-          (record { is = reading_joined x.now l is at young; first = first; some = some; most = most; kept_is = kept_is; kept_before = bounds.kept; since = omega arith; number = n; row = row })))
 
   -- ---- a round in which what comes may be taken
 

@@ -1,29 +1,24 @@
 -- A client at work that asks when a round begins, and has joined when it ends, by the response of a server that has said nothing else.
-use Rattle.std.proofs.Common.{◌≡◌, ℕ, ◌∙◌, ◌+◌, ◌⊎◌, inl, inr, true, false, List, [], ◌∷◌, refl, sym, ap, subst, arith}
+use Rattle.std.proofs.Common.{◌≡◌, ℕ, ◌∙◌, ◌+◌, ◌⊎◌, inl, inr, true, false, List, [], ◌∷◌, sym, ap, subst}
 use Rattle.rasta_core_run.specs.State.{LinkState, is_open, is_asking}
 use Rattle.rasta_core_run.specs.Clock.{settled}
-use Rattle.rasta_core_run.specs.PdusHandedOut.{Step, silent, header_of}
+use Rattle.rasta_core_run.specs.PdusHandedOut.{header_of}
 use Rattle.rasta_core_run.specs.header.Header.{Header}
 use Rattle.rasta_core_run.specs.identity.Role.TheVariants as role
 use Rattle.rasta_core_run.specs.pdu.Pdu.{Pdu}
 use Rattle.rasta_core_run.specs.Each.{Each}
-use Rattle.rasta_core_run.specs.Names.{Names}
-use Rattle.rasta_core_recovery.proofs.Links.{Pair, heard}
-use Rattle.rasta_core_recovery.proofs.Acts.{Act, acted, IsWork, HasRoom, Roomy, WorkRound, server_step, behind}
+use Rattle.rasta_core_recovery.proofs.Links.{heard}
+use Rattle.rasta_core_recovery.proofs.Acts.{Act, acted, IsWork, HasRoom, Roomy}
 use Rattle.rasta_core_recovery.proofs.Calls.{at_reading}
 use Rattle.rasta_core_recovery.proofs.Words.{IsSimple, Says}
-use Rattle.rasta_core_recovery.proofs.Fold.{Out, Next, gone_next, stays_next}
+use Rattle.rasta_core_recovery.proofs.Fold.{Next, gone_next, stays_next}
 use Rattle.rasta_core_recovery.proofs.Own.{Utters, Calm}
 use Rattle.rasta_core_recovery.proofs.WorkFold.{Done, gone_done, so_done, round_through}
-use Rattle.rasta_core_recovery.proofs.Course.{Joined}
 use Rattle.rasta_core_recovery.proofs.Asks.{Asks, asks_asking, reading_asks}
-use Rattle.rasta_core_recovery.proofs.Facts.{IsFirst, Calls, Facts}
-use Rattle.rasta_core_recovery.proofs.Pasts.{Past}
-use Rattle.rasta_core_recovery.proofs.Converse.{Talk}
-use Rattle.rasta_core_recovery.proofs.Seen.{BothIn}
-use Rattle.rasta_core_recovery.proofs.Answered.{HasMet, Answered, Answers, answers_none, answers_then, lively_then, answered_step, HasEntered, talk_answered}
+use Rattle.rasta_core_recovery.proofs.Facts.{IsFirst}
+use Rattle.rasta_core_recovery.proofs.Answered.{HasMet, Answered, Answers, answers_none, answers_then, lively_then, answered_step, HasEntered}
 use Rattle.rasta_core_recovery.proofs.WorkTurn.{utters_joined}
-use Rattle.rasta_core_recovery.proofs.WorkAsks.{utters_asks, utters_none_then, server_silent}
+use Rattle.rasta_core_recovery.proofs.WorkAsks.{utters_asks, utters_none_then}
 use Rattle.rasta_core_recovery.proofs.WorkJoins.{says_none}
 
 -- ---- the client
@@ -52,7 +47,7 @@ utters_answered now m l k qs (inr is) u = let then_is = utters_joined now l k qs
   },
 )
 
-entered_at_work : (now : ℕ) (m : LinkState) (due : List Pdu) (acts : List Act) (l : LinkState) → IsWork role.Client due acts → Asks l.clock l → Each (IsFirst m) due → now ≡ l.clock + 10 → Roomy now acts (settled now l)
+pub entered_at_work : (now : ℕ) (m : LinkState) (due : List Pdu) (acts : List Act) (l : LinkState) → IsWork role.Client due acts → Asks l.clock l → Each (IsFirst m) due → now ≡ l.clock + 10 → Roomy now acts (settled now l)
     → is_open (acted now acts l).link.phase ≡ true → is_asking (acted now acts l).link ≡ false → HasEntered m l (acted now acts l)
 entered_at_work now m due acts l work is first at room is_in joined = finish (round_through (Unit {0}) ℕ now (Answered now m) (Answers now m) (λ g k. answers_none now m g k) (answers_then now m) (lively_then now m) hear own
     role.Client due acts work 0 l tt at (ap is_open is.starts) is.young (λ young. (inl (reading_asks now l is at young), first)) room)
@@ -69,16 +64,8 @@ entered_at_work now m due acts l work is first at room is_in joined = finish (ro
 
     finish : Done (Unit {0}) ℕ now (λ g ps k. Answered now m g ps k × Calm now k) (Answers now m) 0 (at_reading now l) [] (acted now acts l) → HasEntered m l (acted now acts l)
     finish (gone_done why left) = absurd (cc (left.is_out, is_in))
-    finish (so_done h (a, calm) o) = record { says = o.says joined; heard = o.heard joined (asks_asking l.clock l is) }
-
--- ---- both
-
-pub talk_answered_at_work : (names : Names) (p : Pair) (r : WorkRound p) → Calls p.client p.server p.to_client → p.to_server ≡ [] → Asks p.client.clock p.client → Joined p.server.clock p.server
-    → Facts names (behind p r) → Past (behind p r).client → Past (behind p r).server → BothIn (behind p r) → is_asking (behind p r).client ≡ false → Talk names (behind p r).client.clock p.server.clock false false (behind p r)
-talk_answered_at_work names p r calls mute asks served facts client_past server_past in_it joined = by (server_silent (p.server.clock + 10) r.server_acts p.server (subst (λ (ps : List Pdu). IsWork role.Server ps r.server_acts) mute r.server_work) served calls.down refl r.server_room)
-  where
-    by : Out (p.server.clock + 10) (server_step p r).link ⊎ (server_step p r ≡ silent (at_reading (p.server.clock + 10) p.server)) → Talk names (behind p r).client.clock p.server.clock false false (behind p r)
-    by (inl left) = absurd (cc (left.is_out, in_it.server))
-    by (inr e) = talk_answered names p (behind p r) facts client_past server_past in_it joined
-        (entered_at_work (p.client.clock + 10) p.server p.to_client r.client_acts p.client r.client_work asks calls.first refl r.client_room in_it.client joined)
-        (ap (λ (s : Step). s.pdus) e) (omega (arith, ap (λ (s : Step). s.link.expected) e, calls.most)) (omega (arith, ap (λ (s : Step). s.link.own_stamp) e, served.own)) (ap (λ (s : Step). s.link.clock) e)
+    finish (so_done h (a, calm) o) = record { says = o.says joined; heard = o.heard joined (asks_asking l.clock l is); expected = expects a.0 }
+      where
+        expects : Asks now (acted now acts l).link ⊎ HasMet now m (acted now acts l).link → (acted now acts l).link.expected ≡ 1
+        expects (inl asks) = absurd (cc (joined, asks_asking now (acted now acts l).link asks))
+        expects (inr met) = met.expected

@@ -1,23 +1,20 @@
 -- An end at work that has asked for a connection, and what a server says to which nothing comes.
-use Rattle.std.proofs.Common.{◌≡◌, ℕ, ◌∙◌, ◌+◌, ◌<◌, ◌⊎◌, inl, inr, Bool, true, false, ◌&&◌, nat_le, if◌then◌else◌, List, [], ◌∷◌, ◌++◌, refl, sym, ap, subst}
-use Rattle.std.specs.Prelude.{is_ok}
+use Rattle.std.proofs.Common.{◌≡◌, ℕ, ◌∙◌, ◌+◌, ◌<◌, ◌⊎◌, inl, inr, true, false, List, [], ◌∷◌, ◌++◌, refl, sym, ap, subst}
 use Rattle.rasta_core_run.specs.State.{LinkState, is_open, is_up}
 use Rattle.rasta_core_run.specs.Clock.{settled}
-use Rattle.rasta_core_run.specs.PdusHandedOut.{Step, silent, entered, limited, beating, giving, sending, pdu_of}
-use Rattle.rasta_core_run.specs.Calls.{ticking, sending_item, acceptance}
+use Rattle.rasta_core_run.specs.PdusHandedOut.{Step, silent}
 use Rattle.rasta_core_run.specs.identity.Role.TheVariants as role
 use Rattle.rasta_core_run.specs.pdu.Pdu.{Pdu}
 use Rattle.rasta_core_run.specs.Each.{Each}
 use Rattle.rasta_core_recovery.proofs.Links.{heard}
-use Rattle.rasta_core_recovery.proofs.Acts.{Act, Hears, Beats, Asks as Opens, Gives, did, all_did, acted, clock_acts, IsGift, IsWork, HasRoom, Roomy}
+use Rattle.rasta_core_recovery.proofs.Acts.{Act, all_did, acted, clock_acts, IsWork, HasRoom, Roomy}
 use Rattle.rasta_core_recovery.proofs.Calls.{Lives, at_reading, entered_lives, opening_lives}
 use Rattle.rasta_core_recovery.proofs.Fold.{Out, Next, gone_next, stays_next, Begins, late, on, begins}
 use Rattle.rasta_core_recovery.proofs.Own.{Utters, Calm, quiet_all, out_all}
 use Rattle.rasta_core_recovery.proofs.WorkFold.{Done, gone_done, so_done, round_through}
 use Rattle.rasta_core_recovery.proofs.Course.{Joined}
-use Rattle.rasta_core_recovery.proofs.TunedEnds.{each_append}
 use Rattle.rasta_core_recovery.proofs.Turn.{Either, gone, so, reading_joined}
-use Rattle.rasta_core_recovery.proofs.Asks.{IsTalkPdu, Asks, InIt, AsksOn, Mute, mute_then, in_lively, in_step, Alone, Same, same_then, alone_step, asks_asking, asks_lively, reading_asks, not_up, first_talks, beating_talks}
+use Rattle.rasta_core_recovery.proofs.Asks.{IsTalkPdu, Asks, InIt, AsksOn, Mute, mute_then, in_lively, in_step, Alone, Same, same_then, alone_step, asks_asking, asks_lively, reading_asks, not_up}
 use Rattle.rasta_core_recovery.proofs.WorkTurn.{utters_joined}
 use Rattle.rasta_core_recovery.proofs.WorkOpens.{gifts_of, mute_server, mute_client, round_is}
 use Rattle.rasta_core_recovery.proofs.Hale.{room_first}
@@ -126,33 +123,15 @@ server_silent now acts l work is down at room = choose (begins now l at is.conne
         lives : Lives now (at_reading now l)
         lives = record { connected = is.connected; young = young; room = room_first now acts (at_reading now l) (subst (Roomy now acts) e room) is.connected }
 
-items_talk : (b : Bool) (item : List ℕ) (j : LinkState) → Each IsTalkPdu (if b then giving item j else silent j).pdus
-unfolding giving sending pdu_of
-items_talk true item j = (tt, tt)
-items_talk false item j = tt
-
-gift_talks : (now : ℕ) (a : Act) (k : LinkState) → IsGift a → Each IsTalkPdu (did now a k).pdus
-unfolding did sending_item entered limited
-gift_talks now (Hears p) k gift = absurd gift
-gift_talks now Beats k gift = absurd gift
-gift_talks now Opens k gift = absurd gift
-gift_talks now (Gives item) k gift = each_append IsTalkPdu (limited (settled now k)).pdus (if is_ok (acceptance (limited (settled now k)).link) then giving item (limited (settled now k)).link else silent (limited (settled now k)).link).pdus
-    (first_talks (is_open (settled now k).phase && nat_le 2147483000 (settled now k).sent) (settled now k)) (items_talk (is_ok (acceptance (limited (settled now k)).link)) item (limited (settled now k)).link)
-
-tick_talks : (now : ℕ) (k : LinkState) → Each IsTalkPdu (did now Beats k).pdus
-unfolding did ticking entered limited
-tick_talks now k = each_append IsTalkPdu (limited (settled now k)).pdus (beating (limited (settled now k)).link).pdus (first_talks (is_open (settled now k).phase && nat_le 2147483000 (settled now k).sent) (settled now k)) (beating_talks (limited (settled now k)).link)
-
-gifts_talk : (now : ℕ) (gifts : List Act) (k : LinkState) → Each IsGift gifts → Each IsTalkPdu (all_did now gifts k).pdus
-unfolding all_did
-gifts_talk now [] k given = tt
-gifts_talk now (a ∷ gifts) k given = each_append IsTalkPdu (did now a k).pdus (all_did now gifts (did now a k).link).pdus (gift_talks now a k given.0) (gifts_talk now gifts (did now a k).link given.1)
-
-front_talks : (now : ℕ) (gifts back : List Act) (k : LinkState) → Each IsGift gifts → Each IsGift back → Each IsTalkPdu (all_did now (gifts ++ (clock_acts role.Server ++ back)) k).pdus
-unfolding all_did
-front_talks now [] back k given behind = each_append IsTalkPdu (did now Beats k).pdus (all_did now back (did now Beats k).link).pdus (tick_talks now k) (gifts_talk now back (did now Beats k).link behind)
-front_talks now (a ∷ gifts) back k given behind = each_append IsTalkPdu (did now a k).pdus (all_did now (gifts ++ (clock_acts role.Server ++ back)) (did now a k).link).pdus (gift_talks now a k given.0) (front_talks now gifts back (did now a k).link given.1 behind)
-
-pub server_talks_at_work : (now : ℕ) (acts : List Act) (l : LinkState) → IsWork role.Server [] acts → Each IsTalkPdu (acted now acts l).pdus
-server_talks_at_work now acts l work = subst (λ (s : Step). Each IsTalkPdu s.pdus) (sym (round_is role.Server now [] acts l work))
-    (front_talks now work.front work.back (settled now l) (gifts_of work.front work.before work.brings) work.behind)
+-- and whether it stays or not, it says nothing
+pub server_mute : (now : ℕ) (acts : List Act) (l : LinkState) → IsWork role.Server [] acts → Joined l.clock l → is_up l.phase ≡ false → now ≡ l.clock + 10 → Roomy now acts (settled now l) → (acted now acts l).pdus ≡ []
+unfolding acted
+server_mute now acts l work is down at room = choose (begins now l at is.connected is.young)
+  where
+    choose : Begins now l → (all_did now acts (settled now l)).pdus ≡ []
+    choose (late left) = ap (λ (s : Step). s.pdus) (quiet_all now acts (settled now l) left.is_out left.quiet left.clock)
+    choose (on e young) = ap (λ (s : Step). s.pdus) (round_is role.Server now [] acts l work ∙ ap (λ (k : LinkState). all_did now (work.front ++ (clock_acts role.Server ++ work.back)) k) e
+        ∙ mute_server now work.front work.back (at_reading now l) (gifts_of work.front work.before work.brings) work.behind (entered_lives now (at_reading now l) lives) down)
+      where
+        lives : Lives now (at_reading now l)
+        lives = record { connected = is.connected; young = young; room = room_first now acts (at_reading now l) (subst (Roomy now acts) e room) is.connected }

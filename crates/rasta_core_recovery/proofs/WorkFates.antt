@@ -30,22 +30,22 @@ use Rattle.rasta_core_recovery.proofs.Hale.{Closely, Hale, Keeps, hale_keeps, ha
 -- they are ready, or the client has just joined, of which its server hears in the next round
 pub data Soon (names : Names) (p : Pair) : Type 0 where
   is_hale : Hale names p → Soon names p
-  has_joined : (client_closed server_closed cf sf at grant : ℕ) (fits : cf < 2 ^ 32) (server_fits : sf < 2 ^ 32) → JoinedBy names client_closed server_closed cf sf at grant fits server_fits p → Soon names p
+  has_joined : (client_closed server_closed cf sf at grant : ℕ) (fits : cf < 2 ^ 32) (server_fits : sf < 2 ^ 32) (j : JoinedBy names client_closed server_closed cf sf at grant fits server_fits p) → j.now ≡ at + 20 → Soon names p
 
 -- so they are ready in the next round
 pub soon_on : (names : Names) (p : Pair) (r : WorkRound p) → Soon names p → Hale names (behind p r)
 soon_on names p r (is_hale h) = hale_on names p r h
-soon_on names p r (has_joined client_closed server_closed cf sf at grant fits server_fits j) = hale_now names client_closed server_closed cf sf at grant fits server_fits p j r
+soon_on names p r (has_joined client_closed server_closed cf sf at grant fits server_fits j soon) = hale_now names client_closed server_closed cf sf at grant fits server_fits p j r (omega (arith, soon)) soon
 
 -- and the round keeps what both have
 pub soon_keeps : (names : Names) (p : Pair) (r : WorkRound p) → Soon names p → Keeps p r
 soon_keeps names p r (is_hale h) = hale_keeps names p r h
-soon_keeps names p r (has_joined client_closed server_closed cf sf at grant fits server_fits j) = joined_keeps names client_closed server_closed cf sf at grant fits server_fits p j r
+soon_keeps names p r (has_joined client_closed server_closed cf sf at grant fits server_fits j soon) = joined_keeps names client_closed server_closed cf sf at grant fits server_fits p j r (omega (arith, soon))
 
 -- the client is up
 pub soon_up : (names : Names) (p : Pair) → Soon names p → is_up p.client.phase ≡ true
 soon_up names p (is_hale h) = (hale_up names p h).0
-soon_up names p (has_joined client_closed server_closed cf sf at grant fits server_fits j) = ap (λ (l : LinkState). is_up l.phase) j.tells.same
+soon_up names p (has_joined client_closed server_closed cf sf at grant fits server_fits j soon) = ap (λ (l : LinkState). is_up l.phase) j.tells.same
 
 -- health is kept
 pub hale_for : (names : Names) (n : ℕ) (p z : Pair) → Run names n p z → Hale names p → Hale names z
@@ -55,7 +55,7 @@ hale_for names (suc n) p z run h = hale_for names n (behind p run.0) z run.2 (ha
 -- ---- both are outside, the client quiet no longer in the next round
 
 -- an end outside that is quiet
-quiet_step : (now : ℕ) (acts : List Act) (l : LinkState) → is_open l.phase ≡ false → now < l.closed_at + 6000 → acted now acts l ≡ silent (record l { clock = now })
+pub quiet_step : (now : ℕ) (acts : List Act) (l : LinkState) → is_open l.phase ≡ false → now < l.closed_at + 6000 → acted now acts l ≡ silent (record l { clock = now })
 unfolding acted
 quiet_step now acts l out quiet = ap (all_did now acts) (settled_out now l out) ∙ quiet_all now acts (record l { clock = now }) out quiet refl
 
@@ -103,15 +103,18 @@ module _ (names : Names) (p : Pair) (over : p.client.closed_at + 6000 ≤ p.clie
       (client_acted (behind p r1) r2 _ o.client ∙ client_waits_at_work names (at + 10) p.client.closed_at cf at at r2.client_acts (omega arith) (client_work_of (behind p r1) r2 [] o.to_client))
       (server_acted (behind p r1) r2 _ o.server ∙ quiet_step grant r2.server_acts (resting_link names role.Server (p.server.clock + 10) p.server.closed_at (left_of p.server)) refl quiet)
 
+  joined_then : (r1 : WorkRound p) (r2 : WorkRound (behind p r1)) (r3 : WorkRound (behind (behind p r1) r2)) → p.server.closed_at + 6000 ≤ grant
+      → (j : JoinedBy names p.client.closed_at p.server.closed_at cf sf at grant fits server_fits (behind (behind (behind p r1) r2) r3)) × (j.now ≡ at + 10 + 10)
+  joined_then r1 r2 r3 server_over = joins_then names p.client.closed_at p.server.closed_at cf sf at grant fits server_fits (at + 10) (omega arith) (omega arith) (behind (behind p r1) r2) r3 (granted r1 r2 server_over)
+
   soon_in_three : (n : ℕ) (z : Pair) → 3 ≤ n → Run names n p z → p.server.closed_at + 6000 ≤ grant → Soon names z
   soon_in_three zero z most run server_over = absurd (omega (arith, most))
   soon_in_three (suc zero) z most run server_over = absurd (omega (arith, most))
   soon_in_three (suc (suc zero)) z most run server_over = absurd (omega (arith, most))
-  soon_in_three (suc (suc (suc zero))) z most (r1, s1, (r2, s2, (r3, s3, run))) server_over = subst (Soon names) run (has_joined p.client.closed_at p.server.closed_at cf sf at grant fits server_fits
-      (joins_then names p.client.closed_at p.server.closed_at cf sf at grant fits server_fits _ r3 (granted r1 r2 server_over)))
+  soon_in_three (suc (suc (suc zero))) z most (r1, s1, (r2, s2, (r3, s3, run))) server_over =
+      subst (Soon names) run (has_joined p.client.closed_at p.server.closed_at cf sf at grant fits server_fits (joined_then r1 r2 r3 server_over).0 (omega (arith, (joined_then r1 r2 r3 server_over).1)))
   soon_in_three (suc (suc (suc (suc n)))) z most (r1, s1, (r2, s2, (r3, s3, (r4, s4, run)))) server_over =
-      is_hale (hale_for names n _ z run (hale_now names p.client.closed_at p.server.closed_at cf sf at grant fits server_fits _
-      (joins_then names p.client.closed_at p.server.closed_at cf sf at grant fits server_fits _ r3 (granted r1 r2 server_over)) r4))
+      is_hale (hale_for names n _ z run (hale_now names p.client.closed_at p.server.closed_at cf sf at grant fits server_fits _ (joined_then r1 r2 r3 server_over).0 r4 (omega (arith, (joined_then r1 r2 r3 server_over).1)) (omega (arith, (joined_then r1 r2 r3 server_over).1))))
 
 -- both are ready
 ready_soon : (names : Names) (n : ℕ) (p z : Pair) → 3 ≤ n → Sound names p → Run names n p z → is_open p.client.phase ≡ false → p.client.closed_at + 6000 ≤ p.client.clock + 10 → p.server.closed_at + 6000 ≤ p.server.clock + 20 → Soon names z
@@ -325,7 +328,7 @@ waiting_comes names client_start server_start (suc fuel) (suc n) p z most sound 
     waiting_comes names client_start server_start fuel n (behind p run.0) z (omega (arith, most)) run.1 run.2 v
     (omega (arith, client_long, client_clock_on p run.0 w.near.to_client.way.is then_in.client)) (omega (arith, server_long, server_clock_on p run.0 w.near.to_server.way.is then_in.server)))
 
-closely_comes : (names : Names) (n : ℕ) (p z : Pair) → 1413 ≤ n → Sound names p → Run names n p z → Closely names p → Soon names z
+pub closely_comes : (names : Names) (n : ℕ) (p z : Pair) → 1413 ≤ n → Sound names p → Run names n p z → Closely names p → Soon names z
 closely_comes names n p z most sound run c = waiting_comes names p.client.clock p.server.clock 30 n p z (omega (arith, most)) sound run (waiting_begins names p c) (omega arith) (omega arith)
 
 -- what both have sent, where both are inside

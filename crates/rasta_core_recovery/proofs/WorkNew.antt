@@ -22,7 +22,7 @@ use Rattle.rasta_core_recovery.proofs.TunedEnds.{Round, Bounds, Hearing}
 use Rattle.rasta_core_recovery.proofs.Turn.{EndMode, reading_joined}
 use Rattle.rasta_core_recovery.proofs.WorkTurn.{IsSimplePdu, simple_are_plain, Worked, Left, has_left, stays_in, works_surely}
 use Rattle.rasta_core_recovery.proofs.WorkOpens.{client_joins_at_work, Joins, server_waits_at_work, server_comes_up_at_work, ComesUp, Tells, TellsAll, tells_through}
-use Rattle.rasta_core_recovery.proofs.Hale.{Hale, Keeps, room_first}
+use Rattle.rasta_core_recovery.proofs.Hale.{Closely, Hale, Keeps, room_first}
 use Rattle.rasta_core_recovery.proofs.Given.{Grows}
 use Rattle.rasta_core_recovery.proofs.Within.{Within, all_grow, work_brings}
 
@@ -77,14 +77,14 @@ module _ (names : Names) (client_closed server_closed cf sf at grant : ℕ) (fit
   pub record JoinedBy (p : Pair) : Type 0 where
     pub others : List Pdu
     pub now : ℕ
-    pub soon : now ≡ at + 20
+    pub past : at ≤ now
     pub tells : Tells now grant (joined now) others p.client
     pub is : Joined now p.client
     pub server : p.server ≡ granted (grant + 10)
     pub to_client : p.to_client ≡ []
     pub to_server : p.to_server ≡ beat now ∷ others
 
-  module _ (p : Pair) (j : JoinedBy p) (r : WorkRound p) where
+  module _ (p : Pair) (j : JoinedBy p) (r : WorkRound p) (living : j.now + 10 < at + 1800) where
     abbrev c3 : ℕ
     c3 = j.now
 
@@ -111,7 +111,7 @@ module _ (names : Names) (client_closed server_closed cf sf at grant : ℕ) (fit
         either (inr e) = omega (arith, e)
 
     young : p.client.clock + 10 < p.client.own_stamp + 1800
-    young = omega (arith, k_clock, k_own, j.soon)
+    young = omega (arith, k_clock, k_own, living)
 
     client_on : settled (p.client.clock + 10) p.client ≡ at_reading (p.client.clock + 10) p.client
     client_on = settled_in (p.client.clock + 10) p.client j.is.connected young
@@ -268,73 +268,77 @@ module _ (names : Names) (client_closed server_closed cf sf at grant : ℕ) (fit
     server_calm : (server_step p r).link.clock < (server_step p r).link.sent_at + 300
     server_calm = omega (arith, server_worked.calm server_up, server_clock)
 
-    pub hale_now : Hale names (behind p r)
-    hale_now = record {
-      near = record {
-        client = ap (λ (l : LinkState). l.identity) same4 ∙ identity_k;
-        server = server_worked.heeds.says.identity;
-        client_kept = grant;
-        server_kept = server_worked.heeds.says.kept;
-        to_client = record {
-          way = record {
-            is = client_is;
-            first = ap (λ (l : LinkState). l.partner_first) same4 ∙ partner_first_k ∙ omega (arith, server_fits) ∙ sym server_worked.heeds.says.own_first;
-            some = omega (arith, client_expected);
-            most = omega (arith, client_expected, server_sent);
-            kept_is = ap (λ (l : LinkState). l.partner_stamp) same4 ∙ ap (λ (l : LinkState). l.partner_stamp) j.tells.same;
-            before = omega (arith, server_clock);
-            low = omega arith;
-            sent_before = omega (arith, server_said, server_clock);
-            number = 1;
-            count = 1;
-            reading = c3;
-            chain = server_worked.heeds.says.chain;
-            since = omega (arith, ended.0);
-            mode = (
-              record { reading = reading_then; expected = client_expected; confirmed = omega (arith, client_confirmed); own = omega (arith, client_own, j.soon) },
-              λ none. omega (arith, server_worked.heeds.says.spoken none),
-            );
-            later = omega (arith, server_clock);
-            young = λ e. omega arith;
-            deaf = λ e. absurd (cc e);
-          };
-          simple = server_worked.simple refl (simple_are_plain j.others j.tells.simple);
-          calm = server_calm;
-          recent = omega (arith, server_clock);
-          lately = omega (arith, client_clock);
+    reading_then : is_reading (client_step p r).link.phase ≡ true
+    reading_then = ap (λ (l : LinkState). is_reading l.phase) same4 ∙ ap (λ (l : LinkState). is_reading l.phase) j.tells.same
+
+    pub closely_now : Closely names (behind p r)
+    closely_now = record {
+      client = ap (λ (l : LinkState). l.identity) same4 ∙ identity_k;
+      server = server_worked.heeds.says.identity;
+      client_kept = grant;
+      server_kept = server_worked.heeds.says.kept;
+      to_client = record {
+        way = record {
+          is = client_is;
+          first = ap (λ (l : LinkState). l.partner_first) same4 ∙ partner_first_k ∙ omega (arith, server_fits) ∙ sym server_worked.heeds.says.own_first;
+          some = omega (arith, client_expected);
+          most = omega (arith, client_expected, server_sent);
+          kept_is = ap (λ (l : LinkState). l.partner_stamp) same4 ∙ ap (λ (l : LinkState). l.partner_stamp) j.tells.same;
+          before = omega (arith, server_clock);
+          low = omega arith;
+          sent_before = omega (arith, server_said, server_clock);
+          number = 1;
+          count = 1;
+          reading = c3;
+          chain = server_worked.heeds.says.chain;
+          since = omega (arith, ended.0);
+          mode = (
+            record { reading = reading_then; expected = client_expected; confirmed = omega (arith, client_confirmed); own = omega (arith, client_own, j.past) },
+            λ none. omega (arith, server_worked.heeds.says.spoken none),
+          );
+          later = omega (arith, server_clock);
+          young = λ e. omega arith;
+          deaf = λ e. absurd (cc e);
         };
-        to_server = record {
-          way = record {
-            is = server_is;
-            first = server_worked.heeds.says.partner_first ∙ omega (arith, fits) ∙ sym (ap (λ (l : LinkState). l.own_first) same4 ∙ own_first_k);
-            some = server_worked.heeds.says.some;
-            most = omega (arith, server_worked.heeds.says.most, sent_most);
-            kept_is = server_worked.heeds.says.kept_is;
-            before = omega (arith, ended.0, client_clock);
-            low = omega arith;
-            sent_before = omega (arith, client_said, client_clock);
-            number = p.client.sent;
-            count = 0;
-            reading = grant;
-            chain = chain4;
-            since = omega arith;
-            mode = (ended.3.0, λ none. omega (arith, client_all.tells.goes.spoken none, k_sent_at, ended.0));
-            later = omega (arith, ended.0, client_clock);
-            young = λ e. omega arith;
-            deaf = λ e. absurd (cc e);
-          };
-          simple = client_all.tells.simple;
-          calm = client_calm;
-          recent = omega (arith, ended.0, client_clock);
-          lately = omega (arith, server_clock);
-        };
+        simple = server_worked.simple refl (simple_are_plain j.others j.tells.simple);
+        calm = server_calm;
+        recent = omega (arith, server_clock);
+        lately = omega (arith, client_clock);
       };
-      client = record { under = omega (arith, client_clock, client_own, j.soon); idle = λ none. omega (arith, client_clock, client_own, j.soon, server_clock, server_worked.heeds.says.spoken none) };
+      to_server = record {
+        way = record {
+          is = server_is;
+          first = server_worked.heeds.says.partner_first ∙ omega (arith, fits) ∙ sym (ap (λ (l : LinkState). l.own_first) same4 ∙ own_first_k);
+          some = server_worked.heeds.says.some;
+          most = omega (arith, server_worked.heeds.says.most, sent_most);
+          kept_is = server_worked.heeds.says.kept_is;
+          before = omega (arith, ended.0, client_clock);
+          low = omega arith;
+          sent_before = omega (arith, client_said, client_clock);
+          number = p.client.sent;
+          count = 0;
+          reading = grant;
+          chain = chain4;
+          since = omega arith;
+          mode = (ended.3.0, λ none. omega (arith, client_all.tells.goes.spoken none, k_sent_at, ended.0));
+          later = omega (arith, ended.0, client_clock);
+          young = λ e. omega arith;
+          deaf = λ e. absurd (cc e);
+        };
+        simple = client_all.tells.simple;
+        calm = client_calm;
+        recent = omega (arith, ended.0, client_clock);
+        lately = omega (arith, server_clock);
+      };
+    }
+
+    -- where it asked just before, both have been heard lately
+    pub hale_now : j.now ≡ at + 20 → Hale names (behind p r)
+    hale_now soon = record {
+      near = closely_now;
+      client = record { under = omega (arith, client_clock, client_own, soon); idle = λ none. omega (arith, client_clock, client_own, soon, server_clock, server_worked.heeds.says.spoken none) };
       server = record { under = omega (arith, server_clock, ended.1); idle = λ none. omega (arith, server_clock, ended.1, client_said, client_clock) };
     }
-      where
-        reading_then : is_reading (client_step p r).link.phase ≡ true
-        reading_then = ap (λ (l : LinkState). is_reading l.phase) same4 ∙ ap (λ (l : LinkState). is_reading l.phase) j.tells.same
 
     -- ---- and what the round keeps
 
@@ -382,21 +386,21 @@ module _ (names : Names) (client_closed server_closed cf sf at grant : ℕ) (fit
     }
 
   -- the round in which the client joins
-  pub joins_then : (p : Pair) (r : WorkRound p) → Is p (asking_link names (at + 10) client_closed cf at) (granted grant) (answer ∷ []) [] → JoinedBy (behind p r)
-  joins_then p r i = record {
+  pub joins_then : (c : ℕ) → at ≤ c → c + 10 < at + 1800 → (p : Pair) (r : WorkRound p) → Is p (asking_link names c client_closed cf at) (granted grant) (answer ∷ []) [] → (j : JoinedBy (behind p r)) × (j.now ≡ c + 10)
+  joins_then clock since_asked living p r i = (record {
     others = c.others;
-    now = at + 10 + 10;
-    soon = omega arith;
+    now = clock + 10;
+    past = omega (arith, since_asked);
     tells = c.tells;
     is = c.is;
     server = ap (λ (s : Step). s.link) s;
     to_client = ap (λ (s : Step). s.pdus) s;
     to_server = c.pdus;
-  }
+  }, refl)
     where
-      c : Joins (at + 10 + 10) grant (joined (at + 10 + 10)) (beat (at + 10 + 10)) (client_step p r)
-      c = subst (Joins (at + 10 + 10) grant (joined (at + 10 + 10)) (beat (at + 10 + 10))) (sym (client_acted p r (asking_link names (at + 10) client_closed cf at) i.client))
-          (client_joins_at_work names (at + 10 + 10) client_closed cf at (at + 10) sf grant r.client_acts (omega arith) (omega arith) fits (client_work_of p r (answer ∷ []) i.to_client) (client_room_of p r (asking_link names (at + 10) client_closed cf at) i.client))
+      c : Joins (clock + 10) grant (joined (clock + 10)) (beat (clock + 10)) (client_step p r)
+      c = subst (Joins (clock + 10) grant (joined (clock + 10)) (beat (clock + 10))) (sym (client_acted p r (asking_link names clock client_closed cf at) i.client))
+          (client_joins_at_work names (clock + 10) client_closed cf at clock sf grant r.client_acts living (omega (arith, since_asked)) fits (client_work_of p r (answer ∷ []) i.to_client) (client_room_of p r (asking_link names clock client_closed cf at) i.client))
 
       s : server_step p r ≡ silent (granted (grant + 10))
       s = server_acted p r (granted grant) i.server ∙ server_waits_at_work names (grant + 10) server_closed sf grant grant asked r.server_acts (omega arith) (server_work_of p r [] i.to_server)

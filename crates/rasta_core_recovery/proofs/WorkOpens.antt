@@ -47,15 +47,15 @@ gifts_bring (Asks ∷ front) gift = absurd gift.0
 gifts_bring (Gives item ∷ front) gift = gifts_bring front gift.1
 
 -- where this comes first
-record Comes (q : Pdu) (qs : List Pdu) (front : List Act) : Type 0 where
-  gifts : List Act
-  rest : List Act
-  are : front ≡ gifts ++ (Hears q ∷ rest)
-  given : Each IsGift gifts
-  before : Each IsBefore rest
-  brings : all_brought rest ≡ qs
+pub record Comes (q : Pdu) (qs : List Pdu) (front : List Act) : Type 0 where
+  pub gifts : List Act
+  pub rest : List Act
+  pub are : front ≡ gifts ++ (Hears q ∷ rest)
+  pub given : Each IsGift gifts
+  pub before : Each IsBefore rest
+  pub brings : all_brought rest ≡ qs
 
-comes_first : (q : Pdu) (qs : List Pdu) (front : List Act) → Each IsBefore front → all_brought front ≡ q ∷ qs → Comes q qs front
+pub comes_first : (q : Pdu) (qs : List Pdu) (front : List Act) → Each IsBefore front → all_brought front ≡ q ∷ qs → Comes q qs front
 comes_first q qs [] before e = absurd (cc e)
 comes_first q qs (Hears p ∷ front) before e = record {
   gifts = [];
@@ -85,7 +85,7 @@ comes_first q qs (Gives item ∷ front) before e = let c = comes_first q qs fron
 -- ---- an end that isn't up
 
 -- it is given items, and ticks, in vain
-mute_gives : (now : ℕ) (item : List ℕ) (l : LinkState) → entered now l ≡ silent l → is_up l.phase ≡ false → did now (Gives item) l ≡ silent l
+pub mute_gives : (now : ℕ) (item : List ℕ) (l : LinkState) → entered now l ≡ silent l → is_up l.phase ≡ false → did now (Gives item) l ≡ silent l
 unfolding did sending_item acceptance
 mute_gives now item l enters down = ap (λ (s : Step). then_do s (λ k. if is_ok (acceptance k) then giving item k else silent k)) enters ∙ rw down refl
 
@@ -94,7 +94,7 @@ unfolding did ticking beating
 mute_ticks now l enters down = ap (λ (s : Step). then_do s beating) enters ∙ rw down refl
 
 -- what begins with such an act goes on as if it weren't there
-passes_over : (now : ℕ) (a : Act) (others : List Act) (l : LinkState) → did now a l ≡ silent l → all_did now (a ∷ others) l ≡ all_did now others l
+pub passes_over : (now : ℕ) (a : Act) (others : List Act) (l : LinkState) → did now a l ≡ silent l → all_did now (a ∷ others) l ≡ all_did now others l
 unfolding all_did
 passes_over now a others l e = ap (λ (s : Step). then_do s (λ k. all_did now others k)) e
 
@@ -128,7 +128,7 @@ unfolding acted
 round_is who now due acts l w = ap (λ (bs : List Act). all_did now bs (settled now l)) w.are
 
 -- one in which this comes first, to an end that isn't up till then
-hears_first : (now : ℕ) (q : Pdu) (gifts rest behind : List Act) (l : LinkState) → Each IsGift gifts → entered now l ≡ silent l → is_up l.phase ≡ false
+pub hears_first : (now : ℕ) (q : Pdu) (gifts rest behind : List Act) (l : LinkState) → Each IsGift gifts → entered now l ≡ silent l → is_up l.phase ≡ false
     → all_did now ((gifts ++ (Hears q ∷ rest)) ++ behind) l ≡ then_do (heard now q l) (λ k. all_did now (rest ++ behind) k)
 unfolding all_did did
 hears_first now q gifts rest behind l given enters down = ap (λ (acts : List Act). all_did now acts l) (append_assoc gifts (Hears q ∷ rest) behind) ∙ mute_front now gifts (Hears q ∷ (rest ++ behind)) l given enters down

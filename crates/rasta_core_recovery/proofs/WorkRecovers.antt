@@ -1,6 +1,6 @@
 -- After whatever events, both ends are up after every round at work from some round on.
-use Rattle.std.proofs.Common.{ℕ, ◌∙◌, ◌≤◌, List, [], ◌∷◌, length, refl, ap, subst}
-use Rattle.rasta_core_run.specs.State.{LinkState, is_up}
+use Rattle.std.proofs.Common.{◌≡◌, ℕ, ◌∙◌, ◌≤◌, true, List, [], ◌∷◌, length, refl, ap, subst}
+use Rattle.rasta_core_run.specs.State.{LinkState, is_open, is_up}
 use Rattle.rasta_core_run.specs.Events.{Event, MayRun, Passes, Start, started}
 use Rattle.rasta_core_run.specs.Each.{Each}
 use Rattle.rasta_core_run.specs.Names.{Names, AreNames}
@@ -11,6 +11,8 @@ use Rattle.rasta_core_recovery.proofs.Acts.{behind}
 use Rattle.rasta_core_recovery.proofs.Mirror.{Mirrors}
 use Rattle.rasta_core_recovery.proofs.Bridge.{mirror_of}
 use Rattle.rasta_core_recovery.proofs.Facts.{facts}
+use Rattle.rasta_core_recovery.proofs.FirstGrants.{asking_of}
+use Rattle.rasta_core_recovery.proofs.FirstRises.{Climbs, climbs}
 use Rattle.rasta_core_recovery.proofs.Pasts.{Past}
 use Rattle.rasta_core_recovery.proofs.Recovers.{Laws, Holds, holds_run, holds_after}
 use Rattle.rasta_core_recovery.proofs.Hale.{hale_up}
@@ -19,7 +21,16 @@ use Rattle.rasta_core_recovery.proofs.WorkRun.{Sound, Run}
 use Rattle.rasta_core_recovery.proofs.WorkSum.{all_come}
 
 pub sound_of : (names : Names) (f : Flow) (p : Pair) → Holds names f.ends → Mirrors names f p → Sound names p
-sound_of names f p holds m = record { facts = facts names f p m holds.ordered; client_past = subst Past m.client holds.pasts.client; server_past = subst Past m.server holds.pasts.server }
+sound_of names f p holds m = record {
+  facts = facts names f p m holds.ordered;
+  client_past = subst Past m.client holds.pasts.client;
+  server_past = subst Past m.server holds.pasts.server;
+  climbs = λ both. climbs_of (ap (λ (l : LinkState). is_open l.phase) m.client ∙ both.client) (ap (λ (l : LinkState). is_open l.phase) m.server ∙ both.server);
+  asking = asking_of names f p m holds.ordered holds.asked;
+}
+  where
+    climbs_of : is_open f.ends.client.link.phase ≡ true → is_open f.ends.server.link.phase ≡ true → Climbs p
+    climbs_of client_in server_in = climbs names f p m holds.ordered client_in server_in (holds.rising (record { client = client_in; server = server_in }))
 
 -- rounds of two ends as rounds of two links
 pub record Leads (names : Names) (n : ℕ) (f : Flow) (p : Pair) : Type 0 where

@@ -1,16 +1,22 @@
 -- Rounds at work, one after another.
-use Rattle.std.proofs.Common.{◌≡◌, ℕ, zero, suc, ◌-◌, ◌≤◌, ◌<◌, refl, subst, arith}
+use Rattle.std.proofs.Common.{◌≡◌, ℕ, zero, suc, ◌-◌, ◌≤◌, ◌<◌, true, refl, subst, arith}
 use Rattle.rasta_core_run.specs.Names.{Names}
 use Rattle.rasta_core_recovery.proofs.Links.{Pair}
 use Rattle.rasta_core_recovery.proofs.Acts.{WorkRound, behind}
 use Rattle.rasta_core_recovery.proofs.Facts.{Facts}
 use Rattle.rasta_core_recovery.proofs.Pasts.{Past}
+use Rattle.rasta_core_recovery.proofs.Seen.{BothIn}
+use Rattle.rasta_core_recovery.proofs.FirstGrants.{Asking}
+use Rattle.rasta_core_recovery.proofs.FirstRises.{Climbs}
+use Rattle.rasta_core_run.specs.State.{is_asking}
 
 -- what is so of two ends behind each round
 pub record Sound (names : Names) (p : Pair) : Type 0 where
   pub facts : Facts names p
   pub client_past : Past p.client
   pub server_past : Past p.server
+  pub climbs : BothIn p → Climbs p
+  pub asking : is_asking p.client ≡ true → Asking names p
 
 -- from one pair to another in so many rounds
 abbrev pub Run : Names → ℕ → Pair → Pair → Type 0

@@ -1,6 +1,6 @@
 -- Two ends at work in a connection: they are ready soon, or one of them leaves it early, or time is over for both at once.
 use Rattle.std.proofs.Common.{◌≡◌, ℕ, zero, suc, ◌⊎◌, inl, inr, ◌∙◌, ◌+◌, ◌*◌, ◌-◌, ◌≤◌, ◌<◌, Bool, true, false, nat_le, List, [], refl, sym, ap, subst, arith, leb-true, leb-false}
-use Rattle.rasta_core_run.specs.State.{LinkState, is_open, is_asking}
+use Rattle.rasta_core_run.specs.State.{LinkState, is_open}
 use Rattle.rasta_core_run.specs.Clock.{settled}
 use Rattle.rasta_core_run.specs.PdusHandedOut.{Step, silent}
 use Rattle.rasta_core_run.specs.Names.{Names}
@@ -10,14 +10,12 @@ use Rattle.rasta_core_recovery.proofs.Fold.{Out, Begins, late, on, begins}
 use Rattle.rasta_core_recovery.proofs.Own.{quiet_all, out_all}
 use Rattle.rasta_core_recovery.proofs.Course.{Joined}
 use Rattle.rasta_core_recovery.proofs.Turn.{Either, gone, so}
-use Rattle.rasta_core_recovery.proofs.Asks.{Asks, asks_asking}
-use Rattle.rasta_core_recovery.proofs.Seen.{BothIn, Rows}
+use Rattle.rasta_core_recovery.proofs.Seen.{BothIn}
 use Rattle.rasta_core_recovery.proofs.Converse.{Talk}
-use Rattle.rasta_core_recovery.proofs.WorkTalk.{client_joined, server_joined, talk_begins_at_work}
-use Rattle.rasta_core_recovery.proofs.WorkAnswered.{talk_answered_at_work}
+use Rattle.rasta_core_recovery.proofs.WorkTalk.{client_joined, server_joined}
 use Rattle.rasta_core_recovery.proofs.WorkRun.{Sound, Run, Rounds, shifted}
 use Rattle.rasta_core_recovery.proofs.WorkFates.{Soon, client_rests_on, opens_quickly, out_comes, left_alone, server_clock_on}
-use Rattle.rasta_core_recovery.proofs.WorkEarly.{HaleOrOld, hale_soon, ever_old, in_behind, server_is, server_time, early_hale}
+use Rattle.rasta_core_recovery.proofs.WorkEarly.{HaleOrOld, hale_soon, ever_old, server_is, server_time, early_hale}
 
 -- an end whose time is over in a round says nothing in it, and is outside behind it
 pub late_at_work : (now : ℕ) (acts : List Act) (l : LinkState) → is_open l.phase ≡ true → l.clock < l.own_stamp + 1800 → now ≡ l.clock + 10 → l.own_stamp + 1800 ≤ now → Out now (acted now acts l).link × ((acted now acts l).pdus ≡ [])
@@ -34,8 +32,6 @@ both_left names n p z most sound run client_out server_out lately server_lately 
     opens_quickly names 599 n 598 p z most sound run client_out server_out (inr (omega (arith, server_lately))) (omega (arith, lately)) (omega (arith, sound.server_past.closed server_out)) (omega (arith, sound.client_past.closed client_out))
 
 module _ (names : Names) (n : ℕ) (z : Pair) (at : ℕ → Pair) (rounds : Rounds names n z at) where
-  sound_behind : (k : ℕ) (lt : k < n) → Sound names (behind (at k) (rounds.round k lt).0)
-  sound_behind k lt = subst (Sound names) (rounds.round k lt).1 (rounds.sound (suc k) lt)
 
   client_on : (k : ℕ) (lt : k < n) → Joined (at k).client.clock (at k).client → Either ((at k).client.clock + 10) (at (suc k)).client (Joined (at (suc k)).client.clock (at (suc k)).client)
   client_on k lt j = let r = rounds.round k lt in subst (λ (q : Pair). Either ((at k).client.clock + 10) q.client (Joined q.client.clock q.client)) (sym r.1) (client_joined (at k) r.0 j)
@@ -170,71 +166,18 @@ module _ (names : Names) (n : ℕ) (z : Pair) (at : ℕ → Pair) (rounds : Roun
 
   -- ---- from the first round on
 
-  -- where the numbers of what is said go on from the first round, it is known two rounds later what is under way
-  rows_early : 1486 ≤ n → Rows (at 0) (at 1) → (l : ℕ) → 68 ≤ l → l ≤ 1000 → suc (suc l) < n → Stays (suc (suc l)) → HaleOrOld names z (at (suc (suc l))) (at (suc (suc (suc l)))) (at 1).server.clock
-  rows_early rest rows l long short most s = early_hale names (n - 1 - 1) z (λ k. at (suc (suc k))) (shifted names (n - 1) z (λ k. at (suc k)) (omega (arith, rest)) (shifted names n z at (omega (arith, rest)) rounds)) l (omega (arith, most)) short
-      (record { both = λ k le. s.both (suc (suc k)) (omega (arith, le)); joined = λ k le. s.joined (suc (suc k)) (omega arith) (omega (arith, le)) }) (at 1).server.clock
-      (omega (arith, server_time names n z at rounds (suc (suc l)) (omega (arith, most)) s.both 2 (omega arith), server_time names n z at rounds (suc (suc l)) (omega (arith, most)) s.both 1 (omega arith))) long (omega (arith, rest)) talk
-    where
-      lt1 : 1 < n
-      lt1 = omega (arith, rest)
-
-      r : (r : WorkRound (at 1)) × (at 2 ≡ behind (at 1) r)
-      r = rounds.round 1 lt1
-
-      then_sound : Sound names (behind (at 1) r.0)
-      then_sound = sound_behind 1 lt1
-
-      talk : Talk names (at 2).client.clock (at 1).server.clock false false (at 2)
-      talk = subst (λ (q : Pair). Talk names q.client.clock (at 1).server.clock false false q) (sym r.1)
-          (talk_begins_at_work names (at 1) r.0 (at 0).client.sent (at 0).server.sent (rounds.sound 1 (omega (arith, rest))).facts then_sound.facts then_sound.client_past then_sound.server_past
-          (s.both 1 (omega arith)) (s.joined 1 (omega arith) (omega arith)).joined (in_behind names n z at rounds 1 lt1 (s.both 2 (omega arith))) rows.client rows.server)
-
-  pub first_comes : 1561 ≤ n → Stays 1 → Rows (at 0) (at 1) → Soon names z
-  first_comes long s rows = choose (search 178 1 (omega (arith, long)) (omega arith) s)
-    where
-      early : (k : ℕ) → 179 ≤ k → k ≤ 180 → Stays k → HaleOrOld names z (at k) (at (suc k)) (at 1).server.clock
-      early k least most t = subst (λ (i : ℕ). HaleOrOld names z (at i) (at (suc i)) (at 1).server.clock) same
-          (rows_early (omega (arith, long)) rows (k - 2) (omega (arith, least)) (omega (arith, most)) (omega (arith, least, most, long)) (subst Stays (sym same) t))
-        where
-          same : suc (suc (k - 2)) ≡ k
-          same = omega (arith, least)
-
-      choose : Soon names z ⊎ Stays 179 → Soon names z
-      choose (inl h) = h
-      choose (inr stay) = stays_comes 179 (at 1).server.clock (omega (arith, long)) (omega arith) stay
-          (omega (arith, server_time names n z at rounds 179 (omega (arith, long)) stay.both 1 (omega arith))) early
-
-  -- where the client joined by the response of a server that had said nothing else, it is known at once
-  answered_early : 1486 ≤ n → (at 0).to_server ≡ [] → Asks (at 0).client.clock (at 0).client → (l : ℕ) → 68 ≤ l → l ≤ 1000 → suc l < n → Stays (suc l) → HaleOrOld names z (at (suc l)) (at (suc (suc l))) (at 0).server.clock
-  answered_early rest mute asks l long short most s = early_hale names (n - 1) z (λ k. at (suc k)) (shifted names n z at (omega (arith, rest)) rounds) l (omega (arith, most)) short
+  -- where it is known behind the first round what is under way
+  talked_early : 1486 ≤ n → Talk names (at 1).client.clock (at 0).server.clock false false (at 1) → (l : ℕ) → 68 ≤ l → l ≤ 1000 → suc l < n → Stays (suc l) → HaleOrOld names z (at (suc l)) (at (suc (suc l))) (at 0).server.clock
+  talked_early rest talk l long short most s = early_hale names (n - 1) z (λ k. at (suc k)) (shifted names n z at (omega (arith, rest)) rounds) l (omega (arith, most)) short
       (record { both = λ k le. s.both (suc k) (omega (arith, le)); joined = λ k le. s.joined (suc k) (omega arith) (omega (arith, le)) }) (at 0).server.clock
       (omega (arith, server_time names n z at rounds (suc l) (omega (arith, most)) s.both 1 (omega arith))) long (omega (arith, rest)) talk
-    where
-      lt0 : 0 < n
-      lt0 = omega (arith, rest)
 
-      r : (r : WorkRound (at 0)) × (at 1 ≡ behind (at 0) r)
-      r = rounds.round 0 lt0
-
-      then_sound : Sound names (behind (at 0) r.0)
-      then_sound = sound_behind 0 lt0
-
-      now_in : BothIn (at 0)
-      now_in = s.both 0 (omega arith)
-
-      talk : Talk names (at 1).client.clock (at 0).server.clock false false (at 1)
-      talk = subst (λ (q : Pair). Talk names q.client.clock (at 0).server.clock false false q) (sym r.1)
-          (talk_answered_at_work names (at 0) r.0 ((rounds.sound 0 (omega (arith, rest))).facts.calls now_in.client (asks_asking (at 0).client.clock (at 0).client asks) now_in.server) mute asks (server_is names n z at rounds 0 (omega (arith, rest)) now_in.server)
-          then_sound.facts then_sound.client_past then_sound.server_past (in_behind names n z at rounds 0 lt0 (s.both 1 (omega arith)))
-          (ap (λ (q : Pair). is_asking q.client) (sym r.1) ∙ (s.joined 1 (omega arith) (omega arith)).joined))
-
-  pub answered_comes : 1560 ≤ n → (at 0).to_server ≡ [] → Asks (at 0).client.clock (at 0).client → Stays 1 → Soon names z
-  answered_comes long mute asks s = choose (search 177 1 (omega (arith, long)) (omega arith) s)
+  pub first_comes : 1560 ≤ n → Stays 1 → Talk names (at 1).client.clock (at 0).server.clock false false (at 1) → Soon names z
+  first_comes long s talk = choose (search 177 1 (omega (arith, long)) (omega arith) s)
     where
       early : (k : ℕ) → 178 ≤ k → k ≤ 179 → Stays k → HaleOrOld names z (at k) (at (suc k)) (at 0).server.clock
       early k least most t = subst (λ (i : ℕ). HaleOrOld names z (at i) (at (suc i)) (at 0).server.clock) same
-          (answered_early (omega (arith, long)) mute asks (k - 1) (omega (arith, least)) (omega (arith, most)) (omega (arith, least, most, long)) (subst Stays (sym same) t))
+          (talked_early (omega (arith, long)) talk (k - 1) (omega (arith, least)) (omega (arith, most)) (omega (arith, least, most, long)) (subst Stays (sym same) t))
         where
           same : suc (k - 1) ≡ k
           same = omega (arith, least)

@@ -1,6 +1,6 @@
 -- Two ends that have joined a connection and stay in it at work: each comes to take what the other says.
 use Rattle.std.proofs.Common.{◌≡◌, ℕ, ◌+◌, ◌^◌, ◌≤◌, ◌<◌, Bool, true, false, List, [], ◌∷◌, refl, sym, ap, subst, arith}
-use Rattle.rasta_core_run.specs.State.{LinkState, is_open, is_asking}
+use Rattle.rasta_core_run.specs.State.{LinkState, is_open}
 use Rattle.rasta_core_run.specs.Clock.{settled}
 use Rattle.rasta_core_run.specs.PdusHandedOut.{Step}
 use Rattle.rasta_core_run.specs.identity.Role.{Role}
@@ -11,19 +11,16 @@ use Rattle.rasta_core_run.specs.Names.{Names}
 use Rattle.rasta_core_recovery.proofs.Links.{Pair, heard}
 use Rattle.rasta_core_recovery.proofs.Acts.{Act, acted, IsWork, HasRoom, Roomy, WorkRound, client_step, server_step, behind}
 use Rattle.rasta_core_recovery.proofs.Calls.{at_reading}
-use Rattle.rasta_core_recovery.proofs.Words.{Row, voice_of, IsNumbered}
 use Rattle.rasta_core_recovery.proofs.Fold.{Next, gone_next, stays_next}
 use Rattle.rasta_core_recovery.proofs.Own.{Utters, Calm}
 use Rattle.rasta_core_recovery.proofs.WorkFold.{Done, gone_done, so_done, round_through}
 use Rattle.rasta_core_recovery.proofs.Course.{Joined, lively}
 use Rattle.rasta_core_recovery.proofs.TunedEnds.{IsPlainPdu, Round, Bounds}
-use Rattle.rasta_core_recovery.proofs.Turn.{Either, gone, so, Numbers, Spoke, reading_joined}
+use Rattle.rasta_core_recovery.proofs.Turn.{Either, gone, so, Numbers, reading_joined}
 use Rattle.rasta_core_recovery.proofs.Returned.{IsReturned, Returns, Any, returns_step}
 use Rattle.rasta_core_recovery.proofs.Converse.{Talk, client_round, server_round, bounds, hearing_now, Goes, Part, goes_by, server_bounds_of}
-use Rattle.rasta_core_recovery.proofs.Facts.{Shares, Facts}
-use Rattle.rasta_core_recovery.proofs.Pasts.{Past}
-use Rattle.rasta_core_recovery.proofs.Seen.{BothIn, Rows, joined_of, server_not_asking, loose_round, talk_from}
-use Rattle.rasta_core_recovery.proofs.WorkTurn.{IsSimplePdu, utters_joined, numbers_at_work, loosely_at_work, Worked, Left, has_left, stays_in, turns_at_work}
+use Rattle.rasta_core_recovery.proofs.Seen.{BothIn, Rows}
+use Rattle.rasta_core_recovery.proofs.WorkTurn.{IsSimplePdu, utters_joined, numbers_at_work, Worked, Left, has_left, stays_in, turns_at_work}
 
 -- ---- the first rounds
 
@@ -58,7 +55,7 @@ pub server_joined : (p : Pair) (r : WorkRound p) → Joined p.server.clock p.ser
 server_joined p r is = joined_on (p.server.clock + 10) p.server (server_step p r) (server_numbers p r is)
 
 -- a server knows no own stamp that is younger than before a round in which nothing younger is returned to it
-own_behind_at_work : (last now : ℕ) (at : now ≡ last + 10) (who : Role) (due : List Pdu) (acts : List Act) (l : LinkState) → IsWork who due acts → l.clock ≡ last → Joined l.clock l → Each (IsReturned last) due
+pub own_behind_at_work : (last now : ℕ) (at : now ≡ last + 10) (who : Role) (due : List Pdu) (acts : List Act) (l : LinkState) → IsWork who due acts → l.clock ≡ last → Joined l.clock l → Each (IsReturned last) due
     → Roomy now acts (settled now l) → is_open (acted now acts l).link.phase ≡ true → (acted now acts l).link.own_stamp ≤ last
 own_behind_at_work last now at who due acts l work clock is each room is_in = finish (round_through (Unit {0}) ℕ now (Returns last now at) (Any last now at) (λ g k. tt) (λ g h i k j m ps qs a b. tt) (λ g ps k b. lively now k b.0.is) hear own
     who due acts work 0 l tt (omega (arith, at, clock)) is.connected is.young (λ young. (record { is = reading_joined now l is (omega (arith, at, clock)) young; own = omega (arith, is.own, clock) }, each)) room)
@@ -76,34 +73,6 @@ own_behind_at_work last now at who due acts l work clock is each room is_in = fi
     finish : Done (Unit {0}) ℕ now (λ g ps k. Returns last now at g ps k × Calm now k) (Any last now at) 0 (at_reading now l) [] (acted now acts l) → (acted now acts l).link.own_stamp ≤ last
     finish (gone_done why left) = absurd (cc (left.is_out, is_in))
     finish (so_done h ((b, all), calm) o) = b.own
-
-pub talk_begins_at_work : (names : Names) (p : Pair) (r : WorkRound p) (n m : ℕ) → Facts names p → Facts names (behind p r) → Past (behind p r).client → Past (behind p r).server → BothIn p → is_asking p.client ≡ false → BothIn (behind p r)
-    → Row (IsNumbered (voice_of p.client)) n p.to_server p.client.sent → Row (IsNumbered (voice_of p.server)) m p.to_client p.server.sent
-    → Talk names (behind p r).client.clock p.server.clock false false (behind p r)
-talk_begins_at_work names p r n m facts then_facts client_past server_past now_in joined then_in client_row server_row =
-    talk_from names p (behind p r) now then_facts client_past server_past then_in x y old
-  where
-    now : Shares p.client p.server × Shares p.server p.client
-    now = facts.shares now_in.client joined now_in.server
-
-    client_is : Joined p.client.clock p.client
-    client_is = joined_of p.client now_in.client joined (facts.client_young now_in.client)
-
-    server_is : Joined p.server.clock p.server
-    server_is = joined_of p.server now_in.server (server_not_asking names p.server facts.server) (facts.server_young now_in.server)
-
-    x : Spoke (loose_round now.0.kept.reading p.client p.server p.to_client) p.client (client_step p r)
-    x = still_in (p.client.clock + 10) (client_step p r).link _ then_in.client
-        (loosely_at_work (loose_round now.0.kept.reading p.client p.server p.to_client) (record { level = omega arith; fits = now.1.fits; old = omega arith; stamped = refl; kept = now.0.kept.before })
-        role.Client r.client_acts p.client r.client_work client_is refl r.client_room (sym now.0.first) now.0.some now.0.most now.0.kept.kept_is m server_row)
-
-    y : Spoke (loose_round now.1.kept.reading p.server p.client p.to_server) p.server (server_step p r)
-    y = still_in (p.server.clock + 10) (server_step p r).link _ then_in.server
-        (loosely_at_work (loose_round now.1.kept.reading p.server p.client p.to_server) (record { level = omega arith; fits = now.0.fits; old = omega arith; stamped = refl; kept = now.1.kept.before })
-        role.Server r.server_acts p.server r.server_work server_is refl r.server_room (sym now.1.first) now.1.some now.1.most now.1.kept.kept_is n client_row)
-
-    old : (server_step p r).link.own_stamp ≤ p.server.clock
-    old = own_behind_at_work p.server.clock (p.server.clock + 10) refl role.Server p.to_server r.server_acts p.server r.server_work refl server_is (facts.returned now_in.server) r.server_room then_in.server
 
 -- ---- and then
 

@@ -18,7 +18,7 @@ use Rattle.rasta_core_recovery.proofs.Own.{Utters, Calm}
 use Rattle.rasta_core_recovery.proofs.WorkFold.{Done, gone_done, so_done, works_through, round_through}
 use Rattle.rasta_core_recovery.proofs.Course.{Joined, lively, Goes, goes_none, voice_goes, speaks_now}
 use Rattle.rasta_core_recovery.proofs.TunedEnds.{IsPlainPdu, IsNoAnswerPdu, not_before, Round, Bounds, Ghost, HasHeard, HasWaited, Mode, Shut, far_off, outdated, missed, stuck, nothing, Reached, unheard, waiting, off, low, Deaf, IsOutdated, each_append, Hearing, Answers, tunes_one}
-use Rattle.rasta_core_recovery.proofs.Turn.{waits_up, Either, gone, so, Rowed, rowed_then, rows_step, Numbers, Loose, Linked, linked_none, linked_then, loose_step, Spoke, Notes, end_mode, Heeds, reading_joined}
+use Rattle.rasta_core_recovery.proofs.Turn.{waits_up, Either, gone, so, Rowed, rowed_then, rows_step, Numbers, linked_then, Spoke, Notes, end_mode, Heeds, reading_joined}
 
 abbrev pub IsSimplePdu : Pdu → Type 0
 IsSimplePdu p = IsSimple p.body
@@ -126,40 +126,6 @@ module _ (x : Round) (bounds : Bounds x) where
         (subst (λ (y : ℕ). Chain (voice_of (at_reading x.now l)) l.sent (l.expected - 1) y s.pdus s.link.sent (s.link.expected - 1) h) start chain);
     calm = calm;
   }
-
-  utters_loose : (g : ℕ) (ps : List Pdu) (l k : LinkState) (qs : List Pdu) → Loose x bounds g ps l → Utters l k qs → Loose x bounds g ps k
-  utters_loose g ps l k qs is u = subst (Loose x bounds g ps) (sym u.same)
-      (record { is = record { clock = is.is.clock; connected = is.is.connected; joined = is.is.joined; young = is.is.young; own = is.is.own }; first = is.first; some = is.some; most = is.most; kept_is = is.kept_is; kept_before = is.kept_before; since = is.since; number = is.number; row = is.row })
-
-  pub loosely_at_work : (who : Role) (acts : List Act) (l : LinkState) → IsWork who x.pdus acts → Joined l.clock l → x.now ≡ l.clock + 10 → Roomy x.now acts (settled x.now l) → x.voice.first ≡ l.partner_first → 1 ≤ l.expected → l.expected ≤ x.end
-      → l.partner_stamp ≡ stamp x.kept → (n : ℕ) → Row (IsNumbered x.voice) n x.pdus x.end → Either x.now (acted x.now acts l).link (Spoke x l (acted x.now acts l))
-  loosely_at_work who acts l work is at room first some most kept_is n row = finish (round_through (Unit {0}) ℕ x.now (Loose x bounds) (Linked x bounds) (linked_none x bounds) (linked_then x bounds) (λ g ps l is. lively x.now l is.is) hear own
-      who x.pdus acts work x.kept l tt at is.connected is.young
-      (λ young. record { is = reading_joined x.now l is at young; first = first; some = some; most = most; kept_is = kept_is; kept_before = bounds.kept; since = omega arith; number = n; row = row }) room)
-    where
-      Ended : ℕ → LinkState → List Pdu → Step → Type 0
-      Ended g k ps s = Done (Unit {0}) ℕ x.now (Loose x bounds) (Linked x bounds) g k ps s
-
-      hear : (g : ℕ) (p : Pdu) (ps : List Pdu) (k : LinkState) → Loose x bounds g (p ∷ ps) k → HasRoom k → Ended g k ps (heard x.now p k)
-      hear g p ps k in_it roomy = either (loose_step x bounds g p ps k in_it)
-        where
-          either : Next ℕ x.now (Loose x bounds) (Linked x bounds) g k ps (heard x.now p k) → Ended g k ps (heard x.now p k)
-          either (gone_next left) = gone_done tt left
-          either (stays_next h then_in o) = so_done h then_in o
-
-      own : (g : ℕ) (ps : List Pdu) (k j : LinkState) (qs : List Pdu) → Loose x bounds g ps k → Utters k j qs → Loose x bounds g ps j × Linked x bounds g k qs g j
-      own g ps k j qs in_it u = let f = expects_still k j qs u in (
-        utters_loose g ps k j qs in_it u,
-        record {
-          goes = utters_goes x.now k j qs in_it.is.clock u;
-          rises = omega (arith, f);
-          chain = utters_chain x.now g k j qs in_it.is in_it.some (omega (arith, in_it.most, bounds.fits)) in_it.kept_is u;
-        },
-      )
-
-      finish : Done (Unit {0}) ℕ x.now (λ g ps k. Loose x bounds g ps k × Calm x.now k) (Linked x bounds) x.kept (at_reading x.now l) [] (acted x.now acts l) → Either x.now (acted x.now acts l).link (Spoke x l (acted x.now acts l))
-      finish (gone_done why left) = gone left
-      finish (so_done h (a, calm) o) = so (spoken x.kept h l (acted x.now acts l) refl a.is a.some a.most a.kept_is a.since a.kept_before o.goes o.rises o.chain calm)
 
   -- ---- and what it said confirms and returns more and more
 

@@ -4,3 +4,4 @@ pub mod Work
 pub mod Replies
 pub mod Confirming
 pub mod ServerConfirming
+pub mod Falls

@@ -61,9 +61,9 @@ StayBelowLimit n f = (k : ℕ) → k ≤ n → IsBelowLimit (good_rounds k f).en
 abbrev pub flow_after : Names → Start → List Event → ℕ → Flow
 flow_after names start events passed = record { ends = run events (started names start); passed = passed }
 
--- from this good round on both ends are up: 15,620 ms after the good rounds began
+-- from this good round on both ends are up: 15,610 ms after the good rounds began
 abbrev pub recovery_rounds : ℕ
-recovery_rounds = 1562
+recovery_rounds = 1561
 
 -- from then on, wherever an end comes to the limit of PDUs, both are up again so many rounds later at the latest: 6040 ms
 abbrev pub gap_rounds : ℕ

@@ -119,9 +119,9 @@ abbrev pub StayBelow : List (List Event) → Flow → Type 0
 StayBelow [] f = Unit {0}
 StayBelow (calls ∷ others) f = HaveRoom calls (later 10000 10000 10000 f.ends) × StayBelow others (work_round calls f)
 
--- from this round at work on both ends are up: 15,620 ms after the rounds began
+-- from this round at work on both ends are up: 15,610 ms after the rounds began
 abbrev pub recovery_rounds_at_work : ℕ
-recovery_rounds_at_work = 1562
+recovery_rounds_at_work = 1561
 
 -- All that an end gave its partner took: perhaps by a later moment. Their links count so.
 pub record HasTaken (giver taker : EndState) : Type 0 where

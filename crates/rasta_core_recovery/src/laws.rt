@@ -29,8 +29,8 @@ pub fn good_rounds_may_happen()
     ensures lead { (n : ℕ) (f : Flow) → (good_rounds n f).ends ≡ run (events_of n f) f.ends }
 {}
 
-/// Two ends come up whatever has happened to them before: after each good round from the 1562nd on both are up, so for
-/// good 15.62 s after the good rounds began. That is where no end comes to the limit of PDUs in a connection till then.
+/// Two ends come up whatever has happened to them before: after each good round from the 1561st on both are up, so for
+/// good 15.61 s after the good rounds began. That is where no end comes to the limit of PDUs in a connection till then.
 /// What was sent before the good rounds may come in the first of them, or never.
 pub fn two_ends_come_up()
     ensures { (names : Names) (start : Start) (events : List Event) (passed n : ℕ) → AreNames names → MayRun names events (started names start)
@@ -41,11 +41,19 @@ pub fn two_ends_come_up()
     every_event_keeps_time();
     every_event_keeps_order();
     written_is_read();
+    read_was_written();
     calls_hand_out_pdus();
+    links_are_settled();
+    one_connection();
+    own_connection();
+    opening_is_new();
+    what_is_taken();
+    outside_until_it_enters();
+    connection_begins();
 }
 
 /// Two ends that have come up are up again 6040 ms later at the latest, whenever one of them comes to the limit of PDUs in a
-/// connection: so from a good round from the 1562nd on, till which no end came to it, each good round is one of two that are up,
+/// connection: so from a good round from the 1561st on, till which no end came to it, each good round is one of two that are up,
 /// or has such a one at most 604 rounds behind it.
 pub fn gaps_are_short()
     ensures { (names : Names) (start : Start) (events : List Event) (passed m n : ℕ) → AreNames names → MayRun names events (started names start)
@@ -56,10 +64,18 @@ pub fn gaps_are_short()
     every_event_keeps_time();
     every_event_keeps_order();
     written_is_read();
+    read_was_written();
     calls_hand_out_pdus();
+    links_are_settled();
+    one_connection();
+    own_connection();
+    opening_is_new();
+    what_is_taken();
+    outside_until_it_enters();
+    connection_begins();
 }
 
-/// And gaps are rare. Where an end isn't up after a good round from the 1562nd on, both are up after each round from 604 to
+/// And gaps are rare. Where an end isn't up after a good round from the 1561st on, both are up after each round from 604 to
 /// 64,000,000,000 behind it: for more than 20 years.
 pub fn gaps_are_rare()
     ensures { (names : Names) (start : Start) (events : List Event) (passed m n k : ℕ) → AreNames names → MayRun names events (started names start)
@@ -71,11 +87,19 @@ pub fn gaps_are_rare()
     every_event_keeps_time();
     every_event_keeps_order();
     written_is_read();
+    read_was_written();
     calls_hand_out_pdus();
+    links_are_settled();
+    one_connection();
+    own_connection();
+    opening_is_new();
+    what_is_taken();
+    outside_until_it_enters();
+    connection_begins();
 }
 
 /// Two ends at work come up, too: whatever has happened to them before, and whatever items they are given meanwhile, both are up
-/// after each round at work from the 1562nd on, so for good 15.62 s after these rounds began. That is where nothing closes
+/// after each round at work from the 1561st on, so for good 15.61 s after these rounds began. That is where nothing closes
 /// an end in them, and no end comes to the limit of PDUs in a connection.
 pub fn two_ends_at_work_come_up()
     ensures { (names : Names) (start : Start) (events : List Event) (passed : ℕ) (rounds : List (List Event)) → AreNames names → MayRun names events (started names start)
@@ -87,10 +111,18 @@ pub fn two_ends_at_work_come_up()
     every_event_keeps_time();
     every_event_keeps_order();
     written_is_read();
+    read_was_written();
     calls_hand_out_pdus();
+    links_are_settled();
+    one_connection();
+    own_connection();
+    opening_is_new();
+    what_is_taken();
+    outside_until_it_enters();
+    connection_begins();
 }
 
-/// Two ends at work hand over what they are given: whatever has happened to them before, behind each round at work from the 1562nd
+/// Two ends at work hand over what they are given: whatever has happened to them before, behind each round at work from the 1561st
 /// on each end has taken all that the other had given behind the round before, in the connection that both are in; and behind that
 /// one the client was up. So nothing that is given is lost or waits for long, as long as nothing closes an end and none comes
 /// to the limit of PDUs.
@@ -106,11 +138,19 @@ pub fn two_ends_at_work_hand_over()
     every_event_keeps_time();
     every_event_keeps_order();
     written_is_read();
+    read_was_written();
     calls_hand_out_pdus();
+    links_are_settled();
+    one_connection();
+    own_connection();
+    opening_is_new();
+    what_is_taken();
+    outside_until_it_enters();
+    connection_begins();
 }
 
 /// And what the other end has taken is confirmed to the client, where the server says something: whatever has happened to them before,
-/// where in a round at work from the 1563rd on the server accepts an item, then behind the next round the client's link holds for
+/// where in a round at work from the 1562nd on the server accepts an item, then behind the next round the client's link holds for
 /// confirmed all that the server had taken as it accepted that.
 pub fn two_ends_at_work_confirm()
     ensures { (names : Names) (start : Start) (events : List Event) (passed : ℕ) (rounds : List (List Event)) (front : List Event) (item : List ℕ) (rest calls : List Event) → AreNames names
@@ -126,11 +166,19 @@ pub fn two_ends_at_work_confirm()
     every_event_keeps_time();
     every_event_keeps_order();
     written_is_read();
+    read_was_written();
     calls_hand_out_pdus();
+    links_are_settled();
+    one_connection();
+    own_connection();
+    opening_is_new();
+    what_is_taken();
+    outside_until_it_enters();
+    connection_begins();
 }
 
 /// And what the client has taken is confirmed to the server, where the client says something: whatever has happened to them before,
-/// where in a round at work from the 1563rd on the client says something behind some calls, then behind the next round the server's link
+/// where in a round at work from the 1562nd on the client says something behind some calls, then behind the next round the server's link
 /// holds for confirmed all that the client had taken behind those calls.
 pub fn clients_at_work_confirm()
     ensures { (names : Names) (start : Start) (events : List Event) (passed : ℕ) (rounds : List (List Event)) (front rest calls : List Event) → AreNames names
@@ -146,11 +194,19 @@ pub fn clients_at_work_confirm()
     every_event_keeps_time();
     every_event_keeps_order();
     written_is_read();
+    read_was_written();
     calls_hand_out_pdus();
+    links_are_settled();
+    one_connection();
+    own_connection();
+    opening_is_new();
+    what_is_taken();
+    outside_until_it_enters();
+    connection_begins();
 }
 
 /// And the client says something in each 30 rounds, so in each 300 ms: whatever has happened to them before, behind a round at work from the
-/// 1562nd on and 30 more it has sent more PDUs in its connection than before these.
+/// 1561st on and 30 more it has sent more PDUs in its connection than before these.
 pub fn clients_at_work_speak()
     ensures { (names : Names) (start : Start) (events : List Event) (passed : ℕ) (rounds more : List (List Event)) → AreNames names
         → MayRun names events (started names start) → AreAtWork names rounds (flow_after names start events passed) → Each (Each LeavesOpen) rounds
@@ -164,11 +220,19 @@ pub fn clients_at_work_speak()
     every_event_keeps_time();
     every_event_keeps_order();
     written_is_read();
+    read_was_written();
     calls_hand_out_pdus();
+    links_are_settled();
+    one_connection();
+    own_connection();
+    opening_is_new();
+    what_is_taken();
+    outside_until_it_enters();
+    connection_begins();
 }
 
 /// A client that is given nothing confirms all at once, by a heartbeat: where it says something in the second of two rounds at work, from the
-/// 1563rd on, and was given nothing in both, the server hears nothing in that round, and so holds no more for confirmed behind it (*still*);
+/// 1562nd on, and was given nothing in both, the server hears nothing in that round, and so holds no more for confirmed behind it (*still*);
 /// and behind the next it holds for confirmed all that the client had taken behind that round (*all*).
 pub fn quiet_clients_confirm_at_once()
     ensures still { (names : Names) (start : Start) (events : List Event) (passed : ℕ) (rounds : List (List Event)) (one two : List Event) → AreNames names
@@ -188,7 +252,15 @@ pub fn quiet_clients_confirm_at_once()
     every_event_keeps_time();
     every_event_keeps_order();
     written_is_read();
+    read_was_written();
     calls_hand_out_pdus();
+    links_are_settled();
+    one_connection();
+    own_connection();
+    opening_is_new();
+    what_is_taken();
+    outside_until_it_enters();
+    connection_begins();
 }
 
 /// Good rounds are rounds at work, in which no end is given an item and none is closed.

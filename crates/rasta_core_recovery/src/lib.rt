@@ -2,8 +2,10 @@
 //! stands in `rasta_core`; it is kept by two ends that never come up, too.
 #![tactic(auto)]
 
+mod falls;
 mod laws;
 
+pub use falls::nothing_falls;
 pub use laws::{
     clients_at_work_confirm, clients_at_work_speak, gaps_are_rare, gaps_are_short,
     good_rounds_are_at_work, good_rounds_may_happen, quiet_clients_confirm_at_once,

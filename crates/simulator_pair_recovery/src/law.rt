@@ -12,8 +12,8 @@ use rasta_core_recovery::two_ends_come_up;
 use rasta_core_run::written_is_read;
 use rasta_pdu::intact_is_tested;
 
-/// A pair comes up whatever events it was given: after each round of `flow` from the 1563rd on both its ends are up, so for
-/// good 15.63 s after the flow began. That is where its clocks are away from their limits for so long, and no end comes to
+/// A pair comes up whatever events it was given: after each round of `flow` from the 1562nd on both its ends are up, so for
+/// good 15.62 s after the flow began. That is where its clocks are away from their limits for so long, and no end comes to
 /// the limit of PDUs in a connection. Some datagrams of before, how many is free, were tried by earlier flows.
 pub fn a_pair_comes_up()
     ensures { (events : List PairEvent) (passed n : ℕ) → Each GivesItem events → recovery_rounds ≤ n

@@ -106,9 +106,9 @@ pub record IsUpOn (link : ℕ) (world : WorldState) : Type 0 where
   pub server_there : slice_get (server_ends world) link ≡ Some server
   pub server_up : is_up (settled (reading_of server.clock) server.link).phase ≡ true
 
--- from this good round on each link is up at both ends where neither comes to the limit of PDUs: 15,630 ms after the good rounds began
+-- from this good round on each link is up at both ends where neither comes to the limit of PDUs: 15,620 ms after the good rounds began
 abbrev pub link_rounds : ℕ
-link_rounds = 1563
+link_rounds = 1562
 
 -- Both ends of this link are in one connection: the last of each.
 pub record AreInOne (link : ℕ) (these : Links) : Type 0 where

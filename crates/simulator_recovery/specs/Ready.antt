@@ -29,6 +29,6 @@ pub record IsReadyOn (site : Site) (link : ℕ) (world : WorldState) : Type 0 wh
   pub client_ready : is_ready client.stage ≡ true
   pub host_ready : HostIsAt (controller_at site link) world stage.Completed
 
--- from this good round on each link is ready at both ends where neither comes to the limit of PDUs: 15,660 ms after the good rounds began
+-- from this good round on each link is ready at both ends where neither comes to the limit of PDUs: 15,650 ms after the good rounds began
 abbrev pub ready_rounds : ℕ
-ready_rounds = 1566
+ready_rounds = 1565

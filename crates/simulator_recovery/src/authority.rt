@@ -47,7 +47,7 @@ use simulator_run_links::{
     stations_have_links,
 };
 
-/// Authority ends where stop is given: where the interlocking gives something to a signal behind a good round from the 1566th on, and no
+/// Authority ends where stop is given: where the interlocking gives something to a signal behind a good round from the 1565th on, and no
 /// route proceeds from the signal behind that, or waits to but a cancelled one, none is withdrawn from it behind the second round after:
 /// the signal has taken stop and reported in the first, and the interlocking has read the report in the second. Whatever
 /// requests and occupancies come between the rounds before. The premises are those of `links_come_up`, of the signal's link.
@@ -92,7 +92,7 @@ pub fn authority_ends_where_stop_is_given()
     signals_never_fill_their_windows();
 }
 
-/// Authority ends behind a cancel: where a cancel of a route that proceeds is accepted behind a good round from the 1566th on, no route is
+/// Authority ends behind a cancel: where a cancel of a route that proceeds is accepted behind a good round from the 1565th on, no route is
 /// withdrawn from its signal behind the second round after, whatever requests and occupancies come before: 20 ms after the cancel at most
 /// its authority has ended.
 pub fn authority_ends_behind_a_cancel()
@@ -147,7 +147,7 @@ pub fn rounds_leave_no_cancelled_route()
     route_is_freed_where_cancel_lets_it_go();
 }
 
-/// A route is free behind its cancel: where a cancel of a route that proceeds is accepted behind a good round from the 1566th on, the route
+/// A route is free behind its cancel: where a cancel of a route that proceeds is accepted behind a good round from the 1565th on, the route
 /// is free behind the second round after, if no section of it was reported occupied since its authority was given, all are clear, and its
 /// approach didn't count. So it is 20 ms after the cancel.
 pub fn routes_are_free_behind_a_cancel()

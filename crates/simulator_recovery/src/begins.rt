@@ -46,7 +46,7 @@ use simulator_run_links::{
     layouts_name_their_links, stations_have_links,
 };
 
-/// Drives stay far from their limit: where a point's controller drives for a move behind a good round from the 1566th on, it will be at least
+/// Drives stay far from their limit: where a point's controller drives for a move behind a good round from the 1565th on, it will be at least
 /// 510 ms more until that drive comes to its limit, whenever it began. For a drive is found behind 50 good rounds at most, so it began in
 /// one of the last ones. So no drive times out from then on. The premises are those of `links_are_ready`, of the point's link; and the
 /// flow notes of each point for how long it was found driven.
@@ -94,7 +94,7 @@ pub fn drives_stay_far_from_their_limit()
     items_are_read_off_the_datagrams();
 }
 
-/// Reports of drives come back: where a point's controller drives for a move behind a good round from the 1566th on, whenever that drive began,
+/// Reports of drives come back: where a point's controller drives for a move behind a good round from the 1565th on, whenever that drive began,
 /// then within the next 51 good rounds, 510 ms, it reports, as its next item in this connection, that the point lies at the side it was
 /// driven to, and the interlocking's end takes this report. The premises are else those of `moves_are_answered`.
 pub fn reports_of_drives_come_back()
@@ -147,7 +147,7 @@ pub fn reports_of_drives_come_back()
     servers_enter_once();
 }
 
-/// Moves that are out are reported where routes want them: where behind a good round from the 1567th on the interlocking awaits the report of a
+/// Moves that are out are reported where routes want them: where behind a good round from the 1566th on the interlocking awaits the report of a
 /// point's move, and set routes hold the point at a side, then within the next 52 good rounds, 520 ms, the interlocking's end takes, as
 /// the next item behind all that it had taken, the report that the point lies at this side. So it is whether the move or its report is on
 /// its way, or the point is driven for it; and one that lies at the side already is reported so. The premises are else those of

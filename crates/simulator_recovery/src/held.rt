@@ -58,7 +58,7 @@ use simulator_run_links::{
     layouts_name_their_links, stations_have_links,
 };
 
-/// Reports make the points of a set route known: where the interlocking awaits the report of a point's move behind a good round from the 1566th on, and
+/// Reports make the points of a set route known: where the interlocking awaits the report of a point's move behind a good round from the 1565th on, and
 /// behind one of the next rounds it has taken, as the next item, that the point lies at the side at which a set route requires it, the point is
 /// known at this side then, as long as the route stays set. The interlocking gives it no other move in between: none is due while the
 /// report is out, and in the step that takes the report the point is known behind what comes, before the rules.
@@ -122,7 +122,7 @@ pub fn reports_make_points_of_routes_known()
     stop_is_given_where_due();
 }
 
-/// Driven points of a route come to be known: where behind a good round from the 1567th on a set route requires a point, and its controller drives it
+/// Driven points of a route come to be known: where behind a good round from the 1566th on a set route requires a point, and its controller drives it
 /// for a move, then within the next 52 rounds, 520 ms, the point is known at the side at which the route requires it, as long as the route
 /// stays set. The premises are else those of `moves_that_are_out_are_reported`, and of `links_are_ready`, of the route's links.
 pub fn driven_points_of_a_route_are_known()
@@ -145,7 +145,7 @@ pub fn driven_points_of_a_route_are_known()
     set_routes_hold_their_points();
 }
 
-/// Set routes come in time: a route is set behind a good round from the 1567th on (`StaysSet`), and each point that it requires is known at its side,
+/// Set routes come in time: a route is set behind a good round from the 1566th on (`StaysSet`), and each point that it requires is known at its side,
 /// or its move is out, or it may be moved for the route: its own section is clear, no route with authority holds it, and it got no move in
 /// this connection since the route was set. Then its points are known at their sides within 52 rounds, 520 ms, and it has its aspect behind
 /// these. So its lamp shows the aspect behind the 53rd round, and goes on to. The premises are else those of `routes_come` and
@@ -172,7 +172,7 @@ pub fn set_routes_come_in_time()
     stations_have_links();
 }
 
-/// Accepted routes come in time: where the request of a route is accepted behind a good round from the 1567th on, and each point that it requires
+/// Accepted routes come in time: where the request of a route is accepted behind a good round from the 1566th on, and each point that it requires
 /// is known at its side behind the request, or its move is out, or may be moved (its own section is clear, and no route with authority holds
 /// it), its points are known at their sides within 52 rounds, 520 ms, and it has its aspect behind these. So its lamp shows the aspect
 /// behind the 53rd round, 530 ms after the request, and goes on to. That is so while its sections stay clear and it isn't cancelled. The

@@ -37,7 +37,7 @@ use simulator_run_links::{
     events_are_those_of_the_links, layouts_name_their_links, stations_have_links,
 };
 
-/// What is given on a link of a station by one good round has come over behind the next one: from the 1563rd round on each end has
+/// What is given on a link of a station by one good round has come over behind the next one: from the 1562nd round on each end has
 /// taken as many items as the other had given by the round before. The premises are those of `links_come_up`.
 pub fn links_hand_over()
     ensures { (between : List Event) (later : List (List Event)) (last : List Event) (flowing : Flowing Played) (link : ℕ) → Once flowing.state.sited.site → IsStation flowing.state.sited.site
@@ -120,7 +120,7 @@ pub fn cancels_leave_no_aspect()
         → answered site table (Request (Cancel route)) world ≡ Accepted → NoneProceeds table (happens site table (Request (Cancel route)) world).station.ixl row.entry }
 {}
 
-/// Stop comes: behind each good round from the 1563rd on, a signal from which no route proceeds then, or waits to but a cancelled one, is
+/// Stop comes: behind each good round from the 1562nd on, a signal from which no route proceeds then, or waits to but a cancelled one, is
 /// at stop behind the next round. So it is behind a cancel that is accepted, and where a route is withdrawn for another reason;
 /// whatever requests and occupancies come between the rounds before. The premises are those of `links_come_up`, of the
 /// signal's link.
@@ -150,7 +150,7 @@ pub fn stop_comes()
     events_close_no_link();
 }
 
-/// The lamp falls behind a cancel: where a cancel of a route is accepted behind a good round from the 1563rd on, the lamp of the route's
+/// The lamp falls behind a cancel: where a cancel of a route is accepted behind a good round from the 1562nd on, the lamp of the route's
 /// signal is at stop behind the next round, whatever requests and occupancies come before.
 pub fn lamps_fall_behind_a_cancel()
     ensures { (between : List Event) (later : List (List Event)) (before : List Event) (flowing : Flowing Played) (route : RouteId) (row : Row) → Once flowing.state.sited.site → IsStation flowing.state.sited.site

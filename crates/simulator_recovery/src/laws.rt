@@ -98,7 +98,7 @@ pub fn good_rounds_are_at_work_on_links()
     links_keep_time();
 }
 
-/// The links of a station come up: after any list of events, and behind each good round from the 1563rd on, the link between the
+/// The links of a station come up: after any list of events, and behind each good round from the 1562nd on, the link between the
 /// interlocking and each controller is up at both ends, whatever requests and occupancies come between the rounds. So it is
 /// where neither of its ends comes to the limit of PDUs in a connection.
 pub fn links_come_up()
@@ -119,7 +119,7 @@ pub fn links_come_up()
     two_ends_at_work_come_up();
 }
 
-/// The links of a station are ready: after any list of events, and behind each good round from the 1566th on, the link between the
+/// The links of a station are ready: after any list of events, and behind each good round from the 1565th on, the link between the
 /// interlocking and each controller is ready at both ends, whatever requests and occupancies come between the rounds: both
 /// ends are up, and the initialisation of their connection is completed at both. So it is where neither of its ends comes to the
 /// limit of PDUs in a connection.

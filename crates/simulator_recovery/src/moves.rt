@@ -122,7 +122,7 @@ pub fn moves_come_over()
     written_is_read();
 }
 
-/// Each move is answered: behind each good round from the 1566th on, the moves that a point was given by then are answered 52 good rounds
+/// Each move is answered: behind each good round from the 1565th on, the moves that a point was given by then are answered 52 good rounds
 /// later, 520 ms: the interlocking has taken a report for each, whatever requests and occupancies come between the rounds. No report
 /// waits for the window of the point's controller (`points_controllers_never_fill_their_windows`). The premises are those of
 /// `links_are_ready`, of the point's link; and the flow notes of each point for how long it was found driven.
@@ -174,7 +174,7 @@ pub fn moves_are_answered()
     servers_enter_once();
 }
 
-/// Drives end with their reports: where behind a good round, from the 1566th on, a point's controller drives for a move, then behind one of the
+/// Drives end with their reports: where behind a good round, from the 1565th on, a point's controller drives for a move, then behind one of the
 /// next 50 good rounds the controller has answered the move, in the same connection, and has sent one item more there: the report that the
 /// point lies at the side it was driven to. So it is whenever the drive began, and whatever requests and occupancies come between the
 /// rounds. The premises are else those of `reports_of_drives_come_back`.
@@ -190,7 +190,7 @@ pub fn drives_end_with_their_reports()
     reports_of_drives_come_back();
 }
 
-/// Reports come back: from one good round to the next, from the 1566th on, the interlocking's end of a point's link takes all that the
+/// Reports come back: from one good round to the next, from the 1565th on, the interlocking's end of a point's link takes all that the
 /// controller had sent in their connection behind the first of them, as the datagrams tell it, each item once and in order; what it has
 /// taken is a beginning of what the controller has sent there behind the second. The premises are those of `links_are_ready`, of the
 /// point's link.

@@ -70,7 +70,7 @@ pub fn trains_free_their_routes()
     passage_frees_all_that_it_may();
 }
 
-/// A route is free behind its train: behind each good round from the 1567th on no route is set any more whose authority has ended, and of which
+/// A route is free behind its train: behind each good round from the 1566th on no route is set any more whose authority has ended, and of which
 /// each section was reported occupied since it was given authority, and lies clear. Nothing was told of the section behind this round, and
 /// behind the round before, and what came behind that, the window of its detector's link had room (`IsLeft`). So the route is free in the
 /// round behind the train, whatever else comes. The premises are those of `links_are_ready`, of the links of these detectors.

@@ -42,7 +42,7 @@ pub fn signals_report_at_once()
         → GoOnWith (indication (behind_what_comes now input host).host) (behind_what_comes now input host).calls (host_step signal_behaviour now input host).calls }
 {}
 
-/// What is given on a link by one good round is confirmed two rounds later, where the controller says something: from the 1563rd round on,
+/// What is given on a link by one good round is confirmed two rounds later, where the controller says something: from the 1562nd round on,
 /// where in the next round the controller accepts an item, behind calls by which it has taken all that the interlocking had given before,
 /// the interlocking's link holds that for confirmed behind the round after it. The premises are else those of `links_hand_over`.
 pub fn links_confirm()

@@ -195,7 +195,7 @@ pub fn detectors_windows_hold_no_more()
     written_is_read();
 }
 
-/// A section is known two rounds behind what its contact told, where its report was sent at once: behind each good round from the 1566th on
+/// A section is known two rounds behind what its contact told, where its report was sent at once: behind each good round from the 1565th on
 /// the interlocking knows a section as it is of which no report was owed behind the round before, and of whose occupancy nothing was told
 /// since, whatever else comes. The premises are those of `links_are_ready`, of the link of the section's detector.
 pub fn told_sections_are_known()
@@ -265,7 +265,7 @@ pub fn ready_detectors_were_given_two_items()
     stations_stand_by_their_counts();
 }
 
-/// On each link of a station the interlocking says something in 30 good rounds, so in 300 ms, from the 1563rd on. The premises are those of
+/// On each link of a station the interlocking says something in 30 good rounds, so in 300 ms, from the 1562nd on. The premises are those of
 /// `links_hand_over`.
 pub fn interlockings_speak_on_links()
     ensures { (between : List Event) (later more : List (List Event)) (flowing : Flowing Played) (link : ℕ) → Once flowing.state.sited.site → IsStation flowing.state.sited.site
@@ -313,7 +313,7 @@ pub fn interlockings_speak_alone_to_detectors()
     events_close_no_link();
 }
 
-/// On a link on which the interlocking is given nothing it says heartbeats alone, and one confirms all at once: from the 1563rd good round on,
+/// On a link on which the interlocking is given nothing it says heartbeats alone, and one confirms all at once: from the 1562nd good round on,
 /// where the interlocking says something in the second of three rounds, and is given nothing in the first two, its controller's end holds no
 /// more for confirmed behind that round than before it; and behind the third it holds for confirmed all that it had given by the first. The
 /// premises are those of `links_hand_over`.
@@ -342,7 +342,7 @@ pub fn quiet_links_confirm_at_once()
 }
 
 /// So a section is known two rounds behind what its contact told as long as its detector's window has room: behind each good round from the
-/// 1567th on the interlocking knows a section as it is of whose occupancy nothing was told since the round before, and behind that round
+/// 1566th on the interlocking knows a section as it is of whose occupancy nothing was told since the round before, and behind that round
 /// the window of the detector's link wasn't full, whatever else comes. The premises are those of `links_are_ready`, of this link.
 pub fn sections_are_reported_with_room()
     ensures { (between : List Event) (later : List (List Event)) (last : List Event) (flowing : Flowing Played) (section : ℕ) (reporter : ℕ × ℕ) → Once flowing.state.sited.site → IsStation flowing.state.sited.site

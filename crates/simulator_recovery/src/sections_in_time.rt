@@ -41,7 +41,7 @@ use simulator_run_links::{
     layouts_name_their_links, stations_have_links,
 };
 
-/// Sections are reported as they are: from the 1566th good round on, the interlocking knows a section as it is in the field behind 32 rounds,
+/// Sections are reported as they are: from the 1565th good round on, the interlocking knows a section as it is in the field behind 32 rounds,
 /// 320 ms, in which nothing is told of its occupancy, and so it stays as long as nothing is told of it. All else may change as it likes:
 /// requests come, and other sections of the detector are told of as often as you like. The premises are those of `links_are_ready`, of the
 /// link of the section's detector.

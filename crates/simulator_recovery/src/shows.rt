@@ -68,7 +68,7 @@ pub fn rounds_give_proceeding_routes_nothing()
         → GivesNoMore row.entry flowing.state.run.station.ixl (round stations flowing).state.run.station.ixl }
 {}
 
-/// A route shows its aspect: where it proceeds behind a good round from the 1563rd on, its signal's lamp shows the route's aspect behind the
+/// A route shows its aspect: where it proceeds behind a good round from the 1562nd on, its signal's lamp shows the route's aspect behind the
 /// next round, if the route proceeds still. The premises are those of `links_come_up`, of the signal's link.
 pub fn routes_show_their_aspect()
     ensures { (between : List Event) (later : List (List Event)) (flowing : Flowing Played) (number : ℕ) (row : Row) → Once flowing.state.sited.site → IsStation flowing.state.sited.site
@@ -97,7 +97,7 @@ pub fn routes_show_their_aspect()
     events_close_no_link();
 }
 
-/// An aspect stays: in each good round from the 1564th on before and behind which a route proceeds, its signal's lamp comes to show the route's
+/// An aspect stays: in each good round from the 1563rd on before and behind which a route proceeds, its signal's lamp comes to show the route's
 /// aspect, or goes on to, and shows it also behind the requests and occupancies that come next. So it shows until the route is cancelled, or
 /// withdrawn. The premises are those of `links_come_up`, of the signal's link.
 pub fn aspects_stay()

@@ -111,7 +111,7 @@ pub fn driven_points_go_where_routes_want()
     request_is_accepted_where_admissible();
 }
 
-/// Drives are reported where routes want them: where a point's controller drives for a move behind a good round from the 1566th on, and set
+/// Drives are reported where routes want them: where a point's controller drives for a move behind a good round from the 1565th on, and set
 /// routes hold the point at a side then, it reports within the next 51 good rounds, 510 ms, as its next item in this connection, that
 /// the point lies at this side, and the interlocking's end takes this report. The premises are else those of `reports_of_drives_come_back`.
 pub fn drives_are_reported_where_routes_want()
