@@ -82,37 +82,107 @@ fn begin<
     output: O,
     complaints: E,
 ) -> Result<(), NodeFailure> {
-    let Ok(node) = node_named(table.layout(), asked.name) else {
-        return Err(NodeFailure::NoNode);
-    };
-    let addresses = read_addresses(rt.alloc(), table.layout(), asked.addresses)?;
-    let lines = lines_of(rt, asked.operator, node, input, output)?;
-    let socket = NodeSocket::open(rt, rt.alloc(), &addresses, node)?;
-    let clock = NodeClock::start(rt, asked.clock)?;
-    tell_digest(rt, asked.layout)?;
-    let machine = Machine::new(rt.alloc(), clock, socket, lines, complaints);
+    let own = judge(rt, table.layout(), asked)?;
+    let machine = open(rt, asked, &own, input, output, complaints)?;
     match asked.record {
-        Some(path) => run_recorded(rt, asked, table, node, machine, path),
-        None => {
-            let first = first_number(rt)?;
-            let mut machine = machine;
-            run_node(rt.alloc(), table, node, first, time(asked), &mut machine)?;
-            Ok(())
-        }
+        Some(path) => run_recorded(rt, asked, table, own, machine, path),
+        None => run_unrecorded(rt, asked, table, own, machine),
     }
 }
 
-/// Runs a node, and records what comes to it and what it does.
-fn run_recorded<R: Files + RandomSource + Eprint + AllocGlobal, O: Outside + Drop>(
+/// What a process is of its own: which node it is, where all nodes are, and the number of its first PDU.
+#[derive(Drop)]
+struct Own {
+    node: NodeId,
+    addresses: Vec<SocketAddr>,
+    first: u32,
+}
+
+/// Judges the name and the addresses, and draws the number of the first PDU.
+fn judge<R: RandomSource + AllocGlobal>(
+    rt: &R,
+    layout: &Layout,
+    asked: &Asked<'_>,
+) -> Result<Own, NodeFailure> {
+    let Ok(node) = node_named(layout, asked.name) else {
+        return Err(NodeFailure::NoNode);
+    };
+    let addresses = read_addresses(rt.alloc(), layout, asked.addresses)?;
+    let first = first_number(rt)?;
+    Ok(Own {
+        node,
+        addresses,
+        first,
+    })
+}
+
+/// Opens what a process has outside, and tells the digest of the layout.
+fn open<
+    'a,
+    R: Net + Timer + Eprint + AllocGlobal,
+    I: Read + Drop,
+    O: Write + Drop,
+    E: Write + Drop,
+>(
+    rt: &'a R,
+    asked: &Asked<'_>,
+    own: &Own,
+    input: I,
+    output: O,
+    complaints: E,
+) -> Result<Machine<'a, R, I, O, E>, NodeFailure> {
+    let lines = lines_of(rt, asked.operator, own.node, input, output)?;
+    let socket = NodeSocket::open(rt, rt.alloc(), &own.addresses, own.node)?;
+    let clock = NodeClock::start(rt, asked.clock)?;
+    tell_digest(rt, asked.layout)?;
+    Ok(Machine::new(rt.alloc(), clock, socket, lines, complaints))
+}
+
+/// Runs a node of which no record is kept.
+fn run_unrecorded<R: AllocGlobal, O: Outside + Drop>(
     rt: &R,
     asked: &Asked<'_>,
     table: Checked,
-    node: NodeId,
+    own: Own,
+    outside: O,
+) -> Result<(), NodeFailure> {
+    let mut outside = outside;
+    let for_ms = time(asked);
+    run_node(rt.alloc(), table, own.node, own.first, for_ms, &mut outside)?;
+    Ok(())
+}
+
+/// Runs a node, and records what comes to it and what it does.
+fn run_recorded<R: Files + Eprint + AllocGlobal, O: Outside + Drop>(
+    rt: &R,
+    asked: &Asked<'_>,
+    table: Checked,
+    own: Own,
     outside: O,
     path: &str,
 ) -> Result<(), NodeFailure> {
-    let first = first_number(rt)?;
     let layout = table.copy(rt.alloc())?;
+    let recorder = begin_record(rt, asked, own.first, path)?;
+    let mut recorded = Recorded::new(rt.alloc(), layout.layout(), outside, recorder, rt);
+    let for_ms = time(asked);
+    run_node(
+        rt.alloc(),
+        table,
+        own.node,
+        own.first,
+        for_ms,
+        &mut recorded,
+    )?;
+    Ok(())
+}
+
+/// Makes a record, with its first line.
+fn begin_record<R: Files>(
+    rt: &R,
+    asked: &Asked<'_>,
+    first: u32,
+    path: &str,
+) -> Result<R::File, NodeFailure> {
     let Ok(mut recorder) = fs::create(rt, path) else {
         return Err(NodeFailure::NoRecord);
     };
@@ -121,12 +191,10 @@ fn run_recorded<R: Files + RandomSource + Eprint + AllocGlobal, O: Outside + Dro
         Some(for_ms) => recorder.writeln(format_args!("node {name} first {first} for {for_ms}")),
         None => recorder.writeln(format_args!("node {name} first {first}")),
     };
-    if written.is_err() {
-        return Err(NodeFailure::NoRecord);
+    match written {
+        Ok(()) => Ok(recorder),
+        Err(_) => Err(NodeFailure::NoRecord),
     }
-    let mut recorded = Recorded::new(rt.alloc(), layout.layout(), outside, recorder, rt);
-    run_node(rt.alloc(), table, node, first, time(asked), &mut recorded)?;
-    Ok(())
 }
 
 /// For how many milliseconds the process runs.
