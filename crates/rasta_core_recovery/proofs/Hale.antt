@@ -231,7 +231,7 @@ module _ (names : Names) (p : Pair) (r : WorkRound p) (c : Closely names p) (cli
     };
   }
 
-  client_onward : Onward p.client p.server p.to_client (behind p r).client (behind p r).server (behind p r).to_client
+  pub client_onward : Onward p.client p.server p.to_client (behind p r).client (behind p r).server (behind p r).to_client
   client_onward = record {
     clock = goes.client_clock;
     other_clock = goes.server_clock;

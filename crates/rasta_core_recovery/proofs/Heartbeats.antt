@@ -18,7 +18,7 @@ use Rattle.rasta_core_recovery.proofs.WorkBridge.{Follows, follows}
 use Rattle.rasta_core_recovery.proofs.WorkRecovers.{leads, sound_of}
 use Rattle.rasta_core_recovery.proofs.WorkSum.{all_come}
 
-none_are : {X : Type 0} (xs : List X) → length xs ≡ 0 → xs ≡ []
+pub none_are : {X : Type 0} (xs : List X) → length xs ≡ 0 → xs ≡ []
 none_are [] none = refl
 none_are (x ∷ xs) none = absurd (omega (arith, none))
 
@@ -29,7 +29,7 @@ pub record Lasts (elapsed : ℕ) (l k : LinkState) : Type 0 where
   pub sent : l.sent ≤ k.sent
   pub same : k.sent ≡ l.sent → k.sent_at ≡ l.sent_at
 
-lasts_then : (one other : ℕ) (l k j : LinkState) → Lasts one l k → Lasts other k j → Lasts (one + other) l j
+pub lasts_then : (one other : ℕ) (l k j : LinkState) → Lasts one l k → Lasts other k j → Lasts (one + other) l j
 lasts_then one other l k j a b = record {
   clock = omega (arith, a.clock, b.clock);
   sent = omega (arith, a.sent, b.sent);

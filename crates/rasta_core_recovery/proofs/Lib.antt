@@ -91,3 +91,6 @@ pub mod FirstTalk
 pub mod FirstFates
 pub mod FirstWork
 pub mod FirstWorkWaits
+pub mod WithdrawnHears
+pub mod WithdrawnSpeaks
+pub mod WithdrawnServers

@@ -4,6 +4,7 @@
 
 mod falls;
 mod laws;
+mod takings;
 
 pub use falls::nothing_falls;
 pub use laws::{
@@ -12,4 +13,7 @@ pub use laws::{
     two_ends_at_work_come_up, two_ends_at_work_confirm, two_ends_at_work_hand_over,
     two_ends_come_up, what_a_server_takes_confirms, what_is_taken_confirms,
     wrong_clients_never_come_up,
+};
+pub use takings::{
+    servers_at_work_confirm, servers_at_work_speak, what_servers_take_at_work_confirms,
 };

@@ -20,7 +20,7 @@ use Rattle.simulator_run.specs.ixl_client.declared.command.Command.TheVariants a
 use Rattle.simulator_run.specs.ixl_client.declared.stage.Stage.{Stage}
 use Rattle.simulator_run.specs.ixl_client.declared.stage.Stage.TheVariants as stage
 use Rattle.simulator_run.specs.ixl_rules.Commands.{commanded_by, obeyed, refusal}
-use Rattle.simulator_run.specs.ixl_rules.Rules.{come_to, count, is_proceeding, is_stop_due, is_withdrawn, ruled, stopped, withdrawing}
+use Rattle.simulator_run.specs.ixl_rules.Rules.{come_to, count, is_proceeding, is_stop_due, is_withdrawn, ruled, stopped, withdrawing, withdrawn}
 use Rattle.simulator_run.specs.ixl_rules.State.{IxlState, KnownSignalState, RouteState, changed}
 use Rattle.simulator_run.specs.ixl_rules.Step.{Commands, all_clocked, clocked_known_signal, given, stepped, ticked, watching}
 use Rattle.simulator_run.specs.ixl_rules.StepSoFar.{StepSoFar, at_route, begun_with, empty_outbox, giving_aspect, known_signal_after, over, with_one, with_route}
@@ -49,7 +49,7 @@ use Rattle.simulator_recovery.proofs.StopsGiven.{AnyCommand, StopsStand, changed
 abbrev pub IsPast : ℕ → KnownSignalState → Type 0
 IsPast items known = (known.aspect ≡ None) ⊎ (items < known.number)
 
-as_past : (items : ℕ) (one other : KnownSignalState) → IsAs one.aspect one.number other → IsPast items one → IsPast items other
+pub as_past : (items : ℕ) (one other : KnownSignalState) → IsAs one.aspect one.number other → IsPast items one → IsPast items other
 as_past items one other (inl none) past = inl none
 as_past items one other (inr (same, number)) (inl none) = inl (same ∙ none)
 as_past items one other (inr (same, number)) (inr more) = inr (omega (arith, number, more))
@@ -68,7 +68,7 @@ ready_inside stage.Completed e = refl
 ready_inside stage.AwaitsReport e = refl
 
 -- a client that is inside behind a command has given an item more
-command_counts : (now : ℕ) (command : ClientCommand) (part : ClientSoFar) (taken many : ℕ) → is_outside (commanding now command part).client.stage ≡ false → HasCounted taken many part.client.link
+pub command_counts : (now : ℕ) (command : ClientCommand) (part : ClientSoFar) (taken many : ℕ) → is_outside (commanding now command part).client.stage ≡ false → HasCounted taken many part.client.link
     → HasCounted taken (many + 1) (commanding now command part).client.link
 unfolding commanding fallen
 command_counts now command part taken many inside has = by_up (is_up then_at.link.phase) refl inside
@@ -142,17 +142,17 @@ stopped_elsewhere now row part signal differ = choose (is_signal_ready part.ixl 
 
 -- ---- the rules, up to the turn of the route
 
-module _ (now : ℕ) (table : Table) (number : ℕ) (row : Row) (row_there : slice_get table.rows number ≡ Some row) (items : ℕ) (small : items < 2 ^ 31) (known : KnownSignalState)
+module _ (now : ℕ) (table : Table) (number : ℕ) (row : Row) (row_there : slice_get table.rows number ≡ Some row) (cancels : Bool) (items : ℕ) (small : items < 2 ^ 31) (known : KnownSignalState)
     (counts_so : is_ready known.client.stage ≡ true → CountsSo items known.client) where
-  -- the route has its aspect and is cancelled, and its signal is as it was
-  record Goes (part : StepSoFar) : Type 0 where
-    route : RouteState
-    there : slice_get part.ixl.routes number ≡ Some route
-    proceeds : is_proceeding route.phase ≡ true
-    cancelled : route.cancelled ≡ true
-    signal : slice_get part.ixl.known_signals row.entry ≡ Some known
+  -- the route has its aspect, is cancelled or isn't, and its signal is as it was
+  pub record Goes (part : StepSoFar) : Type 0 where
+    pub route : RouteState
+    pub there : slice_get part.ixl.routes number ≡ Some route
+    pub proceeds : is_proceeding route.phase ≡ true
+    pub cancelled : route.cancelled ≡ cancels
+    pub signal : slice_get part.ixl.known_signals row.entry ≡ Some known
 
-  abbrev Stands : StepSoFar → Type 0
+  abbrev pub Stands : StepSoFar → Type 0
   Stands part = StopsStand table part.ixl.routes part.ixl.known_signals
 
   watches : (k : ℕ) (part : StepSoFar) → Goes part → Goes (watching table k part)
@@ -221,11 +221,11 @@ module _ (now : ℕ) (table : Table) (number : ℕ) (row : Row) (row_there : sli
       by_row None e = g
       by_row (Some r) e = by_route r e (slice_get part.ixl.routes k) refl
 
-  -- What is so behind its turn.
-  record Past (part : StepSoFar) : Type 0 where
-    given_so : KnownSignalState
-    past : IsPast items given_so
-    rests : Rests table row.entry given_so.aspect given_so.number part.ixl.routes part.ixl.known_signals
+  -- What is so behind its turn, where it is withdrawn.
+  pub record Past (part : StepSoFar) : Type 0 where
+    pub given_so : KnownSignalState
+    pub past : IsPast items given_so
+    pub rests : Rests table row.entry given_so.aspect given_so.number part.ixl.routes part.ixl.known_signals
 
   -- its signal is given stop, where it is ready
   stops : (part : StepSoFar) → (is_ready known.client.stage ≡ false → known.aspect ≡ None) → slice_get part.ixl.known_signals row.entry ≡ Some known
@@ -271,30 +271,34 @@ module _ (now : ℕ) (table : Table) (number : ℕ) (row : Row) (row_there : sli
           (sym (changed_here (come_to phase.Withdrawn) number part.ixl.routes g.route g.there) ∙ (ap (slice_get (changed (come_to phase.Withdrawn) number part.ixl.routes)) (sym (is_equal k number is)) ∙ f))) (λ waits. absurd (false≢true waits), refl)
       decide false is = let differ = differs k number is in unset differ (sym (changed_elsewhere (come_to phase.Withdrawn) number k part.ixl.routes differ) ∙ f) (is_set one.phase) refl
 
-  turn : (part : StepSoFar) → Stands part → Goes part → Past (withdrawing now table number part)
+  -- or it goes on, where it isn't cancelled
+  abbrev pub Turned : StepSoFar → Type 0
+  Turned part = Past part ⊎ (Goes part × (cancels ≡ false))
+
+  turn : (part : StepSoFar) → Stands part → Goes part → Turned (withdrawing now table number part)
   unfolding withdrawing at_route
   turn part stand g = rw (row_there, g.there) (by_test (is_stop_due table part.ixl row g.route) refl)
     where
-      undue : (a b c d e : Bool) → (a && (b || c || d || e)) ≡ false → a ≡ true → b ≡ true → ⊥
-      undue true true c d e is h i = false≢true (sym is)
-      undue true false c d e is h i = false≢true i
-      undue false b c d e is h i = false≢true h
+      undue : (a b c d e : Bool) → (a && (b || c || d || e)) ≡ false → a ≡ true → b ≡ false
+      undue true true c d e is h = absurd (false≢true (sym is))
+      undue true false c d e is h = refl
+      undue false b c d e is h = absurd (false≢true h)
 
       fallen_part : StepSoFar
       fallen_part = with_route number (come_to phase.Withdrawn) part
 
-      by_test : (b : Bool) → is_stop_due table part.ixl row g.route ≡ b → Past (if b then stopped now row (with_route number (come_to phase.Withdrawn) part) else part)
-      by_test false due = absurd (undue (is_proceeding g.route.phase) g.route.cancelled _ _ _ due g.proceeds g.cancelled)
+      by_test : (b : Bool) → is_stop_due table part.ixl row g.route ≡ b → Turned (if b then stopped now row (with_route number (come_to phase.Withdrawn) part) else part)
+      by_test false due = inr (g, sym g.cancelled ∙ undue (is_proceeding g.route.phase) g.route.cancelled _ _ _ due g.proceeds)
       by_test true due =
           let new = stops_then
-          in record {
+          in inl (record {
             given_so = new.0;
             past = new.2;
             rests = record {
               none = λ k r one e f entry. rest_so part stand g k r one e (ap (λ (routes : List RouteState). slice_get routes k) (sym (stopped_routes now row fallen_part)) ∙ f) entry;
               given = λ later e. inr (ap (λ (s : KnownSignalState). s.aspect) (same_Some later new.0 (sym e ∙ new.1)), ap (λ (s : KnownSignalState). s.number) (same_Some later new.0 (sym e ∙ new.1)));
             };
-          }
+          })
         where
           stops_then : (new : KnownSignalState) × (slice_get (stopped now row fallen_part).ixl.known_signals row.entry ≡ Some new) × IsPast items new
           stops_then = stops fallen_part (stand.ready row.entry known g.signal) g.signal
@@ -315,7 +319,7 @@ module _ (now : ℕ) (table : Table) (number : ℕ) (row : Row) (row_there : sli
   goes_below zero part few stand g = g
   goes_below (suc many) part few stand g = leaves_so many (over (withdrawing now table) many part) (λ same. omega (arith, few, same)) (stand_then many part stand) (goes_below many part (omega (arith, few)) stand g)
 
-  past_behind : (many : ℕ) (part : StepSoFar) → number < many → Stands part → Goes part → Past (over (withdrawing now table) many part)
+  past_behind : (many : ℕ) (part : StepSoFar) → number < many → Stands part → Goes part → Turned (over (withdrawing now table) many part)
   past_behind zero part few stand g = absurd (omega (arith, few))
   past_behind (suc many) part few stand g = decide (many == number) refl (λ less. past_behind many part less stand g)
     where
@@ -325,21 +329,28 @@ module _ (now : ℕ) (table : Table) (number : ℕ) (row : Row) (row_there : sli
       fewer : (many == number) ≡ false → number < many
       fewer e = grind (arith, nat_tests, e, few)
 
-      decide : (b : Bool) → (many == number) ≡ b → (number < many → Past (over (withdrawing now table) many part)) → Past (withdrawing now table many (over (withdrawing now table) many part))
-      decide true e behind = subst (λ (n : ℕ). Past (withdrawing now table n (over (withdrawing now table) many part))) (sym (is_same e))
-          (turn (over (withdrawing now table) many part) (stand_then many part stand) (goes_below many part (let same = is_same e in omega (arith, same)) stand g))
-      decide false e behind = passes many (over (withdrawing now table) many part) (behind (fewer e))
+      on : many ≢ number → Turned (over (withdrawing now table) many part) → Turned (withdrawing now table many (over (withdrawing now table) many part))
+      on differ (inl p) = inl (passes many (over (withdrawing now table) many part) p)
+      on differ (inr (goes, uncancelled)) = inr (leaves_so many (over (withdrawing now table) many part) differ (stand_then many part stand) goes, uncancelled)
 
-  -- the whole step, behind the watch
-  step_past : (part : StepSoFar) → Stands part → Goes part → (new : KnownSignalState) → slice_get (ruled now table part).ixl.known_signals row.entry ≡ Some new → IsPast items new
-  step_past part stand g new e =
-      let p = past_behind (count table) part (within_some table.rows number row row_there) stand g
-      in let rests = behind_withdrawal now table NoCommand (Rests table row.entry p.given_so.aspect p.given_so.number) (rests_keep now table row.entry p.given_so.aspect p.given_so.number) part p.rests
+      decide : (b : Bool) → (many == number) ≡ b → (number < many → Turned (over (withdrawing now table) many part)) → Turned (withdrawing now table many (over (withdrawing now table) many part))
+      decide true e behind = subst (λ (n : ℕ). Turned (withdrawing now table n (over (withdrawing now table) many part))) (sym (is_same e))
+          (turn (over (withdrawing now table) many part) (stand_then many part stand) (goes_below many part (let same = is_same e in omega (arith, same)) stand g))
+      decide false e behind = on (differs many number e) (behind (fewer e))
+
+  -- behind the first rule
+  pub rule_past : (part : StepSoFar) → Stands part → Goes part → Turned (withdrawn now table part)
+  rule_past part stand g = past_behind (count table) part (within_some table.rows number row row_there) stand g
+
+  -- the rules, where the route is withdrawn
+  past_ruled : (part : StepSoFar) → Past (withdrawn now table part) → (new : KnownSignalState) → slice_get (ruled now table part).ixl.known_signals row.entry ≡ Some new → IsPast items new
+  past_ruled part p new e =
+      let rests = behind_withdrawal now table NoCommand (Rests table row.entry p.given_so.aspect p.given_so.number) (rests_keep now table row.entry p.given_so.aspect p.given_so.number) part p.rests
       in as_past items p.given_so new (rests.given new e) p.past
 
 -- ---- the step
 
-clocked_there : (now : ℕ) (ixl : IxlState) (signal : ℕ) (known : KnownSignalState) → slice_get ixl.known_signals signal ≡ Some known → slice_get (all_clocked now ixl).known_signals signal ≡ Some (clocked_known_signal now known)
+pub clocked_there : (now : ℕ) (ixl : IxlState) (signal : ℕ) (known : KnownSignalState) → slice_get ixl.known_signals signal ≡ Some known → slice_get (all_clocked now ixl).known_signals signal ≡ Some (clocked_known_signal now known)
 unfolding all_clocked
 clocked_there now ixl signal known there = mapped (clocked_known_signal now) ixl.known_signals signal known there
 
@@ -362,7 +373,7 @@ cancel_past : (site : Site) (table : Table) (world : WorldState) (route : RouteI
     → (new : KnownSignalState) → slice_get (interlocking_stepped site table (Commands (commands.Cancel route)) world).station.ixl.known_signals row.entry ≡ Some new → IsPast known.client.link.given new
 unfolding interlocking_stepped stepped ticked given
 cancel_past site table world route row one known row_there stand none there proceeds signal counts small =
-    step_past now table route.0 row row_there known.client.link.given small late counts_so watched stand_watched (all_watch now table route.0 row row_there known.client.link.given small late counts_so (count table) heard goes_heard)
+    by_turn (rule_past now table route.0 row row_there true known.client.link.given small late counts_so watched stand_watched (all_watch now table route.0 row row_there true known.client.link.given small late counts_so (count table) heard goes_heard))
   where
     now : ℕ
     now = reading_of world.station.clock
@@ -389,14 +400,19 @@ cancel_past site table world route row one known row_there stand none there proc
         let same = client_after known.aspect known.number known.indicated (clocked now known.client)
         in subst (CountsSo known.client.link.given) (sym same) (clocked_counts now known.client counts (ap (λ (c : ClientState). is_outside c.stage) (sym same) ∙ ready_inside late.client.stage ready))
 
-    goes_heard : Goes now table route.0 row row_there known.client.link.given small late counts_so heard
-    goes_heard = subst (λ (cause : Option Refusal). Goes now table route.0 row row_there known.client.link.given small late counts_so (record clocked_part { ixl = commanded_by cause (commands.Cancel route) clocked_part.ixl })) (sym none) (record {
+    goes_heard : Goes now table route.0 row row_there true known.client.link.given small late counts_so heard
+    goes_heard = subst (λ (cause : Option Refusal). Goes now table route.0 row row_there true known.client.link.given small late counts_so (record clocked_part { ixl = commanded_by cause (commands.Cancel route) clocked_part.ixl })) (sym none) (record {
       route = record one { cancelled = true };
       there = cancelled_at clocked_part.ixl route one (ap (λ (routes : List RouteState). slice_get routes route.0) (clocked_routes now world.station.ixl) ∙ there);
       proceeds = proceeds;
       cancelled = refl;
       signal = ap (λ (signals : List KnownSignalState). slice_get signals row.entry) (cancelled_signals clocked_part.ixl route) ∙ clocked_there now world.station.ixl row.entry known signal;
     })
+
+    by_turn : Turned now table route.0 row row_there true known.client.link.given small late counts_so (withdrawn now table watched)
+        → (new : KnownSignalState) → slice_get (ruled now table watched).ixl.known_signals row.entry ≡ Some new → IsPast known.client.link.given new
+    by_turn (inl p) = past_ruled now table route.0 row row_there true known.client.link.given small late counts_so watched p
+    by_turn (inr (goes, uncancelled)) = absurd (false≢true (sym uncancelled))
 
 pub cancel_happened : (site : Site) (table : Table) (world : WorldState) (route : RouteId) (row : Row) (one : RouteState) (known : KnownSignalState) → slice_get table.rows route.0 ≡ Some row → StopsStand table world.station.ixl.routes world.station.ixl.known_signals
     → answered site table (event.Request (commands.Cancel route)) world ≡ answer.Accepted → slice_get world.station.ixl.routes route.0 ≡ Some one → is_proceeding one.phase ≡ true

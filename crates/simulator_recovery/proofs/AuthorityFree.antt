@@ -1,5 +1,5 @@
 -- Two good rounds behind its cancel a route is free, unless a train came or its approach counts.
-use Rattle.std.proofs.Common.{◌≡◌, inl, inr, ℕ, suc, ◌+◌, ◌≤◌, true, false, List, [], ◌∷◌, ◌++◌, append_assoc, length, Option, Some, None, slice_get, refl, sym, ap, subst, ◌∙◌}
+use Rattle.std.proofs.Common.{◌≡◌, inl, inr, ℕ, suc, ◌+◌, ◌≤◌, Bool, true, false, List, [], ◌∷◌, ◌++◌, append_assoc, length, Option, Some, None, slice_get, refl, sym, ap, subst, ◌∙◌}
 use Rattle.std.proofs.lemmas.Bool.{false≢true}
 use Rattle.std.proofs.lemmas.Option.{same_Some}
 use Rattle.ixl_table.specs.Table.{IsTableOf}
@@ -56,7 +56,7 @@ StaysCancelled route = (is_waiting route.phase ≡ false) × (is_set route.phase
 
 stays_quiet : (old new : RouteState) → IsQuiet old new → StaysCancelled old → StaysCancelled new
 stays_quiet old new (inl (same, kept)) is = (ap is_waiting same ∙ is.0, λ set. kept (is.1 (ap is_set (sym same) ∙ set)))
-stays_quiet old new (inr (over_now, undone, was_set, kept)) is = ((over_rests new.phase over_now).0, λ set. kept set (is.1 was_set))
+stays_quiet old new (inr (over_now, undone, was_set, kept)) is = ((over_rests new.phase over_now).0, λ set. (kept set).1 (is.1 was_set))
 
 stays_keeps : RouteKeeps StaysCancelled
 stays_keeps = record {
@@ -73,13 +73,13 @@ unfolding interlocking_stepped
 stepped_stays site table number input world none_so is = step_held (reading_of world.station.clock) table NoCommand (OfRoute number StaysCancelled) (route_keep (reading_of world.station.clock) table NoCommand none_comes number StaysCancelled stays_keeps)
     (key_of site) input (begun_with world.station.ixl empty_outbox) none_so is
 
--- so it is behind the cancel
-cancel_stays : (site : Site) (table : Table) (world : WorldState) (route : RouteId) (one : RouteState) → refusal (reading_of world.station.clock) table (commands.Cancel route) (all_clocked (reading_of world.station.clock) world.station.ixl) ≡ None
-    → slice_get world.station.ixl.routes route.0 ≡ Some one → is_proceeding one.phase ≡ true → StaysIn route.0 (interlocking_stepped site table (Commands (commands.Cancel route)) world).station.ixl
+-- What the parts of a step keep of a route is so behind a cancel of it, which leaves it as it was but that it is cancelled.
+cancel_keeps : (F : RouteState → Type 0) → RouteKeeps F → (site : Site) (table : Table) (world : WorldState) (route : RouteId) (one : RouteState) → refusal (reading_of world.station.clock) table (commands.Cancel route) (all_clocked (reading_of world.station.clock) world.station.ixl) ≡ None
+    → slice_get world.station.ixl.routes route.0 ≡ Some one → F (record one { cancelled = true }) → OfRoute route.0 F (interlocking_stepped site table (Commands (commands.Cancel route)) world).station.ixl.routes []
 unfolding interlocking_stepped stepped ticked given
-cancel_stays site table world route one none_so there proceeds =
-    behind_ending now table (OfRoute route.0 StaysCancelled) (route_keep now table NoCommand none_comes route.0 StaysCancelled stays_keeps).rules watched
-    (both_rules now table NoCommand (OfRoute route.0 StaysCancelled) (route_keep now table NoCommand none_comes route.0 StaysCancelled stays_keeps) watched watched_so)
+cancel_keeps F keeps site table world route one none_so there so =
+    behind_ending now table (OfRoute route.0 F) (route_keep now table NoCommand none_comes route.0 F keeps).rules watched
+    (both_rules now table NoCommand (OfRoute route.0 F) (route_keep now table NoCommand none_comes route.0 F keeps) watched watched_so)
   where
     now : ℕ
     now = reading_of world.station.clock
@@ -93,26 +93,31 @@ cancel_stays site table world route one none_so there proceeds =
     watched : StepSoFar
     watched = over (watching table) (count table) heard
 
-    not_waiting : (p : Phase) → is_proceeding p ≡ true → is_waiting p ≡ false
-    not_waiting phase.Free e = refl
-    not_waiting phase.Waiting e = absurd (false≢true e)
-    not_waiting phase.Proceeding e = refl
-    not_waiting phase.Withdrawn e = refl
-    not_waiting (phase.Ended clock done) e = refl
-
-    heard_so : StaysIn route.0 heard.ixl
-    heard_so = subst (λ (cause : Option Refusal). StaysIn route.0 (commanded_by cause (commands.Cancel route) clocked_part.ixl)) (sym none_so) (λ later e.
+    heard_so : OfRoute route.0 F heard.ixl.routes []
+    heard_so = subst (λ (cause : Option Refusal). OfRoute route.0 F (commanded_by cause (commands.Cancel route) clocked_part.ixl).routes []) (sym none_so) (λ later e.
         let same = same_Some (record one { cancelled = true }) later (sym (cancelled_at clocked_part.ixl route one (ap (λ (routes : List RouteState). slice_get routes route.0) (clocked_routes now world.station.ixl) ∙ there)) ∙ e)
-        in subst StaysCancelled same (not_waiting one.phase proceeds, λ set. refl))
+        in subst F same so)
 
-    watched_so : OfRoute route.0 StaysCancelled watched.ixl.routes watched.ixl.known_signals
-    watched_so = over_held now table (OfRoute route.0 StaysCancelled) (route_keep now table NoCommand none_comes route.0 StaysCancelled stays_keeps).rules (watching table)
-        (watching_held now table NoCommand (OfRoute route.0 StaysCancelled) (route_keep now table NoCommand none_comes route.0 StaysCancelled stays_keeps)) (count table) heard heard_so
+    watched_so : OfRoute route.0 F watched.ixl.routes watched.ixl.known_signals
+    watched_so = over_held now table (OfRoute route.0 F) (route_keep now table NoCommand none_comes route.0 F keeps).rules (watching table)
+        (watching_held now table NoCommand (OfRoute route.0 F) (route_keep now table NoCommand none_comes route.0 F keeps)) (count table) heard heard_so
+
+-- so it is where the cancel is accepted
+pub kept_behind_cancel : (F : RouteState → Type 0) → RouteKeeps F → (site : Site) (table : Table) (world : WorldState) (route : RouteId) (one : RouteState) → answered site table (event.Request (commands.Cancel route)) world ≡ answer.Accepted
+    → slice_get world.station.ixl.routes route.0 ≡ Some one → F (record one { cancelled = true }) → OfRoute route.0 F (happens site table (event.Request (commands.Cancel route)) world).station.ixl.routes []
+unfolding happens
+kept_behind_cancel F keeps site table world route one accepted = cancel_keeps F keeps site table world route one (accepted_so site table world route accepted)
+
+not_waiting : (p : Phase) → is_proceeding p ≡ true → is_waiting p ≡ false
+not_waiting phase.Free e = refl
+not_waiting phase.Waiting e = absurd (false≢true e)
+not_waiting phase.Proceeding e = refl
+not_waiting phase.Withdrawn e = refl
+not_waiting (phase.Ended clock done) e = refl
 
 cancelled_stays : (site : Site) (table : Table) (world : WorldState) (route : RouteId) (one : RouteState) → answered site table (event.Request (commands.Cancel route)) world ≡ answer.Accepted
     → slice_get world.station.ixl.routes route.0 ≡ Some one → is_proceeding one.phase ≡ true → StaysIn route.0 (happens site table (event.Request (commands.Cancel route)) world).station.ixl
-unfolding happens
-cancelled_stays site table world route one accepted = cancel_stays site table world route one (accepted_so site table world route accepted)
+cancelled_stays site table world route one accepted there proceeds = kept_behind_cancel StaysCancelled stays_keeps site table world route one accepted there (not_waiting one.phase proceeds, λ set. refl)
 
 -- ---- two rounds later
 
@@ -164,18 +169,27 @@ module _ (frees : FreeLaw) (laws : EndingLaws) (between : List Event) (later_rou
       (few laws between later_rounds before flowing route row once station is_table reached work works before_works can there long below proceeds accepted) long below
       (none laws between later_rounds before flowing route row once station is_table reached work works before_works can there long below proceeds accepted)).1
 
-  pub free_behind_cancel : (state : RouteState) → slice_get (good_rounds (between ∷ (later_rounds ++ and_cancel route before ∷ [] ∷ [] ∷ [])) flowing).state.run.station.ixl.routes route.0 ≡ Some state → IsUnseen row state
-      → AllClear flowing.state.sited.table (good_rounds (between ∷ (later_rounds ++ and_cancel route before ∷ [] ∷ [] ∷ [])) flowing).state.run.station.ixl row.sections → state.approached ≡ false → is_set state.phase ≡ false
-  free_behind_cancel state is unseen clear unapproached = by_phase state.phase refl
+  -- its authority has ended where it is set
+  pub ended_behind_cancel : (state : RouteState) → slice_get (good_rounds (between ∷ (later_rounds ++ and_cancel route before ∷ [] ∷ [] ∷ [])) flowing).state.run.station.ixl.routes route.0 ≡ Some state → is_set state.phase ≡ true
+      → (state.cancelled ≡ true) × (clock : ℕ) × (done : ℕ) × (state.phase ≡ phase.Ended clock done)
+  ended_behind_cancel state is set = let ended = by_phase state.phase refl in (stays.1 set, ended.0, ended.1, ended.2)
     where
       stays : StaysCancelled state
       stays = stays_end state is
 
-      by_phase : (p : Phase) → state.phase ≡ p → is_set p ≡ false
-      by_phase phase.Free e = refl
+      by_phase : (p : Phase) → state.phase ≡ p → (clock : ℕ) × (done : ℕ) × (state.phase ≡ phase.Ended clock done)
+      by_phase phase.Free e = absurd (false≢true (sym (ap is_set e) ∙ set))
       by_phase phase.Waiting e = absurd (false≢true (sym stays.0 ∙ ap is_waiting e))
       by_phase phase.Proceeding e = absurd (false≢true (sym (none_end route.0 row state (there, is) refl).1 ∙ ap is_proceeding e))
       by_phase phase.Withdrawn e = absurd (authority_ends_behind_cancel laws between later_rounds before flowing route row once station is_table reached work works before_works can there long below proceeds accepted
           (record { number = route.0; row = row; route = state; is_route = (there, is); entry = refl; withdrawn = e }))
-      by_phase (phase.Ended clock done) e = absurd (nothing_waits_to_be_freed frees sited.site sited.table (good_rounds (between ∷ (later_rounds ++ and_cancel route before ∷ [] ∷ [] ∷ [])) flowing).state.run route.0 row state (at (later_rounds ++ and_cancel route before ∷ [] ∷ [] ∷ [])).reached (there, is)
-          (λ reading. (stays.1 (ap is_set e), inr (clock, done, e, record { unseen = unseen; clear = clear; approach = inl unapproached }))))
+      by_phase (phase.Ended clock done) e = (clock, done, e)
+
+  pub free_behind_cancel : (state : RouteState) → slice_get (good_rounds (between ∷ (later_rounds ++ and_cancel route before ∷ [] ∷ [] ∷ [])) flowing).state.run.station.ixl.routes route.0 ≡ Some state → IsUnseen row state
+      → AllClear flowing.state.sited.table (good_rounds (between ∷ (later_rounds ++ and_cancel route before ∷ [] ∷ [] ∷ [])) flowing).state.run.station.ixl row.sections → state.approached ≡ false → is_set state.phase ≡ false
+  free_behind_cancel state is unseen clear unapproached = by_set (is_set state.phase) refl
+    where
+      by_set : (b : Bool) → is_set state.phase ≡ b → is_set state.phase ≡ false
+      by_set false e = e
+      by_set true e = let ended = ended_behind_cancel state is e in absurd (nothing_waits_to_be_freed frees sited.site sited.table (good_rounds (between ∷ (later_rounds ++ and_cancel route before ∷ [] ∷ [] ∷ [])) flowing).state.run route.0 row state
+          (at (later_rounds ++ and_cancel route before ∷ [] ∷ [] ∷ [])).reached (there, is) (λ reading. (ended.0, inr (ended.1, ended.2, ended.3, record { unseen = unseen; clear = clear; approach = inl unapproached }))))

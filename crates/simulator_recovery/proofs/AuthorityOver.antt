@@ -1,5 +1,5 @@
 -- Two good rounds behind the moment at which stop is given the authority of a withdrawn route has ended.
-use Rattle.std.proofs.Common.{◌≡◌, inl, inr, ℕ, suc, ◌+◌, ◌^◌, ◌<◌, ◌≤◌, List, [], ◌∷◌, ◌++◌, append_assoc, append-nil, length, map, Option, Some, None, slice_get, refl, sym, ap, subst, ◌∙◌, arith}
+use Rattle.std.proofs.Common.{◌≡◌, inl, inr, ℕ, suc, ◌+◌, ◌-◌, ◌^◌, ◌<◌, ◌≤◌, List, [], ◌∷◌, ◌++◌, append_assoc, append-nil, length, map, Option, Some, None, slice_get, refl, sym, ap, subst, ◌∙◌, arith}
 use Rattle.std.proofs.lemmas.Option.{same_Some}
 use Rattle.ixl_table.specs.Table.{IsTableOf}
 use Rattle.simulator_run.specs.layout.Once.{Once}
@@ -23,9 +23,9 @@ use Rattle.simulator_recovery.specs.HandedOver.{HasConfirmed}
 use Rattle.simulator_recovery.specs.Lamps.{GivesNoMore, IsGivenNoMore, IsWithdrawnFrom, NoneProceeds}
 use Rattle.simulator_recovery.specs.LinkRounds.{IsUpOn, StaysBelowLimit, behind_time, event_of}
 use Rattle.simulator_recovery.specs.Ready.{ready_rounds}
-use Rattle.simulator_recovery.specs.RepliesOn.{RepliesAfter}
+use Rattle.simulator_recovery.specs.RepliesOn.{RepliesAfter, RepliesOn}
 use Rattle.simulator_recovery.specs.Rounds.{HasTime, IsWork, all_tried, clocks_of, good_rounds}
-use Rattle.simulator_recovery.proofs.AuthorityEnds.{EndingLaws, counts_given, goes, over as handed, replies_on, stands_old}
+use Rattle.simulator_recovery.proofs.AuthorityEnds.{EndingLaws, Takings, counts_given, goes, over as handed, replies_on, replies_within, stands_old}
 use Rattle.simulator_recovery.proofs.AuthorityRounds.{Goes, even, even_links, held_even, held_middle, middle_gave, middle_links, stands_middle, stands_there}
 use Rattle.simulator_recovery.proofs.AuthorityLists.{replies_last}
 use Rattle.simulator_recovery.proofs.ComeUp.{Begun, begun_so, behind_rounds, links_after, rounds_open, up_on}
@@ -34,7 +34,7 @@ use Rattle.simulator_recovery.proofs.ConfirmedStops.{confirmed_ends, still_up}
 use Rattle.simulator_recovery.proofs.GivenNoMore.{round_gives_no_more, round_stays}
 use Rattle.simulator_recovery.proofs.LinkRounds.{after_both, after_each, round_tried}
 use Rattle.simulator_recovery.proofs.Lists.{each_both}
-use Rattle.simulator_recovery.proofs.Ready.{IsUpBehind, count_front, each_front, fewer_time, front_of, two_taken_behind, ups}
+use Rattle.simulator_recovery.proofs.Ready.{IsUpBehind, Last, count_front, each_front, fewer_time, front_of, last_of, two_taken_behind, ups}
 use Rattle.simulator_recovery.proofs.RepliedWalk.{Stands, counted_given, counted_taken}
 use Rattle.simulator_recovery.proofs.Rounds.{IsAt, rounds_reached}
 use Rattle.simulator_recovery.proofs.SeenSignals.{client_same, controller_there, known_there, seen_then}
@@ -203,6 +203,64 @@ module _ (laws : EndingLaws) (between : List Event) (later_rounds : List (List E
   pub authority_ends : More → Withdrawn → ⊥
   authority_ends more withdrawn = confirmed_ends laws.authority.signals sited.site sited.table (good_rounds first next).state.run (good_rounds third next).state.run signal once station is_table (at first).reached (at third).reached few (over more) none no_more
       (withdrawn_there withdrawn)
+
+  -- ---- what was given within the last round, or behind it
+
+  abbrev MoreWithin : Type 0
+  MoreWithin = HasGivenMore signal (good_rounds (between ∷ later_rounds) flowing).state.run.station.ixl (good_rounds (between ∷ (later_rounds ++ last ∷ [])) flowing).state.run.station.ixl
+
+  abbrev RepliesThen : List (List Event) → Type 0
+  RepliesThen rounds = Each (Each IsWork) (rounds ++ last ∷ []) → HasTime (suc (length (rounds ++ last ∷ []))) next.state.run → UpBehind rounds → UpBehind (rounds ++ last ∷ []) → UpBehind ((rounds ++ last ∷ []) ++ [] ∷ [])
+      → ready_rounds ≤ suc (length rounds) → HasGivenMore signal (good_rounds rounds next).state.run.station.ixl (good_rounds (rounds ++ last ∷ []) next).state.run.station.ixl
+      → RepliesOn signal [] (good_rounds (rounds ++ last ∷ []) next) (links_after (rounds ++ last ∷ []) next start.before)
+
+  replies_then : Takings → (front : List (List Event)) (was : List Event) → RepliesThen (front ++ was ∷ [])
+  replies_then takings front was all_work can_all up_front up_given up_replied long_more more =
+      replies_within laws sited station once is_table signal few there between flowing work start front was last [] was_works.1 all_works.1 tt was_works.0 all_works.0 all_work can_front can_was can_all up_before up_front up_given up_replied two_before more takings
+    where
+      count_all : length ((front ++ was ∷ []) ++ last ∷ []) ≡ length (front ++ was ∷ []) + 1
+      count_all = count_front (front ++ was ∷ []) last
+
+      count_was : length (front ++ was ∷ []) ≡ length front + 1
+      count_was = count_front front was
+
+      all_works : Each (Each IsWork) (front ++ was ∷ []) × Each IsWork last
+      all_works = each_front (Each IsWork) (front ++ was ∷ []) last all_work
+
+      was_works : Each (Each IsWork) front × Each IsWork was
+      was_works = each_front (Each IsWork) front was all_works.0
+
+      can_so : (n : ℕ) → n ≤ suc (length ((front ++ was ∷ []) ++ last ∷ [])) → HasTime n next.state.run
+      can_so n less = fewer_time n (suc (length ((front ++ was ∷ []) ++ last ∷ []))) (clocks_of next.state.run) less can_all
+
+      can_front : HasTime (suc (length front)) next.state.run
+      can_front = can_so (suc (length front)) (omega (arith, count_all, count_was))
+
+      can_was : HasTime (suc (length (front ++ was ∷ []))) next.state.run
+      can_was = can_so (suc (length (front ++ was ∷ []))) (omega (arith, count_all))
+
+      up_before : UpBehind front
+      up_before = front_of laws.authority.confirm.ready sited station once is_table signal there between flowing work start front was all_works.0 (can_so (length (front ++ was ∷ [])) (omega (arith, count_all))) up_front (omega (arith, long_more, count_was))
+
+      two_before : 2 ≤ length (seen signal (links_after front next start.before)).server.taken
+      two_before =
+          let most = two_taken_behind laws.authority.confirm.ready sited station once is_table signal there between flowing work start front was_works.0 (can_so (length front) (omega (arith, count_all, count_was))) (omega (arith, long_more, count_was)) up_before
+          in let same = ap (λ (l : Links). (l.ends signal).server.link.taken) up_before.behind.after_is
+          in let stands = stands_old laws sited station once is_table signal few there between flowing work start front was was_works.1 was_works.0 can_front up_before up_front
+          in let counts = laws.authority.round.walk.counted (names_at sited.site signal) (seen signal (links_after front next start.before)) stands.ordered _ stands.client.at stands.server.at
+          in let taken = counted_taken (seen signal (links_after front next start.before)).server counts.1 stands.server.opened
+          in omega (arith, most, same, taken)
+
+  module _ (takings : Takings) (long_more : ready_rounds ≤ suc (length later_rounds)) (more : MoreWithin) where
+    by_last : Last (length later_rounds - 1) later_rounds → RepliesThen later_rounds
+    by_last l = subst RepliesThen (sym l.are) (replies_then takings l.front l.last)
+
+    replies_there : RepliesAfter signal first [] next start.before
+    replies_there = replies_last signal first [] next start.before (by_last (last_of (length later_rounds - 1) later_rounds (omega (arith, long_more))) works can_replied up_later up_first up_second long_more more)
+
+    pub authority_ends_within : Withdrawn → ⊥
+    authority_ends_within withdrawn = confirmed_ends laws.authority.signals sited.site sited.table (good_rounds first next).state.run (good_rounds third next).state.run signal once station is_table (at first).reached (at third).reached few
+        (confirms laws.authority.confirm sited station once is_table signal there between flowing work start first [] [] up_first up_second up_third replies_there) none no_more (withdrawn_there withdrawn)
 
   -- where no aspect was given in the present connection
   up_there : IsUpOn signal (good_rounds third next).state.run

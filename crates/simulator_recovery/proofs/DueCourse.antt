@@ -337,7 +337,7 @@ module _ (law : StopLaw) (now : ℕ) (table : Table) (k : ℕ) (row : Row) (row_
 
 -- ---- steps
 
-step_waits : (site : Site) (table : Table) (k : ℕ) (input : Input) (world : WorldState) → LeavesSetting k input → At world.station.ixl.routes k Waits → At (interlocking_stepped site table input world).station.ixl.routes k GoesOn
+pub step_waits : (site : Site) (table : Table) (k : ℕ) (input : Input) (world : WorldState) → LeavesSetting k input → At world.station.ixl.routes k Waits → At (interlocking_stepped site table input world).station.ixl.routes k GoesOn
 unfolding interlocking_stepped stepped
 step_waits site table k input world leaves is =
     subst (λ (routes : List RouteState). At routes k GoesOn) (sym (ticks_bring_nothing now input (ruled now table seen)).routes)

@@ -107,7 +107,7 @@ move_given now point side part known there = one_else Q (slice_get part.ixl.know
 
 -- ---- the fifth rule
 
-waiting_is : (p : Phase) → is_waiting p ≡ true → p ≡ phase.Waiting
+pub waiting_is : (p : Phase) → is_waiting p ≡ true → p ≡ phase.Waiting
 waiting_is phase.Free e = absurd (false≢true e)
 waiting_is phase.Waiting e = refl
 waiting_is phase.Proceeding e = absurd (false≢true e)

@@ -251,7 +251,7 @@ module _ (site : Site) (table : Table) (signal : ℕ) (aspect : Option Aspect) (
   abbrev RestsIn : IxlState → Type 0
   RestsIn ixl = Rests table signal aspect number ixl.routes ixl.known_signals
 
-  stepped_rests : (input : Input) (world : WorldState) → ((command : Command) → input ≡ Commands command → ⊥) → RestsIn world.station.ixl → RestsIn (interlocking_stepped site table input world).station.ixl
+  pub stepped_rests : (input : Input) (world : WorldState) → ((command : Command) → input ≡ Commands command → ⊥) → RestsIn world.station.ixl → RestsIn (interlocking_stepped site table input world).station.ixl
   unfolding interlocking_stepped
   stepped_rests input world none rests = step_held (reading_of world.station.clock) table NoCommand (Rests table signal aspect number) (rests_keep (reading_of world.station.clock) table signal aspect number) (key_of site) input
       (begun_with world.station.ixl empty_outbox) none rests

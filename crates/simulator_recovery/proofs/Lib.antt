@@ -228,3 +228,11 @@ pub mod BeginsRound
 pub mod BeginsMoment
 pub mod BeginsTaken
 pub mod BeginsAnswered
+pub mod WithdrawnWaiting
+pub mod WithdrawnSteps
+pub mod WithdrawnRounds
+pub mod WithdrawnClocks
+pub mod WithdrawnEnded
+pub mod WithdrawnApproach
+pub mod WithdrawnTold
+pub mod WithdrawnEnds

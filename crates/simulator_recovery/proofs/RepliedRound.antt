@@ -21,7 +21,7 @@ use Rattle.simulator_run.specs.rasta_core.Ordered.{Ordered}
 use Rattle.simulator_run.specs.rasta_core.Parameters.{stops_at_greatest}
 use Rattle.simulator_run.specs.rasta_core.PdusHandedOut.{Step}
 use Rattle.simulator_run.specs.rasta_core.Run.{Ends, called}
-use Rattle.simulator_run.specs.rasta_core.State.{LinkState, is_asking, is_open, is_up}
+use Rattle.simulator_run.specs.rasta_core.State.{LinkState, confirmed_items, is_asking, is_open, is_up}
 use Rattle.simulator_run.specs.rasta_core.Steps.{calls_at}
 use Rattle.simulator_run.specs.rasta_core.identity.Role.{Role}
 use Rattle.simulator_run.specs.rasta_core.identity.Role.TheVariants as role
@@ -41,6 +41,7 @@ use Rattle.simulator_recovery.specs.LinkRounds.{all_events_tried, events_tried}
 use Rattle.simulator_recovery.specs.Replies.{GoOnWith, behind_what_comes, indication}
 use Rattle.simulator_recovery.proofs.Clocks.{IsCalm}
 use Rattle.simulator_recovery.proofs.LinkRounds.{after_each, events_both, links_both}
+use Rattle.simulator_recovery.proofs.Moments.{exact}
 use Rattle.simulator_recovery.proofs.PointCounts.{coming}
 use Rattle.simulator_recovery.proofs.HostCalls.{datagram_calls}
 use Rattle.simulator_recovery.proofs.RepliedAlone.{ComesDue, RunsAlone, StandsAlone, alone, delivered_alone, receives_stays, runs_alone, stays_after}
@@ -76,7 +77,18 @@ module _ (laws : RoundLaws) (sited : SitedTable) (station : IsStation sited.site
   abbrev names : Names
   names = names_at sited.site place
 
-  -- A round of a signal: its station behind the time of the round, what happens in it, and what was given before.
+  -- The client sent the last item that waits of it behind all that it has taken: that are so many items.
+  pub record GivesLast (these : Links) (heard : ℕ) : Type 0 where
+    pub asks : is_asking (seen place these).client.link ≡ false
+    pub gave : GaveLast (names_at sited.site place) connection (seen place these).client.link (seen place these).sent
+    pub heard_is : heard ≡ length (seen place these).client.taken
+
+  -- Behind calls by which it takes something the controller holds for confirmed that its client has taken so many items.
+  abbrev pub HoldsConfirmed : ℕ → List LinkEvent → Ends → Type 0
+  HoldsConfirmed heard calls ends = (front rest : List LinkEvent) → calls ≡ front ++ rest → ends.server.link.taken < (run front ends).server.link.taken → heard ≤ confirmed_items (run front ends).server.link
+
+  -- A round of a signal: its station behind the time of the round, what happens in it, what was given before, and what the controller comes to
+  -- know of what its client has taken.
   pub record IsRound (world : Played) (these : Links) (events : List Event) (number : ℕ) : Type 0 where
     pub stands_so : Stands laws.walk sited station once place below connection world these
     pub calm : Each IsCalm events
@@ -85,14 +97,14 @@ module _ (laws : RoundLaws) (sited : SitedTable) (station : IsStation sited.site
     pub only : Each IsCall (run_on place (all_events_tried events world) these)
     pub due : Each (ComesDue (seen place these).sent (seen place these).time) (run_on place (all_events_tried events world) these)
     pub room : HaveRoom (run_on place (all_events_tried events world) these) (seen place these)
-    pub asks : is_asking (seen place these).client.link ≡ false
-    pub gave : GaveLast (names_at sited.site place) connection (seen place these).client.link (seen place these).sent
+    pub heard : ℕ
+    pub knows : GivesLast these heard ⊎ HoldsConfirmed heard (run_on place (all_events_tried events world) these) (seen place these)
     pub number_is : number ≡ length (seen place these).client.given
     pub many : 2 ≤ length (these.ends place).server.taken
     pub fewer : (these.ends place).server.link.taken < number
     pub enough : number ≤ ((run_links (all_events_tried events world) these).ends place).server.link.taken
     pub controls_so : Controls laws.walk sited station once place below connection world these
-    pub bounded : controls_so.c.host.link.given + owed controls_so.c.host.object + number ≤ length (seen place these).client.taken + 20 + controls_so.c.host.link.taken
+    pub bounded : controls_so.c.host.link.given + owed controls_so.c.host.object + number ≤ heard + 20 + controls_so.c.host.link.taken
 
   -- In these calls the controller gives an item behind what comes, and accepts it.
   pub record Replies (number : ℕ) (calls : List LinkEvent) (ends : Ends) : Type 0 where
@@ -270,45 +282,10 @@ module _ (laws : RoundLaws) (sited : SitedTable) (station : IsStation sited.site
       client_is : single.client ≡ start.client
       client_is = ra.client
 
-      both_single : AreBoth names connection single
-      both_single = record {
-        timely = ran.0;
-        ordered = ran.1;
-        client_at = ap (λ (e : EndState). e.connection) client_is ∙ r.stands_so.client.at;
-        server_at = server_at;
-        client_in = ap (λ (e : EndState). is_open e.link.phase) client_is ∙ r.stands_so.client.opened;
-        server_in = ap (λ (x : LinkState). is_open x.phase) link_is ∙ opened;
-        asks = ap (λ (e : EndState). is_asking e.link) client_is ∙ r.asks;
-      }
-
-      gave_single : GaveLast names connection single.client.link single.sent
-      gave_single = subst (λ (e : EndState). GaveLast names connection e.link single.sent) (sym client_is) (record {
-        others = r.gave.others;
-        last = r.gave.last;
-        waits = r.gave.waits;
-        under = r.gave.under;
-        datagram = r.gave.datagram;
-        is_sent = ra.among r.gave.datagram r.gave.is_sent;
-        sender = r.gave.sender;
-        of = r.gave.of;
-        pdu = r.gave.pdu;
-        read = r.gave.read;
-        number = r.gave.number;
-        confirms = r.gave.confirms;
-      })
-
       delivered : (datagram : Sent) × IsDelivered single raw connection datagram
       delivered = delivered_alone laws.walk.ends names (are laws.walk sited station once place below connection) connection start.sent start.time (run front_calls start) single raw
           (record { same = ra.server; at = server_at; time_is = ra.time; timely = ran.0; there = ra.among })
           (ap (λ (e : Ends). is_open e.server.link.phase) (sym mid_seen) ∙ s1.server.opened) due_parts.1.0
-
-      home : IsAtHome (reading_of single.server.clock) single.server.link
-      home = record {
-        opened = both_single.server_in;
-        settled_is = laws.giving.settled_so names single role.Server ran.0;
-        few = let few = (room_here (last ∷ tail) (run front_calls start) room_there).1 (ap (λ (e : Ends). is_open e.server.link.phase) (sym mid_seen) ∙ s1.server.opened)
-            in let e = server_is (λ e. e.link.sent) (λ left e. refl) in let k = ap (λ (e : Ends). e.server.link.sent) mid_seen in omega (arith, few, e, k);
-      }
 
       abbrev behind_it : Ends
       behind_it = called role.Server (Receives raw connection) single
@@ -337,41 +314,76 @@ module _ (laws : RoundLaws) (sited : SitedTable) (station : IsStation sited.site
       timely_behind : Timely names behind_it
       timely_behind = laws.walk.ends.time names (Calls role.Server (Receives raw connection)) single (are laws.walk sited station once place below connection) ran.0 may_come
 
-      both_behind : AreBoth names connection behind_it
-      both_behind = record {
-        timely = timely_behind;
-        ordered = laws.walk.ends.order names (Calls role.Server (Receives raw connection)) single (are laws.walk sited station once place below connection) ran.0 ran.1 may_come;
-        client_at = ap (λ (e : EndState). e.connection) behind_client ∙ both_single.client_at;
-        server_at = stays_after (Receives raw connection) single connection server_at (receives_stays single.server both_single.server_in raw connection);
-        client_in = ap (λ (e : EndState). is_open e.link.phase) behind_client ∙ both_single.client_in;
-        server_in = ap (λ (x : LinkState). is_open x.phase) (behind_link ∙ heard_is) ∙ h.comes_open;
-        asks = ap (λ (e : EndState). is_asking e.link) behind_client ∙ both_single.asks;
-      }
+      -- where the client gave its last item behind all that it has taken
+      module _ (given : GivesLast these r.heard) where
+        both_single : AreBoth names connection single
+        both_single = record {
+          timely = ran.0;
+          ordered = ran.1;
+          client_at = ap (λ (e : EndState). e.connection) client_is ∙ r.stands_so.client.at;
+          server_at = server_at;
+          client_in = ap (λ (e : EndState). is_open e.link.phase) client_is ∙ r.stands_so.client.opened;
+          server_in = ap (λ (x : LinkState). is_open x.phase) link_is ∙ opened;
+          asks = ap (λ (e : EndState). is_asking e.link) client_is ∙ given.asks;
+        }
 
-      all_taken : length behind_it.client.given ≤ length behind_it.server.taken
-      all_taken =
-          let count = (laws.walk.counted names behind_it both_behind.ordered connection both_behind.client_at both_behind.server_at).1
-          in let t = counted_taken behind_it.server count both_behind.server_in
-          in let e = ap (λ (x : LinkState). x.taken) (behind_link ∙ heard_is)
-          in let g = ap (λ (x : EndState). length x.given) (behind_client ∙ client_is)
-          in let n = r.number_is
-          in omega (arith, t, e, g, n, all_here)
+        gave_single : GaveLast names connection single.client.link single.sent
+        gave_single = subst (λ (e : EndState). GaveLast names connection e.link single.sent) (sym client_is) (record {
+          others = given.gave.others;
+          last = given.gave.last;
+          waits = given.gave.waits;
+          under = given.gave.under;
+          datagram = given.gave.datagram;
+          is_sent = ra.among given.gave.datagram given.gave.is_sent;
+          sender = given.gave.sender;
+          of = given.gave.of;
+          pdu = given.gave.pdu;
+          read = given.gave.read;
+          number = given.gave.number;
+          confirms = given.gave.confirms;
+        })
 
-      few_wait : length behind_it.server.link.waiting + length single.client.taken ≤ length single.server.given
-      few_wait = window_then names (are laws.walk sited station once place below connection) connection single both_single gave_single raw delivered.0 delivered.1 home (λ none. some (sym items_is ∙ none))
-          behind_it both_behind behind_client behind_link all_taken
+        home : IsAtHome (reading_of single.server.clock) single.server.link
+        home = record {
+          opened = both_single.server_in;
+          settled_is = laws.giving.settled_so names single role.Server ran.0;
+          few = let few = (room_here (last ∷ tail) (run front_calls start) room_there).1 (ap (λ (e : Ends). is_open e.server.link.phase) (sym mid_seen) ∙ s1.server.opened)
+              in let e = server_is (λ e. e.link.sent) (λ left e. refl) in let k = ap (λ (e : Ends). e.server.link.sent) mid_seen in omega (arith, few, e, k);
+        }
 
-      has_room : length heard_link.waiting < 20
-      has_room =
-          let w = few_wait
-          in let e = ap (λ (x : LinkState). length x.waiting) (behind_link ∙ heard_is)
-          in let t = ap (λ (x : EndState). length x.taken) client_is
-          in let g = server_is (λ e. length e.given) (λ left e. refl)
-          in let is = m1.given_is
-          in let few = l.gives_few
-          in let b = r.bounded
-          in let before = taken_before
-          in omega (arith, w, e, t, g, is, few, b, before)
+        both_behind : AreBoth names connection behind_it
+        both_behind = record {
+          timely = timely_behind;
+          ordered = laws.walk.ends.order names (Calls role.Server (Receives raw connection)) single (are laws.walk sited station once place below connection) ran.0 ran.1 may_come;
+          client_at = ap (λ (e : EndState). e.connection) behind_client ∙ both_single.client_at;
+          server_at = stays_after (Receives raw connection) single connection server_at (receives_stays single.server both_single.server_in raw connection);
+          client_in = ap (λ (e : EndState). is_open e.link.phase) behind_client ∙ both_single.client_in;
+          server_in = ap (λ (x : LinkState). is_open x.phase) (behind_link ∙ heard_is) ∙ h.comes_open;
+          asks = ap (λ (e : EndState). is_asking e.link) behind_client ∙ both_single.asks;
+        }
+
+        all_taken : length behind_it.client.given ≤ length behind_it.server.taken
+        all_taken =
+            let count = (laws.walk.counted names behind_it both_behind.ordered connection both_behind.client_at both_behind.server_at).1
+            in let t = counted_taken behind_it.server count both_behind.server_in
+            in let e = ap (λ (x : LinkState). x.taken) (behind_link ∙ heard_is)
+            in let g = ap (λ (x : EndState). length x.given) (behind_client ∙ client_is)
+            in let n = r.number_is
+            in omega (arith, t, e, g, n, all_here)
+
+        few_wait : length behind_it.server.link.waiting + length single.client.taken ≤ length single.server.given
+        few_wait = window_then names (are laws.walk sited station once place below connection) connection single both_single gave_single raw delivered.0 delivered.1 home (λ none. some (sym items_is ∙ none))
+            behind_it both_behind behind_client behind_link all_taken
+
+        few_by_last : length heard_link.waiting + r.heard ≤ c.host.link.given
+        few_by_last =
+            let w = few_wait
+            in let e = ap (λ (x : LinkState). length x.waiting) (behind_link ∙ heard_is)
+            in let t = ap (λ (x : EndState). length x.taken) client_is
+            in let g = server_is (λ e. length e.given) (λ left e. refl)
+            in let is = m1.given_is
+            in let heard_as = given.heard_is
+            in omega (arith, w, e, t, g, is, heard_as)
 
       abbrev with_last : Ends
       with_last = called role.Server (Receives raw other) (run front_calls start)
@@ -384,6 +396,42 @@ module _ (laws : RoundLaws) (sited : SitedTable) (station : IsStation sited.site
       with_last_clock : with_last.server.clock ≡ c.clock
       unfolding called end_after
       with_last_clock = ap (λ (e : Ends). e.server.clock) (sym mid_seen) ∙ m1.clock_is
+
+      end_is : run (front_calls ++ last ∷ []) start ≡ with_last
+      end_is = run_both front_calls (last ∷ []) start
+
+      link_then : (run (front_calls ++ last ∷ []) start).server.link ≡ heard_link
+      link_then = ap (λ (e : Ends). e.server.link) end_is ∙ with_last_link
+
+      -- where what the controller takes confirms it
+      few_by_taking : HoldsConfirmed r.heard (run_on place (all_events_tried events world) these) (seen place these) → length heard_link.waiting + r.heard ≤ c.host.link.given
+      few_by_taking holds =
+          let taken_is = ap (λ (x : LinkState). x.taken) link_then
+          in let fewer = r.fewer
+          in let confirmed = holds (front_calls ++ last ∷ []) tail (whole_is ∙ sym (append_assoc front_calls (last ∷ []) tail)) (omega (arith, fewer, all_here, taken_is))
+          in let same = ap confirmed_items link_then
+          in let given_now = h.counts.given_is
+          in let given_was = m1.counts_so.given_is
+          in let few_given = (laws.walk.few names (seen place mid) s1.ordered connection s1.client.at s1.server.at).1.given
+          in let is = m1.given_is
+          in let ex = exact m1.given_counts (omega (arith, given_was, few_given, is))
+          in let waits = h.counts.waiting
+          in omega (arith, confirmed, same, given_now, given_was, ex, waits)
+
+      few_here : length heard_link.waiting + r.heard ≤ c.host.link.given
+      few_here = choose r.knows
+        where
+          choose : GivesLast these r.heard ⊎ HoldsConfirmed r.heard (run_on place (all_events_tried events world) these) (seen place these) → length heard_link.waiting + r.heard ≤ c.host.link.given
+          choose (inl given) = few_by_last given
+          choose (inr holds) = few_by_taking holds
+
+      has_room : length heard_link.waiting < 20
+      has_room =
+          let w = few_here
+          in let few = l.gives_few
+          in let b = r.bounded
+          in let before = taken_before
+          in omega (arith, w, few, b, before)
 
       heard_home : IsAtHome now heard_link
       heard_home = record {
@@ -417,9 +465,6 @@ module _ (laws : RoundLaws) (sited : SitedTable) (station : IsStation sited.site
         accepts = subst (λ (e : Ends). Accepts e.server) (sym end_is) (subst (λ (n : ℕ). is_ok (answer_to_send n with_last.server.link) ≡ true) (sym (ap reading_of with_last_clock)) (subst (λ (x : LinkState). is_ok (answer_to_send now x) ≡ true) (sym with_last_link) accepts_here));
         has_taken = subst (λ (e : Ends). number ≤ e.server.link.taken) (sym end_is) (subst (λ (x : LinkState). number ≤ x.taken) (sym with_last_link) all_here);
       }
-        where
-          end_is : run (front_calls ++ last ∷ []) start ≡ with_last
-          end_is = run_both front_calls (last ∷ []) start
 
     -- ---- the step in which it hears that
 

@@ -41,7 +41,7 @@ use Rattle.simulator_recovery.proofs.SignalParts.{hears, is_ready_there}
 use Rattle.simulator_recovery.proofs.StopsGiven.{given_stays, goes_on_stays}
 
 -- a client whose link is up by the clock is as it was
-clocked_up : (now : ℕ) (client : ClientState) → is_up (settled now client.link).phase ≡ true → (clocked now client).stage ≡ client.stage
+pub clocked_up : (now : ℕ) (client : ClientState) → is_up (settled now client.link).phase ≡ true → (clocked now client).stage ≡ client.stage
 unfolding clocked fallen
 clocked_up now client up = ap (λ (b : Bool). (if b then late else record late { stage = stage.Outside }).stage) up
   where

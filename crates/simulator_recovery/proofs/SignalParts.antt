@@ -1,5 +1,5 @@
 -- What is kept of the routes and of the signals' aspects by each part of a step of an interlocking.
-use Rattle.std.proofs.Common.{◌≡◌, ℕ, suc, Bool, true, false, ◌&&◌, List, length, map, Option, Some, None, slice_get, if◌then◌else◌, refl, sym, ap, ◌∙◌, ◌⊎◌, inl, inr}
+use Rattle.std.proofs.Common.{◌≡◌, ℕ, suc, Bool, true, false, ◌&&◌, List, length, map, Option, Some, None, slice_get, if◌then◌else◌, refl, sym, ap, subst, ◌∙◌, ◌⊎◌, inl, inr}
 use Rattle.std.proofs.lemmas.Bool.{false≢true}
 use Rattle.std.proofs.lemmas.Option.{same_Some}
 use Rattle.std.specs.Prelude.{◌||◌, ◌==◌, not}
@@ -48,11 +48,17 @@ IsOver phase.Free = Unit {0}
 IsOver (phase.Ended clock done) = Unit {0}
 IsOver _ = ⊥
 
+-- a route that is set behind the end of its authority was withdrawn, or its authority had ended before, at the same clock
+abbrev pub EndsFrom : (old new : Phase) → Type 0
+EndsFrom phase.Withdrawn new = Unit {0}
+EndsFrom (phase.Ended clock done) (phase.Ended later more) = later ≡ clock
+EndsFrom _ _ = ⊥
+
 -- a route keeps its phase, and stays cancelled where it was; or it was set and its authority is over, behind its aspect, and where it is set
--- still it stays cancelled
+-- still it comes from there, and stays cancelled
 abbrev pub IsQuiet : (old new : RouteState) → Type 0
 IsQuiet old new = ((new.phase ≡ old.phase) × (old.cancelled ≡ true → new.cancelled ≡ true))
-    ⊎ (IsOver new.phase × (is_proceeding old.phase ≡ false) × (is_set old.phase ≡ true) × (is_set new.phase ≡ true → old.cancelled ≡ true → new.cancelled ≡ true))
+    ⊎ (IsOver new.phase × (is_proceeding old.phase ≡ false) × (is_set old.phase ≡ true) × (is_set new.phase ≡ true → EndsFrom old.phase new.phase × (old.cancelled ≡ true → new.cancelled ≡ true)))
 
 -- a route of the table, as it is now
 pub record AtRoute (table : Table) (number : ℕ) (row : Row) (route : RouteState) (routes : List RouteState) : Type 0 where
@@ -131,7 +137,7 @@ freed_quietly row (phase.Ended clock done) route is = choose (suc done == length
   where
     choose : (b : Bool) → IsQuiet route (if b then freed route else come_to (phase.Ended clock (suc done)) route)
     choose true = inr (tt, ap is_proceeding is, ap is_set is, λ set. absurd (false≢true set))
-    choose false = inr (tt, ap is_proceeding is, ap is_set is, λ set cancelled. cancelled)
+    choose false = inr (tt, ap is_proceeding is, ap is_set is, λ set. (subst (λ (p : Phase). EndsFrom p (phase.Ended clock (suc done))) (sym is) refl, λ cancelled. cancelled))
 freed_quietly row phase.Free route is = inl (refl, λ cancelled. cancelled)
 freed_quietly row phase.Waiting route is = inl (refl, λ cancelled. cancelled)
 freed_quietly row phase.Proceeding route is = inl (refl, λ cancelled. cancelled)
@@ -144,7 +150,7 @@ was_withdrawn now route due = by_phase route.phase due refl
     by_phase phase.Free e is = absurd (false≢true e)
     by_phase phase.Waiting e is = absurd (false≢true e)
     by_phase phase.Proceeding e is = absurd (false≢true e)
-    by_phase phase.Withdrawn e is = inr (tt, ap is_proceeding is, ap is_set is, λ set cancelled. cancelled)
+    by_phase phase.Withdrawn e is = inr (tt, ap is_proceeding is, ap is_set is, λ set. (subst (λ (p : Phase). EndsFrom p (phase.Ended now 0)) (sym is) tt, λ cancelled. cancelled))
     by_phase (phase.Ended clock done) e is = absurd (false≢true e)
 
 pub was_freed : (now : ℕ) (table : Table) (ixl : IxlState) (row : Row) (route : RouteState) → frees_cancelled now table ixl row route route.phase ≡ true → IsQuiet route (freed route)
@@ -179,7 +185,7 @@ module _ (now : ℕ) (table : Table) (P : List RouteState → List KnownSignalSt
   pub over_held : (does : ℕ → StepSoFar → StepSoFar) → ((number : ℕ) (part : StepSoFar) → Held part → Held (does number part)) → (n : ℕ) (part : StepSoFar) → Held part → Held (over does n part)
   over_held = over_keeps Held
 
-  where_either : (b : Bool) (one other : StepSoFar) → (b ≡ true → Held one) → (b ≡ false → Held other) → Held (if b then one else other)
+  pub where_either : (b : Bool) (one other : StepSoFar) → (b ≡ true → Held one) → (b ≡ false → Held other) → Held (if b then one else other)
   where_either true one other so not = so refl
   where_either false one other so not = not refl
 
@@ -187,7 +193,7 @@ module _ (now : ℕ) (table : Table) (P : List RouteState → List KnownSignalSt
   quietly number change part quiet all = keep.quiet number change part.ixl.routes part.ixl.known_signals quiet all
 
   -- a signal that is ready is given an aspect
-  aspect_held : (signal : ℕ) (aspect : Aspect) (part : StepSoFar) → is_signal_ready part.ixl signal ≡ true
+  pub aspect_held : (signal : ℕ) (aspect : Aspect) (part : StepSoFar) → is_signal_ready part.ixl signal ≡ true
       → ((known : KnownSignalState) (items : ℕ) (client : ClientState) → slice_get part.ixl.known_signals signal ≡ Some known → IsGiven now aspect known.client client
       → P part.ixl.routes (changed (λ old. new_signal aspect items client known) signal part.ixl.known_signals)) → Held (giving_aspect now signal aspect part)
   unfolding giving_aspect

@@ -45,7 +45,7 @@ last_tried [] last flowing = refl
 last_tried (first ∷ before) last flowing = last_tried before last (record flowing { state = after flowing.state first })
 
 -- the world refuses no request
-request_happens : (site : Site) (world : WorldState) (route : RouteId) → refusal site (Request (Cancel route)) world ≡ None
+pub request_happens : (site : Site) (world : WorldState) (route : RouteId) → refusal site (Request (Cancel route)) world ≡ None
 unfolding refusal
 request_happens site world route = refl
 

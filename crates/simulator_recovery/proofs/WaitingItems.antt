@@ -211,7 +211,7 @@ module _ (now : ℕ) where
 
   -- ---- a tick
 
-  ticked_none : (client : ClientState) (outbox : OutboxState) → is_up (ticking now (begun client outbox)).client.link.phase ≡ true → NoMore client.link (ticking now (begun client outbox)).client.link
+  pub ticked_none : (client : ClientState) (outbox : OutboxState) → is_up (ticking now (begun client outbox)).client.link.phase ≡ true → NoMore client.link (ticking now (begun client outbox)).client.link
   unfolding ticking calling
   ticked_none client outbox up = subst (NoMore client.link) (sym link_is) (tick_then_open client.link (ap (λ (l : LinkState). is_up l.phase) (sym link_is) ∙ up))
     where

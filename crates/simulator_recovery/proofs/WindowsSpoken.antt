@@ -46,19 +46,19 @@ pub each_two : {X : Type 0} (P : X → Type 0) (one other : List X) → Each P (
 each_two P [] other each = (tt, each)
 each_two P (x ∷ one) other each = let more = each_two P one other each.1 in ((each.0, more.0), more.1)
 
-rounds_two : (one other : List (List LinkEvent)) (f : Flow) → work_rounds (one ++ other) f ≡ work_rounds other (work_rounds one f)
+pub rounds_two : (one other : List (List LinkEvent)) (f : Flow) → work_rounds (one ++ other) f ≡ work_rounds other (work_rounds one f)
 rounds_two [] other f = refl
 rounds_two (first ∷ one) other f = rounds_two one other (work_round first f)
 
-work_two : (names : Names) (one other : List (List LinkEvent)) (f : Flow) → AreAtWork names (one ++ other) f → AreAtWork names one f × AreAtWork names other (work_rounds one f)
+pub work_two : (names : Names) (one other : List (List LinkEvent)) (f : Flow) → AreAtWork names (one ++ other) f → AreAtWork names one f × AreAtWork names other (work_rounds one f)
 work_two names [] other f work = (tt, work)
 work_two names (first ∷ one) other f work = let more = work_two names one other (work_round first f) work.1 in ((work.0, more.0), more.1)
 
-below_two : (one other : List (List LinkEvent)) (f : Flow) → StayBelow (one ++ other) f → StayBelow one f × StayBelow other (work_rounds one f)
+pub below_two : (one other : List (List LinkEvent)) (f : Flow) → StayBelow (one ++ other) f → StayBelow one f × StayBelow other (work_rounds one f)
 below_two [] other f below = (tt, below)
 below_two (first ∷ one) other f below = let more = below_two one other (work_round first f) below.1 in ((below.0, more.0), more.1)
 
-lists_two : (link : ℕ) (one other : List (List Event)) (flowing : Flowing Played) (before : Links) → (lists : List (List LinkEvent)) × (lists_on link (one ++ other) flowing before ≡ lists_on link one flowing before ++ lists)
+pub lists_two : (link : ℕ) (one other : List (List Event)) (flowing : Flowing Played) (before : Links) → (lists : List (List LinkEvent)) × (lists_on link (one ++ other) flowing before ≡ lists_on link one flowing before ++ lists)
 lists_two link [] other flowing before = (lists_on link other flowing before, refl)
 lists_two link (first ∷ one) other flowing before =
     let more = lists_two link one other (all_tried first (round stations flowing)) (links_behind first flowing before)

@@ -25,3 +25,4 @@ pub mod KnownAgain
 pub mod Passage
 pub mod BeginsOfMoves
 pub mod HeldPoints
+pub mod Withdrawn
