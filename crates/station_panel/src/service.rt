@@ -1,5 +1,9 @@
 //! A panel of a station, from its desk to its end.
 
+ghost use Rattle.std.specs.Prelude.{◌≡◌, IfOk};
+ghost use Rattle.panel_desk.specs.Answers.{DeskView};
+ghost use Rattle.station_panel.specs.Turns.{Attended, EndsSo, Moment};
+
 use crate::attendance::attend;
 use crate::disturbed::Disturbed;
 use crate::ending::{Ending, Limits, PanelFault};
@@ -21,7 +25,7 @@ struct Room<S, N> {
 }
 
 /// Serves a panel of a station, over a network, by a clock, with a record and a listener for browsers. Its desk is made, the
-/// address of its page is written to `out`, and it is attended up to its limits.
+/// address of its page is written to `out`, and it is attended up to its limits, as `attend` does that.
 pub fn serve<
     S: Station + Pictured + Drop,
     N: Datagrams + Drop,
@@ -41,7 +45,9 @@ pub fn serve<
     page: &PageAsked<'_>,
     limits: Limits,
     out: &mut O,
-) -> Result<Ending, PanelFault> {
+) -> Result<Ending, PanelFault>
+    ensures { IfOk result (λ ending. (opened : DeskView) × (last : Moment S) × (told : Attended S.does (S.site station) S.state S.lines limits.memory station opened (W.contents recorder.old) (C.readings clock.old) (C.readings clock.new) last) × EndsSo limits.for_ms told.first told.readings ending × (last.text ≡ W.contents recorder.new)) }
+{
     let mut room = open_room(rt, alloc, station, net, page)?;
     tell_address(page.port, out)?;
     let ending = attend(
@@ -65,7 +71,9 @@ fn open_room<R: RandomSource, S: Station + Pictured + Drop, N: Drop>(
     station: S,
     net: N,
     page: &PageAsked<'_>,
-) -> Result<Room<S, N>, PanelFault> {
+) -> Result<Room<S, N>, PanelFault>
+    ensures { IfOk result (λ room. room.station.station ≡ station) }
+{
     let table = station.table().copy(alloc)?;
     let desk = open_desk(rt, alloc, table, places(alloc, &station)?, page)?;
     let net = Disturbed::of(alloc, net, station.table().layout())?;
