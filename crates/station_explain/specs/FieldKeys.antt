@@ -51,7 +51,7 @@ item_key key.Extra = Some key.Name
 item_key _ = None
 
 -- an entry that may have the key has to have it
-abbrev pub is_required : FieldKey → Bool
+unfoldable pub is_required : FieldKey → Bool
 is_required key.Code = false
 is_required key.Flank = false
 is_required key.Approach = false
@@ -60,7 +60,7 @@ is_required key.Aspect = false
 is_required _ = true
 
 -- all keys of an entry, in the order in which they are read
-abbrev pub all_keys : TableName → List FieldKey
+unfoldable pub all_keys : TableName → List FieldKey
 all_keys named.Station = key.Name ∷ key.Id ∷ key.Code ∷ []
 all_keys named.Track = key.Name ∷ key.Section ∷ []
 all_keys named.Point = key.Name ∷ key.Id ∷ key.Section ∷ []

@@ -40,4 +40,4 @@ module _ (l : Site) where
   back_at path left = option_and_then (back_to path) (section_of l left.element)
 
   unfoldable pub repeated_detail : RouteEntry → Option PathDetail
-  repeated_detail r = option_or (first_of (λ left. twice_at r.path left) r.path) (first_of (λ left. back_at r.path left) r.path)
+  repeated_detail r = option_or (first_of (twice_at r.path) r.path) (first_of (back_at r.path) r.path)

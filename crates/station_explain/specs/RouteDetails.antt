@@ -22,18 +22,18 @@ use Rattle.station_explain.specs.Repeats.{repeated_detail}
 use Rattle.station_explain.specs.RouteSides.{guard, unused_leg}
 use Rattle.station_explain.specs.RouteStart.{is_written, start_of}
 use Rattle.station_explain.specs.Search.{first_of, first_step}
-use Rattle.station_explain.specs.SideDetails.{contrary_detail, lacking_detail, wrong_detail}
+use Rattle.station_explain.specs.SideDetails.{contrary_detail, lacking_at, lacking_detail, wrong_detail}
 use Rattle.station_explain.specs.declared.advice.Advice.{Advice}
 use Rattle.station_explain.specs.declared.advice.Advice.TheVariants.{Path, Points, Table, Unanswered, Unwritten, WithItself}
 use Rattle.station_explain.specs.declared.detail.PathDetail.{PathDetail}
 use Rattle.station_explain.specs.declared.detail.PathDetail.TheVariants.{Empty, DeadEnd, Astray, OpenLeg, EndsElsewhere, EndsAtEntry, InTheWay}
 
 -- a route stands in a list of extra conflicts
-abbrev pub is_listed : List RouteId → RouteId → Bool
+unfoldable pub is_listed : List RouteId → RouteId → Bool
 is_listed extra b = list_any (λ listed. listed.0 == b.0) extra
 
 -- an exit is the signal of this place
-abbrev pub is_signal : Exit → ℕ → Bool
+unfoldable pub is_signal : Exit → ℕ → Bool
 is_signal (exit.Signal s) n = s.0 == n
 is_signal (exit.Border b) n = false
 
@@ -79,6 +79,17 @@ module _ (l : Site) where
   unfoldable pub open_detail : RouteEntry → Option PathDetail
   open_detail r = option_and_then (λ start. first_step (λ before left. open_at before left) start r.path) (start_of l r)
 
+  -- ---- the first step of a path that fails the test of a fault
+
+  abbrev pub step_detail : RouteEntry → TableFault → Port → Port → Option PathDetail
+  step_detail r (fault.PathBroken _) = λ before left. break_at before left
+  step_detail r (fault.FlankMissing _) = λ before left. lacking_at l r before left
+  step_detail r (fault.FlankOpen _) = λ before left. open_at before left
+  step_detail r _ = λ before left. None
+
+  unfoldable pub path_detail : RouteEntry → TableFault → Option PathDetail
+  path_detail r f = option_and_then (λ start. first_step (step_detail r f) start r.path) (start_of l r)
+
   -- ---- the exit, and the signal that stands in the way
 
   -- the exit is at a port: the signal stands there, or the border is joined to it
@@ -100,7 +111,7 @@ module _ (l : Site) where
   abbrev pub exit_behind : RouteEntry → Port → Option PathDetail
   exit_behind r last =
       if not (is_exit r.exit last) then elsewhere r.exit last
-      else (if is_signal r.exit r.entry.0 then option_map EndsAtEntry (signal_name l r.entry.0) else first_of (λ left. in_the_way r.exit left) r.path)
+      else (if is_signal r.exit r.entry.0 then option_map EndsAtEntry (signal_name l r.entry.0) else first_of (in_the_way r.exit) r.path)
 
   unfoldable pub exit_detail : RouteEntry → Option PathDetail
   exit_detail r = option_and_then (exit_behind r) (slice_get r.path (length r.path - 1))
@@ -120,13 +131,13 @@ module _ (l : Site) where
   unfoldable pub detail_of : RouteEntry → FaultyRoute → TableFault → Option Advice
   detail_of r at (fault.PathBroken _) = option_map (Path at) (broken_detail r)
   detail_of r at (fault.PathRepeats _) = option_map (Path at) (repeated_detail l r)
-  detail_of r at (fault.PointMissing _) = first_of (λ left. unwritten_at r at left) r.path
+  detail_of r at (fault.PointMissing _) = first_of (unwritten_at r at) r.path
   detail_of r at (fault.PointWrong _) = option_map (Points at) (wrong_detail l r)
   detail_of r at (fault.FlankMissing _) = option_map (Path at) (lacking_detail l r)
   detail_of r at (fault.FlankOpen _) = option_map (Path at) (open_detail r)
   detail_of r at (fault.FlankContradicts _) = option_map (Points at) (contrary_detail l r)
   detail_of r at (fault.SignalPlace _) = option_map (Path at) (exit_detail r)
-  detail_of r at (fault.NotSymmetric _) = first_of (λ other. unanswered at other) r.extra
+  detail_of r at (fault.NotSymmetric _) = first_of (unanswered at) r.extra
   detail_of r at fault.OutOfMemory = None
 
   unfoldable pub table_detail : TableFault → Option Advice

@@ -18,16 +18,16 @@ use Rattle.station_explain.specs.declared.advice.Advice.TheVariants.{Shared}
 use Rattle.station_explain.specs.declared.advice.Common.{Common}
 use Rattle.station_explain.specs.declared.advice.Common.TheVariants as common
 
-abbrev pub same_place : Place → Place → Bool
+unfoldable pub same_place : Place → Place → Bool
 same_place a b = (table_number a.table == table_number b.table) && (a.entry == b.entry)
 
-abbrev pub same_port_name : PortName → PortName → Bool
+unfoldable pub same_port_name : PortName → PortName → Bool
 same_port_name p q = same_name p.element q.element && same_end p.end q.end
 
-abbrev pub joins : WrittenJoint → PortName → Bool
+unfoldable pub joins : WrittenJoint → PortName → Bool
 joins joint p = same_port_name joint.first p || same_port_name joint.second p
 
-abbrev pub reports : DetectorText → List ℕ → Bool
+unfoldable pub reports : DetectorText → List ℕ → Bool
 reports d section = list_any (λ one. same_name one section) d.sections
 
 module _ (w : LayoutText) where
@@ -98,7 +98,7 @@ module _ (w : LayoutText) where
   -- ---- the first entry of all that has it
 
   abbrev pub first_having : Common → Option Place
-  first_having what = first_of (λ table. place_having what table) (named.Station ∷ named.Section ∷ named.Track ∷ named.Point ∷ named.Border ∷ named.Joint ∷ named.Signal ∷ named.Detector ∷ named.Route ∷ [])
+  first_having what = first_of (place_having what) (named.Station ∷ named.Section ∷ named.Track ∷ named.Point ∷ named.Border ∷ named.Joint ∷ named.Signal ∷ named.Detector ∷ named.Route ∷ [])
 
   -- An entry has something that the first one which has it has too, if that is another one.
   abbrev pub shared_by : Place → Common → Place → Option Advice

@@ -38,7 +38,7 @@ module _ (l : Site) where
 
   abbrev pub wrong_from : RouteEntry → Port → Option PointDetail
   wrong_from r start =
-      option_or (first_of (λ written. wrong_point start r.path written) r.points) (first_of (λ written. wrong_flank start r.path written) r.flank)
+      option_or (first_of (wrong_point start r.path) r.points) (first_of (wrong_flank start r.path) r.flank)
 
   unfoldable pub wrong_detail : RouteEntry → Option PointDetail
   wrong_detail r = option_and_then (wrong_from r) (start_of l r)
@@ -68,4 +68,4 @@ module _ (l : Site) where
   contrary_at start path before left = option_or (contrary start path (used_behind l before left)) (contrary start path (guard_behind l before left))
 
   unfoldable pub contrary_detail : RouteEntry → Option PointDetail
-  contrary_detail r = option_and_then (λ start. first_step (λ before left. contrary_at start r.path before left) start r.path) (start_of l r)
+  contrary_detail r = option_and_then (λ start. first_step (contrary_at start r.path) start r.path) (start_of l r)

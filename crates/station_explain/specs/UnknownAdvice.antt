@@ -37,6 +37,11 @@ spot_by place key n (Some one) = Item place key n
 abbrev pub spot_of : Place → FieldKey → ℕ → Spot
 spot_of place key n = spot_by place key n (item_key key)
 
+-- what a name under a key has to be: under `extra` that of a route
+abbrev pub name_missed : FieldKey → List ℕ → Missed
+name_missed key.Extra name = missing.Route name
+name_missed _ name = missing.Section name
+
 module _ (w : LayoutText) where
   -- ---- what is named is there, and of the kind that is wanted
 

@@ -5,7 +5,7 @@ ghost use Rattle.station_explain.specs.DetailWords.{path_words, point_words};
 
 use crate::detail::{PathDetail, PointDetail};
 use crate::route_sides::other;
-use crate::words::Words;
+use crate::words::{Words, write_name, write_port};
 use std::fmt;
 
 impl fmt::Display for PathDetail {
@@ -16,8 +16,7 @@ impl fmt::Display for PathDetail {
         match self {
             PathDetail::Empty => f.write_str("is empty"),
             PathDetail::DeadEnd(port) => {
-                let port = Words(*port);
-                write!(f, "breaks at {port}: nothing is joined to it")
+                write_port(f, "breaks at ", *port, ": nothing is joined to it")
             }
             PathDetail::Astray(before, entered, left) => {
                 let before = Words(*before);
@@ -28,13 +27,9 @@ impl fmt::Display for PathDetail {
                     "breaks at {before}: it is joined to {entered}, from where no train leaves by {left}"
                 )
             }
-            PathDetail::Twice(name) => {
-                let name = Words(*name);
-                write!(f, "leads over {name} twice")
-            }
+            PathDetail::Twice(name) => write_name(f, "leads over ", *name, " twice"),
             PathDetail::ComesBack(section) => {
-                let section = Words(*section);
-                write!(f, "comes back to section {section}, which it left")
+                write_name(f, "comes back to section ", *section, ", which it left")
             }
             PathDetail::OpenLeg(leg, from) => {
                 let leg = Words(*leg);
@@ -60,8 +55,7 @@ impl fmt::Display for PathDetail {
                 write!(f, "ends at {port}, where its exit {exit} isn't")
             }
             PathDetail::EndsAtEntry(entry) => {
-                let entry = Words(*entry);
-                write!(f, "has its entry signal {entry} for its exit")
+                write_name(f, "has its entry signal ", *entry, " for its exit")
             }
             PathDetail::InTheWay(name, port) => {
                 let name = Words(*name);
@@ -78,13 +72,12 @@ impl fmt::Display for PointDetail {
     #[tactic(auto, unfolding(crate::specs::DetailWords::point_words))]
     fn fmt<W: fmt::Write>(&self, f: &mut fmt::Formatter<W>) -> fmt::Result {
         match self {
-            PointDetail::OffPath(name) => {
-                let name = Words(*name);
-                write!(
-                    f,
-                    "writes point {name} under `points`, and its path doesn't lead over it"
-                )
-            }
+            PointDetail::OffPath(name) => write_name(
+                f,
+                "writes point ",
+                *name,
+                " under `points`, and its path doesn't lead over it",
+            ),
             PointDetail::PointAt(name, side) => {
                 let name = Words(*name);
                 let wanted = Words(other(*side));
@@ -94,13 +87,12 @@ impl fmt::Display for PointDetail {
                     "writes point {name} {side} under `points`, and requires it {wanted}"
                 )
             }
-            PointDetail::OnPath(name) => {
-                let name = Words(*name);
-                write!(
-                    f,
-                    "writes point {name} under `flank`, and its path leads over it"
-                )
-            }
+            PointDetail::OnPath(name) => write_name(
+                f,
+                "writes point ",
+                *name,
+                " under `flank`, and its path leads over it",
+            ),
             PointDetail::FlankAt(name, side) => {
                 let name = Words(*name);
                 let side = Words(*side);
@@ -110,8 +102,7 @@ impl fmt::Display for PointDetail {
                 )
             }
             PointDetail::BothSides(name) => {
-                let name = Words(*name);
-                write!(f, "requires point {name} at both sides")
+                write_name(f, "requires point ", *name, " at both sides")
             }
         }
     }

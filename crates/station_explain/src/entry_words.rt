@@ -5,7 +5,7 @@ ghost use Rattle.station_explain.specs.EntryWords.{common_words, entry_form, mis
 
 use crate::advice::{Common, Missed, Spot};
 use crate::field_key::FieldKey;
-use crate::words::Words;
+use crate::words::{Words, write_name, write_port};
 use layout_text::{Place, TableName};
 use std::fmt;
 
@@ -104,23 +104,11 @@ impl fmt::Display for Common {
     #[tactic(auto, unfolding(crate::specs::EntryWords::common_words))]
     fn fmt<W: fmt::Write>(&self, f: &mut fmt::Formatter<W>) -> fmt::Result {
         match self {
-            Common::Name(name) => {
-                let name = Words(*name);
-                write!(f, "has the name {name}, as")
-            }
+            Common::Name(name) => write_name(f, "has the name ", *name, ", as"),
             Common::Id(id) => write!(f, "has the id {id}, as"),
-            Common::Section(section) => {
-                let section = Words(*section);
-                write!(f, "reports the section {section}, as")
-            }
-            Common::Joint(port) => {
-                let port = Words(*port);
-                write!(f, "joins {port}, as")
-            }
-            Common::Signal(port) => {
-                let port = Words(*port);
-                write!(f, "stands at {port}, as")
-            }
+            Common::Section(section) => write_name(f, "reports the section ", *section, ", as"),
+            Common::Joint(port) => write_port(f, "joins ", *port, ", as"),
+            Common::Signal(port) => write_port(f, "stands at ", *port, ", as"),
         }
     }
 }
@@ -131,37 +119,20 @@ impl fmt::Display for Missed {
     #[tactic(auto, unfolding(crate::specs::EntryWords::missed_words))]
     fn fmt<W: fmt::Write>(&self, f: &mut fmt::Formatter<W>) -> fmt::Result {
         match self {
-            Missed::Section(name) => {
-                let name = Words(*name);
-                write!(f, "names {name}, where a section is wanted")
-            }
-            Missed::Port(port) => {
-                let port = Words(*port);
-                write!(
-                    f,
-                    "names {port}, where a port of a track, a point or a border is wanted"
-                )
-            }
-            Missed::Point(name) => {
-                let name = Words(*name);
-                write!(f, "names {name}, where a point is wanted")
-            }
-            Missed::Signal(name) => {
-                let name = Words(*name);
-                write!(f, "names {name}, where a signal is wanted")
-            }
+            Missed::Section(name) => write_name(f, "names ", *name, ", where a section is wanted"),
+            Missed::Port(port) => write_port(
+                f,
+                "names ",
+                *port,
+                ", where a port of a track, a point or a border is wanted",
+            ),
+            Missed::Point(name) => write_name(f, "names ", *name, ", where a point is wanted"),
+            Missed::Signal(name) => write_name(f, "names ", *name, ", where a signal is wanted"),
             Missed::Exit(name) => {
-                let name = Words(*name);
-                write!(f, "names {name}, where a signal or a border is wanted")
+                write_name(f, "names ", *name, ", where a signal or a border is wanted")
             }
-            Missed::Route(name) => {
-                let name = Words(*name);
-                write!(f, "names {name}, where a route is wanted")
-            }
-            Missed::Unreported(name) => {
-                let name = Words(*name);
-                write!(f, "is {name}, which no detector reports")
-            }
+            Missed::Route(name) => write_name(f, "names ", *name, ", where a route is wanted"),
+            Missed::Unreported(name) => write_name(f, "is ", *name, ", which no detector reports"),
         }
     }
 }

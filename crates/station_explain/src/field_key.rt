@@ -85,6 +85,7 @@ impl FieldKey {
     }
 
     /// Whether an entry that may have the key has to have it.
+    #[tactic(auto, unfolding(crate::specs::FieldKeys::is_required))]
     pub(crate) fn is_required(self) -> bool
         ensures { result ≡ is_required self }
     {
@@ -122,6 +123,7 @@ const ROUTE_KEYS: &[FieldKey] = &[
 ];
 
 /// The keys of an entry of a table, in the order in which they are read.
+#[tactic(auto, unfolding(crate::specs::FieldKeys::all_keys))]
 pub(crate) fn keys_of(table: TableName) -> &'static [FieldKey]
     ensures { result.now ≡ all_keys table }
 {

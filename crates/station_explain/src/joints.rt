@@ -4,7 +4,6 @@ ghost use Rattle.std.specs.Prelude.{◌≡◌};
 ghost use Rattle.control_table.specs.layout.Known.{same_element, same_port};
 ghost use Rattle.station_explain.specs.Joints.{is_tip, joined_to, may_pass, other_port, same_end, signal_at};
 
-use crate::search::first_of;
 use control_table::layout::{Element, End, Joint, Port, Signal};
 
 /// Whether two ports are the same.
@@ -46,7 +45,12 @@ fn other_port(joint: Joint, port: Port) -> Option<Port>
 pub(crate) fn joined_to(joints: &[Joint], port: Port) -> Option<Port>
     ensures { result ≡ joined_to joints.now port }
 {
-    first_of(joints, |joint| other_port(joint, port))
+    for joint in joints {
+        if let Some(found) = other_port(*joint, port) {
+            return Some(found);
+        }
+    }
+    None
 }
 
 /// Whether an end is the tip of a point.

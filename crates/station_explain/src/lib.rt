@@ -16,7 +16,6 @@ mod repeats;
 mod route_detail;
 mod route_sides;
 mod route_start;
-mod search;
 mod shared;
 mod side_detail;
 mod text_place;

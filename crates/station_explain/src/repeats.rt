@@ -2,12 +2,12 @@
 
 ghost use Rattle.std.specs.Prelude.{◌≡◌, false};
 ghost use Rattle.control_table.specs.Topology.{section_of};
+ghost use Rattle.station_explain.specs.Search.{first_of};
 ghost use Rattle.station_explain.specs.Repeats.{back_at, comes_back, comes_twice, lies_in, repeated_detail, twice_at};
 
 use crate::detail::PathDetail;
 use crate::joints::same_element;
 use crate::layout_names::element_name;
-use crate::search::first_of;
 use control_table::layout::{Element, Layout, Port, Route, SectionId};
 
 /// Whether an element comes twice on a path.
@@ -89,14 +89,35 @@ fn back_at(layout: &Layout, path: &[Port], left: Port) -> Option<PathDetail>
     Some(PathDetail::ComesBack(*layout.sections().get(section.0)?))
 }
 
+/// The first element of a path that comes twice on it.
+fn first_twice(layout: &Layout, path: &[Port]) -> Option<PathDetail>
+    ensures { result ≡ first_of (twice_at layout.now path.now) path.now }
+{
+    for left in path {
+        if let Some(found) = twice_at(layout, path, *left) {
+            return Some(found);
+        }
+    }
+    None
+}
+
+/// The first section to which a path comes back.
+fn first_back(layout: &Layout, path: &[Port]) -> Option<PathDetail>
+    ensures { result ≡ first_of (back_at layout.now path.now) path.now }
+{
+    for left in path {
+        if let Some(found) = back_at(layout, path, *left) {
+            return Some(found);
+        }
+    }
+    None
+}
+
 /// What comes twice on the path of a route.
 #[tactic(auto, unfolding(crate::specs::Repeats::repeated_detail))]
 pub(crate) fn repeated_detail(layout: &Layout, route: &Route) -> Option<PathDetail>
     ensures { result ≡ repeated_detail layout.now route.now }
 {
     let path = route.path();
-    first_of(path, |left| twice_at(layout, path, left)).or(first_of(
-        path,
-        |left| back_at(layout, path, left),
-    ))
+    first_twice(layout, path).or(first_back(layout, path))
 }

@@ -2,7 +2,8 @@
 
 ghost use Rattle.std.specs.Prelude.{◌≡◌, Some};
 ghost use Rattle.station_explain.specs.FaultWords.{route_at_fault};
-ghost use Rattle.station_explain.specs.RouteDetails.{break_at, broken_detail, detail_of, exit_detail, in_the_way, is_exit, is_listed, is_signal, lists, open_at, open_detail, table_detail, unanswered, unwritten_at};
+ghost use Rattle.station_explain.specs.Search.{first_of};
+ghost use Rattle.station_explain.specs.RouteDetails.{break_at, detail_of, exit_detail, in_the_way, is_exit, is_listed, is_signal, lists, open_at, path_detail, step_detail, table_detail, unanswered, unwritten_at};
 
 use crate::advice::Advice;
 use crate::detail::PathDetail;
@@ -11,8 +12,7 @@ use crate::layout_names::{exit_name, leg_names, point_name, port_name, signal_na
 use crate::repeats::repeated_detail;
 use crate::route_sides::{guard, unused_leg};
 use crate::route_start::{is_written, start_of};
-use crate::search::{first_of, first_step};
-use crate::side_detail::{contrary_detail, lacking_detail, wrong_detail};
+use crate::side_detail::{contrary_detail, lacking_at, wrong_detail};
 use control_table::layout::{Element, Exit, Layout, Port, Route, RouteId};
 use control_table::{FaultyRoute, TableFault};
 
@@ -31,22 +31,6 @@ fn break_at(layout: &Layout, before: Port, left: Port) -> Option<PathDetail>
     }
 }
 
-/// Where the path of a route breaks.
-#[tactic(auto, unfolding(crate::specs::RouteDetails::broken_detail))]
-fn broken_detail(layout: &Layout, route: &Route) -> Option<PathDetail>
-    ensures { result ≡ broken_detail layout.now route.now }
-{
-    if route.path().is_empty() {
-        return Some(PathDetail::Empty);
-    }
-    let start = start_of(layout, route)?;
-    first_step(
-        start,
-        route.path(),
-        |before, left| break_at(layout, before, left),
-    )
-}
-
 /// The advice for a point of a path that isn't written, if the path leaves one by this port.
 #[tactic(auto, unfolding(crate::specs::RouteDetails::unwritten_at))]
 fn unwritten_at(layout: &Layout, route: &Route, at: FaultyRoute, left: Port) -> Option<Advice>
@@ -57,6 +41,23 @@ fn unwritten_at(layout: &Layout, route: &Route, at: FaultyRoute, left: Port) -> 
         Element::Point(point) => Some(Advice::Unwritten(at, point_name(layout, point)?)),
         _ => None,
     }
+}
+
+/// The advice for the first point of a path that isn't written.
+fn first_unwritten(
+    layout: &Layout,
+    route: &Route,
+    at: &FaultyRoute,
+    path: &[Port],
+) -> Option<Advice>
+    ensures { result ≡ first_of (unwritten_at layout.now route.now at.now) path.now }
+{
+    for left in path {
+        if let Some(found) = unwritten_at(layout, route, *at, *left) {
+            return Some(found);
+        }
+    }
+    None
 }
 
 /// The leg of the point behind a port that a path doesn't use, if it is open: what is joined to it is no leg of another point,
@@ -73,17 +74,39 @@ fn open_at(layout: &Layout, before: Port, left: Port) -> Option<PathDetail>
     Some(PathDetail::OpenLeg(leg, from))
 }
 
-/// The first open leg of a route.
-#[tactic(auto, unfolding(crate::specs::RouteDetails::open_detail))]
-fn open_detail(layout: &Layout, route: &Route) -> Option<PathDetail>
-    ensures { result ≡ open_detail layout.now route.now }
+/// What is wrong with a step of a path, from one port to that by which the next element is left, by the test of a fault.
+fn step_detail(
+    layout: &Layout,
+    route: &Route,
+    fault: &TableFault,
+    before: Port,
+    left: Port,
+) -> Option<PathDetail>
+    ensures { result ≡ step_detail layout.now route.now fault.now before left }
+{
+    match fault {
+        TableFault::PathBroken(_) => break_at(layout, before, left),
+        TableFault::FlankMissing(_) => lacking_at(layout, route, before, left),
+        TableFault::FlankOpen(_) => open_at(layout, before, left),
+        _ => None,
+    }
+}
+
+/// What is wrong with the first step of the path of a route that fails the test of a fault.
+#[tactic(auto, unfolding(crate::specs::RouteDetails::path_detail))]
+fn path_detail(layout: &Layout, route: &Route, fault: &TableFault) -> Option<PathDetail>
+    ensures { result ≡ path_detail layout.now route.now fault.now }
 {
     let start = start_of(layout, route)?;
-    first_step(
-        start,
-        route.path(),
-        |before, left| open_at(layout, before, left),
-    )
+    let path = route.path();
+    let mut before = start;
+    for left in path {
+        if let Some(found) = step_detail(layout, route, fault, before, *left) {
+            return Some(found);
+        }
+        before = *left;
+    }
+    None
 }
 
 /// Whether an exit is at a port: the signal stands there, or the border is joined to it.
@@ -104,6 +127,7 @@ fn is_exit(layout: &Layout, exit: Exit, port: Port) -> bool
 }
 
 /// Whether an exit is the signal of this place.
+#[tactic(auto, unfolding(crate::specs::RouteDetails::is_signal))]
 fn is_signal(exit: Exit, place: usize) -> bool
     ensures { result ≡ is_signal exit place }
 {
@@ -127,6 +151,18 @@ fn in_the_way(layout: &Layout, exit: Exit, left: Port) -> Option<PathDetail>
     Some(PathDetail::InTheWay(name, at))
 }
 
+/// The first signal on a path that stands in the way.
+fn first_in_the_way(layout: &Layout, exit: Exit, path: &[Port]) -> Option<PathDetail>
+    ensures { result ≡ first_of (in_the_way layout.now exit) path.now }
+{
+    for left in path {
+        if let Some(found) = in_the_way(layout, exit, *left) {
+            return Some(found);
+        }
+    }
+    None
+}
+
 /// What is wrong with the exit of a route, or which signal stands in the way.
 #[tactic(auto, unfolding(crate::specs::RouteDetails::exit_detail))]
 fn exit_detail(layout: &Layout, route: &Route) -> Option<PathDetail>
@@ -140,14 +176,15 @@ fn exit_detail(layout: &Layout, route: &Route) -> Option<PathDetail>
     if is_signal(route.exit(), route.entry().0) {
         return Some(PathDetail::EndsAtEntry(signal_name(layout, route.entry().0)?));
     }
-    first_of(route.path(), |left| in_the_way(layout, route.exit(), left))
+    first_in_the_way(layout, route.exit(), route.path())
 }
 
 /// Whether a route stands in a list of extra conflicts.
+#[tactic(auto, unfolding(crate::specs::RouteDetails::is_listed))]
 fn is_listed(extra: &[RouteId], other: RouteId) -> bool
     ensures { result ≡ is_listed extra.now other }
 {
-    extra.iter().any(|listed| listed.0 == other.0)
+    extra.contains(&other)
 }
 
 /// Whether a route lists another as an extra conflict.
@@ -175,28 +212,39 @@ fn unanswered(layout: &Layout, at: FaultyRoute, other: RouteId) -> Option<Advice
     Some(Advice::Unanswered(at, *layout.routes().get(other.0)?.name()))
 }
 
+/// The advice for the first of these routes that a route lists, and that is the route itself or doesn't list it.
+fn first_unanswered(layout: &Layout, at: &FaultyRoute, extra: &[RouteId]) -> Option<Advice>
+    ensures { result ≡ first_of (unanswered layout.now at.now) extra.now }
+{
+    for other in extra {
+        if let Some(found) = unanswered(layout, *at, *other) {
+            return Some(found);
+        }
+    }
+    None
+}
+
 /// The advice for a route that has a fault.
-#[tactic(auto, unfolding(crate::specs::RouteDetails::detail_of))]
+#[tactic(auto, unfolding(crate::specs::RouteDetails::detail_of, crate::specs::RouteDetails::path_detail, crate::specs::RouteDetails::broken_detail, crate::specs::RouteDetails::open_detail, crate::specs::SideDetails::lacking_detail))]
 fn detail_of(layout: &Layout, route: &Route, at: FaultyRoute, fault: &TableFault) -> Option<Advice>
     ensures { result ≡ detail_of layout.now route.now at fault.now }
 {
     match fault {
-        TableFault::PathBroken(_) => Some(Advice::Path(at, broken_detail(layout, route)?)),
-        TableFault::PathRepeats(_) => Some(Advice::Path(at, repeated_detail(layout, route)?)),
-        TableFault::PointMissing(_) => {
-            first_of(route.path(), |left| unwritten_at(layout, route, at, left))
+        TableFault::PathBroken(_) if route.path().is_empty() => {
+            Some(Advice::Path(at, PathDetail::Empty))
         }
+        TableFault::PathBroken(_) => Some(Advice::Path(at, path_detail(layout, route, fault)?)),
+        TableFault::PathRepeats(_) => Some(Advice::Path(at, repeated_detail(layout, route)?)),
+        TableFault::PointMissing(_) => first_unwritten(layout, route, &at, route.path()),
         TableFault::PointWrong(_) => Some(Advice::Points(at, wrong_detail(layout, route)?)),
-        TableFault::FlankMissing(_) => Some(Advice::Path(at, lacking_detail(layout, route)?)),
-        TableFault::FlankOpen(_) => Some(Advice::Path(at, open_detail(layout, route)?)),
+        TableFault::FlankMissing(_) => Some(Advice::Path(at, path_detail(layout, route, fault)?)),
+        TableFault::FlankOpen(_) => Some(Advice::Path(at, path_detail(layout, route, fault)?)),
         TableFault::FlankContradicts(_) => Some(Advice::Points(
             at,
             contrary_detail(layout, route)?,
         )),
         TableFault::SignalPlace(_) => Some(Advice::Path(at, exit_detail(layout, route)?)),
-        TableFault::NotSymmetric(_) => {
-            first_of(route.extra(), |other| unanswered(layout, at, other))
-        }
+        TableFault::NotSymmetric(_) => first_unanswered(layout, &at, route.extra()),
         TableFault::OutOfMemory => None,
     }
 }

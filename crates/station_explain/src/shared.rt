@@ -1,12 +1,13 @@
 //! Which earlier entry has what a later one has too.
 
-ghost use Rattle.std.specs.Prelude.{◌≡◌};
+ghost use Rattle.std.specs.Prelude.{◌≡◌, slice_get};
 ghost use Rattle.control_table.specs.layout.Known.{same_name};
+ghost use Rattle.station_explain.specs.Search.{first_of};
+ghost use Rattle.station_explain.specs.declared.advice.Common.TheVariants as common;
 ghost use Rattle.station_explain.specs.SharedAdvice.{detector_shared, double_told, entries, has, id_in, id_shared, joins, name_in, name_shared, place_having, port_told, reports, same_place, same_port_name, shared_with};
 
 use crate::advice::{Advice, Common};
 use crate::joints::same_end;
-use crate::search::first_of;
 use control_table::sci_telegram::Name;
 use layout_text::{Place, PortName, TableName, WrittenDetector, WrittenJoint, WrittenLayout};
 
@@ -18,6 +19,7 @@ fn same_name(one: Name, other: Name) -> bool
 }
 
 /// Whether two places are the same.
+#[tactic(auto, unfolding(crate::specs::SharedAdvice::same_place))]
 fn same_place(one: Place, other: Place) -> bool
     ensures { result ≡ same_place one other }
 {
@@ -25,6 +27,7 @@ fn same_place(one: Place, other: Place) -> bool
 }
 
 /// Whether two ports are the same.
+#[tactic(auto, unfolding(crate::specs::SharedAdvice::same_port_name))]
 fn same_port_name(one: &PortName, other: &PortName) -> bool
     ensures { result ≡ same_port_name one.now other.now }
 {
@@ -32,6 +35,7 @@ fn same_port_name(one: &PortName, other: &PortName) -> bool
 }
 
 /// Whether a joint joins a port.
+#[tactic(auto, unfolding(crate::specs::SharedAdvice::joins))]
 fn joins(joint: &WrittenJoint, port: &PortName) -> bool
     ensures { result ≡ joins joint.now port.now }
 {
@@ -39,13 +43,18 @@ fn joins(joint: &WrittenJoint, port: &PortName) -> bool
 }
 
 /// Whether a detection controller reports a section.
+#[tactic(auto, unfolding(crate::specs::SharedAdvice::reports))]
 fn reports(detector: &WrittenDetector, section: Name) -> bool
     ensures { result ≡ reports detector.now section }
 {
-    detector
-        .sections()
-        .iter()
-        .any(|one| same_name(*one, section))
+    detector.sections().contains(&section)
+}
+
+/// The entry of a list at a place, counted from 0.
+pub(crate) fn entry_at<T: Copy>(entries: &Vec<T>, before: usize) -> Option<T>
+    ensures { result ≡ slice_get entries.now.items before }
+{
+    entries.get(before).copied()
 }
 
 /// The name of an entry of a table, by its place counted from 0.
@@ -55,12 +64,12 @@ fn name_in(written: &WrittenLayout, table: TableName, before: usize) -> Option<N
 {
     match table {
         TableName::Station => Some(written.station.name),
-        TableName::Section => written.sections.get(before).copied(),
-        TableName::Track => Some(written.tracks.get(before)?.name),
-        TableName::Point => Some(written.points.get(before)?.name),
-        TableName::Border => written.borders.get(before).copied(),
+        TableName::Section => entry_at(&written.sections, before),
+        TableName::Track => Some(entry_at(&written.tracks, before)?.name),
+        TableName::Point => Some(entry_at(&written.points, before)?.name),
+        TableName::Border => entry_at(&written.borders, before),
         TableName::Joint => None,
-        TableName::Signal => Some(written.signals.get(before)?.name),
+        TableName::Signal => Some(entry_at(&written.signals, before)?.name),
         TableName::Detector => Some(written.detectors.get(before)?.name),
         TableName::Route => Some(written.routes.get(before)?.name),
     }
@@ -73,8 +82,8 @@ fn id_in(written: &WrittenLayout, table: TableName, before: usize) -> Option<u32
 {
     match table {
         TableName::Station => Some(written.station.id),
-        TableName::Point => Some(written.points.get(before)?.id),
-        TableName::Signal => Some(written.signals.get(before)?.id),
+        TableName::Point => Some(entry_at(&written.points, before)?.id),
+        TableName::Signal => Some(entry_at(&written.signals, before)?.id),
         TableName::Detector => Some(written.detectors.get(before)?.id),
         _ => None,
     }
@@ -115,11 +124,11 @@ fn has(written: &WrittenLayout, table: TableName, before: usize, what: &Common) 
             Some(detector) => reports(detector, *section),
             None => false,
         },
-        (Common::Joint(port), TableName::Joint) => match written.joints.get(before) {
-            Some(joint) => joins(joint, port),
+        (Common::Joint(port), TableName::Joint) => match entry_at(&written.joints, before) {
+            Some(joint) => joins(&joint, port),
             None => false,
         },
-        (Common::Signal(port), TableName::Signal) => match written.signals.get(before) {
+        (Common::Signal(port), TableName::Signal) => match entry_at(&written.signals, before) {
             Some(signal) => same_port_name(&signal.at, port),
             None => false,
         },
@@ -160,12 +169,24 @@ const TABLES: &[TableName] = &[
     TableName::Route,
 ];
 
+/// The first entry of these tables that has something.
+fn first_having(written: &WrittenLayout, what: &Common, tables: &[TableName]) -> Option<Place>
+    ensures { result ≡ first_of (place_having written.now what.now) tables.now }
+{
+    for table in tables {
+        if let Some(found) = place_having(written, what, *table) {
+            return Some(found);
+        }
+    }
+    None
+}
+
 /// What an entry has, if an earlier one has it.
 #[tactic(auto, unfolding(crate::specs::SharedAdvice::shared_with))]
 fn shared_with(written: &WrittenLayout, place: Place, what: &Common) -> Option<Advice>
     ensures { result ≡ shared_with written.now place what.now }
 {
-    let first = first_of(TABLES, |table| place_having(written, what, table))?;
+    let first = first_having(written, what, TABLES)?;
     if same_place(first, place) {
         return None;
     }
@@ -190,14 +211,24 @@ fn id_shared(written: &WrittenLayout, place: Place) -> Option<Advice>
     shared_with(written, place, &Common::Id(id))
 }
 
+/// The first of these sections of a detection controller that an earlier one reports too.
+fn first_shared(written: &WrittenLayout, place: Place, sections: &[Name]) -> Option<Advice>
+    ensures { result ≡ first_of (λ section. shared_with written.now place (common.Section section)) sections.now }
+{
+    for section in sections {
+        if let Some(found) = shared_with(written, place, &Common::Section(*section)) {
+            return Some(found);
+        }
+    }
+    None
+}
+
 /// The first section of a detection controller that an earlier one reports too.
 fn detector_shared(written: &WrittenLayout, place: Place) -> Option<Advice>
     ensures { result ≡ detector_shared written.now place }
 {
     let detector = written.detectors.get(place.entry.saturating_sub(1))?;
-    first_of(detector.sections(), |section| {
-        shared_with(written, place, &Common::Section(section))
-    })
+    first_shared(written, place, detector.sections())
 }
 
 /// The advice where an entry has a name, an identity or a section that an earlier one has.
@@ -220,14 +251,14 @@ pub(crate) fn port_told(written: &WrittenLayout, place: Place) -> Option<Advice>
     let before = place.entry.saturating_sub(1);
     match place.table {
         TableName::Joint => {
-            let joint = written.joints.get(before)?;
+            let joint = entry_at(&written.joints, before)?;
             if let Some(found) = shared_with(written, place, &Common::Joint(joint.first)) {
                 return Some(found);
             }
             shared_with(written, place, &Common::Joint(joint.second))
         }
         TableName::Signal => {
-            let signal = written.signals.get(before)?;
+            let signal = entry_at(&written.signals, before)?;
             shared_with(written, place, &Common::Signal(signal.at))
         }
         _ => None,

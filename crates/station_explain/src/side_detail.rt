@@ -1,7 +1,8 @@
 //! What is wrong with the points that a route writes, or has to write.
 
 ghost use Rattle.std.specs.Prelude.{◌≡◌};
-ghost use Rattle.station_explain.specs.SideDetails.{contrary, contrary_at, contrary_detail, lacking_at, lacking_detail, wrong_detail, wrong_flank, wrong_point};
+ghost use Rattle.station_explain.specs.Search.{first_of, first_step};
+ghost use Rattle.station_explain.specs.SideDetails.{contrary, contrary_at, contrary_detail, lacking_at, wrong_detail, wrong_flank, wrong_point};
 
 use crate::detail::{PathDetail, PointDetail};
 use crate::layout_names::{leg_names, point_name};
@@ -9,7 +10,6 @@ use crate::route_sides::{
     guard, guard_behind, is_on_path, other, requires_on, unused_leg, used_behind,
 };
 use crate::route_start::{is_written, start_of};
-use crate::search::{first_of, first_step};
 use control_table::layout::{Layout, PointId, Port, Route};
 use control_table::sci_telegram::Side;
 
@@ -53,6 +53,40 @@ fn wrong_flank(
     Some(PointDetail::FlankAt(name, written.1))
 }
 
+/// What is wrong with the first point that is wrong under `points`.
+fn first_wrong_point(
+    layout: &Layout,
+    start: Port,
+    path: &[Port],
+    points: &[(PointId, Side)],
+) -> Option<PointDetail>
+    ensures { result ≡ first_of (wrong_point layout.now start path.now) points.now }
+{
+    for written in points {
+        if let Some(found) = wrong_point(layout, start, path, *written) {
+            return Some(found);
+        }
+    }
+    None
+}
+
+/// What is wrong with the first point that is wrong under `flank`.
+fn first_wrong_flank(
+    layout: &Layout,
+    start: Port,
+    path: &[Port],
+    points: &[(PointId, Side)],
+) -> Option<PointDetail>
+    ensures { result ≡ first_of (wrong_flank layout.now start path.now) points.now }
+{
+    for written in points {
+        if let Some(found) = wrong_flank(layout, start, path, *written) {
+            return Some(found);
+        }
+    }
+    None
+}
+
 /// What is wrong with the first point that a route writes wrongly.
 #[tactic(auto, unfolding(crate::specs::SideDetails::wrong_detail))]
 pub(crate) fn wrong_detail(layout: &Layout, route: &Route) -> Option<PointDetail>
@@ -60,19 +94,22 @@ pub(crate) fn wrong_detail(layout: &Layout, route: &Route) -> Option<PointDetail
 {
     let start = start_of(layout, route)?;
     let path = route.path();
-    first_of(
-        route.points(),
-        |written| wrong_point(layout, start, path, written),
-    )
-    .or(first_of(
+    first_wrong_point(layout, start, path, route.points()).or(first_wrong_flank(
+        layout,
+        start,
+        path,
         route.flank(),
-        |written| wrong_flank(layout, start, path, written),
     ))
 }
 
 /// The point that has to be written under `flank` for the leg behind a port, if it isn't.
 #[tactic(auto, unfolding(crate::specs::SideDetails::lacking_at))]
-fn lacking_at(layout: &Layout, route: &Route, before: Port, left: Port) -> Option<PathDetail>
+pub(crate) fn lacking_at(
+    layout: &Layout,
+    route: &Route,
+    before: Port,
+    left: Port,
+) -> Option<PathDetail>
     ensures { result ≡ lacking_at layout.now route.now before left }
 {
     let (leg, from) = unused_leg(layout, before, left)?;
@@ -82,19 +119,6 @@ fn lacking_at(layout: &Layout, route: &Route, before: Port, left: Port) -> Optio
     }
     let (leg, from) = leg_names(layout, leg, from)?;
     Some(PathDetail::FlankLacks(leg, from, side))
-}
-
-/// The first point that a route has to write under `flank`, and doesn't.
-#[tactic(auto, unfolding(crate::specs::SideDetails::lacking_detail))]
-pub(crate) fn lacking_detail(layout: &Layout, route: &Route) -> Option<PathDetail>
-    ensures { result ≡ lacking_detail layout.now route.now }
-{
-    let start = start_of(layout, route)?;
-    first_step(
-        start,
-        route.path(),
-        |before, left| lacking_at(layout, route, before, left),
-    )
 }
 
 /// A point that is required at a side, if the path requires it at the other side too.
@@ -130,16 +154,24 @@ fn contrary_at(
     contrary(layout, start, path, used).or(contrary(layout, start, path, guard))
 }
 
+/// The first point that a path requires at both sides.
+fn first_contrary(layout: &Layout, start: Port, path: &[Port]) -> Option<PointDetail>
+    ensures { result ≡ first_step (contrary_at layout.now start path.now) start path.now }
+{
+    let mut before = start;
+    for left in path {
+        if let Some(found) = contrary_at(layout, start, path, before, *left) {
+            return Some(found);
+        }
+        before = *left;
+    }
+    None
+}
+
 /// The first point that a route requires at both sides.
 #[tactic(auto, unfolding(crate::specs::SideDetails::contrary_detail))]
 pub(crate) fn contrary_detail(layout: &Layout, route: &Route) -> Option<PointDetail>
     ensures { result ≡ contrary_detail layout.now route.now }
 {
-    let start = start_of(layout, route)?;
-    let path = route.path();
-    first_step(
-        start,
-        path,
-        |before, left| contrary_at(layout, start, path, before, left),
-    )
+    first_contrary(layout, start_of(layout, route)?, route.path())
 }

@@ -1,13 +1,14 @@
 //! Which name of an entry isn't that of an entry of the kind that is wanted.
 
 ghost use Rattle.std.specs.Prelude.{◌≡◌};
-ghost use Rattle.station_explain.specs.UnknownAdvice.{first_missed, is_entry, is_there, missed, points_missed, route_missed, spot_of, table_of, unknown_told};
+ghost use Rattle.station_explain.specs.declared.advice.Missed.TheVariants as missing;
+ghost use Rattle.station_explain.specs.UnknownAdvice.{first_missed, is_entry, is_there, missed, name_missed, points_missed, route_missed, spot_of, table_of, unknown_told};
 
 use crate::advice::{Advice, Common, Missed, Spot};
 use crate::field_key::FieldKey;
-use crate::shared::place_having;
-use control_table::sci_telegram::Name;
-use layout_text::{End, Place, TableName, WrittenLayout, WrittenRoute};
+use crate::shared::{entry_at, place_having};
+use control_table::sci_telegram::{Name, Side};
+use layout_text::{End, Place, PortName, TableName, WrittenLayout, WrittenRoute};
 
 /// The table in which an element stands that has a port of this word.
 fn table_of(end: End) -> TableName
@@ -67,21 +68,61 @@ fn spot_of(place: Place, key: FieldKey, item: usize) -> Spot
     }
 }
 
+/// An item of an array or a table, which names something.
+trait Naming: Copy {
+    ghost use Rattle.station_explain.specs.declared.advice.Missed.{Missed};
+    ghost use Rattle.station_explain.specs.declared.field_key.FieldKey.{FieldKey};
+
+    /// What it names under a key, if that isn't there.
+    ghost named: { FieldKey → Self → Missed };
+
+    /// What it names under a key, if that isn't there.
+    fn named(self, key: FieldKey) -> Missed
+        ensures { result ≡ named key self };
+}
+
+// Under `extra` a name is that of a route.
+impl Naming for Name {
+    ghost named = { name_missed };
+
+    fn named(self, key: FieldKey) -> Missed {
+        match key {
+            FieldKey::Extra => Missed::Route(self),
+            _ => Missed::Section(self),
+        }
+    }
+}
+
+impl Naming for PortName {
+    ghost named = { λ _ port. missing.Port port };
+
+    fn named(self, _key: FieldKey) -> Missed {
+        Missed::Port(self)
+    }
+}
+
+// A point with its side.
+impl Naming for (Name, Side) {
+    ghost named = { λ _ point. missing.Point point.0 };
+
+    fn named(self, _key: FieldKey) -> Missed {
+        Missed::Point(self.0)
+    }
+}
+
 /// The advice for the first of these items under a key of an entry that names what isn't there.
-fn first_missed<T: Copy, F: Fn(T) -> Missed>(
+fn first_missed<T: Naming>(
     written: &WrittenLayout,
     place: Place,
     key: FieldKey,
     items: &[T],
-    named: F,
 ) -> Option<Advice>
-    requires { F.IsAlwaysCallable named }
-    ensures { (name_of : T → Missed) → ((x : T) (r : Missed) → F.post named x r → r ≡ name_of x) → result ≡ first_missed written.now place key name_of 0 items.now }
+    ensures { result ≡ first_missed written.now place key (T.named key) 0 items.now }
 {
     let mut at: usize = 0;
     for item in items {
         at = at.saturating_add(1);
-        if let Some(found) = missed(written, spot_of(place, key, at), &named(*item)) {
+        if let Some(found) = missed(written, spot_of(place, key, at), &item.named(key)) {
             return Some(found);
         }
     }
@@ -93,22 +134,10 @@ fn first_missed<T: Copy, F: Fn(T) -> Missed>(
 fn points_missed(written: &WrittenLayout, place: Place, route: &WrittenRoute) -> Option<Advice>
     ensures { result ≡ points_missed written.now place route.now }
 {
-    if let Some(found) = first_missed(
-        written,
-        place,
-        FieldKey::Points,
-        &route.points,
-        |point| Missed::Point(point.0),
-    ) {
+    if let Some(found) = first_missed(written, place, FieldKey::Points, &route.points) {
         return Some(found);
     }
-    first_missed(
-        written,
-        place,
-        FieldKey::Flank,
-        &route.flank,
-        |point| Missed::Point(point.0),
-    )
+    first_missed(written, place, FieldKey::Flank, &route.flank)
 }
 
 /// The advice for the first name of a route that isn't that of an entry of the kind that is wanted.
@@ -123,34 +152,16 @@ fn route_missed(written: &WrittenLayout, place: Place, route: &WrittenRoute) -> 
     if let Some(found) = missed(written, itself, &Missed::Exit(route.exit)) {
         return Some(found);
     }
-    if let Some(found) = first_missed(
-        written,
-        place,
-        FieldKey::Path,
-        &route.path,
-        |port| Missed::Port(port),
-    ) {
+    if let Some(found) = first_missed(written, place, FieldKey::Path, &route.path) {
         return Some(found);
     }
     if let Some(found) = points_missed(written, place, route) {
         return Some(found);
     }
-    if let Some(found) = first_missed(
-        written,
-        place,
-        FieldKey::Approach,
-        &route.approach,
-        |name| Missed::Section(name),
-    ) {
+    if let Some(found) = first_missed(written, place, FieldKey::Approach, &route.approach) {
         return Some(found);
     }
-    first_missed(
-        written,
-        place,
-        FieldKey::Extra,
-        &route.extra,
-        |name| Missed::Route(name),
-    )
+    first_missed(written, place, FieldKey::Extra, &route.extra)
 }
 
 /// The advice for the first name of the entry at a place that isn't that of an entry of the kind that is wanted; of a section for
@@ -162,37 +173,31 @@ pub(crate) fn unknown_told(written: &WrittenLayout, place: Place) -> Option<Advi
     let itself = Spot::Entry(place);
     match place.table {
         TableName::Section => {
-            let name = *written.sections.get(before)?;
+            let name = entry_at(&written.sections, before)?;
             missed(written, itself, &Missed::Unreported(name))
         }
         TableName::Track => {
-            let section = written.tracks.get(before)?.section;
+            let section = entry_at(&written.tracks, before)?.section;
             missed(written, itself, &Missed::Section(section))
         }
         TableName::Point => {
-            let section = written.points.get(before)?.section;
+            let section = entry_at(&written.points, before)?.section;
             missed(written, itself, &Missed::Section(section))
         }
         TableName::Joint => {
-            let joint = written.joints.get(before)?;
+            let joint = entry_at(&written.joints, before)?;
             if let Some(found) = missed(written, itself, &Missed::Port(joint.first)) {
                 return Some(found);
             }
             missed(written, itself, &Missed::Port(joint.second))
         }
         TableName::Signal => {
-            let port = written.signals.get(before)?.at;
+            let port = entry_at(&written.signals, before)?.at;
             missed(written, itself, &Missed::Port(port))
         }
         TableName::Detector => {
             let sections = written.detectors.get(before)?.sections();
-            first_missed(
-                written,
-                place,
-                FieldKey::Sections,
-                sections,
-                |name| Missed::Section(name),
-            )
+            first_missed(written, place, FieldKey::Sections, sections)
         }
         TableName::Route => route_missed(written, place, written.routes.get(before)?),
         TableName::Station | TableName::Border => None,

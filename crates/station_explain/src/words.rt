@@ -1,6 +1,7 @@
 //! The words for what other crates declare: names, ports and their ends, sides.
 
-ghost use Rattle.std.specs.Prelude.{◌≡◌, Some};
+ghost use Rattle.std.specs.Fmt.{WritesOnOk};
+ghost use Rattle.std.specs.Prelude.{◌≡◌, ◌++◌, Some};
 ghost use Rattle.station_explain.specs.PortWords.{end_word, port_words, side_word};
 
 use control_table::sci_telegram::{Name, Side};
@@ -71,4 +72,30 @@ impl fmt::Display for Words<PortName> {
         let end = Words(self.0.end);
         write!(f, "{element}.{end}")
     }
+}
+
+/// Writes a name between words.
+pub(crate) fn write_name<W: fmt::Write>(
+    f: &mut fmt::Formatter<W>,
+    before: &str,
+    name: Name,
+    behind: &str,
+) -> fmt::Result
+    ensures { WritesOnOk W.write_str_gives f.old result (before.now ++ (name ++ behind.now)) f.new }
+{
+    let name = Words(name);
+    write!(f, "{before}{name}{behind}")
+}
+
+/// Writes a port between words.
+pub(crate) fn write_port<W: fmt::Write>(
+    f: &mut fmt::Formatter<W>,
+    before: &str,
+    port: PortName,
+    behind: &str,
+) -> fmt::Result
+    ensures { WritesOnOk W.write_str_gives f.old result (before.now ++ (port_words port ++ behind.now)) f.new }
+{
+    let port = Words(port);
+    write!(f, "{before}{port}{behind}")
 }

@@ -1,21 +1,9 @@
 use Rattle.station_explain.specs.DetailWords.{path_words}
 use Rattle.station_explain.proofs.detail_words.PathDetailDisplay.fmt.Goals as goal
 
-pub returns-in-DeadEnd-clause-writes : goal.returns-in-DeadEnd-clause-writes
-unfolding path_words
-returns-in-DeadEnd-clause-writes g c = rw c.in-DeadEnd.is c.write.ensures.writes
-
 pub returns-in-Astray-clause-writes : goal.returns-in-Astray-clause-writes
 unfolding path_words
-returns-in-Astray-clause-writes g c = rw c.in-Astray.is c.write-in-Astray.ensures.writes
-
-pub returns-in-Twice-clause-writes : goal.returns-in-Twice-clause-writes
-unfolding path_words
-returns-in-Twice-clause-writes g c = rw c.in-Twice.is c.write-in-Twice.ensures.writes
-
-pub returns-in-ComesBack-clause-writes : goal.returns-in-ComesBack-clause-writes
-unfolding path_words
-returns-in-ComesBack-clause-writes g c = rw c.in-ComesBack.is c.write-in-ComesBack.ensures.writes
+returns-in-Astray-clause-writes g c = rw c.in-Astray.is c.write.ensures.writes
 
 pub returns-in-OpenLeg-clause-writes : goal.returns-in-OpenLeg-clause-writes
 unfolding path_words
@@ -28,10 +16,6 @@ returns-in-FlankLacks-clause-writes g c = rw c.in-FlankLacks.is c.write-in-Flank
 pub returns-in-EndsElsewhere-clause-writes : goal.returns-in-EndsElsewhere-clause-writes
 unfolding path_words
 returns-in-EndsElsewhere-clause-writes g c = rw c.in-EndsElsewhere.is c.write-in-EndsElsewhere.ensures.writes
-
-pub returns-in-EndsAtEntry-clause-writes : goal.returns-in-EndsAtEntry-clause-writes
-unfolding path_words
-returns-in-EndsAtEntry-clause-writes g c = rw c.in-EndsAtEntry.is c.write-in-EndsAtEntry.ensures.writes
 
 pub returns-in-InTheWay-clause-writes : goal.returns-in-InTheWay-clause-writes
 unfolding path_words
