@@ -233,12 +233,12 @@ fn detail_of(layout: &Layout, route: &Route, at: FaultyRoute, fault: &TableFault
         TableFault::PathBroken(_) if route.path().is_empty() => {
             Some(Advice::Path(at, PathDetail::Empty))
         }
-        TableFault::PathBroken(_) => Some(Advice::Path(at, path_detail(layout, route, fault)?)),
         TableFault::PathRepeats(_) => Some(Advice::Path(at, repeated_detail(layout, route)?)),
         TableFault::PointMissing(_) => first_unwritten(layout, route, &at, route.path()),
         TableFault::PointWrong(_) => Some(Advice::Points(at, wrong_detail(layout, route)?)),
-        TableFault::FlankMissing(_) => Some(Advice::Path(at, path_detail(layout, route, fault)?)),
-        TableFault::FlankOpen(_) => Some(Advice::Path(at, path_detail(layout, route, fault)?)),
+        TableFault::PathBroken(_) | TableFault::FlankMissing(_) | TableFault::FlankOpen(_) => {
+            Some(Advice::Path(at, path_detail(layout, route, fault)?))
+        }
         TableFault::FlankContradicts(_) => Some(Advice::Points(
             at,
             contrary_detail(layout, route)?,
