@@ -1,5 +1,5 @@
 -- A clock that doesn't fall.
-use Rattle.std.specs.Prelude.{ℕ, ◌+◌, ◌*◌, ◌-◌, ◌/◌, min, nat_lt, if◌then◌else◌}
+use Rattle.std.specs.Prelude.{ℕ, ◌+◌, ◌/◌, min, nat_lt, if◌then◌else◌}
 
 -- the largest number of 64 bits
 abbrev pub largest : ℕ

@@ -1,5 +1,5 @@
 -- What a process over memory tells of its calls.
-use Rattle.std.specs.Prelude.{◌≡◌, ℕ, List, Bool, true, false, Option, Some, None, map, string_bytes}
+use Rattle.std.specs.Prelude.{List, Bool, true, false, Option, Some, None, map, string_bytes}
 use Rattle.node_drive.specs.Calls as calls
 use Rattle.node_network.specs.declared.log.OutsideCall.{OutsideCall}
 use Rattle.node_network.specs.declared.log.OutsideCall.TheVariants as call

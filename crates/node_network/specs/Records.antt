@@ -15,7 +15,6 @@ use Rattle.std.specs.Prelude.{true, false, List, ◌∷◌, ◌++◌, ℕ, codes
 use Rattle.std.specs.Fmt.{decimal as written}
 use Rattle.node_drive.specs.replay_words.Fault.{number_of}
 use Rattle.node_drive.specs.replay_words.Read.{hex_word}
-use Rattle.node_drive.specs.replay_words.declared.fault.Fault.{Fault}
 use Rattle.node_drive.specs.layout.Entries.{Site}
 use Rattle.node_drive.specs.simulator_event.declared.event.NodeId.{NodeId}
 use Rattle.node_drive.specs.Calls.{Call, Rests, Reads, AsksListener, AsksLine, AsksDatagram, ThrowsAway, Writes, BreaksOff, Sends, Complains, Text, Nothing, Closed}

@@ -4,6 +4,7 @@ ghost use Rattle.std.specs.Prelude.{◌≡◌};
 
 use crate::calling_lines::CallingLines;
 use crate::node_clock::NodeClock;
+use crate::other_end::{next_line, write_line_to};
 use node_drive::node_lines::replay_words::Fault;
 use node_drive::node_lines::simulator_event::NodeId;
 use node_drive::{Arrived, BrokenOff, NextLine, Outside};
@@ -56,7 +57,7 @@ impl<'a, R: Net + Timer> Outside for Caller<'a, R> {
     }
 
     fn next_line(&mut self, alloc: Global) -> Result<NextLine, AllocError> {
-        self.lines.next_line(alloc)
+        next_line(&mut self.lines.node, alloc)
     }
 
     fn next_datagram(&mut self) -> Option<Arrived> {
@@ -66,7 +67,7 @@ impl<'a, R: Net + Timer> Outside for Caller<'a, R> {
     fn throw_away(&mut self) {}
 
     fn write_line(&mut self, text: &str) -> Result<(), BrokenOff> {
-        self.lines.write_line(self.alloc, text)
+        write_line_to(&mut self.lines.node, self.alloc, text)
     }
 
     fn send(&mut self, _to: NodeId, _bytes: &[u8]) {}

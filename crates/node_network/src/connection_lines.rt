@@ -7,11 +7,11 @@ ghost use Rattle.node_network.specs.declared.fault.OpenFault.TheVariants.{NoList
 
 use crate::fault::OpenFault;
 use crate::line_input::LineInput;
-use crate::line_output::write_line;
+use crate::other_end::{connected, next_line};
 use crate::stream_lines::unless_closed;
 use node_drive::NextLine;
 use std::alloc::{AllocError, Global};
-use std::net::{Net, OpenListener, OpenStream, SocketAddr};
+use std::net::{Net, OpenListener, SocketAddr};
 
 /// The lines of an operator who comes and goes, over one connection at a time. What is written while nobody is there is dropped.
 #[derive(Drop)]
@@ -46,17 +46,10 @@ impl<R: Net> ConnectionLines<R> {
         if self.operator.is_some() {
             return false;
         }
-        self.operator = self.accept();
+        if let Ok((stream, _)) = self.listener.accept() {
+            self.operator = connected(stream);
+        }
         self.operator.is_some()
-    }
-
-    /// The next operator, if one waits.
-    fn accept(&self) -> Option<LineInput<R::Stream>> {
-        let (stream, _) = self.listener.accept().ok()?;
-        stream.set_nonblocking(true).ok()?;
-        // Where this fails, lines come later.
-        let _ = stream.set_nodelay(true);
-        Some(LineInput::new(stream))
     }
 
     /// The next line of the operator, if there is one. The connection is closed at its end.
@@ -64,25 +57,6 @@ impl<R: Net> ConnectionLines<R> {
         ensures open { IfOk result (λ answer. answer ≡ Closed → ⊥) }
         ensures nobody { is_there self.old.operator ≡ false → result ≡ Ok Nothing }
     {
-        let Some(operator) = &mut self.operator else {
-            return Ok(NextLine::Nothing);
-        };
-        let answer = operator.next_line(alloc)?;
-        if matches!(&answer, NextLine::Closed) {
-            self.operator = None;
-        }
-        Ok(unless_closed(answer))
-    }
-
-    /// Writes a line to the operator. The connection is closed where it can't be written at once.
-    pub(crate) fn write_line(&mut self, alloc: Global, text: &str)
-        ensures { is_there self.old.operator ≡ false → is_there self.new.operator ≡ false }
-    {
-        let Some(operator) = &mut self.operator else {
-            return;
-        };
-        if write_line(alloc, &mut operator.input, text).is_err() {
-            self.operator = None;
-        }
+        Ok(unless_closed(next_line(&mut self.operator, alloc)?))
     }
 }

@@ -1,6 +1,7 @@
 //! The lines of a record.
 
 ghost use Rattle.std.specs.Prelude.{◌≡◌, ◌++◌, ◌∷◌, IfOk, Some, string_bytes};
+ghost use Rattle.node_drive.specs.replay_words.Read.{hex_word};
 ghost use Rattle.node_network.specs.Records.{bytes_word, call_line, call_with, sender_word};
 
 use node_drive::node_lines::ixl_rules::control_table::layout::Layout;
@@ -41,12 +42,12 @@ pub fn entry_line(alloc: Global, layout: &Layout, entry: Entry<'_>) -> Result<St
     match entry {
         Entry::Reads(reading) => format!(in alloc; "at {reading}"),
         Entry::Listens => String::from_str(alloc, "listens"),
-        Entry::Hears(text) => format!(in alloc; "hears {text}"),
+        Entry::Hears(text) => text_line(alloc, "hears", text),
         Entry::Closed => String::from_str(alloc, "closed"),
         Entry::Comes(from, bytes) => datagram_line(alloc, layout, "from", from, bytes),
         Entry::ThrowsAway => String::from_str(alloc, "throws away"),
-        Entry::Writes(text) => format!(in alloc; "writes {text}"),
-        Entry::BreaksOff(text) => format!(in alloc; "breaks off {text}"),
+        Entry::Writes(text) => text_line(alloc, "writes", text),
+        Entry::BreaksOff(text) => text_line(alloc, "breaks off", text),
         Entry::Sends(to, bytes) => datagram_line(alloc, layout, "sends", Some(to), bytes),
         Entry::Complains(line, fault) => {
             let number = fault.number();
@@ -65,15 +66,26 @@ fn datagram_line(
 ) -> Result<String, AllocError>
     ensures { IfOk result (λ line. string_bytes line ≡ what.now ++ 32 ∷ bytes_word layout.now (sender_word layout.now node) bytes.now) }
 {
-    let bytes = hex_word(alloc, bytes)?;
     let Some(node) = node else {
-        return format!(in alloc; "{what} - {bytes}");
+        return bytes_line(alloc, what, "-", bytes);
     };
     match node_name(layout, node) {
-        Some(name) => {
-            let name = name.as_str();
-            format!(in alloc; "{what} {name} {bytes}")
-        }
-        None => format!(in alloc; "{what} _ {bytes}"),
+        Some(name) => bytes_line(alloc, what, name.as_str(), bytes),
+        None => bytes_line(alloc, what, "_", bytes),
     }
+}
+
+/// The line of a datagram, with the word for its node.
+fn bytes_line(alloc: Global, what: &str, node: &str, bytes: &[u8]) -> Result<String, AllocError>
+    ensures { IfOk result (λ line. string_bytes line ≡ what.now ++ 32 ∷ node.now ++ 32 ∷ hex_word bytes.now) }
+{
+    let bytes = hex_word(alloc, bytes)?;
+    format!(in alloc; "{what} {node} {bytes}")
+}
+
+/// The line of a text.
+fn text_line(alloc: Global, what: &str, text: &str) -> Result<String, AllocError>
+    ensures { IfOk result (λ line. string_bytes line ≡ what.now ++ 32 ∷ text.now) }
+{
+    format!(in alloc; "{what} {text}")
 }

@@ -17,6 +17,7 @@ mod machine;
 mod memory;
 mod node_clock;
 mod node_socket;
+mod other_end;
 mod recorded;
 mod replayed;
 mod stream_lines;

@@ -7,6 +7,7 @@ ghost use Rattle.node_network.specs.declared.lines.Kind.TheVariants.{Field, Oper
 
 use crate::connection_lines::ConnectionLines;
 use crate::fault::OpenFault;
+use crate::other_end::write_line_to;
 use crate::stream_lines::{OperatorLines, StreamLines};
 use node_drive::{BrokenOff, NextLine};
 use std::alloc::{AllocError, Global};
@@ -56,12 +57,10 @@ impl<R: Net, I: Read, O: Write> Lines<R, I, O> {
         ensures nobody { IfOk result (λ lines. IsForNobody lines.kind) }
         ensures fault { IfErr result (λ fault. fault ≡ NoListener) }
     {
-        match ConnectionLines::open(net, address) {
-            Ok(lines) => Ok(Lines {
-                kind: Kind::Connection(lines),
-            }),
-            Err(fault) => Err(fault),
-        }
+        let lines = ConnectionLines::open(net, address)?;
+        Ok(Lines {
+            kind: Kind::Connection(lines),
+        })
     }
 
     pub(crate) fn has_listener(&mut self) -> bool
@@ -87,7 +86,8 @@ impl<R: Net, I: Read, O: Write> Lines<R, I, O> {
             Kind::Field(lines) => lines.write_line(alloc, text),
             Kind::Operator(lines) => lines.streams.write_line(alloc, text),
             Kind::Connection(lines) => {
-                lines.write_line(alloc, text);
+                // Where it can't be written, nobody is there any more.
+                let _ = write_line_to(&mut lines.operator, alloc, text);
                 Ok(())
             }
         }

@@ -9,7 +9,7 @@ use node_drive::node_lines::simulator_event::NodeId;
 use std::alloc::AllocError;
 
 /// A call of a node's process.
-#[derive(Debug, Drop)]
+#[derive(Drop)]
 pub enum OutsideCall {
     /// It waited until the next round was due.
     Rested,
@@ -52,15 +52,10 @@ impl Log {
     pub(crate) fn add(&mut self, call: Result<OutsideCall, AllocError>)
         ensures { (one : Call) → IfOk call (λ kept. call_of kept ≡ one) → Grows (told_calls self.old.tells self.old.calls.items) (told_calls self.new.tells self.new.calls.items) (one ∷ []) }
     {
-        if !self.tells {
-            return;
-        }
         let Ok(call) = call else {
             self.tells = false;
             return;
         };
-        if self.calls.push(call).is_err() {
-            self.tells = false;
-        }
+        self.tells = self.tells && self.calls.push(call).is_ok();
     }
 }

@@ -99,5 +99,5 @@ fn complaint(alloc: Global, line: u64, fault: Fault) -> Result<String, AllocErro
     ensures { IfOk result (λ text. string_bytes text ≡ complaint line fault) }
 {
     let number = fault.number();
-    Ok(format!(in alloc; "line {line}: fault {number}")?)
+    format!(in alloc; "line {line}: fault {number}")
 }

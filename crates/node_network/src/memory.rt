@@ -1,6 +1,6 @@
 //! What a node's process has outside, over memory.
 
-ghost use Rattle.std.specs.Prelude.{◌≡◌, ◌+◌, ◌-◌, [], ◌∷◌, ◌++◌, IfOk, None, OnOk, Some, map, min, string_bytes, true};
+ghost use Rattle.std.specs.Prelude.{◌≡◌, ◌+◌, ◌-◌, [], ◌∷◌, ◌++◌, ℕ, IfOk, List, None, OnOk, Some, map, min, string_bytes, true};
 ghost use Rattle.std.specs.Bool.{Decides};
 ghost use Rattle.std.specs.Option.{option_map, option_to_list};
 ghost use Rattle.node_drive.specs.Calls.{Arrival, AsksDatagram, AsksLine, BreaksOff, Sends, Writes, line_heard};
@@ -113,9 +113,7 @@ impl MemoryOutside {
         ensures log { self.new.log ≡ self.old.log }
         ensures latest { self.new.latest ≡ self.old.latest }
     {
-        let text = String::from_str(self.alloc, text)?;
-        self.lines.push_back(text)?;
-        Ok(())
+        keep_line(self.alloc, &mut self.lines, text)
     }
 
     /// No more lines come.
@@ -131,9 +129,7 @@ impl MemoryOutside {
         ensures log { self.new.log ≡ self.old.log }
         ensures latest { self.new.latest ≡ self.old.latest }
     {
-        let bytes = Vec::from_slice(self.alloc, bytes)?;
-        self.datagrams.push_back((from, bytes))?;
-        Ok(())
+        keep_datagram(self.alloc, &mut self.datagrams, from, bytes)
     }
 
     /// Takes the oldest line that was written, as far as it was kept.
@@ -164,7 +160,7 @@ impl MemoryOutside {
         fails
     }
 
-    /// The oldest datagram that waits. One that is too long is cut.
+    /// The oldest datagram that waits.
     fn take_datagram(&mut self) -> Option<Arrived>
         ensures log { self.new.log ≡ self.old.log }
         ensures latest { self.new.latest ≡ self.old.latest }
@@ -173,9 +169,7 @@ impl MemoryOutside {
             return None;
         }
         let (from, bytes) = self.datagrams.pop_front()?;
-        let (front, _) = bytes.split_at(bytes.len().min(LONGEST));
-        let bytes = Received::try_from(front).ok()?;
-        Some(Arrived { from, bytes })
+        arrived(from, &bytes)
     }
 
     /// The oldest line that waits.
@@ -188,26 +182,6 @@ impl MemoryOutside {
             None if self.closed => NextLine::Closed,
             None => NextLine::Nothing,
         }
-    }
-
-    /// Keeps a line that was written. It tells whether memory was there.
-    fn keep_line(&mut self, text: &str) -> Result<(), AllocError>
-        ensures log { self.new.log ≡ self.old.log }
-        ensures latest { self.new.latest ≡ self.old.latest }
-    {
-        let text = String::from_str(self.alloc, text)?;
-        self.written.push_back(text)?;
-        Ok(())
-    }
-
-    /// Keeps a datagram that was sent. It tells whether memory was there.
-    fn keep_datagram(&mut self, to: NodeId, bytes: &[u8]) -> Result<(), AllocError>
-        ensures log { self.new.log ≡ self.old.log }
-        ensures latest { self.new.latest ≡ self.old.latest }
-    {
-        let bytes = Vec::from_slice(self.alloc, bytes)?;
-        self.sent.push_back((to, bytes))?;
-        Ok(())
     }
 }
 
@@ -250,7 +224,7 @@ impl Outside for MemoryOutside {
     }
 
     fn write_line(&mut self, text: &str) -> Result<(), BrokenOff> {
-        if self.keep_line(text).is_err() {
+        if keep_line(self.alloc, &mut self.written, text).is_err() {
             self.log.add(broke_off(self.alloc, text));
             return Err(BrokenOff);
         }
@@ -262,13 +236,41 @@ impl Outside for MemoryOutside {
         self.log.add(sent(self.alloc, to, bytes));
         if !self.fails() {
             // Where no memory is left it is lost.
-            let _ = self.keep_datagram(to, bytes);
+            let _ = keep_datagram(self.alloc, &mut self.sent, to, bytes);
         }
     }
 
     fn complain(&mut self, line: u64, fault: Fault) {
         self.log.add(Ok(OutsideCall::Complained(line, fault)));
     }
+}
+
+/// Keeps a line behind others.
+fn keep_line(alloc: Global, lines: &mut VecDeque<String>, text: &str) -> Result<(), AllocError>
+    ensures { OnOk result (map string_bytes lines.new.items ≡ map string_bytes lines.old.items ++ text.now ∷ []) }
+{
+    lines.push_back(String::from_str(alloc, text)?)?;
+    Ok(())
+}
+
+/// Keeps a datagram behind others, with the node that sent it or to which it goes.
+fn keep_datagram<N: Copy>(
+    alloc: Global,
+    datagrams: &mut VecDeque<(N, Vec<u8>)>,
+    node: N,
+    bytes: &[u8],
+) -> Result<(), AllocError>
+    ensures { OnOk result (map {B = N × List ℕ} (λ d. (d.0, d.1.items)) datagrams.new.items ≡ map {B = N × List ℕ} (λ d. (d.0, d.1.items)) datagrams.old.items ++ (node, bytes.now) ∷ []) }
+{
+    datagrams.push_back((node, Vec::from_slice(alloc, bytes)?))?;
+    Ok(())
+}
+
+/// A datagram that came. One that is too long is cut.
+fn arrived(from: Option<NodeId>, bytes: &[u8]) -> Option<Arrived> {
+    let (front, _) = bytes.split_at(bytes.len().min(LONGEST));
+    let bytes = Received::try_from(front).ok()?;
+    Some(Arrived { from, bytes })
 }
 
 /// The call by which a line was asked for, with what was answered.

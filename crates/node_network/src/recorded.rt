@@ -46,23 +46,26 @@ impl<'a, O: Outside, W: Write, E: Eprint> Recorded<'a, O, W, E> {
         }
     }
 
-    /// Writes a call to the record.
+    /// Writes a call to the record, as long as each before it was written.
     fn note(&mut self, entry: Entry<'_>)
         ensures { self.new.outside ≡ self.old.outside }
     {
-        if !self.is_whole {
-            return;
-        }
-        let written = match entry_line(self.alloc, self.layout, entry) {
-            Ok(line) => self.recorder.writeln(line.as_str()).is_ok(),
-            Err(_) => false,
-        };
-        if !written {
+        if self.is_whole && !self.writes(entry) {
             self.is_whole = false;
             // Where this fails it isn't told.
             let _ = self
                 .complaints
                 .eprintln("the record can't be written any more");
+        }
+    }
+
+    /// Writes the line of a call. It tells whether it was written whole.
+    fn writes(&mut self, entry: Entry<'_>) -> bool
+        ensures { self.new.outside ≡ self.old.outside }
+    {
+        match entry_line(self.alloc, self.layout, entry) {
+            Ok(line) => self.recorder.writeln(line.as_str()).is_ok(),
+            Err(_) => false,
         }
     }
 }
@@ -111,10 +114,10 @@ impl<'a, O: Outside, W: Write, E: Eprint> Outside for Recorded<'a, O, W, E> {
 
     fn write_line(&mut self, text: &str) -> Result<(), BrokenOff> {
         let written = self.outside.write_line(text);
-        match written {
-            Ok(()) => self.note(Entry::Writes(text)),
-            Err(_) => self.note(Entry::BreaksOff(text)),
-        }
+        self.note(match written {
+            Ok(()) => Entry::Writes(text),
+            Err(_) => Entry::BreaksOff(text),
+        });
         written
     }
 

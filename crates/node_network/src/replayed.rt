@@ -76,10 +76,11 @@ impl<'a> Replayed<'a> {
     fn behind(&mut self, words: &str) -> Option<&'a str>
         ensures { self.new.latest ≡ self.old.latest }
     {
-        let (_, line) = self.next?;
-        let rest = line.strip_prefix(words)?;
-        self.pass();
-        Some(rest)
+        let rest = rest_of(self.next, words);
+        if rest.is_some() {
+            self.pass();
+        }
+        rest
     }
 
     /// Whether the next line is that of this call; it is gone through then.
@@ -105,32 +106,31 @@ impl<'a> Replayed<'a> {
             self.differ();
         }
     }
-
-    /// A datagram as a line has it, behind its first word.
-    fn arrived(&mut self, rest: &str) -> Option<Arrived>
-        ensures { self.new.latest ≡ self.old.latest }
-    {
-        let (word, bytes) = rest.split_once(' ')?;
-        let from = node_named(self.layout, word).ok();
-        let bytes = hexadecimal_or_none(bytes).ok()?;
-        let bytes = Received::try_from(bytes.as_slice()).ok()?;
-        Some(Arrived { from, bytes })
-    }
 }
 
 /// The reading of the clock that the next line tells, if it tells one.
 fn reading_in(next: Option<(u64, &str)>) -> Option<u64> {
+    decimal(rest_of(next, "at ")?).ok()
+}
+
+/// What stands behind these words in the next line.
+fn rest_of<'a>(next: Option<(u64, &'a str)>, words: &str) -> Option<&'a str> {
     let (_, line) = next?;
-    let word = line.strip_prefix("at ")?;
-    decimal(word).ok()
+    line.strip_prefix(words)
+}
+
+/// A datagram as a line has it, behind its first word.
+fn arrived(layout: &Layout, rest: &str) -> Option<Arrived> {
+    let (word, bytes) = rest.split_once(' ')?;
+    let bytes = hexadecimal_or_none(bytes).ok()?;
+    let bytes = Received::try_from(bytes.as_slice()).ok()?;
+    let from = node_named(layout, word).ok();
+    Some(Arrived { from, bytes })
 }
 
 /// Whether the next line is this one.
 fn is_line(next: Option<(u64, &str)>, line: &str) -> bool {
-    match next {
-        Some((_, text)) => text == line,
-        None => false,
-    }
+    matches!(next, Some((_, text)) if text == line)
 }
 
 impl<'a> Outside for Replayed<'a> {
@@ -157,10 +157,7 @@ impl<'a> Outside for Replayed<'a> {
 
     /// Behind its last line a record has no more of what came, so the process ends there.
     fn next_line(&mut self, alloc: Global) -> Result<NextLine, AllocError> {
-        if self.next.is_none() {
-            return Ok(NextLine::Closed);
-        }
-        if self.is_next(Entry::Closed) {
+        if self.next.is_none() || self.is_next(Entry::Closed) {
             return Ok(NextLine::Closed);
         }
         match self.behind("hears ") {
@@ -170,8 +167,7 @@ impl<'a> Outside for Replayed<'a> {
     }
 
     fn next_datagram(&mut self) -> Option<Arrived> {
-        let rest = self.behind("from ")?;
-        self.arrived(rest)
+        arrived(self.layout, self.behind("from ")?)
     }
 
     fn throw_away(&mut self) {
