@@ -1,22 +1,13 @@
 -- The sections of a detector by their names.
-use Rattle.std.proofs.Common.{◌≡◌, sym, ap, ◌∙◌, ℕ, ◌+◌, ◌<◌, ◌≤◌, List, [], ◌∷◌, ◌++◌, length, map, take, get_or, min, arith, subst}
+use Rattle.std.proofs.Common.{◌≡◌, sym, ap, ◌∙◌, ℕ, ◌+◌, ◌<◌, ◌≤◌, List, [], ◌∷◌, ◌++◌, length, take, get_or, min, arith, subst}
 use Rattle.std.specs.List.{zip}
 use Rattle.std.proofs.lemmas.List.{get_or-map, get_or_read, length-map, take_all, take_more}
 use Rattle.std.proofs.lemmas.Slice.Zip.{get_or-zip, length-zip}
-use Rattle.simulator_run.specs.First.{Beginning, host_of}
 use Rattle.simulator_run.specs.layout.Entries.{DetectorEntry, Site}
 use Rattle.simulator_run.specs.layout.Station.{IsDetectorOf, IsStation}
 use Rattle.simulator_run.specs.layout.declared.ids.SectionId.{SectionId}
 use Rattle.simulator_run.specs.sci_telegram.declared.message.Occupancy.{Occupancy}
-use Rattle.simulator_run.specs.object_host.declared.input.Input.{Input}
-use Rattle.simulator_run.specs.tds_ctl.Controlled.{detection_behaviour}
-use Rattle.simulator_run.specs.tds_ctl.Sections as sections
-use Rattle.simulator_run.specs.tds_ctl.declared.section.Section.{Section}
-use Rattle.node_kinds.specs.Made.{detector_sensing, own_names}
-use Rattle.node_drive.specs.Kinds.{NodeState}
-use Rattle.node_kinds.specs.Controllers.{Controller, OwnSections}
-use Rattle.node_kinds.specs.inside.ControllerSteps.{SteppedState}
-use Rattle.node_kinds.specs.Made.{made_at, told_so}
+use Rattle.node_kinds.specs.Made.{own_names}
 
 -- one more pair
 zipped_on : {A B : Type 0} (xs : List A) (ys : List B) (place : ℕ) (x : A) (y : B) → place < length xs → place < length ys → x ≡ get_or xs place x → y ≡ get_or ys place y
@@ -52,22 +43,3 @@ few_named site layout detectors place entry own sensed named station detectors_a
     let is : entry ≡ get_or site.detectors place entry = entry_is ∙ ap (λ (all : List DetectorEntry). get_or all place entry) detectors_are
     in let has : IsDetectorOf site entry = subst (IsDetectorOf site) (sym is) (station.detectors place entry within)
     in omega (arith, ap length named_is, length-zip (own_names layout own) sensed, length-map own (λ (one : SectionId). get_or layout.sections one.0 []), ap length own_is, has.few)
-
-pub detector_made : (site layout : Site) (begins : Beginning) (entry : DetectorEntry) (own : List SectionId) (sensed last : List Occupancy) (name : List ℕ) (id : ℕ) (object : List Section) (named : List (List ℕ × Occupancy)) (stepped : SteppedState (List Section))
-    → layout ≡ site → own ≡ entry.sections → name ≡ entry.name → id ≡ entry.id → object ≡ map sections.made named → named ≡ zip (own_names layout own) sensed → last ≡ sensed
-    → stepped ≡ record { host = host_of detection_behaviour site begins name id object; reached = begins.clock; handed = [] }
-    → (record { state = record { site = layout; host = stepped.host; contacts = record { own = own; last = last } }; reached = stepped.reached; handed = stepped.handed; said = []; left = [] })
-    ≡ made_at {State = Controller (List Section) OwnSections} {Input = Input} begins.clock (record { site = site; host = detector_sensing site begins sensed entry; contacts = told_so entry sensed })
-detector_made site layout begins entry own sensed last name id object named stepped layout_is own_is name_is id_is object_is named_is last_is stepped_is =
-    let State : Type 0 = Controller (List Section) OwnSections
-    in let node : Site → SteppedState (List Section) → List SectionId → List Occupancy → NodeState State Input = λ s st o l.
-    record { state = record { site = s; host = st.host; contacts = record { own = o; last = l } }; reached = st.reached; handed = st.handed; said = []; left = [] }
-    in let at : List ℕ → ℕ → List Section → SteppedState (List Section) = λ n i o. record { host = host_of detection_behaviour site begins n i o; reached = begins.clock; handed = [] }
-    in let all : List (List ℕ × Occupancy) = zip (own_names site entry.sections) sensed
-    in let same_named : named ≡ all =
-    named_is ∙ ap (λ (s : Site). zip (own_names s own) sensed) layout_is ∙ ap (λ (o : List SectionId). zip (own_names site o) sensed) own_is
-    in let same_object : object ≡ map sections.made all = object_is ∙ ap (λ n. map sections.made n) same_named
-    in let same_stepped : stepped ≡ at entry.name entry.id (map sections.made all) =
-    stepped_is ∙ ap (λ (n : List ℕ). at n id object) name_is ∙ ap (λ (i : ℕ). at entry.name i object) id_is ∙ ap (λ (o : List Section). at entry.name entry.id o) same_object
-    in ap (λ (s : Site). node s stepped own last) layout_is ∙ ap (λ (st : SteppedState (List Section)). node site st own last) same_stepped
-    ∙ ap (λ (o : List SectionId). node site (at entry.name entry.id (map sections.made all)) o last) own_is ∙ ap (λ (l : List Occupancy). node site (at entry.name entry.id (map sections.made all)) entry.sections l) last_is

@@ -32,10 +32,7 @@ fn say_news(
 fn last_told(told: &[Option<Known>], place: usize) -> Option<Known>
     ensures { result ≡ last_told (slice_get told.now place) }
 {
-    match told.get(place) {
-        Some(last) => *last,
-        None => None,
-    }
+    *told.get(place)?
 }
 
 /// All that isn't as it was told last is to be told.

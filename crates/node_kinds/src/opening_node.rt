@@ -75,7 +75,14 @@ impl<'a> OpeningNode<'a> {
     pub fn occupancies(&self, alloc: Global) -> Result<Option<Vec<Occupancy>>, AllocError>
         ensures { IfOk result (λ told. option_map (λ v. v.items) told ≡ all_told (opening_now self.now).state.sections) }
     {
-        all_told(alloc, &self.sections)
+        let mut told = Vec::new(alloc);
+        for section in self.sections.as_slice() {
+            let Some(occupancy) = *section else {
+                return Ok(None);
+            };
+            told.push(occupancy)?;
+        }
+        Ok(Some(told))
     }
 }
 
@@ -168,23 +175,6 @@ fn untold(alloc: Global, own: &[SectionId]) -> Result<Vec<Option<Occupancy>>, Al
         sections.push(None)?;
     }
     Ok(sections)
-}
-
-/// How all sections were told, where each was.
-fn all_told(
-    alloc: Global,
-    sections: &[Option<Occupancy>],
-) -> Result<Option<Vec<Occupancy>>, AllocError>
-    ensures { IfOk result (λ told. option_map (λ v. v.items) told ≡ all_told sections.now) }
-{
-    let mut told = Vec::new(alloc);
-    for section in sections {
-        let Some(occupancy) = *section else {
-            return Ok(None);
-        };
-        told.push(occupancy)?;
-    }
-    Ok(Some(told))
 }
 
 /// What a contact told is kept.

@@ -1,6 +1,6 @@
 //! The lines that are to be told.
 
-ghost use Rattle.std.specs.Prelude.{◌≡◌, ◌++◌, ◌∷◌, [], string_bytes, IfOk, OnOk};
+ghost use Rattle.std.specs.Prelude.{◌≡◌, ◌++◌, ◌∷◌, [], OnOk};
 ghost use Rattle.ixl.specs.Interlocking.{told};
 ghost use Rattle.node_kinds.specs.Interlockings.{answer_by_step, answer_line};
 ghost use Rattle.node_drive.specs.node_lines.Known.{operator_text};
@@ -12,14 +12,6 @@ use simulator_run::ixl_rules::control_table::layout::Layout;
 use std::alloc::{AllocError, Global};
 use std::collections::VecDeque;
 
-/// The text of a line.
-fn text(alloc: Global, layout: &Layout, line: OperatorLine) -> Result<String, AllocError>
-    ensures { IfOk result (λ text. string_bytes text ≡ operator_text layout.now line) }
-{
-    let line = OperatorText { layout, line };
-    format!(in alloc; "{line}")
-}
-
 /// A line is to be told behind the others.
 pub(crate) fn say(
     alloc: Global,
@@ -29,7 +21,8 @@ pub(crate) fn say(
 ) -> Result<(), AllocError>
     ensures { OnOk result (texts said.new ≡ texts said.old ++ operator_text layout.now line ∷ []) }
 {
-    said.push_back(text(alloc, layout, line)?)?;
+    let line = OperatorText { layout, line };
+    said.push_back(format!(in alloc; "{line}")?)?;
     Ok(())
 }
 

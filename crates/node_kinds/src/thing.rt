@@ -1,7 +1,7 @@
 //! The things of which an interlocking tells its operator.
 
 /// A kind of thing of which an interlocking tells its operator.
-#[derive(Clone, Copy, Debug)]
+#[derive(Clone, Copy)]
 pub enum Thing {
     /// The link to the controller of a signal.
     SignalLink,

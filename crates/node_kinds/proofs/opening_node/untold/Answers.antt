@@ -1,5 +1,5 @@
-use Rattle.std.proofs.Common.{◌∙◌, [], ◌∷◌, ◌++◌, None, ap, sym}
-use Rattle.std.proofs.lemmas.List.{map_more}
+use Rattle.std.proofs.Common.{◌∙◌, [], ◌∷◌, ◌++◌, None, ap, map, sym}
+use Rattle.std.proofs.lemmas.List.{map_more, take_all}
 use Rattle.simulator_run.specs.layout.declared.ids.SectionId.{SectionId}
 use Rattle.node_kinds.proofs.opening_node.untold.Goals as goal
 
@@ -7,3 +7,6 @@ pub loop-section-preserved : goal.loop-section-preserved
 loop-section-preserved c =
     c.in_ok-push.ensures.items ∙ ap (λ so_far. so_far ++ None ∷ []) c.loop-section.invariant
     ∙ sym (map_more (λ (section : SectionId). None) c.args.own.now c.loop-section._section-index (record { 0 = 0 }) c.loop-section-test.true)
+
+pub returns : goal.returns
+returns c = c.loop-section.invariant ∙ ap (map (λ (section : SectionId). None)) (take_all c.loop-section._section-index c.args.own.now c.loop-section-test.false)

@@ -1,7 +1,7 @@
 use Rattle.std.proofs.Common.{◌∙◌, ap, rules}
-use Rattle.simulator_run.specs.layout.Entries.{DetectorEntry, Site}
+use Rattle.simulator_run.specs.layout.Entries.{Site}
 use Rattle.node_kinds.proofs.Entries.{entry_is}
-use Rattle.node_kinds.proofs.OwnSectionsTold.{detector_made, few_named}
+use Rattle.node_kinds.proofs.OwnSectionsTold.{few_named}
 use Rattle.node_kinds.proofs.detector_node.DetectorNode.new.Goals as goal
 
 pub new-requires : goal.new-requires
@@ -16,6 +16,4 @@ returns-clause-made c = λ entry there.
     let site = c.args.table.now in
     let detectors = c.detectors.ensures ∙ ap (λ (s : Site). s.detectors) c.layout-layout.ensures.entries in
     let same = entry_is c.detectors.result.now site.detectors c.args.place c.index-detectors-place.result entry detectors c.requires c.index-detectors-place.is there in
-    detector_made site c.layout-layout.result.now (record { clock = c.args.reading; first = c.args.first_sequence_number }) entry c.sections-own.result.now c.args.sensed.now c.in_ok-last.last.items c.name.result.now c.id.result c.new.result c.deref.result.now c.in_ok-stepped.stepped
-    c.layout-layout.ensures.entries (c.sections-own.ensures ∙ ap (λ (e : DetectorEntry). e.sections) same) (c.name.ensures ∙ ap (λ (e : DetectorEntry). e.name) same) (c.id.ensures ∙ ap (λ (e : DetectorEntry). e.id) same) c.new.ensures
-    (c.deref.ensures.value ∙ c.in_ok-named.ensures) (c.in_ok-last.ensures.items_if_clones_equal (search rules)) c.in_ok-stepped.ensures
+    search (rules, same, c.in_ok-last.ensures.items_if_clones_equal (search rules))

@@ -1,7 +1,0 @@
-use Rattle.std.proofs.Common.{◌≡◌, ◌++◌, drop, option_map}
-use Rattle.node_kinds.specs.Made.{all_told}
-use Rattle.node_kinds.proofs.opening_node.all_told.Given as goal
-
--- those so far stand before those behind
-abbrev pub invariant-loop-section : goal.invariant-loop-section
-invariant-loop-section l = option_map (λ more. l.told.items ++ more) (all_told (drop l.section-index l.sections)) ≡ all_told l.sections
