@@ -7,7 +7,7 @@ use Rattle.capture_file.specs.declared.fault.CaptureFault.{CaptureFault}
 use Rattle.capture_file.specs.declared.fault.CaptureFault.TheVariants.{TooLong, Exists, CannotWrite}
 use Rattle.capture_file.specs.declared.journey.Endpoint.{Endpoint}
 use Rattle.control_table.specs.layout.Entries.{Site}
-use Rattle.station_check.specs.Failures.{Leaves}
+use Rattle.station_check.specs.Failures.{ExplainsTable, Leaves}
 use Rattle.station_check.specs.declared.failure.Failure.{Failure}
 use Rattle.station_check.specs.declared.failure.Failure.TheVariants.{Layout, Table, Line, OutOfMemory, NotWritten}
 use Rattle.node_record.specs.CapturedRecord.{Explains, HasCapture, IsCaptureOf, IsRecordCapture}
@@ -25,6 +25,14 @@ use Rattle.node_record.specs.inside.SoundTexts.{AreTexts, IsLate}
 pub told_on : {T E : Type 0} (P : E → Type 0) (tried : Result T E) (failure : E) → IsErrAnd tried (λ told. told ≡ failure) → P failure → IfErr tried P
 told_on P (Ok answer) failure told holds = absurd told
 told_on P (Err other) failure told holds = subst P (sym told) holds
+
+-- the layout gives no table
+pub without_table : (layout name text : List ℕ) (why : Failure) → ExplainsTable layout why → ExplainsRecord layout name text why
+without_table layout name text (Layout fault) explains = explains
+without_table layout name text (Table fault) explains = explains
+without_table layout name text (Line fault) explains = absurd explains
+without_table layout name text OutOfMemory explains = absurd explains
+without_table layout name text NotWritten explains = absurd explains
 
 -- a writer to which nothing was written
 pub stays : {W : Type 0} (why : Failure) (out : W) → Leaves why out out

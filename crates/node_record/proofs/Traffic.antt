@@ -3,7 +3,6 @@ use Rattle.std.proofs.Common.{◌≡◌, ◌∙◌, ◌+◌, ◌<◌, ℕ, List,
 use Rattle.std.proofs.lemmas.List.{drop_more}
 use Rattle.std.proofs.KnownBytes.{Appends-nil, Appends-trans, Appends-kept}
 use Rattle.std.specs.Io.KnownBytes.{Appends, Keeps}
-use Rattle.std.specs.List.{flat_map}
 use Rattle.std.specs.Option.{option_to_list}
 use Rattle.control_table.specs.layout.Entries.{Site}
 use Rattle.node_record.specs.NodeLines.{line_text, lines_text}

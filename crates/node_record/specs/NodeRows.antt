@@ -1,5 +1,5 @@
 -- Which rows the chart of a node's record has.
-use Rattle.std.specs.Prelude.{ℕ, ◌==◌, ◌&&◌, not, Bool, true, false, List, Option, Some, None, slice_get}
+use Rattle.std.specs.Prelude.{ℕ, ◌==◌, ◌&&◌, not, Bool, true, false, Option, Some, None, slice_get}
 use Rattle.std.specs.List.{list_any}
 use Rattle.control_table.specs.layout.Entries.{DetectorEntry, Site}
 use Rattle.lane_chart.specs.declared.subject.Row.{Row}

@@ -1,5 +1,5 @@
 -- What comes to a node and what it sends, by its record.
-use Rattle.std.specs.Prelude.{ℕ, ◌==◌, nat_le, if◌then◌else◌, Bool, true, false, List, [], ◌∷◌, ◌++◌, Option, Some, None}
+use Rattle.std.specs.Prelude.{ℕ, ◌==◌, nat_le, if◌then◌else◌, Bool, false, List, [], ◌∷◌, ◌++◌, Option, Some, None}
 use Rattle.std.specs.Option.{option_to_list}
 use Rattle.node_record.specs.RecordLines.{Line, Reads, Comes, ThrowsAway, Sends}
 use Rattle.node_record.specs.declared.passage.Reception.{Reception}

@@ -14,7 +14,7 @@ use node_lines::{Order, read_order};
 use replay_words::decimal;
 
 /// How far a record is read.
-#[derive(Clone, Copy, Debug)]
+#[derive(Clone, Copy)]
 pub(crate) struct Course {
     /// The first reading of the node's clock, once there is one, in milliseconds.
     pub(crate) first: Option<u64>,
@@ -25,7 +25,7 @@ pub(crate) struct Course {
 }
 
 /// What a line comes to.
-#[derive(Clone, Copy, Debug)]
+#[derive(Clone, Copy)]
 pub(crate) struct Step {
     /// How far the record is read behind it.
     pub(crate) course: Course,

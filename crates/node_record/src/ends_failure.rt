@@ -16,7 +16,7 @@ use std::io::Write;
 const LINE_LENGTH: usize = 64;
 
 /// Why the addresses of nodes don't go into captures.
-#[derive(Debug, Drop)]
+#[derive(Drop)]
 pub(crate) enum EndsFailure {
     /// The layout's text is faulty, or memory is lacking.
     Station(Failure),

@@ -48,27 +48,21 @@ fn signal_lane(layout: &Layout, kind: Kind, name: &str) -> Option<Lane>
 fn section_lane(layout: &Layout, name: &str) -> Option<Lane>
     ensures { result ≡ section_lane layout.now name.now }
 {
-    let kind = Kind::Section;
-    match section_named(layout, name) {
-        Ok(section) => Some(Lane {
-            kind,
-            place: section.0,
-        }),
-        Err(_) => None,
-    }
+    let Ok(section) = section_named(layout, name) else {
+        return None;
+    };
+    let (kind, place) = (Kind::Section, section.0);
+    Some(Lane { kind, place })
 }
 
 fn point_lane(layout: &Layout, name: &str) -> Option<Lane>
     ensures { result ≡ point_lane layout.now name.now }
 {
-    let kind = Kind::Position;
-    match point_named(layout, name) {
-        Ok(point) => Some(Lane {
-            kind,
-            place: point.0,
-        }),
-        Err(_) => None,
-    }
+    let Ok(point) = point_named(layout, name) else {
+        return None;
+    };
+    let (kind, place) = (Kind::Position, point.0);
+    Some(Lane { kind, place })
 }
 
 fn route_lane(layout: &Layout, name: &str) -> Lane
@@ -195,8 +189,8 @@ pub(crate) fn known_said(layout: &Layout, line: &str) -> Option<Told>
     ensures { result ≡ known_said layout.now (words line.now) }
 {
     let mut words = Words::of(line);
-    match (words.next(), words.next(), words.next()) {
-        (Some(thing), Some(name), Some(word)) => known_words(layout, thing, name, word, words),
-        _ => None,
-    }
+    let thing = words.next()?;
+    let name = words.next()?;
+    let word = words.next()?;
+    known_words(layout, thing, name, word, words)
 }

@@ -85,7 +85,6 @@ fn record_chart(
 ) -> Result<Vec<u8>, Failure>
     ensures drawn { IfOk result (λ text. IsRecordChart layout.now name.now recording.now cut text.items) }
     ensures reads { OnOk result (CanRead layout.now name.now recording.now) }
-    ensures faulty { (CanRead layout.now name.now recording.now → ⊥) → IsErr result }
     ensures explains { IfErr result (ExplainsRecord layout.now name.now recording.now) }
 {
     let texts = read_texts(alloc, layout, name, recording)?;

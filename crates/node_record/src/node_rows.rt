@@ -14,30 +14,24 @@ use std::alloc::{AllocError, Global};
 fn is_controller(sort: Sort) -> bool
     ensures { result ≡ is_controller sort }
 {
-    match sort {
-        Sort::SignalNode | Sort::PointNode | Sort::DetectorNode => true,
-        _ => false,
-    }
+    matches!(
+        sort,
+        Sort::SignalNode | Sort::PointNode | Sort::DetectorNode
+    )
 }
 
 /// Whether a row is one that the controller of a signal tells of.
 fn is_signal_row(sort: Sort) -> bool
     ensures { result ≡ is_signal_row sort }
 {
-    match sort {
-        Sort::Signal | Sort::SignalNode => true,
-        _ => false,
-    }
+    matches!(sort, Sort::Signal | Sort::SignalNode)
 }
 
 /// Whether a row is one that the controller of a point tells of.
 fn is_point_row(sort: Sort) -> bool
     ensures { result ≡ is_point_row sort }
 {
-    match sort {
-        Sort::Point | Sort::PointNode => true,
-        _ => false,
-    }
+    matches!(sort, Sort::Point | Sort::PointNode)
 }
 
 fn owns(detector: &Detector, section: usize) -> bool

@@ -16,7 +16,7 @@ use replay_words::decimal;
 use std::alloc::{AllocError, Global};
 
 /// What happens by a node's record.
-#[derive(Debug, Drop)]
+#[derive(Drop)]
 pub(crate) struct NodeStory {
     /// What its lanes show, from each line on that tells something of one.
     pub(crate) changes: Vec<Change>,
@@ -37,10 +37,9 @@ fn add_change(
 ) -> Result<(), AllocError>
     ensures { OnOk result (changes.new.items ≡ changes.old.items ++ change_by line time told) }
 {
-    let Some(told) = told else {
+    let Some(Told { lane, seen }) = told else {
         return Ok(());
     };
-    let Told { lane, seen } = told;
     let time = stamp(time);
     changes.push(Change {
         line,
@@ -76,7 +75,7 @@ fn add_mark(
 fn is_answer(word: &str) -> bool
     ensures { result ≡ is_answer word.now }
 {
-    word == "accepted" || word == "refused" || word == "holding" || word == "waiting"
+    matches!(word, "accepted" | "refused" | "holding" | "waiting")
 }
 
 /// Whether a line of an interlocking is marked: a command, an answer, or that it takes no request yet.

@@ -1,7 +1,7 @@
 //! The line for a datagram of a record.
 
 ghost use Rattle.std.specs.Prelude.{◌≡◌, IfOk, Some, string_bytes};
-ghost use Rattle.node_record.specs.NodeLines.{line_text, why_text};
+ghost use Rattle.node_record.specs.NodeLines.{line_text, way_text, why_text};
 ghost use Rattle.node_record.specs.inside.Passing.{seen};
 
 use crate::passage::{Passed, Reception, Way};
@@ -48,37 +48,22 @@ pub(crate) fn why_text(reception: Reception) -> &'static str
 }
 
 /// What became of a datagram, as a line tells it.
-#[derive(Clone, Copy)]
-struct WayText<'a> {
-    layout: &'a Layout,
-    node: usize,
-    way: Way,
-}
-
-impl<'a> fmt::Display for WayText<'a> {
-    ghost use Rattle.node_record.specs.NodeLines.{way_text};
-
-    ghost output = { λ text. Some (way_text text.layout.now text.node text.way) };
-
-    fn fmt<W: fmt::Write>(&self, f: &mut fmt::Formatter<W>) -> fmt::Result {
-        let layout = self.layout;
-        let own = NodeText {
-            layout,
-            node: self.node,
-        };
-        match self.way {
-            Way::Sent { to } => {
-                let to = NodeText { layout, node: to };
-                write!(f, "sent by {own} to {to}")
-            }
-            Way::Came {
-                reception: Reception::Delivered,
-                ..
-            } => write!(f, "delivered to {own}"),
-            Way::Came { reception, .. } => {
-                let why = why_text(reception);
-                write!(f, "not delivered to {own}, {why}")
-            }
+fn way_text(alloc: Global, layout: &Layout, node: usize, way: Way) -> Result<String, AllocError>
+    ensures { IfOk result (λ text. string_bytes text ≡ way_text layout.now node way) }
+{
+    let own = NodeText { layout, node };
+    match way {
+        Way::Sent { to } => {
+            let to = NodeText { layout, node: to };
+            format!(in alloc; "sent by {own} to {to}")
+        }
+        Way::Came {
+            reception: Reception::Delivered,
+            ..
+        } => format!(in alloc; "delivered to {own}"),
+        Way::Came { reception, .. } => {
+            let why = why_text(reception);
+            format!(in alloc; "not delivered to {own}, {why}")
         }
     }
 }
@@ -93,12 +78,7 @@ pub(crate) fn line(
     ensures { IfOk result (λ line. string_bytes line ≡ line_text layout.now node (seen one.now)) }
 {
     let words = datagram_words(alloc, Some(layout), one.bytes)?;
-    let words = words.as_str();
+    let way = way_text(alloc, layout, node, one.way)?;
     let reading = one.reading;
-    let way = WayText {
-        layout,
-        node,
-        way: one.way,
-    };
     format!(in alloc; "{reading}.000 {way}: {words}\n")
 }

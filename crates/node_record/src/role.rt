@@ -6,7 +6,7 @@ ghost use Rattle.node_record.specs.Roles.{role_of};
 use control_table::layout::Layout;
 
 /// Which node of a station it is; a controller by its place in its table of the layout.
-#[derive(Clone, Copy, Debug)]
+#[derive(Clone, Copy)]
 pub(crate) enum Role {
     Interlocking,
     Signal(usize),

@@ -1,6 +1,6 @@
 //! The texts of a layout and of a node's record.
 
-ghost use Rattle.std.specs.Prelude.{IsErr, IfErr, IfOk, OnOk};
+ghost use Rattle.std.specs.Prelude.{IfErr, IfOk, OnOk};
 ghost use Rattle.node_record.specs.DecodedRecord.{CanRead, ExplainsRecord};
 ghost use Rattle.node_record.specs.inside.SoundTexts.{AreTexts};
 
@@ -25,7 +25,6 @@ pub(crate) fn read_texts(
 ) -> Result<Texts, Failure>
     ensures read { IfOk result (λ texts. AreTexts layout.now name.now recording.now texts.table texts.read) }
     ensures reads { OnOk result (CanRead layout.now name.now recording.now) }
-    ensures faulty { (CanRead layout.now name.now recording.now → ⊥) → IsErr result }
     ensures explains { IfErr result (ExplainsRecord layout.now name.now recording.now) }
 {
     let table = table_of(alloc, layout)?;

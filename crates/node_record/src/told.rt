@@ -3,7 +3,7 @@
 use lane_chart::{Kind, Lane, Seen};
 
 /// A lane shows this from now on.
-#[derive(Clone, Copy, Debug)]
+#[derive(Clone, Copy)]
 pub(crate) struct Told {
     pub(crate) lane: Lane,
     pub(crate) seen: Seen,

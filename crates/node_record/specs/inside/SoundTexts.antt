@@ -1,6 +1,5 @@
 -- Texts without a fault.
-use Rattle.std.specs.Prelude.{◌≡◌, ◌++◌, ℕ, List, Ok}
-use Rattle.std.specs.Io.KnownBytes.{Appends}
+use Rattle.std.specs.Prelude.{◌≡◌, ℕ, List, Ok}
 use Rattle.control_table.specs.layout.Entries.{Site}
 use Rattle.station_check.specs.Report.{IsSound}
 use Rattle.station_check.specs.declared.failure.Failure.{Failure}
