@@ -1,6 +1,7 @@
 -- How far a train has gone over a route.
-use Rattle.std.specs.Prelude.{◌≡◌, ◌<◌, ℕ, IsTrue, List, [], ◌∷◌, ◌++◌, Some, length, slice_get}
+use Rattle.std.specs.Prelude.{◌≡◌, ◌<◌, ℕ, IsTrue, List, ◌∷◌, Some, length, slice_get}
 use Rattle.std.specs.FinSet.{contains}
+use Rattle.std.specs.List.{Contains}
 use Rattle.simulator_run.specs.rasta_core.Each.{Each}
 use Rattle.simulator_run.specs.sci_telegram.declared.message.Occupancy.TheVariants.{Clear}
 use Rattle.simulator_run.specs.ixl_rules.Due.{AllClear}
@@ -12,7 +13,7 @@ use Rattle.simulator_run.specs.Nodes.{detector_link}
 use Rattle.simulator_run.specs.Tried.{Played}
 use Rattle.simulator_recovery.specs.LinkRounds.{StaysBelowLimit}
 use Rattle.simulator_recovery.specs.Rounds.{all_tried, good_rounds}
-use Rattle.simulator_recovery.specs.SectionsReported.{HasRoomToReport, LeavesSection}
+use Rattle.simulator_recovery.specs.SectionsReported.{LeavesSection}
 
 -- Each section of a route was reported occupied since the route was given authority.
 abbrev pub IsSeen : Row → RouteState → Type 0
@@ -23,13 +24,14 @@ pub record IsPassed (table : Table) (ixl : IxlState) (row : Row) (route : RouteS
   pub seen : IsSeen row route
   pub clear : AllClear table ixl row.sections
 
--- A section lies clear behind good rounds, and its detector could tell so: nothing was told of it behind the last round; the window of the
--- detector's link had room behind the round before, and what came behind that; and neither end of this link comes to the limit of PDUs in a
--- connection.
-pub record IsLeft (section : ℕ) (between : List Event) (later : List (List Event)) (last : List Event) (flowing : Flowing Played) : Type 0 where
-  pub clear : slice_get (good_rounds (between ∷ (later ++ last ∷ [])) flowing).state.run.occupancies section ≡ Some Clear
-  pub untold : Each (LeavesSection flowing.state.sited.site flowing.state.sited.table section) last
-  pub room : HasRoomToReport flowing.state.sited.table (good_rounds (between ∷ later) flowing).state.run section
+-- A section lies clear behind good rounds, and neither end of the link of the detector that reports it comes to the limit of PDUs in a
+-- connection within them.
+pub record IsLeft (section : ℕ) (between : List Event) (rounds : List (List Event)) (flowing : Flowing Played) : Type 0 where
+  pub clear : slice_get (good_rounds (between ∷ rounds) flowing).state.run.occupancies section ≡ Some Clear
   pub reporter : ℕ × ℕ
   pub reports : slice_get flowing.state.sited.table.reporters section ≡ Some reporter
-  pub below : StaysBelowLimit flowing.state.sited.site (detector_link flowing.state.sited.site reporter.0) (later ++ last ∷ []) (all_tried between (round stations flowing))
+  pub below : StaysBelowLimit flowing.state.sited.site (detector_link flowing.state.sited.site reporter.0) rounds (all_tried between (round stations flowing))
+
+-- none of these events tells of a section of a route
+abbrev pub AreUntold : Row → List (List Event) → Flowing Played → Type 0
+AreUntold row more flowing = (section : ℕ) → Contains row.sections section → Each (Each (LeavesSection flowing.state.sited.site flowing.state.sited.table section)) more

@@ -1,6 +1,6 @@
 //! The passage of a train: it frees the sections of a route, one after another, and then the route.
 
-ghost use Rattle.std.specs.Prelude.{◌≡◌, ◌≤◌, ℕ, suc, IsTrue, List, [], ◌∷◌, ◌++◌, Some, false, length, slice_get, true};
+ghost use Rattle.std.specs.Prelude.{◌≡◌, ◌≤◌, ℕ, suc, IsTrue, List, ◌∷◌, ◌++◌, Some, false, length, slice_get, true};
 ghost use Rattle.std.specs.FinSet.{contains};
 ghost use Rattle.std.specs.List.{Contains};
 ghost use Rattle.ixl_table.specs.Table.{IsTableOf};
@@ -19,13 +19,12 @@ ghost use Rattle.simulator_run.specs.Happens.{happens};
 ghost use Rattle.simulator_run.specs.State.{WorldState};
 ghost use Rattle.simulator_run.specs.Tried.{Played};
 ghost use Rattle.simulator_headline.specs.Reached.{IsReached};
-ghost use Rattle.simulator_recovery.specs.Passage.{IsLeft, IsPassed, IsSeen};
+ghost use Rattle.simulator_recovery.specs.Passage.{AreUntold, IsLeft, IsPassed, IsSeen};
 ghost use Rattle.simulator_recovery.specs.Ready.{ready_rounds};
 ghost use Rattle.simulator_recovery.specs.Rounds.{HasTime, IsWork, good_rounds};
+ghost use Rattle.simulator_recovery.specs.SectionsReported.{section_rounds};
 
-use crate::{
-    good_rounds_are_events, known_sections_are_as_in_the_field, sections_are_reported_with_room,
-};
+use crate::{good_rounds_are_events, sections_are_reported};
 use simulator_run::ixl_rules::control_table::a_route_leads_over_sections_that_are_there;
 use simulator_run::ixl_rules::passage_frees_all_that_it_may;
 
@@ -70,19 +69,18 @@ pub fn trains_free_their_routes()
     passage_frees_all_that_it_may();
 }
 
-/// A route is free behind its train: behind each good round from the 1566th on no route is set any more whose authority has ended, and of which
-/// each section was reported occupied since it was given authority, and lies clear. Nothing was told of the section behind this round, and
-/// behind the round before, and what came behind that, the window of its detector's link had room (`IsLeft`). So the route is free in the
-/// round behind the train, whatever else comes. The premises are those of `links_are_ready`, of the links of these detectors.
+/// A route is free behind its train: no route is set any more whose authority has ended, and of which each section was reported occupied since
+/// it was given authority, and lies clear in the field, behind 32 good rounds, 320 ms, in which nothing is told of these sections, from the
+/// 1565th round on (`AreUntold`, `IsLeft`). All else may change as it likes: requests come, and other sections of their detectors are told of
+/// as often as you like. The premises are those of `links_are_ready`, of the links of these detectors.
 pub fn routes_are_free_behind_their_trains()
-    ensures { (between : List Event) (later : List (List Event)) (last : List Event) (flowing : Flowing Played) (number clock freed : ℕ) (row : Row) (route : RouteState) → Once flowing.state.sited.site → IsStation flowing.state.sited.site
+    ensures { (between : List Event) (later more : List (List Event)) (flowing : Flowing Played) (number clock freed : ℕ) (row : Row) (route : RouteState) → Once flowing.state.sited.site → IsStation flowing.state.sited.site
         → IsTableOf flowing.state.sited.site flowing.state.sited.table → IsReached flowing.state.sited.site flowing.state.sited.table flowing.state.run
-        → Each IsWork between → Each (Each IsWork) (later ++ last ∷ []) → HasTime (suc (length (later ++ last ∷ []))) flowing.state.run → ready_rounds ≤ suc (length later)
-        → ((section : ℕ) → Contains row.sections section → IsLeft section between later last flowing)
-        → IsRouteOf flowing.state.sited.table (good_rounds (between ∷ (later ++ last ∷ [])) flowing).state.run.station.ixl number row route → IsSeen row route → route.phase ≡ Ended clock freed → ⊥ }
+        → Each IsWork between → Each (Each IsWork) (later ++ more) → HasTime (suc (length (later ++ more))) flowing.state.run → ready_rounds ≤ suc (length later) → section_rounds ≤ length more
+        → AreUntold row more flowing → ((section : ℕ) → Contains row.sections section → IsLeft section between (later ++ more) flowing)
+        → IsRouteOf flowing.state.sited.table (good_rounds (between ∷ (later ++ more)) flowing).state.run.station.ixl number row route → IsSeen row route → route.phase ≡ Ended clock freed → ⊥ }
 {
     good_rounds_are_events();
-    known_sections_are_as_in_the_field();
-    sections_are_reported_with_room();
+    sections_are_reported();
     trains_free_their_routes();
 }
