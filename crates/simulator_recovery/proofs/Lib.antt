@@ -236,3 +236,4 @@ pub mod WithdrawnEnded
 pub mod WithdrawnApproach
 pub mod WithdrawnTold
 pub mod WithdrawnEnds
+pub mod TrainsGone

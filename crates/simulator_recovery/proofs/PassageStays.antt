@@ -32,7 +32,7 @@ use Rattle.simulator_recovery.proofs.DueTicks.{ticks_bring_nothing}
 use Rattle.simulator_recovery.proofs.IxlClients.{changed_at, mapped_at}
 use Rattle.simulator_recovery.proofs.StopsGiven.{request_unset}
 
-authorised_set : (p : Phase) → was_authorised p ≡ true → is_set p ≡ true
+pub authorised_set : (p : Phase) → was_authorised p ≡ true → is_set p ≡ true
 authorised_set phase.Free e = absurd (false≢true e)
 authorised_set phase.Waiting e = absurd (false≢true e)
 authorised_set phase.Proceeding e = refl
@@ -114,7 +114,7 @@ module _ (k place : ℕ) where
       let found = mapped_at new_route_of table.rows k route here
       in subst HasSeen (sym found.2) (λ set. absurd (false≢true set), λ was. absurd (false≢true was))
 
-  stepped_stays : (site : Site) (table : Table) (input : Input) (world : WorldState) (one : RouteState) → slice_get world.station.ixl.routes k ≡ Some one → was_authorised one.phase ≡ true → contains one.passage.seen place ≡ true
+  pub stepped_stays : (site : Site) (table : Table) (input : Input) (world : WorldState) (one : RouteState) → slice_get world.station.ixl.routes k ≡ Some one → was_authorised one.phase ≡ true → contains one.passage.seen place ≡ true
       → Stays (interlocking_stepped site table input world).station.ixl.routes
   unfolding interlocking_stepped
   stepped_stays site table input world one = step_stays (reading_of world.station.clock) table (key_of site) input (begun_with world.station.ixl empty_outbox) one

@@ -29,6 +29,7 @@ mod shows;
 mod sides;
 mod signals;
 mod silence;
+mod trains;
 mod windows;
 mod withdrawn;
 
@@ -149,6 +150,7 @@ pub use signals::signals_never_fill_their_windows;
 pub use silence::connections_end_in_silence;
 pub use silence::lamps_fall_in_silence;
 pub use silence::points_rest_in_silence;
+pub use trains::withdrawn_routes_are_free_behind_their_trains;
 pub use windows::detectors_never_fill_their_windows;
 pub use windows::points_never_fill_their_windows;
 pub use withdrawn::authority_ends_behind_a_withdrawal;

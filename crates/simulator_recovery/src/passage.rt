@@ -74,8 +74,8 @@ pub fn trains_free_their_routes()
 /// 1565th round on (`AreUntold`, `IsLeft`). All else may change as it likes: requests come, and other sections of their detectors are told of
 /// as often as you like. The premises are those of `links_are_ready`, of the links of these detectors.
 pub fn routes_are_free_behind_their_trains()
-    ensures { (between : List Event) (later more : List (List Event)) (flowing : Flowing Played) (number clock freed : ℕ) (row : Row) (route : RouteState) → Once flowing.state.sited.site → IsStation flowing.state.sited.site
-        → IsTableOf flowing.state.sited.site flowing.state.sited.table → IsReached flowing.state.sited.site flowing.state.sited.table flowing.state.run
+    ensures { (between : List Event) (later more : List (List Event)) (flowing : Flowing Played) (number clock freed : ℕ) (row : Row) (route : RouteState)
+        → Once flowing.state.sited.site → IsStation flowing.state.sited.site → IsTableOf flowing.state.sited.site flowing.state.sited.table → IsReached flowing.state.sited.site flowing.state.sited.table flowing.state.run
         → Each IsWork between → Each (Each IsWork) (later ++ more) → HasTime (suc (length (later ++ more))) flowing.state.run → ready_rounds ≤ suc (length later) → section_rounds ≤ length more
         → AreUntold row more flowing → ((section : ℕ) → Contains row.sections section → IsLeft section between (later ++ more) flowing)
         → IsRouteOf flowing.state.sited.table (good_rounds (between ∷ (later ++ more)) flowing).state.run.station.ixl number row route → IsSeen row route → route.phase ≡ Ended clock freed → ⊥ }
