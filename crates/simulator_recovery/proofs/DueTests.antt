@@ -1,5 +1,5 @@
 -- What the tests of points and sections tell.
-use Rattle.std.proofs.Common.{◌≡◌, ℕ, ◌&&◌, Bool, true, false, List, Option, Some, None, slice_get, refl, sym, ap, ◌∙◌}
+use Rattle.std.proofs.Common.{◌≡◌, ◌⊎◌, inl, inr, ℕ, ◌&&◌, Bool, true, false, List, Option, Some, None, slice_get, refl, sym, ap, ◌∙◌}
 use Rattle.std.specs.Prelude.{not}
 use Rattle.std.specs.FinSet.{contains}
 use Rattle.std.proofs.lemmas.Bool.{false≢true}
@@ -63,6 +63,13 @@ known_surely ixl point side never = choose (is_known ixl point side) refl
     choose : (b : Bool) → is_known ixl point side ≡ b → Known ixl point side
     choose true e = known_shown ixl point side e
     choose false e = absurd (never (λ known. false≢true (sym e ∙ known_tests ixl point side known)))
+
+pub known_or_not : (ixl : IxlState) (point : ℕ) (side : Side) → Known ixl point side ⊎ (Known ixl point side → ⊥)
+known_or_not ixl point side = choose (is_known ixl point side) refl
+  where
+    choose : (b : Bool) → is_known ixl point side ≡ b → Known ixl point side ⊎ (Known ixl point side → ⊥)
+    choose true e = inl (known_shown ixl point side e)
+    choose false e = inr (λ known. false≢true (sym e ∙ known_tests ixl point side known))
 
 pub all_known_shown : (ixl : IxlState) (needs : List Need) → all_known ixl needs ≡ true → AllKnown ixl needs
 all_known_shown ixl needs e = λ place other within. known_shown ixl _ _ (AllPass-from_list_all (λ (need : Need). is_known ixl need.point need.side) needs e place other within)

@@ -13,7 +13,7 @@ use Rattle.simulator_run.specs.rasta_core.Each.{Each}
 use Rattle.simulator_run.specs.ixl_client.Client.{ClientState, is_available, is_ready}
 use Rattle.simulator_run.specs.ixl_client.declared.stage.Stage.{Stage}
 use Rattle.simulator_run.specs.ixl_client.declared.stage.Stage.TheVariants as stage
-use Rattle.simulator_run.specs.ixl_rules.Due.{AllClear, At, IsAvailable, IsClear, IsHeldWithAuthority, IsRouteOf, Known, MoveDue}
+use Rattle.simulator_run.specs.ixl_rules.Due.{AllClear, At, IsAvailable, IsClear, IsHeldAt, IsHeldWithAuthority, IsRouteOf, Known, MoveDue}
 use Rattle.simulator_run.specs.ixl_rules.State.{IxlState, KnownPointState, RouteState}
 use Rattle.simulator_run.specs.ixl_rules.Table.{Need, Row, SitedTable, Table}
 use Rattle.simulator_run.specs.ixl_rules.declared.command.Command.TheVariants as commands
@@ -29,7 +29,7 @@ use Rattle.simulator_run.specs.Tried.{Played}
 use Rattle.simulator_run_links.specs.HasLinks.{IsStanding}
 use Rattle.simulator_run_links.specs.Whole.{IsWhole, client_states}
 use Rattle.simulator_headline.specs.Reached.{IsReached}
-use Rattle.simulator_recovery.specs.HeldPoints.{IsFreeFor, IsKnownOrOnItsWay, MayBeMoved}
+use Rattle.simulator_recovery.specs.HeldPoints.{IsFreeFor, IsKnownOrOnItsWay, MayCome}
 use Rattle.simulator_recovery.specs.NothingDue.{HasAspect, KeepsSetting, Waits}
 use Rattle.simulator_recovery.specs.Ready.{IsReadyOn, ready_rounds}
 use Rattle.simulator_recovery.specs.RoutesCome.{AcceptsRequest, AreBelowLimit, HasClearSections, IsKnownWithin, IsOnCourse, StaysClear, StaysSet, Throughout, and_request, as_request_comes}
@@ -43,6 +43,7 @@ use Rattle.simulator_recovery.proofs.Ready.{count_front, fewer_time}
 use Rattle.simulator_recovery.proofs.Rounds.{IsAt, TimeLaws, round_reached, rounds_reached, tried_happens, work_reached}
 use Rattle.simulator_recovery.proofs.RoutesCome.{point_there}
 use Rattle.simulator_recovery.proofs.StopComes.{last_round, last_tried}
+use Rattle.simulator_recovery.proofs.UnheldProceeding.{ProceedingKnown, held_behind}
 
 -- ---- rounds
 
@@ -117,41 +118,47 @@ known_where_available laws site table station once world reached need few ready 
     by_stage (stage.AwaitsStatus left) e is = absurd (false≢true is)
 
 -- a point that is free for a route on its course is known as soon as it is available, since no move waits that is due
-pub free_known : (table : Table) (ixl : IxlState) (number : ℕ) (row : Row) (need : Need) → slice_get table.rows number ≡ Some row → Contains row.needs need → IsOnCourse ixl number row
-    → IsFreeFor table ixl number need.point
-    → ((route : RouteState) → IsRouteOf table ixl number row route → MoveDue table ixl number route need → ⊥) → IsAvailable ixl need.point → Known ixl need.point need.side
-free_known table ixl number row need row_there within (inr (is, known)) free none available = All-contains (λ (other : Need). Known ixl other.point other.side) row.needs need known within
-free_known table ixl number row need row_there within (inl is) free none available = known_surely ixl need.point need.side (λ unknown. none is.0 (row_there, is.1) (record {
-  waits = is.2.0;
-  goes_on = is.2.1;
-  available = available;
-  elsewhere = unknown;
-  over_clear = free.may.clear;
-  unheld = free.may.unheld;
-  once = free.unmoved;
-}))
+pub free_known : (table : Table) (world : WorldState) (number : ℕ) (row : Row) (need : Need) → slice_get table.rows number ≡ Some row → Contains row.needs need
+    → IsOnCourse world.station.ixl number row → ProceedingKnown table world → IsHeldAt table world.station.ixl need.point need.side → IsFreeFor table world.station.ixl number need.point
+    → ((route : RouteState) → IsRouteOf table world.station.ixl number row route → MoveDue table world.station.ixl number route need → ⊥) → IsAvailable world.station.ixl need.point
+    → Known world.station.ixl need.point need.side
+free_known table world number row need row_there within (inr (is, known)) proceeding held free none available =
+    All-contains (λ (other : Need). Known world.station.ixl other.point other.side) row.needs need known within
+free_known table world number row need row_there within (inl is) proceeding held free none available = known_surely world.station.ixl need.point need.side (λ unknown. none is.0 (row_there, is.1)
+    (record {
+      waits = is.2.0;
+      goes_on = is.2.1;
+      available = available;
+      elsewhere = unknown;
+      over_clear = free.may.clear;
+      unheld = λ authority. free.may.unheld (held_behind table world need.point need.side proceeding held available unknown authority);
+      once = free.unmoved;
+    }))
 
 -- so a point that is free for a route on its course is known or on its way
 pub free_or : (laws : TimeLaws) (site : Site) (table : Table) → IsStation site → Once site → (world : WorldState) → IsReached site table world → (number : ℕ) (row : Row) (need : Need)
     → need.point < length site.points
     → slice_get table.rows number ≡ Some row → Contains row.needs need → IsReadyOn site (point_link site need.point) world → IsOnCourse world.station.ixl number row
+    → ProceedingKnown table world → IsHeldAt table world.station.ixl need.point need.side
     → ((route : RouteState) → IsRouteOf table world.station.ixl number row route → MoveDue table world.station.ixl number route need → ⊥)
     → IsKnownOrOnItsWay need world ⊎ IsFreeFor table world.station.ixl number need.point → IsKnownOrOnItsWay need world
-free_or laws site table station once world reached number row need few row_there within ready course none (inl so) = so
-free_or laws site table station once world reached number row need few row_there within ready course none (inr free) =
-    known_where_available laws site table station once world reached need few ready (free_known table world.station.ixl number row need row_there within course free none)
+free_or laws site table station once world reached number row need few row_there within ready course proceeding held none (inl so) = so
+free_or laws site table station once world reached number row need few row_there within ready course proceeding held none (inr free) =
+    known_where_available laws site table station once world reached need few ready (free_known table world number row need row_there within course proceeding held free none)
 
 -- an available point that may be moved is known at its side
 abbrev pub IsKnownWhereMovable : Table → Need → WorldState → Type 0
 IsKnownWhereMovable table need world = IsAvailable world.station.ixl need.point → At table.point_sections need.point (IsClear table world.station.ixl)
     → (IsHeldWithAuthority table world.station.ixl need.point → ⊥) → Known world.station.ixl need.point need.side
 
-pub movable_or : (laws : TimeLaws) (site : Site) (table : Table) → IsStation site → Once site → (world : WorldState) → IsReached site table world → (need : Need) → need.point < length site.points
-    → IsReadyOn site (point_link site need.point) world
-    → IsKnownWhereMovable table need world → IsKnownOrOnItsWay need world ⊎ MayBeMoved table world.station.ixl need.point → IsKnownOrOnItsWay need world
-movable_or laws site table station once world reached need few ready known (inl so) = so
-movable_or laws site table station once world reached need few ready known (inr may) = known_where_available laws site table station once world reached need few ready
-    (λ available. known available may.clear may.unheld)
+-- so one that may come is known or on its way
+pub coming_or : (laws : TimeLaws) (site : Site) (table : Table) → IsStation site → Once site → (world : WorldState) → IsReached site table world → (need : Need) → need.point < length site.points
+    → IsReadyOn site (point_link site need.point) world → ProceedingKnown table world → IsHeldAt table world.station.ixl need.point need.side
+    → IsKnownWhereMovable table need world → IsKnownOrOnItsWay need world ⊎ MayCome table world.station.ixl need.point → IsKnownOrOnItsWay need world
+coming_or laws site table station once world reached need few ready proceeding held known (inl so) = so
+coming_or laws site table station once world reached need few ready proceeding held known (inr may) = known_where_available laws site table station once world reached need few ready
+    (λ available. known_surely world.station.ixl need.point need.side (λ unknown. unknown (known available may.clear
+    (λ authority. may.unheld (held_behind table world need.point need.side proceeding held available unknown authority)))))
 
 -- ---- a request
 

@@ -219,6 +219,10 @@ pub mod HeldPoints
 pub mod HeldStation
 pub mod HeldRoutes
 pub mod HeldCome
+pub mod UnheldProceeding
+pub mod UnheldPhases
+pub mod UnheldRounds
+pub mod UnheldAccepted
 pub mod HeldRounds
 pub mod BeginsYoung
 pub mod BeginsReports

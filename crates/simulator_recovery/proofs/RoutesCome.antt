@@ -75,7 +75,7 @@ module _ (site : Site) (world : WorldState) (whole : IsWhole site world) where
   signal_up : (place : ℕ) → place < length site.signals → IsClientUp place world → IsSignalUp place world
   signal_up place few up = let it = signal_there place few in (it.0, it.1, subst UpByClock (same_Some up.client it.0.client (sym up.there ∙ it.2)) up.up)
 
-  point_up : (place : ℕ) → place < length site.points → IsClientUp (point_link site place) world → IsUpAtClock world place
+  pub point_up : (place : ℕ) → place < length site.points → IsClientUp (point_link site place) world → IsUpAtClock world place
   point_up place few up = let it = point_there place few in (it.0, it.1, subst UpByClock (same_Some up.client it.0.client (sym up.there ∙ it.2)) up.up)
 
   signal_ready : (place : ℕ) → place < length site.signals → IsReadyOn site place world → IsSignalReady world.station.ixl place

@@ -1,10 +1,13 @@
 -- What a route needs of its points as it is set, and how it comes.
-use Rattle.std.specs.Prelude.{◌≡◌, ◌⊎◌, ℕ, false, List}
+use Rattle.std.specs.Prelude.{◌≡◌, ◌≢◌, ◌⊎◌, ℕ, false, List, IsTrue}
 use Rattle.std.specs.FinSet.{contains}
 use Rattle.std.specs.List.{Contains}
-use Rattle.simulator_run.specs.ixl_rules.Due.{At, IsClear, IsHeldWithAuthority, Known}
-use Rattle.simulator_run.specs.ixl_rules.State.{IxlState}
+use Rattle.simulator_run.specs.sci_telegram.declared.message.Side.{Side}
+use Rattle.simulator_run.specs.ixl_rules.Due.{At, HoldsPoint, IsClear, IsRouteOf, Known}
+use Rattle.simulator_run.specs.ixl_rules.State.{IxlState, RouteState}
 use Rattle.simulator_run.specs.ixl_rules.Table.{Need, Row, Table}
+use Rattle.simulator_run.specs.ixl_rules.View.{was_authorised}
+use Rattle.simulator_run.specs.ixl_rules.declared.phase.Phase.TheVariants as phase
 use Rattle.simulator_run.specs.simulator_event.declared.event.Event.{Event}
 use Rattle.simulator_run.specs.Flow.{Flowing}
 use Rattle.simulator_run.specs.State.{WorldState}
@@ -15,25 +18,31 @@ use Rattle.simulator_recovery.specs.RoutesCome.{AreKnownWithin}
 use Rattle.simulator_recovery.specs.Shows.{ShowsThrough}
 use Rattle.simulator_recovery.specs.SidesOfMoves.{AwaitsMove}
 
--- A point may be moved: its own section is known to be clear, and no route with authority holds it.
-pub record MayBeMoved (table : Table) (ixl : IxlState) (point : ℕ) : Type 0 where
-  pub clear : At table.point_sections point (IsClear table ixl)
-  pub unheld : IsHeldWithAuthority table ixl point → ⊥
+-- A route holds a point that was given authority and doesn't proceed any more: it is withdrawn, or its authority has ended.
+abbrev pub IsHeldBehindAspect : Table → IxlState → ℕ → Type 0
+IsHeldBehindAspect table ixl point = (number : ℕ) × (row : Row) × (route : RouteState) × (side : Side)
+    × IsRouteOf table ixl number row route × IsTrue (was_authorised route.phase) × (route.phase ≢ phase.Proceeding) × HoldsPoint row route.phase point side
 
--- It may be moved for this route: it got no move in this connection since the route was set.
+-- A point may come: its own section is known to be clear, and no such route holds it. Where none with authority does it may be moved, and a
+-- route that proceeds holds it where it is known.
+pub record MayCome (table : Table) (ixl : IxlState) (point : ℕ) : Type 0 where
+  pub clear : At table.point_sections point (IsClear table ixl)
+  pub unheld : IsHeldBehindAspect table ixl point → ⊥
+
+-- It may come for this route: it got no move in this connection since the route was set.
 pub record IsFreeFor (table : Table) (ixl : IxlState) (number point : ℕ) : Type 0 where
-  pub may : MayBeMoved table ixl point
+  pub may : MayCome table ixl point
   pub unmoved : At ixl.known_points point (λ known. contains known.moved number ≡ false)
 
 -- A point that a route requires is known at its side, or on its way: the interlocking awaits the report of its move.
 abbrev pub IsKnownOrOnItsWay : Need → WorldState → Type 0
 IsKnownOrOnItsWay need world = Known world.station.ixl need.point need.side ⊎ AwaitsMove need.point world
 
--- Each point that a route requires is so, or may be moved.
+-- Each point that a route requires is so, or may come.
 abbrev pub MayHaveItsPoints : Table → Row → WorldState → Type 0
-MayHaveItsPoints table row world = (need : Need) → Contains row.needs need → IsKnownOrOnItsWay need world ⊎ MayBeMoved table world.station.ixl need.point
+MayHaveItsPoints table row world = (need : Need) → Contains row.needs need → IsKnownOrOnItsWay need world ⊎ MayCome table world.station.ixl need.point
 
--- Each is so, or may be moved for this route. So none has been moved for it in vain.
+-- Each is so, or may come for this route. So none has been moved for it in vain.
 abbrev pub MayYetHaveItsPoints : Table → ℕ → Row → WorldState → Type 0
 MayYetHaveItsPoints table number row world = (need : Need) → Contains row.needs need → IsKnownOrOnItsWay need world ⊎ IsFreeFor table world.station.ixl number need.point
 

@@ -26,3 +26,4 @@ pub mod Passage
 pub mod BeginsOfMoves
 pub mod HeldPoints
 pub mod Withdrawn
+pub mod UnheldPoints

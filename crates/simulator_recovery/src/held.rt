@@ -24,8 +24,9 @@ ghost use Rattle.simulator_recovery.specs.SidesOfMoves.{AwaitsMove};
 use crate::{
     accepted_settings_are_on_course, accepted_settings_move_their_points,
     driven_points_go_where_routes_want, events_close_no_link, links_are_ready,
-    moves_that_are_out_are_reported, no_move_waits_that_is_due, routes_come,
-    set_routes_hold_their_points, stations_stand_by_their_counts,
+    moves_that_are_out_are_reported, no_move_waits_that_is_due,
+    points_of_proceeding_routes_are_known, routes_come, set_routes_hold_their_points,
+    stations_stand_by_their_counts,
 };
 use object_host_theorem::step_takes_and_gives;
 use rasta_core_recovery::{two_ends_at_work_come_up, two_ends_at_work_hand_over};
@@ -146,10 +147,10 @@ pub fn driven_points_of_a_route_are_known()
 }
 
 /// Set routes come in time: a route is set behind a good round from the 1566th on (`StaysSet`), and each point that it requires is known at its side,
-/// or its move is out, or it may be moved for the route: its own section is clear, no route with authority holds it, and it got no move in
-/// this connection since the route was set. Then its points are known at their sides within 52 rounds, 520 ms, and it has its aspect behind
-/// these. So its lamp shows the aspect behind the 53rd round, and goes on to. The premises are else those of `routes_come` and
-/// `moves_that_are_out_are_reported`.
+/// or its move is out, or it may come for the route (`IsFreeFor`): its own section is clear, no route holds it that is withdrawn or whose
+/// authority has ended, and it got no move in this connection since the route was set. Then its points are known at their sides within 52
+/// rounds, 520 ms, and it has its aspect behind these. So its lamp shows the aspect behind the 53rd round, and goes on to. The premises are
+/// else those of `routes_come` and `moves_that_are_out_are_reported`.
 pub fn set_routes_come_in_time()
     ensures { (between one : List Event) (later more still : List (List Event)) (flowing : Flowing Played) (number : ℕ) (row : Row)
         → Once flowing.state.sited.site → IsStation flowing.state.sited.site
@@ -165,6 +166,7 @@ pub fn set_routes_come_in_time()
     links_are_ready();
     moves_that_are_out_are_reported();
     no_move_waits_that_is_due();
+    points_of_proceeding_routes_are_known();
     reached_worlds_are_safe();
     reports_make_points_of_routes_known();
     routes_come();
@@ -173,10 +175,10 @@ pub fn set_routes_come_in_time()
 }
 
 /// Accepted routes come in time: where the request of a route is accepted behind a good round from the 1566th on, and each point that it requires
-/// is known at its side behind the request, or its move is out, or may be moved (its own section is clear, and no route with authority holds
-/// it), its points are known at their sides within 52 rounds, 520 ms, and it has its aspect behind these. So its lamp shows the aspect
-/// behind the 53rd round, 530 ms after the request, and goes on to. That is so while its sections stay clear and it isn't cancelled. The
-/// premises are else those of `accepted_routes_come` and `moves_that_are_out_are_reported`.
+/// is known at its side behind the request, or its move is out, or may come (`MayCome`: its own section is clear, and no route holds it that is
+/// withdrawn or whose authority has ended), its points are known at their sides within 52 rounds, 520 ms, and it has its aspect behind
+/// these. So its lamp shows the aspect behind the 53rd round, 530 ms after the request, and goes on to. That is so while its sections stay
+/// clear and it isn't cancelled. The premises are else those of `accepted_routes_come` and `moves_that_are_out_are_reported`.
 pub fn accepted_routes_come_in_time()
     ensures { (between : List Event) (later : List (List Event)) (before : List Event) (more still : List (List Event)) (flowing : Flowing Played) (route : RouteId) (row : Row)
         → Once flowing.state.sited.site
@@ -193,7 +195,9 @@ pub fn accepted_routes_come_in_time()
     accepted_settings_are_on_course();
     accepted_settings_move_their_points();
     links_are_ready();
+    points_of_proceeding_routes_are_known();
     reached_worlds_are_safe();
     set_routes_come_in_time();
+    set_routes_hold_their_points();
     stations_have_links();
 }

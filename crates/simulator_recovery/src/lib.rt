@@ -30,6 +30,7 @@ mod sides;
 mod signals;
 mod silence;
 mod trains;
+mod unheld;
 mod windows;
 mod withdrawn;
 
@@ -151,6 +152,10 @@ pub use silence::connections_end_in_silence;
 pub use silence::lamps_fall_in_silence;
 pub use silence::points_rest_in_silence;
 pub use trains::withdrawn_routes_are_free_behind_their_trains;
+pub use unheld::accepted_routes_come_over_clear_sections;
+pub use unheld::points_held_with_authority_stay_known;
+pub use unheld::points_of_proceeding_routes_are_known;
+pub use unheld::set_routes_come_over_clear_sections;
 pub use windows::detectors_never_fill_their_windows;
 pub use windows::points_never_fill_their_windows;
 pub use withdrawn::authority_ends_behind_a_withdrawal;

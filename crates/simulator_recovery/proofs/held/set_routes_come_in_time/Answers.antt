@@ -35,13 +35,14 @@ returns c = λ between one later more still flowing number row once station is_t
     in let ready = c.links_are_ready.ensures between rounds flowing (point_link site need.point) once station is_table reached work works
     (fewer rounds more flowing.state.run some) (point_below site need.point few) soon
     ((below_front site row rounds more next some_below).points need within)
+    in let held = c.set_routes_hold_their_points.ensures site table start.state.run number row need is_table row_there within (set_course start.state.run.station.ixl number row set.course)
     in known_or need more start (free_or laws site table station once start.state.run start_reached number row need few row_there within ready set.course
+    (λ one other route point side another. c.points_of_proceeding_routes_are_known.ensures site table start.state.run one other route point side another is_table start_reached) held
     (λ route is. c.no_move_waits_that_is_due.ensures site table start.state.run number row route need start_reached is within) (may need within))
     (λ awaits. c.reports_make_points_of_routes_known.ensures between rounds more flowing number row need once station is_table reached work all_works some soon row_there within
     some_below some_set awaits
     (c.moves_that_are_out_are_reported.ensures between one later more flowing need.point need.side once station is_table reached work all_works some few notes long many
-    (some_below.points need within) awaits
-    (c.set_routes_hold_their_points.ensures site table start.state.run number row need is_table row_there within (set_course start.state.run.station.ixl number row set.course))))
+    (some_below.points need within) awaits held))
     in record {
       points = known;
       proceeds = subst (λ (f : Flowing Played). At f.state.run.station.ixl.routes number HasAspect) (rounds_both rounds more next)

@@ -1,0 +1,46 @@
+use Rattle.std.proofs.Common.{◌≡◌, append_assoc, subst, sym}
+use Rattle.std.specs.Prelude.{ℕ, suc, List, [], ◌∷◌, ◌++◌, length}
+use Rattle.simulator_run.specs.rasta_core.Each.{Each}
+use Rattle.simulator_run.specs.ixl_rules.Due.{At, Known}
+use Rattle.simulator_run.specs.simulator_event.declared.event.Event.{Event}
+use Rattle.simulator_run.specs.Flow.{round, stations}
+use Rattle.simulator_run.specs.Nodes.{point_link}
+use Rattle.simulator_run.specs.State.{WorldState}
+use Rattle.simulator_recovery.specs.LinkRounds.{StaysBelowLimit}
+use Rattle.simulator_recovery.specs.Rounds.{HasTime, IsWork, all_tried, good_rounds}
+use Rattle.simulator_recovery.specs.UnheldPoints.{HoldsWithAuthority}
+use Rattle.simulator_recovery.proofs.HeldRounds.{below_front, fewer, set_course}
+use Rattle.simulator_recovery.proofs.MovesLists.{each_split}
+use Rattle.simulator_recovery.proofs.Rounds.{TimeLaws, reached_on}
+use Rattle.simulator_recovery.proofs.UnheldAccepted.{HoldersKnow, clear_yet, long_still, start_or}
+use Rattle.simulator_recovery.proofs.unheld.set_routes_come_over_clear_sections.Goals as goal
+
+pub returns : goal.returns
+returns c = λ between one early later more still flowing number row once station is_table reached work works more_works still_works can notes long many row_there below left set clear.
+    let laws : TimeLaws = record { reach = record { on = c.reached_worlds_are_safe.ensures.on }; standing = c.stations_have_links.ensures.run }
+    in let site = flowing.state.sited.site
+    in let table = flowing.state.sited.table
+    in let all = (early ++ later) ++ one ∷ []
+    in let next = all_tried between (round stations flowing)
+    in let start = good_rounds (between ∷ all) flowing
+    in let start_reached = reached_on laws.reach (between ∷ all) flowing reached
+    in let joined : (early ++ later) ++ one ∷ [] ≡ early ++ (later ++ one ∷ []) = append_assoc early later (one ∷ [])
+    in let first = good_rounds (between ∷ early) flowing
+    in let first_reached = reached_on laws.reach (between ∷ early) flowing reached
+    in let kept : length first.state.run.station.ixl.routes ≡ length table.rows = subst (λ (w : WorldState). length w.station.ixl.routes ≡ length table.rows) (sym first_reached.after)
+    (c.every_world_is_safe.ensures.seen site table first_reached.outset first_reached.events once station is_table first_reached.lies first_reached.can).1.station.routes
+    in let parts = each_split (Each IsWork) early (later ++ one ∷ []) (subst (Each (Each IsWork)) joined works)
+    in let some = subst (λ (rounds : List (List Event)). HasTime (suc (length rounds)) flowing.state.run) joined (fewer all more flowing.state.run (fewer (all ++ more) still flowing.state.run can))
+    in c.set_routes_come_in_time.ensures between one (early ++ later) more still flowing number row once station is_table reached work works more_works still_works can notes
+    (long_still early later long) many row_there below set
+    (λ need within.
+    let know : HoldersKnow table start.state.run need = λ other other_row own own_there own_within same same_side holds.
+    subst (λ (rounds : List (List Event)). Known (good_rounds (between ∷ rounds) flowing).state.run.station.ixl own.point own.side) (sym joined)
+    (c.points_held_with_authority_stay_known.ensures between early (later ++ one ∷ []) flowing other other_row own once station is_table reached work parts.0 parts.1 some long own_there own_within
+    (subst (λ (point : ℕ). StaysBelowLimit site (point_link site point) (early ++ (later ++ one ∷ [])) next) (sym same)
+    (subst (λ (rounds : List (List Event)). StaysBelowLimit site (point_link site need.point) rounds next) joined
+    ((below_front site row all more next (below_front site row (all ++ more) still next below)).points need within)))
+    (start_or table first.state.run need (left need within) kept other other_row own own_there own_within same same_side)
+    (subst (λ (rounds : List (List Event)). At (good_rounds (between ∷ rounds) flowing).state.run.station.ixl.routes other (HoldsWithAuthority own)) joined holds))
+    in clear_yet c.request_is_accepted_where_admissible.ensures.accepted site table start.state.run is_table start_reached need
+    (c.set_routes_hold_their_points.ensures site table start.state.run number row need is_table row_there within (set_course start.state.run.station.ixl number row set.course)) know number (clear need within))

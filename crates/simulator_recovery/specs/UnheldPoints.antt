@@ -1,0 +1,34 @@
+-- How a route holds a point with authority.
+use Rattle.std.specs.Prelude.{◌≡◌, ◌⊎◌, ◌<◌, ℕ, false, IsTrue}
+use Rattle.std.specs.FinSet.{contains}
+use Rattle.std.specs.List.{Contains}
+use Rattle.simulator_run.specs.ixl_rules.Due.{At, IsClear, Known}
+use Rattle.simulator_run.specs.ixl_rules.State.{RouteState}
+use Rattle.simulator_run.specs.ixl_rules.Table.{Need, Row, Table}
+use Rattle.simulator_run.specs.ixl_rules.View.{freed_sections, was_authorised}
+use Rattle.simulator_run.specs.State.{WorldState}
+use Rattle.simulator_recovery.specs.HeldPoints.{IsHeldBehindAspect, IsKnownOrOnItsWay}
+use Rattle.simulator_recovery.specs.NothingDue.{Proceeds}
+
+-- A route holds a point that it requires with authority: it was given authority in its setting, and not all sections are freed for which the
+-- point waits.
+abbrev pub HoldsWithAuthority : Need → RouteState → Type 0
+HoldsWithAuthority need route = IsTrue (was_authorised route.phase) × (freed_sections route.phase < need.until)
+
+-- It proceeds, or doesn't hold the point so. So it isn't one that was withdrawn, or whose authority has ended, and holds the point still.
+abbrev pub ProceedsOrHoldsNone : Need → RouteState → Type 0
+ProceedsOrHoldsNone need route = Proceeds route ⊎ (HoldsWithAuthority need route → ⊥)
+
+-- Each point that this route requires is known at its side, or no route that was given authority and proceeds no more holds it.
+abbrev pub AreKnownOrUnheld : Table → Row → WorldState → Type 0
+AreKnownOrUnheld table row world = (need : Need) → Contains row.needs need → (IsHeldBehindAspect table world.station.ixl need.point → ⊥) ⊎ Known world.station.ixl need.point need.side
+
+-- Each point that a route requires is known at its side, or on its way, or its own section is known to be clear.
+abbrev pub HasClearPoints : Table → Row → WorldState → Type 0
+HasClearPoints table row world = (need : Need) → Contains row.needs need → IsKnownOrOnItsWay need world ⊎ At table.point_sections need.point (IsClear table world.station.ixl)
+
+-- Each is so, and where its section is clear it got no move in this connection since the route was set.
+abbrev pub HasClearPointsYet : Table → ℕ → Row → WorldState → Type 0
+HasClearPointsYet table number row world = (need : Need) → Contains row.needs need
+    → IsKnownOrOnItsWay need world
+    ⊎ (At table.point_sections need.point (IsClear table world.station.ixl) × At world.station.ixl.known_points need.point (λ known. contains known.moved number ≡ false))
