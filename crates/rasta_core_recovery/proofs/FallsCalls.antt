@@ -118,7 +118,7 @@ module _ (now : ℕ) (l : LinkState) (is_in : is_open l.phase ≡ true) (settled
     receives_move bytes = entering now l is_in settled_at (λ (s : Step). is_open (hearing_bytes (reading l.identity.key bytes) s.link).link.phase ≡ true
         → Moved (Read l bytes) kept l (hearing_bytes (reading l.identity.key bytes) s.link).link (s.pdus ++ (hearing_bytes (reading l.identity.key bytes) s.link).pdus))
         (by_reading (reading l.identity.key bytes) refl)
-            (λ o. absurd (false≢true (sym (stays_shut (reading l.identity.key bytes) (telling reason.Sequence l).link (told_shut l).0 (told_shut l).1) ∙ o)))
+        (λ o. absurd (false≢true (sym (stays_shut (reading l.identity.key bytes) (telling reason.Sequence l).link (told_shut l).0 (told_shut l).1) ∙ o)))
       where
         by_reading : (what : Result Pdu PduFault) → reading l.identity.key bytes ≡ what → is_open (hearing_bytes what l).link.phase ≡ true
             → Moved (Read l bytes) kept l (hearing_bytes what l).link (hearing_bytes what l).pdus
@@ -129,7 +129,7 @@ module _ (now : ℕ) (l : LinkState) (is_in : is_open l.phase ≡ true) (settled
 pub moves_by : (call : Call) (moment : ℕ) (end : EndState) → is_open end.link.phase ≡ true → IsSettledAt (reading_of end.clock) end.link → end.link.own_stamp ≤ reading_of end.clock
     → is_asking end.link ≡ false
     → (kept : ℕ) → 1 ≤ end.link.expected → end.link.expected < 2 ^ 31 → end.link.partner_stamp ≡ stamp kept → (outcome call moment end).enters ≡ None
-        → is_open (outcome call moment end).link.phase ≡ true
+    → is_open (outcome call moment end).link.phase ≡ true
     → Moved (CameBy end.link call) kept end.link (outcome call moment end).link (outcome call moment end).pdus
 unfolding outcome
 moves_by Ticks moment end is_in at own joined kept some fits kept_is none opened = ticks_move (reading_of end.clock) end.link is_in at own joined kept some fits kept_is opened
@@ -189,7 +189,7 @@ module _ (now : ℕ) (l : LinkState) (is_in : is_open l.phase ≡ true) (settled
   unfolding hearing
   hears_ask Came p came = λ o. choose (p.receiver == l.identity.own) (p.sender == l.identity.partner) refl refl o
       (asks_hears p l (asking_is l.clock l refl asking (subst (λ (n : ℕ). n < l.own_stamp + 1800) (sym settled_at.clock) settled_at.young)
-          (subst (λ (n : ℕ). l.own_stamp ≤ n) (sym settled_at.clock) own)))
+      (subst (λ (n : ℕ). l.own_stamp ≤ n) (sym settled_at.clock) own)))
     where
       by_deed : (k : LinkState) (ps : List Pdu) → (p.receiver == l.identity.own) ≡ true → (p.sender == l.identity.partner) ≡ true → is_open k.phase ≡ true → AskDeed p l k ps → AskMoved Came l k ps
       by_deed k ps receiver sender o (ask_leaves left) = absurd (false≢true (sym left.is_out ∙ o))
@@ -218,7 +218,7 @@ module _ (now : ℕ) (l : LinkState) (is_in : is_open l.phase ≡ true) (settled
 pub ask_moves_by : (call : Call) (moment : ℕ) (end : EndState) → is_open end.link.phase ≡ true → IsSettledAt (reading_of end.clock) end.link → end.link.own_stamp ≤ reading_of end.clock
     → is_asking end.link ≡ true
     → (outcome call moment end).enters ≡ None → is_open (outcome call moment end).link.phase ≡ true
-        → AskMoved (CameBy end.link call) end.link (outcome call moment end).link (outcome call moment end).pdus
+    → AskMoved (CameBy end.link call) end.link (outcome call moment end).link (outcome call moment end).pdus
 unfolding outcome
 ask_moves_by Ticks moment end is_in at own asking none opened = ticks_ask (reading_of end.clock) end.link is_in at own asking opened
 ask_moves_by Opens moment end is_in at own asking none opened = opens_ask (reading_of end.clock) end.link is_in at own asking (not_entered (opens (reading_of end.clock) end.link) moment none) opened

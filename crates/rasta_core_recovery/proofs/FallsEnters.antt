@@ -67,8 +67,17 @@ granting_gives p o l = choose (pointwise nat_eq o.version own_version) (o.window
 
     choose : (a b : Bool) → let s = (if a then (if b then sending (ConnectionResponse own_opening) met else telling reason.Window met) else telling reason.Version met) in
         is_open s.link.phase ≡ true → Granted l.clock s.link p s.pdus
-    choose true true = λ o. record { expected = refl; heard = refl; own = refl; clock = refl; sent = refl; answer = pdu_of (header_of met) 0 (ConnectionResponse own_opening); pdus = refl;
-        number = refl; stamped = refl }
+    choose true true = λ o. record {
+      expected = refl;
+      heard = refl;
+      own = refl;
+      clock = refl;
+      sent = refl;
+      answer = pdu_of (header_of met) 0 (ConnectionResponse own_opening);
+      pdus = refl;
+      number = refl;
+      stamped = refl;
+    }
     choose true false = λ o. absurd (false≢true o)
     choose false b = λ o. absurd (false≢true o)
 
@@ -286,13 +295,13 @@ module _ (laws : Laws) (names : Names) (are : AreNames names) (ends : Ends) (tim
   client_rises = rises_append (IsOf names (the_client new kept)) nothing_sent (the_stand 1 kept 0 0) (stands ends.client.link 0) ends.sent more
       (rises_low (IsOf names (the_client new kept)) nothing_sent (the_stand 1 kept 0 0) (the_stand 1 kept 0 0) ends.sent (omega arith, omega arith, omega arith, omega arith)
       (rises_alike (IsOf names (the_client new kept)) (the_stand 1 kept 0 0) ends.sent
-          (turned_each _ _ its_place ends.sent
-          (each_both (InFlight names times) (IsSpelledIn names role.Client both.together.connection both.together.client.flow) ends.sent timely.datagrams spelled))))
+      (turned_each _ _ its_place ends.sent
+      (each_both (InFlight names times) (IsSpelledIn names role.Client both.together.connection both.together.client.flow) ends.sent timely.datagrams spelled))))
       (rises_high (IsOf names (the_client new kept)) (the_stand 1 kept 0 0) (the_stand 1 kept 0 0) (stands ends.client.link 0) more
       (let n = c.counted in let o = one_sent in omega (arith, n, o), let k = clock_now in let t = timely.client.clock in omega (arith, k, t), omega arith, omega arith)
       (rises_others (IsOf names (the_client new kept)) role.Server (the_stand 1 kept 0 0) ends.time new.server.connection
-          (spellings ends.server.link.identity.key (outcome (Receives bytes connection) ends.moment ends.server).pdus)
-          (λ d at from sender same in_time pdu read. absurd (cc (from, sender)))))
+      (spellings ends.server.link.identity.key (outcome (Receives bytes connection) ends.moment ends.server).pdus)
+      (λ d at from sender same in_time pdu read. absurd (cc (from, sender)))))
 
   abbrev answer : Pdu
   answer = entered.granted.answer
@@ -314,10 +323,10 @@ module _ (laws : Laws) (names : Names) (are : AreNames names) (ends : Ends) (tim
   server_rises = rises_append (IsOf names (the_server new 0)) nothing_sent nothing_sent (stands new.server.link kept) ends.sent more
       (rises_alike (IsOf names (the_server new 0)) nothing_sent ends.sent (turned_each (InFlight names times) _ none_of_server ends.sent timely.datagrams))
       (subst (λ (key : Key). Rises (IsOf names (the_server new 0)) nothing_sent
-          (handed_out ends.time role.Server new.server.connection (spellings key (outcome (Receives bytes connection) ends.moment ends.server).pdus)) (stands new.server.link kept))
-          (sym key_is)
+      (handed_out ends.time role.Server new.server.connection (spellings key (outcome (Receives bytes connection) ends.moment ends.server).pdus)) (stands new.server.link kept))
+      (sym key_is)
       (subst (λ (ps : List Pdu). Each IsPdu ps → Rises (IsOf names (the_server new 0)) nothing_sent (handed_out ends.time role.Server new.server.connection (spellings names.key ps))
-          (stands new.server.link kept)) (sym entered.granted.pdus) said
+      (stands new.server.link kept)) (sym entered.granted.pdus) said
       (laws.hands names ends role.Server (Receives bytes connection) timely may)))
     where
       g : Granted (reading_of ends.server.clock) new.server.link request (outcome (Receives bytes connection) ends.moment ends.server).pdus

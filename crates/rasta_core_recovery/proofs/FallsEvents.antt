@@ -75,7 +75,7 @@ module _ (laws : Laws) (names : Names) (are : AreNames names) (ends : Ends) (tim
   brought_by : (who : Role) (call : Call) → MayCall names who call ends → is_open (end_of who ends).link.phase ≡ true → (other : Speaker) → other.who ≡ partner_of who
       → other.connection ≡ (end_of who ends).connection → other.time ≡ ends.time
       → (p : Pdu) → CameBy (end_of who ends).link call p → (p.receiver == (end_of who ends).link.identity.own) ≡ true → (p.sender == (end_of who ends).link.identity.partner) ≡ true
-          → Brought names other ends.sent p
+      → Brought names other ends.sent p
   brought_by who Ticks may is_in other partner one time p came receiver sender = absurd came
   brought_by who Opens may is_in other partner one time p came receiver sender = absurd came
   brought_by who (Closes why) may is_in other partner one time p came receiver sender = absurd came
@@ -109,7 +109,7 @@ module _ (laws : Laws) (names : Names) (are : AreNames names) (ends : Ends) (tim
     abbrev server_new : Ends
     server_new = with_server (end_after (outcome call ends.moment ends.server) ends.moment ends.server)
         (ends.sent ++ handed_out ends.time role.Server (end_after (outcome call ends.moment ends.server) ends.moment ends.server).connection
-            (spellings ends.server.link.identity.key (outcome call ends.moment ends.server).pdus))
+        (spellings ends.server.link.identity.key (outcome call ends.moment ends.server).pdus))
         (ends.moment + length (outcome call ends.moment ends.server).pdus) ends
 
     module _ (in_new : AreIn server_new) (was_in : is_open ends.server.link.phase ≡ true) (before : NothingFalls names ends) where
@@ -172,8 +172,14 @@ module _ (laws : Laws) (names : Names) (are : AreNames names) (ends : Ends) (tim
           rising.server_kept rising.client_kept ends.sent server_is.connection
           (outcome call ends.moment ends.server).pdus (laws.hands names ends role.Server call timely may) timely.server.clock refl refl refl not_client client_before rising.of_server rising.of_client
           (CameBy ends.server.link call)
-              (record { clock = refl; connected = was_in; joined = server_asks_not; young = let y = settled_at.young in let k = settled_at.clock in
-              omega (arith, y, k); own = let y = server_past names ends timely was_in in let k = settled_at.clock in omega (arith, y, k) })
+          (record {
+            clock = refl;
+            connected = was_in;
+            joined = server_asks_not;
+            young = let y = settled_at.young in let k = settled_at.clock in
+                omega (arith, y, k);
+            own = let y = server_past names ends timely was_in in let k = settled_at.clock in omega (arith, y, k);
+          })
           rising.server_keeps refl refl refl (c.own_first ∙ sym j.partner_first) some most fits
           (brought_by role.Server call may was_in (the_client ends rising.server_kept) refl one refl) what
         where
@@ -195,8 +201,8 @@ module _ (laws : Laws) (names : Names) (are : AreNames names) (ends : Ends) (tim
             (ends.sent ++ handed_out ends.time role.Server server_is.connection (spellings key (outcome call ends.moment ends.server).pdus))
             (stands (outcome call ends.moment ends.server).link gone.kept))
             (sym key_is) (subst (λ (w : Speaker). Rises (IsOf names w) nothing_sent
-                (ends.sent ++ handed_out ends.time role.Server server_is.connection (spellings names.key (outcome call ends.moment ends.server).pdus))
-                (stands (outcome call ends.moment ends.server).link gone.kept))
+            (ends.sent ++ handed_out ends.time role.Server server_is.connection (spellings names.key (outcome call ends.moment ends.server).pdus))
+            (stands (outcome call ends.moment ends.server).link gone.kept))
             (same_speaker role.Server ends.time ends.server.clock ends.client.clock ends.client.link.expected rising.client_kept (sym connection_is) (sym firsts.0) (sym firsts.1)) gone.own_rises);
       }
         where
@@ -215,7 +221,7 @@ module _ (laws : Laws) (names : Names) (are : AreNames names) (ends : Ends) (tim
     abbrev client_new : Ends
     client_new = with_client (end_after (outcome call ends.moment ends.client) ends.moment ends.client)
         (ends.sent ++ handed_out ends.time role.Client (end_after (outcome call ends.moment ends.client) ends.moment ends.client).connection
-            (spellings ends.client.link.identity.key (outcome call ends.moment ends.client).pdus))
+        (spellings ends.client.link.identity.key (outcome call ends.moment ends.client).pdus))
         (ends.moment + length (outcome call ends.moment ends.client).pdus) ends
 
     client_timely : Timely names client_new
@@ -302,10 +308,16 @@ module _ (laws : Laws) (names : Names) (are : AreNames names) (ends : Ends) (tim
         client_gone = moved laws.written names (the_client ends client_rising.server_kept) (the_server ends client_rising.client_kept) ends.client.link
             (outcome call ends.moment ends.client).link ends.server.link client_rising.client_kept client_rising.server_kept ends.sent client_is.connection
             (outcome call ends.moment ends.client).pdus (laws.hands names ends role.Client call timely may) timely.client.clock refl refl refl not_server server_before
-                client_rising.of_client client_rising.of_server
+            client_rising.of_client client_rising.of_server
             (CameBy ends.client.link call)
-                (record { clock = refl; connected = client_was_in; joined = joined; young = let y = client_settled.young in let k = client_settled.clock in
-                omega (arith, y, k); own = let y = client_own in let k = client_settled.clock in omega (arith, y, k) })
+            (record {
+              clock = refl;
+              connected = client_was_in;
+              joined = joined;
+              young = let y = client_settled.young in let k = client_settled.clock in
+                  omega (arith, y, k);
+              own = let y = client_own in let k = client_settled.clock in omega (arith, y, k);
+            })
             (client_rising.client_keeps joined) refl refl refl (s.inside.own_first ∙ sym client_j.partner_first) client_some client_most server_fits
             (brought_by role.Client call may client_was_in (the_server ends client_rising.client_kept) refl one_now refl) client_what
 
@@ -329,7 +341,7 @@ module _ (laws : Laws) (names : Names) (are : AreNames names) (ends : Ends) (tim
               (stands (outcome call ends.moment ends.client).link client_gone.kept))
               (sym client_key) (subst (λ (w : Speaker). Rises (IsOf names w) nothing_sent client_sent (stands (outcome call ends.moment ends.client).link client_gone.kept))
               (same_speaker role.Client ends.time ends.client.clock ends.server.clock ends.server.link.expected client_rising.server_kept (sym client_connection_is) (sym firsts.0)
-                  (sym firsts.1)) client_gone.own_rises);
+              (sym firsts.1)) client_gone.own_rises);
           of_server = subst (λ (key : Key). Rises (IsOf names (the_server client_new client_gone.kept)) nothing_sent
               (ends.sent ++ handed_out ends.time role.Client client_is.connection (spellings key (outcome call ends.moment ends.client).pdus))
               (stands ends.server.link client_rising.server_kept))
@@ -372,28 +384,28 @@ module _ (laws : Laws) (names : Names) (are : AreNames names) (ends : Ends) (tim
         silent = silent_on laws.written names (the_client ends client_rising.server_kept) (the_server ends client_rising.client_kept) ends.client.link
             (outcome call ends.moment ends.client).link ends.server.link client_rising.client_kept client_rising.server_kept ends.sent client_is.connection
             (outcome call ends.moment ends.client).pdus (laws.hands names ends role.Client call timely may) timely.client.clock refl refl refl not_server server_before
-                client_rising.of_client client_rising.of_server
+            client_rising.of_client client_rising.of_server
             (CameBy ends.client.link call) asking (client_rising.none_yet asking) few asked_past first_stays find
 
         partner_rises : Rises (IsOf names (the_server ends client_rising.client_kept)) nothing_sent client_sent (stands ends.server.link client_rising.server_kept)
         partner_rises = partner_on laws.written names (the_client ends client_rising.server_kept) (the_server ends client_rising.client_kept) ends.client.link
             (outcome call ends.moment ends.client).link ends.server.link client_rising.client_kept client_rising.server_kept ends.sent client_is.connection
             (outcome call ends.moment ends.client).pdus (laws.hands names ends role.Client call timely may) timely.client.clock refl refl refl not_server server_before
-                client_rising.of_client client_rising.of_server
+            client_rising.of_client client_rising.of_server
             (CameBy ends.client.link call) asking (client_rising.none_yet asking) few asked_past first_stays find
 
         joins_now : (p : Pdu) → CameBy ends.client.link call p → (p.receiver == ends.client.link.identity.own) ≡ true → (p.sender == ends.client.link.identity.partner) ≡ true
             → (outcome call ends.moment ends.client).link.clock ≡ ends.client.link.clock
             → is_asking (outcome call ends.moment ends.client).link ≡ false → (outcome call ends.moment ends.client).link.own_stamp ≡ ends.client.link.own_stamp
-                → Met p ends.client.link (outcome call ends.moment ends.client).link (outcome call ends.moment ends.client).pdus
+            → Met p ends.client.link (outcome call ends.moment ends.client).link (outcome call ends.moment ends.client).pdus
             → Gone names (record (the_client ends client_rising.server_kept) { partner_first = (outcome call ends.moment ends.client).link.partner_first })
-                (the_server ends client_rising.client_kept) (outcome call ends.moment ends.client).link ends.server.link client_rising.server_kept client_sent
+            (the_server ends client_rising.client_kept) (outcome call ends.moment ends.client).link ends.server.link client_rising.server_kept client_sent
         unfolding end_after
         joins_now p came receiver sender clock joined own_is met =
             joins laws.written names (the_client ends client_rising.server_kept) (the_server ends client_rising.client_kept) ends.client.link (outcome call ends.moment ends.client).link
             ends.server.link client_rising.client_kept client_rising.server_kept ends.sent client_is.connection
             (outcome call ends.moment ends.client).pdus (laws.hands names ends role.Client call timely may) timely.client.clock refl refl refl not_server server_before
-                client_rising.of_client client_rising.of_server
+            client_rising.of_client client_rising.of_server
             (CameBy ends.client.link call) asking (client_rising.none_yet asking) few asked_past first_stays find
             p came receiver sender clock joined own_is met in_new.client (let y = client_settled.young in let k = client_settled.clock in omega (arith, y, k, clock, own_is)) meets server_fits
           where
@@ -418,15 +430,15 @@ module _ (laws : Laws) (names : Names) (are : AreNames names) (ends : Ends) (tim
                   (ends.sent ++ handed_out ends.time role.Client client_is.connection (spellings key (outcome call ends.moment ends.client).pdus))
                   (stands (outcome call ends.moment ends.client).link client_rising.client_kept))
                   (sym client_key) (subst (λ (x : Stand). Rises (IsOf names (the_client client_new client_rising.server_kept)) nothing_sent client_sent x)
-                      (sym (ap (λ (x : LinkState). stands x client_rising.client_kept) same))
+                  (sym (ap (λ (x : LinkState). stands x client_rising.client_kept) same))
                   (subst (λ (w : Speaker). Rises (IsOf names w) nothing_sent client_sent (stands ends.client.link client_rising.client_kept))
                   (same_speaker role.Client ends.time ends.client.clock ends.server.clock ends.server.link.expected client_rising.server_kept (sym client_connection_is) (sym first_stays)
-                      (sym (ap (λ (x : LinkState). x.partner_first) same))) (silent none)));
+                  (sym (ap (λ (x : LinkState). x.partner_first) same))) (silent none)));
               of_server = subst (λ (key : Key). Rises (IsOf names (the_server client_new client_rising.client_kept)) nothing_sent
                   (ends.sent ++ handed_out ends.time role.Client client_is.connection (spellings key (outcome call ends.moment ends.client).pdus))
                   (stands ends.server.link client_rising.server_kept))
                   (sym client_key) (subst (λ (n : ℕ). Rises (IsOf names (heard_of (the_server ends client_rising.client_kept) n client_rising.client_kept)) nothing_sent client_sent
-                      (stands ends.server.link client_rising.server_kept)) (sym (ap (λ (x : LinkState). x.expected) same)) partner_rises);
+                  (stands ends.server.link client_rising.server_kept)) (sym (ap (λ (x : LinkState). x.expected) same)) partner_rises);
             }
             choose (joins_by p came receiver sender clock joined own_is met) = let gone_then = joins_now p came receiver sender clock joined own_is met in record {
               client_kept = gone_then.kept;
@@ -439,7 +451,7 @@ module _ (laws : Laws) (names : Names) (are : AreNames names) (ends : Ends) (tim
                   (stands (outcome call ends.moment ends.client).link gone_then.kept))
                   (sym client_key) (subst (λ (w : Speaker). Rises (IsOf names w) nothing_sent client_sent (stands (outcome call ends.moment ends.client).link gone_then.kept))
                   (same_speaker role.Client ends.time ends.client.clock ends.server.clock ends.server.link.expected client_rising.server_kept (sym client_connection_is) (sym first_stays)
-                      refl) gone_then.own_rises);
+                  refl) gone_then.own_rises);
               of_server = subst (λ (key : Key). Rises (IsOf names (the_server client_new gone_then.kept)) nothing_sent
                   (ends.sent ++ handed_out ends.time role.Client client_is.connection (spellings key (outcome call ends.moment ends.client).pdus))
                   (stands ends.server.link client_rising.server_kept))
@@ -464,7 +476,7 @@ module _ (names : Names) (elapsed of_client of_server : ℕ) (ends : Ends) (drif
   told_later : (old new : Speaker) → new.first ≡ old.first → new.partner_first ≡ old.partner_first → new.expected ≡ old.expected → new.kept ≡ old.kept
       → ((reading at : ℕ) → WasReadThen old.time old.clock reading at → WasReadThen new.time new.clock reading at)
       → ((returned at : ℕ) → 1000 * old.partner_clock + 1001 * at ≤ 1000000 * returned + 1001 * old.time + 3820000000
-          → 1000 * new.partner_clock + 1001 * at ≤ 1000000 * returned + 1001 * new.time + 3820000000)
+      → 1000 * new.partner_clock + 1001 * at ≤ 1000000 * returned + 1001 * new.time + 3820000000)
       → (at : ℕ) (stand : Stand) (pdu : Pdu) → IsToldAt old at stand pdu → IsToldAt new at stand pdu
   told_later old new first partner expected kept reads recents at stand pdu t = record {
     some = t.some;
@@ -487,7 +499,7 @@ module _ (names : Names) (elapsed of_client of_server : ℕ) (ends : Ends) (drif
   module _ (c : (settled (reading_of (ends.client.clock + of_client)) ends.client.link ≡ record ends.client.link { clock = reading_of (ends.client.clock + of_client) })
       × (is_open ends.client.link.phase ≡ true))
       (s : (settled (reading_of (ends.server.clock + of_server)) ends.server.link ≡ record ends.server.link { clock = reading_of (ends.server.clock + of_server) })
-          × (is_open ends.server.link.phase ≡ true))
+      × (is_open ends.server.link.phase ≡ true))
       (rising : Rising names ends) where
     abbrev cl : LinkState
     cl = settled (reading_of (ends.client.clock + of_client)) ends.client.link
@@ -525,20 +537,20 @@ module _ (names : Names) (elapsed of_client of_server : ℕ) (ends : Ends) (drif
           (ap (λ (x : LinkState). x.own_stamp) s.0) drift.1 drift.0 rising.server_keeps;
       of_client = subst (Rises (IsOf names (the_client after rising.server_kept)) nothing_sent ends.sent) (sym (ap (λ (x : LinkState). stands x rising.client_kept) c.0))
           (rises_high _ nothing_sent (stands ends.client.link rising.client_kept) (stands (record ends.client.link { clock = reading_of (ends.client.clock + of_client) }) rising.client_kept)
-              ends.sent (omega arith, client_up, omega arith, omega arith)
+          ends.sent (omega arith, client_up, omega arith, omega arith)
           (rises_turned (IsOf names (the_client ends rising.server_kept)) (IsOf names (the_client after rising.server_kept)) nothing_sent (stands ends.client.link rising.client_kept) ends.sent
           (λ d at most of sender same in_time pdu read. told_later (the_client ends rising.server_kept) (the_client after rising.server_kept) (ap (λ (x : LinkState). x.own_first) c.0)
-              (ap (λ (x : LinkState). x.partner_first) c.0) (ap (λ (x : LinkState). x.expected) s.0) refl
+          (ap (λ (x : LinkState). x.partner_first) c.0) (ap (λ (x : LinkState). x.expected) s.0) refl
           (λ reading t. reads_later ends.client.clock of_client reading t drift.0) (λ returned t. recent_later ends.server.clock of_server returned t drift.1) d.at at pdu
-              (of sender same (omega (arith, in_time)) pdu read)) rising.of_client));
+          (of sender same (omega (arith, in_time)) pdu read)) rising.of_client));
       of_server = subst (Rises (IsOf names (the_server after rising.client_kept)) nothing_sent ends.sent) (sym (ap (λ (x : LinkState). stands x rising.server_kept) s.0))
           (rises_high _ nothing_sent (stands ends.server.link rising.server_kept) (stands (record ends.server.link { clock = reading_of (ends.server.clock + of_server) }) rising.server_kept)
-              ends.sent (omega arith, server_up, omega arith, omega arith)
+          ends.sent (omega arith, server_up, omega arith, omega arith)
           (rises_turned (IsOf names (the_server ends rising.client_kept)) (IsOf names (the_server after rising.client_kept)) nothing_sent (stands ends.server.link rising.server_kept) ends.sent
           (λ d at most of sender same in_time pdu read. told_later (the_server ends rising.client_kept) (the_server after rising.client_kept) (ap (λ (x : LinkState). x.own_first) s.0)
-              (ap (λ (x : LinkState). x.partner_first) s.0) (ap (λ (x : LinkState). x.expected) c.0) refl
+          (ap (λ (x : LinkState). x.partner_first) s.0) (ap (λ (x : LinkState). x.expected) c.0) refl
           (λ reading t. reads_later ends.server.clock of_server reading t drift.1) (λ returned t. recent_later ends.client.clock of_client returned t drift.0) d.at at pdu
-              (of sender same (omega (arith, in_time)) pdu read)) rising.of_server));
+          (of sender same (omega (arith, in_time)) pdu read)) rising.of_server));
     }
 
   time_passes : NothingFalls names ends → NothingFalls names after

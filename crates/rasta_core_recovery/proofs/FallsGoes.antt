@@ -57,7 +57,7 @@ pub record Gone (names : Names) (own other : Speaker) (k m : LinkState) (other_k
 
 module _ (law : WrittenIsRead) (names : Names) (own other : Speaker) (l k m : LinkState) (kept other_kept : ℕ) (sent : List Sent) (connection : Option ℕ) (ps : List Pdu) (are : Each IsPdu ps)
     (now : l.clock ≡ own.clock / 1000) (time : other.time ≡ own.time) (partner_clock : own.partner_clock ≡ other.clock) (first : l.own_first ≡ own.first) (apart : other.who ≡ own.who → ⊥)
-        (other_before : own.kept ≤ l.clock)
+    (other_before : own.kept ≤ l.clock)
     (own_rises : Rises (IsOf names own) nothing_sent sent (stands l kept)) (other_rises : Rises (IsOf names other) nothing_sent sent (stands m other_kept)) where
   abbrev pub more : List Sent
   more = handed_out own.time own.who connection (spellings names.key ps)
@@ -67,7 +67,7 @@ module _ (law : WrittenIsRead) (names : Names) (own other : Speaker) (l k m : Li
       → Rises (IsOf names (heard_of other expected to_keep)) nothing_sent (sent ++ more) (stands m other_kept)
   others_rise expected to_keep rises = rises_append (IsOf names (heard_of other expected to_keep)) nothing_sent (stands m other_kept) (stands m other_kept) sent more rises
       (rises_others (IsOf names (heard_of other expected to_keep)) own.who (stands m other_kept) own.time connection (spellings names.key ps)
-          (λ d at from sender same in_time pdu read. absurd (apart (sym sender ∙ from))))
+      (λ d at from sender same in_time pdu read. absurd (apart (sym sender ∙ from))))
 
   -- what a PDU that was taken from it makes fresh
   fresher : (d : Sent) (found : Placed (IsOf names other) nothing_sent (stands m other_kept) d sent) (expected : ℕ) → expected ≡ found.at.sent
@@ -141,8 +141,8 @@ module _ (law : WrittenIsRead) (names : Names) (own other : Speaker) (l k m : Li
         };
         own_rises = subst (Rises (IsOf names own) nothing_sent (sent ++ more)) (sym (same_stand refl t.stays.clock (confirms_joined k t.stays.joined ∙ ap (λ (n : ℕ). n - 1) stands_then) refl))
             (said k.sent (stood_at.sent - 1) stood_at.now
-                (chain_lower (voice_of l) l.sent l.sent (stood_at.sent - 1) (l.expected - 1) stood_at.now kept ps k.sent (stood_at.sent - 1) stood_at.now refl (omega (arith, place.0)) fresh
-                answers));
+            (chain_lower (voice_of l) l.sent l.sent (stood_at.sent - 1) (l.expected - 1) stood_at.now kept ps k.sent (stood_at.sent - 1) stood_at.now refl (omega (arith, place.0)) fresh
+            answers));
         other_rises = others_rise k.expected stood_at.now (fresher takes_from.datagram stood k.expected stands_then);
       }
 
@@ -205,7 +205,7 @@ module _ (law : WrittenIsRead) (names : Names) (own other : Speaker) (l k m : Li
       chain : Chain (voice_of k) l.sent (k.expected - 1) at.now ps k.sent (k.expected - 1) at.now
       chain = says_chain IsSimple simple_talk (voice_of k) k l.sent k.sent (k.expected - 1) at.now ps
           (speaks_now k.clock k at.now (record { clock = refl; connected = is_in; joined = joined; young = young; own = omega (arith, clock, own_is, own_past) })
-              (omega (arith, met.expected)) (omega (arith, met.expected)) kept_is) met.says
+          (omega (arith, met.expected)) (omega (arith, met.expected)) kept_is) met.says
 
       lately_kept : 1000 * own.partner_clock ≤ 1000000 * at.now + 3820000000
       lately_kept = let w = told.was_read.most in let y = brought.in_time in omega (arith, w, y, partner_clock)
@@ -221,10 +221,10 @@ module _ (law : WrittenIsRead) (names : Names) (own other : Speaker) (l k m : Li
         own_rises = rises_append (IsOf names joined_own) nothing_sent (the_stand l.sent l.clock 0 0) (stands k at.now) sent more
             (rises_turned (IsOf names own) (IsOf names joined_own) nothing_sent (the_stand l.sent l.clock 0 0) sent as_before (subst (Rises (IsOf names own) nothing_sent sent) nothing_yet own_rises))
             (rises_low (IsOf names joined_own) (the_stand l.sent l.clock 0 0) (the_stand l.sent k.clock (k.expected - 1) at.now) (stands k at.now) more
-                (omega arith, omega (arith, clock), omega arith, omega arith)
+            (omega arith, omega (arith, clock), omega arith, omega arith)
             (subst (Rises (IsOf names joined_own) (the_stand l.sent k.clock (k.expected - 1) at.now) more) (sym (same_stand refl refl (confirms_joined k joined) refl))
             (rises_said law names joined_own (voice_of k) k.clock (clock ∙ now) refl k_first refl (omega (arith, other_before, clock)) connection k.clock l.sent (k.expected - 1) at.now
-                k.sent (k.expected - 1) at.now ps (omega arith) lately_kept are chain)));
+            k.sent (k.expected - 1) at.now ps (omega arith) lately_kept are chain)));
         other_rises = others_rise k.expected at.now (fresher brought.datagram found k.expected stands_at);
       }
         where

@@ -114,7 +114,7 @@ module _ (law : WrittenIsRead) (names : Names) (speaker : Speaker) (v : Voice) (
   pub rises_said : (connection : Option ℕ) (before n c r end d q : ℕ) (ps : List Pdu) → before ≤ now → 1000 * speaker.partner_clock ≤ 1000000 * r + 3820000000 → Each IsPdu ps
       → Chain v n c r ps end d q
       → Rises (IsOf names speaker) (record { sent = n; now = before; confirms = c; returns = r }) (handed_out speaker.time speaker.who connection (spellings names.key ps))
-          (record { sent = end; now = now; confirms = d; returns = q })
+      (record { sent = end; now = now; confirms = d; returns = q })
   rises_said connection before n c r end d q [] early recent are chain = (omega (arith, chain.0), early, chain.1, chain.2)
   rises_said connection before n c r end d q (p ∷ ps) early recent are (x, y, h, i, w, more) = (
     record { sent = n + 1; now = now; confirms = x; returns = y },

@@ -113,8 +113,11 @@ module _ (laws : Laws) (names : Names) (are : AreNames names) (ends : Ends) (tim
         (spellings ends.client.link.identity.key (outcome call ends.moment ends.client).pdus)
 
     abbrev client_new : Ends
-    client_new = record ends { client = end_after (outcome call ends.moment ends.client) ends.moment ends.client; sent = sent_then;
-        moment = ends.moment + length (outcome call ends.moment ends.client).pdus }
+    client_new = record ends {
+      client = end_after (outcome call ends.moment ends.client) ends.moment ends.client;
+      sent = sent_then;
+      moment = ends.moment + length (outcome call ends.moment ends.client).pdus;
+    }
 
     key_is : ends.client.link.identity.key ≡ names.key
     key_is = ap (λ (i : Identity). i.key) timely.client.identity
@@ -158,8 +161,8 @@ module _ (laws : Laws) (names : Names) (are : AreNames names) (ends : Ends) (tim
             fits = let f = was.fits in let e = ap (λ (k : LinkState). k.own_first) same in omega (arith, f, e);
             said = each_append (IsRequestOf names client_new) ends.sent _
                 (turned (IsRequestOf names ends) (IsRequestOf names client_new)
-                    (λ d is sender there pdu read. is sender (sym connection_is ∙ there) pdu read ∙ sym (ap (λ (k : LinkState). request names k.own_first k.own_stamp) same)) ends.sent
-                    was.said)
+                (λ d is sender there pdu read. is sender (sym connection_is ∙ there) pdu read ∙ sym (ap (λ (k : LinkState). request names k.own_first k.own_stamp) same)) ends.sent
+                was.said)
                 (subst (λ (ps : List Pdu). Each (IsRequestOf names client_new) (handed_out ends.time role.Client client_is.connection (spellings ends.client.link.identity.key ps))) (sym none) tt);
           }
 
@@ -183,9 +186,9 @@ module _ (laws : Laws) (names : Names) (are : AreNames names) (ends : Ends) (tim
     said = each_append (IsRequestOf names (client_new Opens may)) ends.sent _
         (turned (InFlight names (times_of ends timely.of_client timely.of_server timely.newest)) (IsRequestOf names (client_new Opens may)) none_before ends.sent timely.datagrams)
         (subst (λ (key : Key). Each (IsRequestOf names (client_new Opens may))
-            (handed_out ends.time role.Client (client_is Opens may).connection (spellings key (opening (reading_of ends.client.clock) ends.client.link).pdus))) (sym (key_is Opens may))
+        (handed_out ends.time role.Client (client_is Opens may).connection (spellings key (opening (reading_of ends.client.clock) ends.client.link).pdus))) (sym (key_is Opens may))
         (subst (λ (ps : List Pdu). Each IsPdu ps → Each (IsRequestOf names (client_new Opens may))
-            (handed_out ends.time role.Client (client_is Opens may).connection (spellings names.key ps))) (sym (ap (λ (s : Step). s.pdus) asked))
+        (handed_out ends.time role.Client (client_is Opens may).connection (spellings names.key ps))) (sym (ap (λ (s : Step). s.pdus) asked))
         (λ are_pdus. (λ sender there pdu read. same_pdu pdu are_pdus.0 read ∙ sym (ap (λ (s : Step). request names s.link.own_first s.link.own_stamp) asked), tt))
         (laws.hands names ends role.Client Opens timely may)));
   }
@@ -194,12 +197,14 @@ module _ (laws : Laws) (names : Names) (are : AreNames names) (ends : Ends) (tim
       left = left_of ends.client.link
 
       asked : opening (reading_of ends.client.clock)
-          ends.client.link ≡ record { link = asking_link names (reading_of ends.client.clock) ends.client.link.closed_at (wire ends.client.link.own_first ends.client.link.sent)
-          (reading_of ends.client.clock);
-        pdus = request names (wire ends.client.link.own_first ends.client.link.sent) (reading_of ends.client.clock) ∷ [] }
+          ends.client.link ≡ record {
+            link = asking_link names (reading_of ends.client.clock) ends.client.link.closed_at (wire ends.client.link.own_first ends.client.link.sent)
+                (reading_of ends.client.clock);
+            pdus = request names (wire ends.client.link.own_first ends.client.link.sent) (reading_of ends.client.clock) ∷ [];
+          }
       asked = ap (opening (reading_of ends.client.clock)) (resting_is shut)
           ∙ opening_asks names (reading_of ends.client.clock) ends.client.link.clock ends.client.link.closed_at (left_of ends.client.link)
-              (ap (opens (reading_of ends.client.clock)) (sym (resting_is shut)) ∙ opens_is)
+          (ap (opens (reading_of ends.client.clock)) (sym (resting_is shut)) ∙ opens_is)
 
       same_pdu : (pdu : Pdu) → IsPdu (request names (wire ends.client.link.own_first ends.client.link.sent) (reading_of ends.client.clock))
           → reading names.key (writing names.key (request names (wire ends.client.link.own_first ends.client.link.sent) (reading_of ends.client.clock))) ≡ Ok pdu

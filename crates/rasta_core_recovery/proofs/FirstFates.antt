@@ -119,9 +119,11 @@ module _ (names : Names) (n : ℕ) (p : Pair) (long : 1561 ≤ n) (seen : Seen n
 
     -- its server was inside
     was_inside : is_open p.server.phase ≡ true → Comes names 1561 p
-    was_inside e = waits_by (λ f.
-        (server_behind p server_is ((seen.facts 0).returned e) f, none_says p server_is calls.said (let r = (seen.room 1 (omega (arith, long))).server f in omega (arith, r))
-        (record { client = ap is_open a.starts; server = f }) (calls_then f).first))
+    was_inside e = waits_by (λ f. (
+      server_behind p server_is ((seen.facts 0).returned e) f,
+      none_says p server_is calls.said (let r = (seen.room 1 (omega (arith, long))).server f in omega (arith, r))
+          (record { client = ap is_open a.starts; server = f }) (calls_then f).first,
+    ))
       where
         server_is : Joined p.server.clock p.server
         server_is = server_joined names p (seen.facts 0) e
@@ -145,7 +147,7 @@ module _ (names : Names) (n : ℕ) (p : Pair) (long : 1561 ≤ n) (seen : Seen n
         → Comes names 1561 p
     has_taken same = comes_later names 1 1416 1561 p (omega arith) (subst (Comes names 1416) (sym whole)
         (granted_comes names (pair_round p).client.closed_at p.server.closed_at p.client.own_first sf p.client.own_stamp taken_at asking_now.fits sf_fits (pair_round p).client.clock (n - 1)
-            (omega (arith, long)) (omega (arith, own, a.own)) (omega (arith, own, a.young))
+        (omega (arith, long)) (omega (arith, own, a.own)) (omega (arith, own, a.young))
         (subst (Seen names (n - 1)) whole seen1)))
       where
         server_then : (pair_round p).server ≡ granted_link names taken_at p.server.closed_at sf (request names p.client.own_first p.client.own_stamp) taken_at

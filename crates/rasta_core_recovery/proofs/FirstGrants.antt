@@ -44,18 +44,20 @@ asking_of names f p m ordered asked asks = subst (λ (l : LinkState). AskingAs l
     due : Each (λ q. q ≡ request names f.ends.client.link.own_first f.ends.client.link.own_stamp) p.to_server
     due = each_read names.key (λ q. q ≡ request names f.ends.client.link.own_first f.ends.client.link.own_stamp) role.Client (f.ends.time + 10000) (drop f.passed f.ends.sent) p.to_server
         (each_map _ _ (λ d known sender can pdu read. known.1 sender
-            (m.timely.ends_timed.client.in_newest (is_inside f.ends.client.link (open_asking f.ends.client.link asks_there)) ∙ ap Some (sym (in_newest names f p m ordered d known.0 can).0))
-            pdu read) (drop f.passed f.ends.sent)
+        (m.timely.ends_timed.client.in_newest (is_inside f.ends.client.link (open_asking f.ends.client.link asks_there)) ∙ ap Some (sym (in_newest names f p m ordered d known.0 can).0))
+        pdu read) (drop f.passed f.ends.sent)
         (each_drop _ f.passed f.ends.sent
-            (each_both (InFlight names (times_of f.ends m.timely.of_client m.timely.of_server m.timely.newest)) (IsRequestOf names f.ends) f.ends.sent m.timely.datagrams was.said)))
-            m.to_server
+        (each_both (InFlight names (times_of f.ends m.timely.of_client m.timely.of_server m.timely.newest)) (IsRequestOf names f.ends) f.ends.sent m.timely.datagrams was.said)))
+        m.to_server
 
 -- ---- what a server that is outside makes of its request, which may come again and again
 
 pub data ServerFirst (names : Names) (now closed_at : ℕ) (left : Left) (cf at : ℕ) (s : Step) : Type 0 where
   rests : s ≡ silent (resting_link names role.Server now closed_at left) → ServerFirst names now closed_at left cf at s
-  grants : s ≡ record { link = granted_link names now closed_at (wire left.own_first left.sent) (request names cf at) now;
-      pdus = response names (wire left.own_first left.sent) (request names cf at) now ∷ [] } → ServerFirst names now closed_at left cf at s
+  grants : s ≡ record {
+    link = granted_link names now closed_at (wire left.own_first left.sent) (request names cf at) now;
+    pdus = response names (wire left.own_first left.sent) (request names cf at) now ∷ [];
+  } → ServerFirst names now closed_at left cf at s
 
 module _ (names : Names) (now closed_at cf at : ℕ) (left : Left) where
   abbrev asked : Pdu
@@ -108,15 +110,15 @@ server_first names clock closed_at cf at left ps each = choose (nat_le (closed_a
 
     by_list : (qs : List Pdu) → Each (λ q. q ≡ request names cf at) qs → closed_at + 6000 ≤ clock + 10
         → ServerFirst names (clock + 10) closed_at left cf at
-            (then_do (all_heard (clock + 10) qs (settled (clock + 10) (resting_link names role.Server clock closed_at left))) (λ k. worked (clock + 10) role.Server k))
+        (then_do (all_heard (clock + 10) qs (settled (clock + 10) (resting_link names role.Server clock closed_at left))) (λ k. worked (clock + 10) role.Server k))
     by_list [] is over = rests (server_rests names clock closed_at left)
     by_list (q ∷ qs) is over = grants (
-      ap (λ (l : LinkState). then_do (all_heard (clock + 10) (q ∷ qs) l) (λ k. worked (clock + 10) role.Server k)) (settled_out (clock + 10) (resting_link names role.Server clock closed_at left) refl)
-      ∙ ap (λ (s : Step). then_do s (λ k. worked (clock + 10) role.Server k)) (takes_it names (clock + 10) closed_at cf at left q qs over is.0 is.1)
-      ∙ ap (λ (s : Step). then_do
-          (record { link = granted names (clock + 10) closed_at cf at left; pdus = response names (wire left.own_first left.sent) (request names cf at) (clock + 10) ∷ [] }) (λ k. s))
-          (works_on names (clock + 10) closed_at cf at left)
-    )
+        ap (λ (l : LinkState). then_do (all_heard (clock + 10) (q ∷ qs) l) (λ k. worked (clock + 10) role.Server k)) (settled_out (clock + 10) (resting_link names role.Server clock closed_at left) refl)
+        ∙ ap (λ (s : Step). then_do s (λ k. worked (clock + 10) role.Server k)) (takes_it names (clock + 10) closed_at cf at left q qs over is.0 is.1)
+        ∙ ap (λ (s : Step). then_do
+        (record { link = granted names (clock + 10) closed_at cf at left; pdus = response names (wire left.own_first left.sent) (request names cf at) (clock + 10) ∷ [] }) (λ k. s))
+        (works_on names (clock + 10) closed_at cf at left)
+        )
 
     choose : (b : Bool) → nat_le (closed_at + 6000) (clock + 10) ≡ b
         → ServerFirst names (clock + 10) closed_at left cf at (end_round (clock + 10) ps (resting_link names role.Server clock closed_at left))

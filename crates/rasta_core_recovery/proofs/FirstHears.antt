@@ -28,8 +28,15 @@ pub record IsBelow (first bound last : ℕ) (p : Pdu) : Type 0 where
 pub each_below : (l m : LinkState) (low high : Stand) (ps : List Pdu) → high.sent ≡ m.sent → PdusRise l m low ps high → Each (IsBelow m.own_first m.sent m.clock) ps
 each_below l m low high [] same rises = tt
 each_below l m low high (p ∷ ps) same (at, up, said, more) = (
-  record { place = at.sent - 1; number = said.number; below = omega (arith, said.some, same, ends_at at ps more); read_as = at.now; stamped = said.stamped; before = said.before;
-      recent = said.recent },
+  record {
+    place = at.sent - 1;
+    number = said.number;
+    below = omega (arith, said.some, same, ends_at at ps more);
+    read_as = at.now;
+    stamped = said.stamped;
+    before = said.before;
+    recent = said.recent;
+  },
   each_below l m at high ps same more,
 )
   where
@@ -94,7 +101,7 @@ module _ (first bound last now : ℕ) (fits : bound < 2 ^ 31) where
       choose (inl left) = gone_next left
       choose (inr (room, e, g2)) = next (old_deed p l (heard now p l).link (heard now p l).pdus o f each.0
           (subst (λ (k : LinkState). Deed p l k (heard now p l).pdus) (sym e)
-              (subst (λ (qs : List Pdu). Deed p l (hearing p l).link qs) (sym g2) (hears p l o.is.connected o.is.joined (omega (arith, o.is.young, o.is.clock))))))
+          (subst (λ (qs : List Pdu). Deed p l (hearing p l).link qs) (sym g2) (hears p l o.is.connected o.is.joined (omega (arith, o.is.young, o.is.clock))))))
 
   spoken_old : (b : Bool) (k : LinkState) → IsOld bound last now k → IsOld bound last now (spoken b k)
   spoken_old false k o = o

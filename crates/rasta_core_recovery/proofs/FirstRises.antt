@@ -130,22 +130,28 @@ module _ (names : Names) (f : Flow) (p : Pair) (m : Mirrors names f p) (ordered 
   client_way : (mid : Stand) × PdusRise f.ends.client.link f.ends.server.link mid p.to_client (stands f.ends.server.link rising.server_kept)
   client_way =
       let from = rises_drop (IsOf names (the_server f.ends rising.client_kept)) f.passed nothing_sent (stands f.ends.server.link rising.server_kept) f.ends.sent rising.of_server
-      in (from.0, read_rise names (the_server f.ends rising.client_kept) f.ends.client.link f.ends.server.link refl refl timely.server.clock timely.client.clock from.0
-          (stands f.ends.server.link rising.server_kept) flying p.to_client
-      (each_map (InFlight names times) _
-          (λ d flies sender can. let newest = in_newest names f p m ordered d flies can in
-          (timely.ends_timed.server.in_newest (is_inside f.ends.server.link server_in) ∙ ap Some (sym newest.0), newest.1, flies.known.sent_before)) flying flights)
-      from.1 m.to_client)
+      in (
+        from.0,
+        read_rise names (the_server f.ends rising.client_kept) f.ends.client.link f.ends.server.link refl refl timely.server.clock timely.client.clock from.0
+            (stands f.ends.server.link rising.server_kept) flying p.to_client
+            (each_map (InFlight names times) _
+            (λ d flies sender can. let newest = in_newest names f p m ordered d flies can in
+            (timely.ends_timed.server.in_newest (is_inside f.ends.server.link server_in) ∙ ap Some (sym newest.0), newest.1, flies.known.sent_before)) flying flights)
+            from.1 m.to_client,
+      )
 
   server_way : (mid : Stand) × PdusRise f.ends.server.link f.ends.client.link mid p.to_server (stands f.ends.client.link rising.client_kept)
   server_way =
       let from = rises_drop (IsOf names (the_client f.ends rising.server_kept)) f.passed nothing_sent (stands f.ends.client.link rising.client_kept) f.ends.sent rising.of_client
-      in (from.0, read_rise names (the_client f.ends rising.server_kept) f.ends.server.link f.ends.client.link refl refl timely.client.clock timely.server.clock from.0
-          (stands f.ends.client.link rising.client_kept) flying p.to_server
-      (each_map (InFlight names times) _
-          (λ d flies sender can. let newest = in_newest names f p m ordered d flies can in
-          (timely.ends_timed.client.in_newest (is_inside f.ends.client.link client_in) ∙ ap Some (sym newest.0), newest.1, flies.known.sent_before)) flying flights)
-      from.1 m.to_server)
+      in (
+        from.0,
+        read_rise names (the_client f.ends rising.server_kept) f.ends.server.link f.ends.client.link refl refl timely.client.clock timely.server.clock from.0
+            (stands f.ends.client.link rising.client_kept) flying p.to_server
+            (each_map (InFlight names times) _
+            (λ d flies sender can. let newest = in_newest names f p m ordered d flies can in
+            (timely.ends_timed.client.in_newest (is_inside f.ends.client.link client_in) ∙ ap Some (sym newest.0), newest.1, flies.known.sent_before)) flying flights)
+            from.1 m.to_server,
+      )
 
   climbs_by : (c s : LinkState) → f.ends.client.link ≡ c → f.ends.server.link ≡ s → (pc ps : List Pdu) → p.to_client ≡ pc → p.to_server ≡ ps
       → Climbs (record { client = c; server = s; to_client = pc; to_server = ps })
@@ -178,9 +184,14 @@ number_is first n m a b e = omega (arith, a, b, e)
 pub chain_of : (l m : LinkState) (n end : ℕ) (ps : List Pdu) (low high : Stand) → 1 ≤ n → end < 2 ^ 31 → high.sent ≡ end → Row (IsNumbered (voice_of m)) n ps end → PdusRise l m low ps high
     → Chain (voice_of m) n low.confirms low.returns ps end high.confirms high.returns
 chain_of l m n end [] low high some fits same row rises = (row, rises.2, rises.3)
-chain_of l m n end (p ∷ ps) low high some fits same row (at, up, said, more) =
-    (at.confirms, at.returns, up.2, up.3, record { numbered = row.0; confirms = said.confirms second; returns = said.returns second },
-        chain_of l m (n + 1) end ps at high (omega (arith, some)) fits same row.1 more)
+chain_of l m n end (p ∷ ps) low high some fits same row (at, up, said, more) = (
+  at.confirms,
+  at.returns,
+  up.2,
+  up.3,
+  record { numbered = row.0; confirms = said.confirms second; returns = said.returns second },
+  chain_of l m (n + 1) end ps at high (omega (arith, some)) fits same row.1 more,
+)
   where
     ends_at : (low : Stand) (qs : List Pdu) → PdusRise l m low qs high → low.sent ≤ high.sent
     ends_at low [] rises = rises.0

@@ -149,7 +149,7 @@ pub talk_at_once : (names : Names) (p : Pair) → Facts names p → Facts names 
     → (pair_round p).client.clock ≡ p.client.clock + 10 → (pair_round p).server.clock ≡ p.server.clock + 10 → Talk names (pair_round p).client.clock p.server.clock false false (pair_round p)
 talk_at_once names p facts then_facts client_past server_past climbs then_climbs now_in joined then_in rows client_clock server_clock =
     talk_first names p (pair_round p) then_facts client_past server_past then_climbs then_in rows (omega (arith, shares.1.some, shares.1.most)) (omega (arith, shares.0.some, shares.0.most))
-        client_clock server_clock
+    client_clock server_clock
     (client_behind p climbs client_is shares.0.first shares.0.most shares.1.fits then_in.client)
     (server_behind_it p climbs server_is shares.1.first shares.1.most shares.0.fits then_in.server).most
     (server_behind p server_is (facts.returned now_in.server) then_in.server)
@@ -174,12 +174,12 @@ by_response p is calls then_in joined = let e = entered (p.client.clock + 10) p.
 pub talk_on_joining : (names : Names) (p : Pair) → Facts names p → Facts names (pair_round p) → Past (pair_round p).client → Past (pair_round p).server → Climbs p → Climbs (pair_round p)
     → Asks p.client.clock p.client → is_open p.server.phase ≡ true → is_asking (pair_round p).client ≡ false
     → BothIn (pair_round p) → Rows p (pair_round p) → (pair_round p).client.clock ≡ p.client.clock + 10 → (pair_round p).server.clock ≡ p.server.clock + 10
-        → Talk names (pair_round p).client.clock p.server.clock false false (pair_round p)
+    → Talk names (pair_round p).client.clock p.server.clock false false (pair_round p)
 talk_on_joining names p facts then_facts client_past server_past climbs then_climbs is server_in joined then_in rows client_clock server_clock =
     talk_first names p (pair_round p) then_facts client_past server_past then_climbs then_in rows calls.some calls.said client_clock server_clock (by_response p is calls then_in.client joined)
     (server_behind_it p climbs server_is calls.partner calls.most
-        (let m = row_most (IsNumbered (voice_of (pair_round p).client)) p.client.sent (pair_round p).client.sent (pair_round p).to_server rows.client in let f = shares.0.fits in
-        omega (arith, m, f)) then_in.server).most
+    (let m = row_most (IsNumbered (voice_of (pair_round p).client)) p.client.sent (pair_round p).client.sent (pair_round p).to_server rows.client in let f = shares.0.fits in
+    omega (arith, m, f)) then_in.server).most
     (server_behind p server_is (facts.returned server_in) then_in.server)
   where
     calls : Calls p.client p.server p.to_client

@@ -203,7 +203,7 @@ still_comes : (names : Names) (reading fuel n : ℕ) (p : Pair) → 1000 ≤ n �
     → p.client.own_stamp + 1800 ≤ p.client.clock + 10 * fuel + 10 → reading + 1780 ≤ p.server.clock + 10 * fuel → Comes names (fuel + 605) p
 still_comes names reading zero n p long seen still young over server_over =
     let r = over_comes names reading n p long (subst (λ (k : ℕ). Seen names k p) (omega arith) seen)
-        (record { asks = still.asks; mute = still.to_server; inside = still.inside; talk = no_talk p.to_client still.to_client }) (omega (arith, over)) (omega (arith, server_over)) in
+    (record { asks = still.asks; mute = still.to_server; inside = still.inside; talk = no_talk p.to_client still.to_client }) (omega (arith, over)) (omega (arith, server_over)) in
     record { rounds = r.rounds; soon = omega (arith, r.soon); healthy = r.healthy }
 still_comes names reading (suc fuel) n p long seen still young over server_over = comes_later names 1 (fuel + 605) (suc fuel + 605) p (omega arith)
     (still_comes names reading fuel n (pair_round p) long (seen_on names (fuel + n) p (subst (λ (k : ℕ). Seen names k p) (omega arith) seen)) on.0
@@ -256,12 +256,12 @@ module _ (names : Names) (n : ℕ) (p : Pair) (long : 1500 ≤ n) (seen : Seen n
       early : p.client.own_stamp + 20 ≤ p.client.clock → Comes names 1559 (pair_round p)
       early over = stuck_comes names reading 176 (n - 177) (pair_round p) (omega (arith, long)) (subst (λ (k : ℕ). Seen names k (pair_round p)) (omega (arith, long)) seen1)
           (record { asks = s.asks; mute = s.to_server; inside = s.inside; talk = no_talk (pair_round p).to_client s.to_client }) (omega (arith, own, over, seen.client_clock 1))
-              (omega (arith, clock, seen.server_clock 1))
+          (omega (arith, clock, seen.server_clock 1))
 
       late_then : p.client.clock < p.client.own_stamp + 20 → Comes names 1559 (pair_round p)
       late_then soon = let r = still_comes names reading 177 (n - 178) (pair_round p) (omega (arith, long)) (subst (λ (k : ℕ). Seen names k (pair_round p)) (omega (arith, long)) seen1) s
           (omega (arith, own, soon, seen.client_clock 1)) (omega (arith, own, asked, seen.client_clock 1)) (omega (arith, clock, seen.server_clock 1)) in
-              record { rounds = r.rounds; soon = omega (arith, r.soon); healthy = r.healthy }
+          record { rounds = r.rounds; soon = omega (arith, r.soon); healthy = r.healthy }
 
       by_time : (b : Bool) → nat_le (p.client.own_stamp + 20) p.client.clock ≡ b → Comes names 1559 (pair_round p)
       by_time true e = early (leb-true _ _ e)

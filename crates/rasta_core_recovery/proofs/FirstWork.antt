@@ -88,7 +88,7 @@ client_behind_at_work p r climbs is first most fits then_in =
     behind_of p.server.sent p.server.clock (p.client.clock + 10) (client_step p r).link
     (old_at_work p.server.own_first p.server.sent p.server.clock (p.client.clock + 10) fits role.Client p.to_client r.client_acts p.client r.client_work refl is first most
     climbs.client_kept keeps.kept_is keeps.before keeps.recent (each_below p.client p.server climbs.server_low (stands p.server climbs.server_kept) p.to_client refl climbs.to_client)
-        r.client_room then_in)
+    r.client_room then_in)
   where
     keeps : KeepsOf p.client p.server climbs.client_kept
     keeps = climbs.client_keeps is.joined
@@ -99,7 +99,7 @@ server_behind_at_work p r climbs is first most fits then_in =
     behind_of p.client.sent p.client.clock (p.server.clock + 10) (server_step p r).link
     (old_at_work p.client.own_first p.client.sent p.client.clock (p.server.clock + 10) fits role.Server p.to_server r.server_acts p.server r.server_work refl is first most
     climbs.server_kept climbs.server_keeps.kept_is climbs.server_keeps.before climbs.server_keeps.recent
-        (each_below p.server p.client climbs.client_low (stands p.client climbs.client_kept) p.to_server refl climbs.to_server) r.server_room then_in)
+    (each_below p.server p.client climbs.client_low (stands p.client climbs.client_kept) p.to_server refl climbs.to_server) r.server_room then_in)
 
 -- a server inside knows no own stamp of it yet
 pub server_old_at_work : (p : Pair) (r : WorkRound p) (names : Names) → Facts names p → Joined p.server.clock p.server → is_open (behind p r).server.phase ≡ true
@@ -113,7 +113,7 @@ pub talk_at_once_at_work : (names : Names) (p : Pair) (r : WorkRound p) → Soun
     → Talk names (behind p r).client.clock p.server.clock false false (behind p r)
 talk_at_once_at_work names p r sound then_sound now_in client_is then_in =
     talk_first names p (behind p r) then_sound.facts then_sound.client_past then_sound.server_past (then_sound.climbs then_in) then_in (rows_at_work p r client_is server_is then_in)
-        (omega (arith, shares.1.some, shares.1.most)) (omega (arith, shares.0.some, shares.0.most))
+    (omega (arith, shares.1.some, shares.1.most)) (omega (arith, shares.0.some, shares.0.most))
     (client_clock_on p r client_is then_in.client) (server_clock_on p r server_is then_in.server)
     (client_behind_at_work p r (sound.climbs now_in) client_is shares.0.first shares.0.most shares.1.fits then_in.client)
     (server_behind_at_work p r (sound.climbs now_in) server_is shares.1.first shares.1.most shares.0.fits then_in.server).most
@@ -130,11 +130,11 @@ pub talk_on_joining_at_work : (names : Names) (p : Pair) (r : WorkRound p) → S
     → Talk names (behind p r).client.clock p.server.clock false false (behind p r)
 talk_on_joining_at_work names p r sound then_sound is server_in joined then_in client_clock =
     talk_first names p (behind p r) then_sound.facts then_sound.client_past then_sound.server_past (then_sound.climbs then_in) then_in rows calls.some calls.said client_clock
-        (server_clock_on p r server_is then_in.server)
+    (server_clock_on p r server_is then_in.server)
     (record { most = omega (arith, e.expected, calls.said); kept = e.heard.reading; kept_is = e.heard.kept_is; before = e.heard.before; recent = e.heard.recent })
     (server_behind_at_work p r (sound.climbs (record { client = ap is_open is.starts; server = server_in })) server_is calls.partner calls.most
     (let m = row_most (IsNumbered (voice_of (behind p r).client)) p.client.sent (behind p r).client.sent (behind p r).to_server rows.client in let f = shares.0.fits in omega (arith, m, f))
-        then_in.server).most
+    then_in.server).most
     (server_old_at_work p r names sound.facts server_is then_in.server)
   where
     calls : Calls p.client p.server p.to_client
@@ -217,5 +217,5 @@ first_of_at_work names p r facts asking shut =
     subst (λ (l : LinkState). ServerFirst names (p.server.clock + 10) p.server.closed_at (left_of p.server) p.client.own_first p.client.own_stamp
     (acted (p.server.clock + 10) r.server_acts l))
     (sym (out_is names role.Server p.server facts.server shut))
-        (first_at_work names (p.server.clock + 10) p.server.closed_at p.client.own_first p.client.own_stamp (left_of p.server) p.server.clock p.to_server r.server_acts r.server_work
-        asking.due)
+    (first_at_work names (p.server.clock + 10) p.server.closed_at p.client.own_first p.client.own_stamp (left_of p.server) p.server.clock p.to_server r.server_acts r.server_work
+    asking.due)

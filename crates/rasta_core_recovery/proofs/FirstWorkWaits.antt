@@ -94,7 +94,7 @@ waits names reading p r sound is mute inside = by_server (is_open p.server.phase
         let j : Joined p.server.clock p.server = joined_of p.server e (server_not_asking names p.server sound.facts.server) (sound.facts.server_young e)
         in let down = (sound.facts.calls (ap is_open is.starts) (asks_asking p.client.clock p.client is) e).down
         in served e (server_mute (p.server.clock + 10) r.server_acts p.server work j down refl r.server_room)
-            (server_silent (p.server.clock + 10) r.server_acts p.server work j down refl r.server_room)
+        (server_silent (p.server.clock + 10) r.server_acts p.server work j down refl r.server_room)
     by_server false e = let s = server_rests_on names p r sound.facts e (inl mute) in
         record { clock = ap (λ (t : Step). t.link.clock) s; inside = λ f. absurd (cc (ap (λ (t : Step). is_open t.link.phase) s ∙ e, f)); mute = ap (λ (t : Step). t.pdus) s }
 
@@ -127,7 +127,7 @@ left_comes names reading n p z most sound (r1, s1, (r2, s2, run)) still left non
 -- what a round makes of it
 still_step : (names : Names) (reading : ℕ) (p : Pair) (r : WorkRound p) → Sound names p → Still reading p
     → (Out (p.client.clock + 10) (client_step p r).link × ((client_step p r).pdus ≡ []))
-        ⊎ (Still reading (behind p r) × ((behind p r).client.own_stamp ≡ p.client.own_stamp) × ((behind p r).client.clock ≡ p.client.clock + 10))
+    ⊎ (Still reading (behind p r) × ((behind p r).client.own_stamp ≡ p.client.own_stamp) × ((behind p r).client.clock ≡ p.client.clock + 10))
 still_step names reading p r sound still = choose (asks_on (p.client.clock + 10) r.client_acts p.client (client_work_of p r [] still.to_client) still.asks refl r.client_room)
   where
     w : Waits reading p (behind p r)
@@ -136,7 +136,7 @@ still_step names reading p r sound still = choose (asks_on (p.client.clock + 10)
     choose : (Out (p.client.clock + 10) (client_step p r).link × ((client_step p r).pdus ≡ []))
         ⊎ ((client_step p r ≡ silent (at_reading (p.client.clock + 10) p.client)) × Asks (p.client.clock + 10) (at_reading (p.client.clock + 10) p.client))
         → (Out (p.client.clock + 10) (client_step p r).link × ((client_step p r).pdus ≡ []))
-            ⊎ (Still reading (behind p r) × ((behind p r).client.own_stamp ≡ p.client.own_stamp) × ((behind p r).client.clock ≡ p.client.clock + 10))
+        ⊎ (Still reading (behind p r) × ((behind p r).client.own_stamp ≡ p.client.own_stamp) × ((behind p r).client.clock ≡ p.client.clock + 10))
     choose (inl left) = inl left
     choose (inr (same, asks)) = inr (
       record {
@@ -167,7 +167,7 @@ last_comes names reading (suc fuel) (suc (suc n)) p z few most sound run still o
     choose : ((s : Still reading (behind p run.0)) → (behind p run.0).client.own_stamp ≡ p.client.own_stamp → (behind p run.0).client.clock ≡ p.client.clock + 10
         → reading + 1780 ≤ (behind p run.0).server.clock → Soon names z)
         → (Out (p.client.clock + 10) (client_step p run.0).link × ((client_step p run.0).pdus ≡ []))
-            ⊎ (Still reading (behind p run.0) × ((behind p run.0).client.own_stamp ≡ p.client.own_stamp) × ((behind p run.0).client.clock ≡ p.client.clock + 10)) → Soon names z
+        ⊎ (Still reading (behind p run.0) × ((behind p run.0).client.own_stamp ≡ p.client.own_stamp) × ((behind p run.0).client.clock ≡ p.client.clock + 10)) → Soon names z
     choose again (inl (left, none)) = left_comes names reading n p z (omega (arith, most)) sound run still left none server_over
     choose again (inr (s, o, c)) = again s o c (omega (arith, server_over, w.clock))
 
@@ -186,6 +186,6 @@ still_comes names reading (suc fuel) (suc n) p z most sound run still over serve
     choose : ((s : Still reading (behind p run.0)) → (behind p run.0).client.own_stamp ≡ p.client.own_stamp → (behind p run.0).client.clock ≡ p.client.clock + 10
         → reading + 1780 ≤ (behind p run.0).server.clock + 10 * fuel → Soon names z)
         → (Out (p.client.clock + 10) (client_step p run.0).link × ((client_step p run.0).pdus ≡ []))
-            ⊎ (Still reading (behind p run.0) × ((behind p run.0).client.own_stamp ≡ p.client.own_stamp) × ((behind p run.0).client.clock ≡ p.client.clock + 10)) → Soon names z
+        ⊎ (Still reading (behind p run.0) × ((behind p run.0).client.own_stamp ≡ p.client.own_stamp) × ((behind p run.0).client.clock ≡ p.client.clock + 10)) → Soon names z
     choose again (inl (left, none)) = out_comes names n (behind p run.0) z (omega (arith, most)) run.1 run.2 left.is_out
     choose again (inr (s, o, c)) = again s o c (omega (arith, server_over, w.clock))

@@ -387,16 +387,19 @@ module _ (names : Names) (client_closed server_closed cf sf at grant : ℕ) (fit
 
   -- the round in which the client joins
   pub joins_then : (c : ℕ) → at ≤ c → c + 10 < at + 1800 → (p : Pair) (r : WorkRound p) → Is p (asking_link names c client_closed cf at) (granted grant) (answer ∷ []) [] → (j : JoinedBy (behind p r)) × (j.now ≡ c + 10)
-  joins_then clock since_asked living p r i = (record {
-    others = c.others;
-    now = clock + 10;
-    past = omega (arith, since_asked);
-    tells = c.tells;
-    is = c.is;
-    server = ap (λ (s : Step). s.link) s;
-    to_client = ap (λ (s : Step). s.pdus) s;
-    to_server = c.pdus;
-  }, refl)
+  joins_then clock since_asked living p r i = (
+    record {
+      others = c.others;
+      now = clock + 10;
+      past = omega (arith, since_asked);
+      tells = c.tells;
+      is = c.is;
+      server = ap (λ (s : Step). s.link) s;
+      to_client = ap (λ (s : Step). s.pdus) s;
+      to_server = c.pdus;
+    },
+    refl,
+  )
     where
       c : Joins (clock + 10) grant (joined (clock + 10)) (beat (clock + 10)) (client_step p r)
       c = subst (Joins (clock + 10) grant (joined (clock + 10)) (beat (clock + 10))) (sym (client_acted p r (asking_link names clock client_closed cf at) i.client))

@@ -32,7 +32,6 @@ both_left names n p z most sound run client_out server_out lately server_lately 
     opens_quickly names 599 n 598 p z most sound run client_out server_out (inr (omega (arith, server_lately))) (omega (arith, lately)) (omega (arith, sound.server_past.closed server_out)) (omega (arith, sound.client_past.closed client_out))
 
 module _ (names : Names) (n : ℕ) (z : Pair) (at : ℕ → Pair) (rounds : Rounds names n z at) where
-
   client_on : (k : ℕ) (lt : k < n) → Joined (at k).client.clock (at k).client → Either ((at k).client.clock + 10) (at (suc k)).client (Joined (at (suc k)).client.clock (at (suc k)).client)
   client_on k lt j = let r = rounds.round k lt in subst (λ (q : Pair). Either ((at k).client.clock + 10) q.client (Joined q.client.clock q.client)) (sym r.1) (client_joined (at k) r.0 j)
 

@@ -60,7 +60,7 @@ pub record IsToldAt (speaker : Speaker) (sent_at : ℕ) (at : Stand) (pdu : Pdu)
 abbrev pub IsOf : Names → Speaker → Sent → Stand → Type 0
 IsOf names speaker datagram at =
     datagram.sender ≡ speaker.who → speaker.connection ≡ Some datagram.connection → speaker.time ≤ datagram.at + lifetime → (pdu : Pdu) → reading names.key datagram.bytes ≡ Ok pdu
-        → IsToldAt speaker datagram.at at pdu
+    → IsToldAt speaker datagram.at at pdu
 
 -- how many PDUs of its partner an end confirms behind the first
 abbrev pub confirmed_by : LinkState → ℕ
