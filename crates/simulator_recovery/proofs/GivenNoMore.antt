@@ -226,9 +226,9 @@ module _ (site : Site) (table : Table) (P : IxlState → Type 0)
   event_rests (event.Restart node clock first) world of rests = absurd of
 
 -- a station of this data in which it is so
-record RestsAt (sited : SitedTable) (P : IxlState → Type 0) (world : Played) : Type 0 where
-  same : world.sited ≡ sited
-  rests : P world.run.station.ixl
+pub record RestsAt (sited : SitedTable) (P : IxlState → Type 0) (world : Played) : Type 0 where
+  pub same : world.sited ≡ sited
+  pub rests : P world.run.station.ixl
 
 module _ (sited : SitedTable) (P : IxlState → Type 0)
     (steps : (input : Input) (world : WorldState) → ((command : Command) → input ≡ Commands command → ⊥) → P world.station.ixl → P (interlocking_stepped sited.site sited.table input world).station.ixl) where
@@ -244,8 +244,11 @@ module _ (sited : SitedTable) (P : IxlState → Type 0)
   all_rest (first ∷ others) flowing of is = all_rest others (did stations first flowing) of.1 (tried_rests flowing.state first.event of.0 is)
 
   -- so it is kept in a good round
+  pub round_at : (flowing : Flowing Played) → RestsAt sited P flowing.state → RestsAt sited P (round stations flowing).state
+  round_at flowing is = all_rest (due stations flowing) flowing (due_of flowing) is
+
   pub round_keeps : (flowing : Flowing Played) → flowing.state.sited ≡ sited → P flowing.state.run.station.ixl → P (round stations flowing).state.run.station.ixl
-  round_keeps flowing same so = (all_rest (due stations flowing) flowing (due_of flowing) (record { same = same; rests = so })).rests
+  round_keeps flowing same so = (round_at flowing (record { same = same; rests = so })).rests
 
 module _ (site : Site) (table : Table) (signal : ℕ) (aspect : Option Aspect) (number : ℕ) where
   abbrev RestsIn : IxlState → Type 0

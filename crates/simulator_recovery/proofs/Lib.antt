@@ -241,3 +241,6 @@ pub mod WithdrawnApproach
 pub mod WithdrawnTold
 pub mod WithdrawnEnds
 pub mod TrainsGone
+pub mod AnsweredMoves
+pub mod AnsweredSteps
+pub mod AnsweredRounds

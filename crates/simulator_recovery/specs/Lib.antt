@@ -27,3 +27,4 @@ pub mod BeginsOfMoves
 pub mod HeldPoints
 pub mod Withdrawn
 pub mod UnheldPoints
+pub mod Answered

@@ -3,6 +3,7 @@
 //! is no code here but laws.
 #![tactic(auto)]
 
+mod answered;
 mod authority;
 mod begins;
 mod clients;
@@ -34,6 +35,9 @@ mod unheld;
 mod windows;
 mod withdrawn;
 
+pub use answered::moves_that_are_out_are_new;
+pub use answered::no_move_is_unanswered;
+pub use answered::points_of_proceeding_routes_await_nothing;
 pub use authority::authority_ends_behind_a_cancel;
 pub use authority::authority_ends_where_stop_is_given;
 pub use authority::rounds_leave_no_cancelled_route;
