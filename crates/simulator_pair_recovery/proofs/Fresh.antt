@@ -39,7 +39,7 @@ pub record Adds (a b : Ends) : Type 0 where
 pub adds_none : (a : Ends) → Adds a a
 adds_none a = record { time = refl; client_clock = refl; server_clock = refl; more = []; sent = sym (append-nil a.sent); fresh = tt }
 
-each_append : {X : Type 0} (P : X → Type 0) (xs ys : List X) → Each P xs → Each P ys → Each P (xs ++ ys)
+pub each_append : {X : Type 0} (P : X → Type 0) (xs ys : List X) → Each P xs → Each P ys → Each P (xs ++ ys)
 each_append P [] ys a b = b
 each_append P (x ∷ xs) ys a b = (a.0, each_append P xs ys a.1 b)
 

@@ -2,3 +2,5 @@ pub mod Reached
 pub mod Fresh
 pub mod Alike
 pub mod Recovers
+pub mod FirstRoundShort
+pub mod FirstRoundComes

@@ -65,11 +65,11 @@ reached_stepped who call pair is may = reached_then (Calls who call) pair.ends i
 
 -- ---- deliveries
 
-key_of : (who : Role) (ends : Ends) → Timely names ends → (end_of who ends).link.identity.key ≡ names.key
+pub key_of : (who : Role) (ends : Ends) → Timely names ends → (end_of who ends).link.identity.key ≡ names.key
 key_of role.Client ends is = ap (λ i. i.key) is.client.identity
 key_of role.Server ends is = ap (λ i. i.key) is.server.identity
 
-never_sent : (who : Role) (bytes : List ℕ) (ends : Ends) → copy_of bytes ends ≡ None → intact (end_of who ends).link.identity.key bytes ≡ true → refusal_of_delivery who bytes ends ≡ Some NeverSent
+pub never_sent : (who : Role) (bytes : List ℕ) (ends : Ends) → copy_of bytes ends ≡ None → intact (end_of who ends).link.identity.key bytes ≡ true → refusal_of_delivery who bytes ends ≡ Some NeverSent
 unfolding refusal_of_delivery
 never_sent who bytes ends none told = rw (none, told) refl
 

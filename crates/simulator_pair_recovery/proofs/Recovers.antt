@@ -29,10 +29,10 @@ use Rattle.simulator_pair_recovery.proofs.Alike.{AlikeSent, AllAlike, Alike, ali
 
 -- ---- what is found of a datagram that is under way
 
-found_later : (time : ℕ) (bytes : List ℕ) (first : Sent) (later : List Sent) (copy : Sent) → newest_copy time bytes later ≡ Some copy → newest_copy time bytes (first ∷ later) ≡ Some copy
+pub found_later : (time : ℕ) (bytes : List ℕ) (first : Sent) (later : List Sent) (copy : Sent) → newest_copy time bytes later ≡ Some copy → newest_copy time bytes (first ∷ later) ≡ Some copy
 found_later time bytes first later copy found = rw found refl
 
-found_first : (time : ℕ) (bytes : List ℕ) (first : Sent) (later : List Sent) → newest_copy time bytes later ≡ None → is_alive_copy time bytes first ≡ true → newest_copy time bytes (first ∷ later) ≡ Some first
+pub found_first : (time : ℕ) (bytes : List ℕ) (first : Sent) (later : List Sent) → newest_copy time bytes later ≡ None → is_alive_copy time bytes first ≡ true → newest_copy time bytes (first ∷ later) ≡ Some first
 found_first time bytes first later none_later alive = rw (none_later, alive) refl
 
 -- some copy is found of one that is alive
@@ -44,31 +44,40 @@ has_copy time d [] rest alive = choose (newest_copy time d.bytes rest) refl
     choose (Some copy) e = (copy, found_later time d.bytes d rest copy e)
 has_copy time d (x ∷ front) rest alive = let found = has_copy time d front rest alive in (found.0, found_later time d.bytes x (front ++ d ∷ rest) found.0 found.1)
 
-get_after : (front rest : List Sent) (d : Sent) → slice_get (front ++ d ∷ rest) (length front) ≡ Some d
+pub get_after : (front rest : List Sent) (d : Sent) → slice_get (front ++ d ∷ rest) (length front) ≡ Some d
 get_after [] rest d = refl
 get_after (x ∷ front) rest d = get_after front rest d
 
-fresh_alive : (time : ℕ) (d : Sent) → IsFresh time d → is_alive_copy (time + 10000) d.bytes d ≡ true
-fresh_alive time d is = rw (in_time, is.there, same) refl
+-- it can still come 10 ms after this time, and is short
+pub record Comes (time : ℕ) (d : Sent) : Type 0 where
+  pub in_time : nat_le (time + 10000) (d.at + lifetime) ≡ true
+  pub there : d.is_lost ≡ false
+  pub short : length d.bytes ≤ 225
+
+fresh_comes : (time : ℕ) (d : Sent) → IsFresh time d → Comes time d
+fresh_comes time d is = record { in_time = in_time; there = is.there; short = is.short }
   where
     in_time : nat_le (time + 10000) (d.at + lifetime) ≡ true
     in_time = let e = is.at in grind (arith, nat_tests)
 
+is_alive : (time : ℕ) (d : Sent) → Comes time d → is_alive_copy (time + 10000) d.bytes d ≡ true
+is_alive time d is = rw (is.in_time, is.there, same) refl
+  where
     same : bytes_eq d.bytes d.bytes ≡ true
     same = (bytes_eq-Decides d.bytes d.bytes).1 refl
 
-not_refused : (who : Role) (ends : Ends) (time : ℕ) (d : Sent) (front rest : List Sent) → ends.time ≡ time + 10000 → ends.sent ≡ front ++ d ∷ rest → IsFresh time d → is_none (refusal_of_delivery who d.bytes ends) ≡ true
+not_refused : (who : Role) (ends : Ends) (time : ℕ) (d : Sent) (front rest : List Sent) → ends.time ≡ time + 10000 → ends.sent ≡ front ++ d ∷ rest → Comes time d → is_none (refusal_of_delivery who d.bytes ends) ≡ true
 unfolding refusal_of_delivery
 not_refused who ends time d front rest at sent is = rw found refl
   where
     copy : (copy : Sent) × (newest_copy (time + 10000) d.bytes (front ++ d ∷ rest) ≡ Some copy)
-    copy = has_copy (time + 10000) d front rest (fresh_alive time d is)
+    copy = has_copy (time + 10000) d front rest (is_alive time d is)
 
     found : copy_of d.bytes ends ≡ Some copy.0
     found = ap (λ (t : ℕ). newest_copy t d.bytes ends.sent) at ∙ ap (newest_copy (time + 10000) d.bytes) sent ∙ copy.1
 
--- a fresh datagram arrives
-fresh_arrives : (pair : PairState) (time : ℕ) (d : Sent) (front rest : List Sent) → pair.ends.time ≡ time + 10000 → pair.ends.sent ≡ front ++ d ∷ rest → IsFresh time d
+-- a datagram that can come arrives
+fresh_arrives : (pair : PairState) (time : ℕ) (d : Sent) (front rest : List Sent) → pair.ends.time ≡ time + 10000 → pair.ends.sent ≡ front ++ d ∷ rest → Comes time d
     → arriving (Some d) pair ≡ stepped (partner_of d.sender) (Receives d.bytes (connection_of (copy_of d.bytes pair.ends))) pair
 unfolding arriving arrived
 fresh_arrives pair time d front rest at sent is = rw (is.there, short, not_refused (partner_of d.sender) pair.ends time d front rest at sent is) refl
@@ -82,28 +91,28 @@ stepped_ends who call pair = refl
 
 -- ---- what arrives
 
-record LawsHere : Type 0 where
-  laws : Laws
-  hands : HandsOut
-  short : WrittenIsShort
+pub record LawsHere : Type 0 where
+  pub laws : Laws
+  pub hands : HandsOut
+  pub short : WrittenIsShort
 
 -- how far a pair and two ends have come in a round
-record Both (time : ℕ) (a : Ends) (b : Ends) (before : Ends) : Type 0 where
-  reached : Reached a
-  alike : Alike a b
-  adds : Adds before a
+pub record Both (time : ℕ) (a : Ends) (b : Ends) (before : Ends) : Type 0 where
+  pub reached : Reached a
+  pub alike : Alike a b
+  pub adds : Adds before a
 
 same_partner : (who : Role) → partner_of who ≡ names_of.partner_of who
 same_partner role.Client = refl
 same_partner role.Server = refl
 
-can_come_too : (time : ℕ) (d e : Sent) → IsFresh time d → AlikeSent d e → can_come (time + 10000) e ≡ true
+pub can_come_too : (time : ℕ) (d e : Sent) → Comes time d → AlikeSent d e → can_come (time + 10000) e ≡ true
 can_come_too time d e is same = ap (λ (b : Bool). not b && nat_le (time + 10000) (e.at + lifetime)) (sym same.is_lost ∙ is.there) ∙ in_time
   where
     in_time : nat_le (time + 10000) (e.at + lifetime) ≡ true
-    in_time = let f = is.at in let g = same.at in grind (arith, nat_tests)
+    in_time = subst (λ (at : ℕ). nat_le (time + 10000) (at + lifetime) ≡ true) same.at is.in_time
 
-one_arrives : LawsHere → (time : ℕ) (d e : Sent) (pair : PairState) (b before : Ends) (front rest : List Sent) → pair.ends.time ≡ time + 10000 → pair.ends.sent ≡ front ++ d ∷ rest → IsFresh time d → AlikeSent d e
+pub one_arrives : LawsHere → (time : ℕ) (d e : Sent) (pair : PairState) (b before : Ends) (front rest : List Sent) → pair.ends.time ≡ time + 10000 → pair.ends.sent ≡ front ++ d ∷ rest → Comes time d → AlikeSent d e
     → Both time pair.ends b before → Both time (arriving (Some d) pair).ends (called (names_of.partner_of e.sender) (Receives e.bytes e.connection) b) before
 one_arrives law time d e pair b before front rest at sent is same both = record {
   reached = reached;
@@ -141,6 +150,9 @@ all_arrive law time (d ∷ ds) (e ∷ es) pair b before front rest at sent fresh
     (subst (λ (k : ℕ). Both time (arriving_from k (length ds) (arriving (Some d) pair)).ends (run (comings (time + 10000) es) next) before) longer
     (all_arrive law time ds es (arriving (Some d) pair) next before (front ++ d ∷ []) (rest ++ added.more) at then_sent fresh.1 alike.1 one)))
   where
+    comes_here : Comes time d
+    comes_here = fresh_comes time d fresh.0
+
     next : Ends
     next = called (names_of.partner_of e.sender) (Receives e.bytes e.connection) b
 
@@ -158,22 +170,22 @@ all_arrive law time (d ∷ ds) (e ∷ es) pair b before front rest at sent fresh
     now = both.adds.time ∙ at
 
     one : Both time (arriving (Some d) pair).ends next before
-    one = one_arrives law time d e pair b before front (ds ++ rest) now sent fresh.0 alike.0 both
+    one = one_arrives law time d e pair b before front (ds ++ rest) now sent comes_here alike.0 both
 
     ends : (arriving (Some d) pair).ends ≡ called (partner_of d.sender) (Receives d.bytes (connection_of (copy_of d.bytes pair.ends))) pair.ends
-    ends = ap (λ (p : PairState). p.ends) (fresh_arrives pair time d front (ds ++ rest) now sent fresh.0) ∙ stepped_ends (partner_of d.sender) (Receives d.bytes (connection_of (copy_of d.bytes pair.ends))) pair
+    ends = ap (λ (p : PairState). p.ends) (fresh_arrives pair time d front (ds ++ rest) now sent comes_here) ∙ stepped_ends (partner_of d.sender) (Receives d.bytes (connection_of (copy_of d.bytes pair.ends))) pair
 
     added : Adds pair.ends (arriving (Some d) pair).ends
     added = subst (Adds pair.ends) (sym ends) (called_adds law.hands law.short (partner_of d.sender) (Receives d.bytes (connection_of (copy_of d.bytes pair.ends))) pair.ends (reached_timely law.laws pair.ends both.reached)
         (may_receive law.laws (partner_of d.sender) d.bytes pair.ends (reached_timely law.laws pair.ends both.reached)
-        (none_is (refusal_of_delivery (partner_of d.sender) d.bytes pair.ends) (not_refused (partner_of d.sender) pair.ends time d front (ds ++ rest) now sent fresh.0))))
+        (none_is (refusal_of_delivery (partner_of d.sender) d.bytes pair.ends) (not_refused (partner_of d.sender) pair.ends time d front (ds ++ rest) now sent comes_here))))
 
     then_sent : (arriving (Some d) pair).ends.sent ≡ (front ++ d ∷ []) ++ (ds ++ (rest ++ added.more))
     then_sent = added.sent ∙ ap (λ (s : List Sent). s ++ added.more) sent ∙ append_assoc front (d ∷ (ds ++ rest)) added.more
         ∙ ap (λ (s : List Sent). front ++ d ∷ s) (append_assoc ds rest added.more) ∙ sym (append_assoc front (d ∷ []) (ds ++ (rest ++ added.more)))
 
     comes : run (comings (time + 10000) (e ∷ es)) b ≡ run (comings (time + 10000) es) next
-    comes = ap (λ (c : Bool). run (if c then Calls (names_of.partner_of e.sender) (Receives e.bytes e.connection) ∷ comings (time + 10000) es else comings (time + 10000) es) b) (can_come_too time d e fresh.0 alike.0)
+    comes = ap (λ (c : Bool). run (if c then Calls (names_of.partner_of e.sender) (Receives e.bytes e.connection) ∷ comings (time + 10000) es else comings (time + 10000) es) b) (can_come_too time d e comes_here alike.0)
 
 -- ---- the ends' own work
 
@@ -185,7 +197,7 @@ ticks_server : (pair : PairState) → (tried (event.Tick role.Server) pair).ends
 unfolding tried refusal happens stepped
 ticks_server pair = refl
 
-own_work_done : LawsHere → (time : ℕ) (a b before : Ends) → Both time a b before → Both time (called role.Server Ticks (called role.Client Opens (called role.Client Ticks a))) (run own_work b) before
+pub own_work_done : LawsHere → (time : ℕ) (a b before : Ends) → Both time a b before → Both time (called role.Server Ticks (called role.Client Opens (called role.Client Ticks a))) (run own_work b) before
 own_work_done law time a b before both =
     step role.Server Ticks _ _ ticks tt (step role.Client Opens _ _ opens tt (step role.Client Ticks a b ticks tt both))
   where
@@ -206,7 +218,7 @@ time_goes pair t c s = rw (le t, le c, le s) refl
     le : {a b : ℕ} → a ≤ b → nat_le a b ≡ true
     le {a} {b} h = let g = h in grind (arith, nat_tests)
 
-later_is : (ends : Ends) → ((later 10000 10000 10000 ends).time ≡ ends.time + 10000) × ((later 10000 10000 10000 ends).sent ≡ ends.sent)
+pub later_is : (ends : Ends) → ((later 10000 10000 10000 ends).time ≡ ends.time + 10000) × ((later 10000 10000 10000 ends).sent ≡ ends.sent)
     × ((later 10000 10000 10000 ends).client.clock ≡ ends.client.clock + 10000) × ((later 10000 10000 10000 ends).server.clock ≡ ends.server.clock + 10000)
 unfolding later end_later
 later_is ends = (refl, refl, refl, refl)
@@ -222,7 +234,7 @@ arrived_adds law who bytes pair is = choose (is_none (refusal_of_delivery who by
         (called_adds law.hands law.short who (Receives bytes (connection_of (copy_of bytes pair.ends))) pair.ends (reached_timely law.laws pair.ends is) (may_receive law.laws who bytes pair.ends (reached_timely law.laws pair.ends is) (none_is (refusal_of_delivery who bytes pair.ends) f)))
     choose false f = adds_none pair.ends
 
-arriving_adds : LawsHere → (o : Option Sent) (pair : PairState) → Reached pair.ends → Adds pair.ends (arriving o pair).ends
+pub arriving_adds : LawsHere → (o : Option Sent) (pair : PairState) → Reached pair.ends → Adds pair.ends (arriving o pair).ends
 unfolding arriving
 arriving_adds law None pair is = adds_none pair.ends
 arriving_adds law (Some sent) pair is = choose (sent.is_lost || nat_lt 512 (length sent.bytes))
@@ -231,7 +243,7 @@ arriving_adds law (Some sent) pair is = choose (sent.is_lost || nat_lt 512 (leng
     choose true = adds_none pair.ends
     choose false = arrived_adds law (partner_of sent.sender) sent.bytes pair is
 
-arriving_from_adds : LawsHere → (index more : ℕ) (pair : PairState) → Reached pair.ends → Adds pair.ends (arriving_from index more pair).ends
+pub arriving_from_adds : LawsHere → (index more : ℕ) (pair : PairState) → Reached pair.ends → Adds pair.ends (arriving_from index more pair).ends
 unfolding arriving_from
 arriving_from_adds law index zero pair is = adds_none pair.ends
 arriving_from_adds law index (suc more) pair is =
@@ -242,18 +254,18 @@ arriving_from_adds law index (suc more) pair is =
 -- ---- a round of both
 
 -- how far a pair and two ends have come after so many rounds
-record Goes (k : ℕ) (first f : Flowing) (g : Flow) : Type 0 where
-  reached : Reached f.pair.ends
-  alike : Alike f.pair.ends g.ends
-  passed : f.passed ≡ g.passed
-  old : List Sent
-  more : List Sent
-  split : f.pair.ends.sent ≡ old ++ more
-  counted : length old ≡ f.passed
-  fresh : Each (IsFresh f.pair.ends.time) more
-  time : f.pair.ends.time ≡ first.pair.ends.time + 10000 * k
-  client_clock : f.pair.ends.client.clock ≡ first.pair.ends.client.clock + 10000 * k
-  server_clock : f.pair.ends.server.clock ≡ first.pair.ends.server.clock + 10000 * k
+pub record Goes (k : ℕ) (first f : Flowing) (g : Flow) : Type 0 where
+  pub reached : Reached f.pair.ends
+  pub alike : Alike f.pair.ends g.ends
+  pub passed : f.passed ≡ g.passed
+  pub old : List Sent
+  pub more : List Sent
+  pub split : f.pair.ends.sent ≡ old ++ more
+  pub counted : length old ≡ f.passed
+  pub fresh : Each (IsFresh f.pair.ends.time) more
+  pub time : f.pair.ends.time ≡ first.pair.ends.time + 10000 * k
+  pub client_clock : f.pair.ends.client.clock ≡ first.pair.ends.client.clock + 10000 * k
+  pub server_clock : f.pair.ends.server.clock ≡ first.pair.ends.server.clock + 10000 * k
 
 drop_alike : (old more gs : List Sent) → AllAlike (old ++ more) gs → AllAlike more (drop (length old) gs)
 drop_alike [] more gs a = a
@@ -275,7 +287,7 @@ run_both [] b ends = refl
 run_both (e ∷ a) b ends = run_both a b (happened e ends)
 
 -- what a round of a pair makes of its ends
-round_ends : (f : Flowing) → (round f).pair.ends ≡ called role.Server Ticks (called role.Client Opens (called role.Client Ticks (arriving_from f.passed (length f.pair.ends.sent - f.passed) (tried (event.Time 10000 10000 10000) f.pair)).ends))
+pub round_ends : (f : Flowing) → (round f).pair.ends ≡ called role.Server Ticks (called role.Client Opens (called role.Client Ticks (arriving_from f.passed (length f.pair.ends.sent - f.passed) (tried (event.Time 10000 10000 10000) f.pair)).ends))
 unfolding round
 round_ends f = ticks_server _ ∙ ap (called role.Server Ticks) (ticks_client _)
 
@@ -283,7 +295,7 @@ round_passed : (f : Flowing) → (round f).passed ≡ length f.pair.ends.sent
 unfolding round
 round_passed f = refl
 
-good_ends : (g : Flow) → (good_round g).ends ≡ run own_work (run (comings (g.ends.time + 10000) (drop g.passed g.ends.sent)) (later 10000 10000 10000 g.ends))
+pub good_ends : (g : Flow) → (good_round g).ends ≡ run own_work (run (comings (g.ends.time + 10000) (drop g.passed g.ends.sent)) (later 10000 10000 10000 g.ends))
 unfolding good_round
 good_ends g = run_both (comings (g.ends.time + 10000) (drop g.passed g.ends.sent)) own_work (later 10000 10000 10000 g.ends)
 
@@ -291,17 +303,17 @@ good_passed : (g : Flow) → (good_round g).passed ≡ length g.ends.sent
 unfolding good_round
 good_passed g = refl
 
-record CanGo (k n : ℕ) (first : Flowing) : Type 0 where
-  time : HasTime n first
-  before : k < n
+pub record CanGo (k n : ℕ) (first : Flowing) : Type 0 where
+  pub time : HasTime n first
+  pub before : k < n
 
-time_passes : (k n : ℕ) (first f : Flowing) → CanGo k n first → f.pair.ends.time ≡ first.pair.ends.time + 10000 * k → f.pair.ends.client.clock ≡ first.pair.ends.client.clock + 10000 * k → f.pair.ends.server.clock ≡ first.pair.ends.server.clock + 10000 * k
+pub time_passes : (k n : ℕ) (first f : Flowing) → CanGo k n first → f.pair.ends.time ≡ first.pair.ends.time + 10000 * k → f.pair.ends.client.clock ≡ first.pair.ends.client.clock + 10000 * k → f.pair.ends.server.clock ≡ first.pair.ends.server.clock + 10000 * k
     → (tried (event.Time 10000 10000 10000) f.pair).ends ≡ later 10000 10000 10000 f.pair.ends
 time_passes k n first f can t c s = let x = can.time.time in let y = can.time.client in let z = can.time.server in let b = can.before in
     time_goes f.pair (omega (arith, t, x, b)) (omega (arith, c, y, b)) (omega (arith, s, z, b))
 
 -- what a round leaves, by what its last part has
-goes_from : (k n : ℕ) (first f : Flowing) (g : Flow) (new : Ends) → Both f.pair.ends.time (round f).pair.ends new (later 10000 10000 10000 f.pair.ends) → length f.pair.ends.sent ≡ length g.ends.sent → (good_round g).ends ≡ new
+pub goes_from : (k n : ℕ) (first f : Flowing) (g : Flow) (new : Ends) → Both f.pair.ends.time (round f).pair.ends new (later 10000 10000 10000 f.pair.ends) → length f.pair.ends.sent ≡ length g.ends.sent → (good_round g).ends ≡ new
     → f.pair.ends.time ≡ first.pair.ends.time + 10000 * k → f.pair.ends.client.clock ≡ first.pair.ends.client.clock + 10000 * k → f.pair.ends.server.clock ≡ first.pair.ends.server.clock + 10000 * k → Goes (suc k) first (round f) (good_round g)
 goes_from k n first f g new both same is t c s = let l = later_is f.pair.ends in record {
   reached = both.reached;
@@ -410,12 +422,12 @@ rounds_suc : (k : ℕ) (f : Flowing) → rounds (suc k) f ≡ round (rounds k f)
 unfolding rounds
 rounds_suc k f = refl
 
-rounds_first : (k : ℕ) (f : Flowing) → rounds k (round f) ≡ rounds (suc k) f
+pub rounds_first : (k : ℕ) (f : Flowing) → rounds k (round f) ≡ rounds (suc k) f
 unfolding rounds
 rounds_first zero f = refl
 rounds_first (suc k) f = ap round (rounds_first k f)
 
-all_go : LawsHere → (k n : ℕ) (first : Flowing) (g : Flow) → HasTime n first → k < n → Goes 1 first (round first) g → Goes (suc k) first (rounds k (round first)) (good_rounds k g)
+pub all_go : LawsHere → (k n : ℕ) (first : Flowing) (g : Flow) → HasTime n first → k < n → Goes 1 first (round first) g → Goes (suc k) first (rounds k (round first)) (good_rounds k g)
 unfolding rounds
 all_go law zero n first g time most goes = goes
 all_go law (suc k) n first g time most goes = round_goes law (suc k) n first (rounds k (round first)) (good_rounds k g) (record { time = time; before = most }) (all_go law k n first g time (omega (arith, most)) goes)

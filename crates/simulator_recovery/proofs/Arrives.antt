@@ -36,15 +36,15 @@ use Rattle.simulator_recovery.proofs.Sends.{HasAdded, adds_none, time_sends_none
 
 -- ---- what is due
 
-get_after : (front rest : List OnLink) (one : OnLink) → slice_get (front ++ one ∷ rest) (length front) ≡ Some one
+pub get_after : (front rest : List OnLink) (one : OnLink) → slice_get (front ++ one ∷ rest) (length front) ≡ Some one
 get_after [] rest one = refl
 get_after (head ∷ front) rest one = get_after front rest one
 
-count_more : (front : List OnLink) (one : OnLink) → length (front ++ one ∷ []) ≡ suc (length front)
+pub count_more : (front : List OnLink) (one : OnLink) → length (front ++ one ∷ []) ≡ suc (length front)
 count_more [] one = refl
 count_more (head ∷ front) one = ap suc (count_more front one)
 
-count_both : (front more : List OnLink) → length (front ++ more) ≡ length front + length more
+pub count_both : (front more : List OnLink) → length (front ++ more) ≡ length front + length more
 count_both [] more = omega arith
 count_both (head ∷ front) more = let e = count_both front more in omega (arith, e)
 
@@ -73,13 +73,13 @@ due_in_order old new leaves =
 
 -- ---- and isn't refused
 
-found_later : (time : ℕ) (bytes : List ℕ) (first : Sent) (later : List Sent) (copy : Sent) → newest_copy time bytes later ≡ Some copy → newest_copy time bytes (first ∷ later) ≡ Some copy
+pub found_later : (time : ℕ) (bytes : List ℕ) (first : Sent) (later : List Sent) (copy : Sent) → newest_copy time bytes later ≡ Some copy → newest_copy time bytes (first ∷ later) ≡ Some copy
 found_later time bytes first later copy found = rw found refl
 
-found_first : (time : ℕ) (bytes : List ℕ) (first : Sent) (later : List Sent) → newest_copy time bytes later ≡ None → is_alive_copy time bytes first ≡ true → newest_copy time bytes (first ∷ later) ≡ Some first
+pub found_first : (time : ℕ) (bytes : List ℕ) (first : Sent) (later : List Sent) → newest_copy time bytes later ≡ None → is_alive_copy time bytes first ≡ true → newest_copy time bytes (first ∷ later) ≡ Some first
 found_first time bytes first later none_later alive = rw (none_later, alive) refl
 
-has_copy : (time : ℕ) (one : OnLink) (front rest : List OnLink) → is_alive_copy time one.datagram.bytes one.datagram ≡ true → (copy : Sent) × (newest_copy time one.datagram.bytes (datagrams_of (front ++ one ∷ rest)) ≡ Some copy)
+pub has_copy : (time : ℕ) (one : OnLink) (front rest : List OnLink) → is_alive_copy time one.datagram.bytes one.datagram ≡ true → (copy : Sent) × (newest_copy time one.datagram.bytes (datagrams_of (front ++ one ∷ rest)) ≡ Some copy)
 has_copy time one [] rest alive = choose (newest_copy time one.datagram.bytes (datagrams_of rest)) refl
   where
     choose : (o : Option Sent) → newest_copy time one.datagram.bytes (datagrams_of rest) ≡ o → (copy : Sent) × (newest_copy time one.datagram.bytes (one.datagram ∷ datagrams_of rest) ≡ Some copy)
@@ -96,7 +96,7 @@ alive_still time at one sent there soon = rw (in_time, there, same) refl
     same : bytes_eq one.datagram.bytes one.datagram.bytes ≡ true
     same = (bytes_eq-Decides one.datagram.bytes one.datagram.bytes).1 refl
 
-there_is : (site : Site) (who : Role) (link : ℕ) → link < links site → is_missing (receiver who link).0 site ≡ false
+pub there_is : (site : Site) (who : Role) (link : ℕ) → link < links site → is_missing (receiver who link).0 site ≡ false
 there_is site role.Client link below = too_few (nodes site) (min (link + 1) (2 ^ 64 - 1)) (omega (arith, below))
   where
     too_few : (a b : ℕ) → b < a → nat_le a b ≡ false
@@ -106,13 +106,13 @@ there_is site role.Server link below = too_few (nodes site) 0 (omega (arith, bel
     too_few : (a b : ℕ) → b < a → nat_le a b ≡ false
     too_few a b h = grind (arith, nat_tests)
 
-not_refused : (site : Site) (node : NodeId) (bytes : List ℕ) (world : WorldState) (copy : Sent) → is_missing node.0 site ≡ false → copy_of bytes world ≡ Some copy → refusal site (event.Deliver node bytes) world ≡ None
+pub not_refused : (site : Site) (node : NodeId) (bytes : List ℕ) (world : WorldState) (copy : Sent) → is_missing node.0 site ≡ false → copy_of bytes world ≡ Some copy → refusal site (event.Deliver node bytes) world ≡ None
 unfolding refusal
 not_refused site node bytes world copy there found = rw (there, found) refl
 
 -- a station is of this data
-record IsSited (sited : SitedTable) (world : Played) : Type 0 where
-  same : world.sited ≡ sited
+pub record IsSited (sited : SitedTable) (world : Played) : Type 0 where
+  pub same : world.sited ≡ sited
 
 module _ (first : WorldState) (time : ℕ) (soon : first.time ≤ time + 10000) (sited : SitedTable) where
   all_arrive : (place : ℕ) (front more : List OnLink) (world : Played) → first.sent ≡ front ++ more → Each (IsFresh time) more → Each (λ (one : OnLink). one.link < links sited.site) more → world.sited ≡ sited → HasAdded first world
@@ -143,7 +143,7 @@ module _ (first : WorldState) (time : ℕ) (soon : first.time ≤ time + 10000) 
 record IsSoon (time : ℕ) (world : Played) : Type 0 where
   soon : world.run.time ≤ time + 10000
 
-passed_time : (elapsed : ℕ) (clocks : List ℕ) (world : WorldState) → (passed elapsed clocks world).time ≡ world.time + elapsed
+pub passed_time : (elapsed : ℕ) (clocks : List ℕ) (world : WorldState) → (passed elapsed clocks world).time ≡ world.time + elapsed
 unfolding passed
 passed_time elapsed clocks world = refl
 
@@ -151,7 +151,7 @@ time_is_soon : (world : Played) → IsSoon world.run.time (after world (round_of
 time_is_soon world = tried_keeps (IsSoon world.run.time) world (round_of_time world.sited.site) (record { soon = omega arith })
     (λ none. let e = ap (λ (w : WorldState). w.time) (time_happens world.sited.site world.sited.table world.run) ∙ passed_time 10000 _ world.run in record { soon = omega (arith, e) })
 
-time_sited : (world : Played) → IsSited world.sited (after world (round_of_time world.sited.site))
+pub time_sited : (world : Played) → IsSited world.sited (after world (round_of_time world.sited.site))
 time_sited world = tried_keeps (IsSited world.sited) world (round_of_time world.sited.site) (record { same = refl }) (λ none. record { same = refl })
 
 pub record ArrivalLaws : Type 0 where

@@ -30,7 +30,7 @@ use Rattle.simulator_run.specs.simulator_event.declared.event.Event.TheVariants 
 use Rattle.simulator_run.specs.simulator_event.refused.Refused.{Refused}
 use Rattle.simulator_run.specs.declared.round.FoundDriven.{FoundDriven}
 use Rattle.simulator_run.specs.declared.round.RoundEvent.{RoundEvent}
-use Rattle.simulator_run.specs.Flow.{Flowing, position_of, reach, reaches, round_of_time, ticks}
+use Rattle.simulator_run.specs.Flow.{Flowing, deliveries, position_of, reach, reaches, round_of_time, stations, ticks}
 use Rattle.simulator_run.specs.Happens.{coming}
 use Rattle.simulator_run.specs.Links.{AreLinksOf, names_at}
 use Rattle.simulator_run.specs.Network.{connection_of, copy_of}
@@ -111,7 +111,7 @@ reaches_silent passed point (drive ∷ drives) = subst (Each IsSilent) (sym (map
 -- ---- what is due at an end
 
 -- the bytes that come to an end of a link among these datagrams
-abbrev due_one : Role → ℕ → OnLink → List (List ℕ)
+abbrev pub due_one : Role → ℕ → OnLink → List (List ℕ)
 due_one who link one = if link == one.link then (if is_same (partner_of one.datagram.sender) who then one.datagram.bytes ∷ [] else []) else []
 
 abbrev dues : Role → ℕ → List OnLink → List (List ℕ)
@@ -127,22 +127,27 @@ comes_in_time time one (at, there) = rw there in_time
     in_time : nat_le (time + 10000) (one.datagram.at + lifetime) ≡ true
     in_time = grind (arith, nat_tests, at)
 
+-- one that can come is due at its end, before the others
+pub due_here : (who : Role) (link time : ℕ) (one : OnLink) (more : List OnLink) → can_come time one.datagram ≡ true
+    → due_to who time (of_link link (one ∷ more)) ≡ due_one who link one ++ due_to who time (of_link link more)
+due_here who link time one more comes = choose (one.link == link) refl
+  where
+    here : (c : Bool) → is_same (partner_of one.datagram.sender) who ≡ c
+        → (if can_come time one.datagram && c then one.datagram.bytes ∷ due_to who time (of_link link more) else due_to who time (of_link link more))
+        ≡ (if c then one.datagram.bytes ∷ [] else []) ++ due_to who time (of_link link more)
+    here true e = rw comes refl
+    here false e = rw comes refl
+
+    choose : (b : Bool) → (one.link == link) ≡ b → due_to who time (if b then one.datagram ∷ of_link link more else of_link link more) ≡ due_one who link one ++ due_to who time (of_link link more)
+    choose true e = here (is_same (partner_of one.datagram.sender) who) refl
+        ∙ ap (λ (c : Bool). (if c then (if is_same (partner_of one.datagram.sender) who then one.datagram.bytes ∷ [] else []) else []) ++ due_to who time (of_link link more)) (sym (same_either link one.link ∙ e))
+    choose false e =
+        ap (λ (c : Bool). (if c then (if is_same (partner_of one.datagram.sender) who then one.datagram.bytes ∷ [] else []) else []) ++ due_to who time (of_link link more)) (sym (same_either link one.link ∙ e))
+
 dues_are : (who : Role) (link time : ℕ) (more : List OnLink) → Each (IsFresh time) more → due_to who (time + 10000) (of_link link more) ≡ dues who link more
 dues_are who link time [] fresh = refl
-dues_are who link time (one ∷ more) fresh = choose (one.link == link) refl (dues_are who link time more fresh.1)
-  where
-    here : (c : Bool) → is_same (partner_of one.datagram.sender) who ≡ c → due_to who (time + 10000) (of_link link more) ≡ dues who link more
-        → (if can_come (time + 10000) one.datagram && c then one.datagram.bytes ∷ due_to who (time + 10000) (of_link link more) else due_to who (time + 10000) (of_link link more))
-        ≡ (if c then one.datagram.bytes ∷ [] else []) ++ dues who link more
-    here true e rest = rw (comes_in_time time one fresh.0, rest) refl
-    here false e rest = rw (comes_in_time time one fresh.0, rest) refl
-
-    choose : (b : Bool) → (one.link == link) ≡ b → due_to who (time + 10000) (of_link link more) ≡ dues who link more
-        → due_to who (time + 10000) (if b then one.datagram ∷ of_link link more else of_link link more) ≡ due_one who link one ++ dues who link more
-    choose true e rest = here (is_same (partner_of one.datagram.sender) who) refl rest
-        ∙ ap (λ (c : Bool). (if c then (if is_same (partner_of one.datagram.sender) who then one.datagram.bytes ∷ [] else []) else []) ++ dues who link more) (sym (same_either link one.link ∙ e))
-    choose false e rest = rest
-        ∙ ap (λ (c : Bool). (if c then (if is_same (partner_of one.datagram.sender) who then one.datagram.bytes ∷ [] else []) else []) ++ dues who link more) (sym (same_either link one.link ∙ e))
+dues_are who link time (one ∷ more) fresh =
+    due_here who link (time + 10000) one more (comes_in_time time one fresh.0) ∙ ap (λ (l : List (List ℕ)). due_one who link one ++ l) (dues_are who link time more fresh.1)
 
 pub of_both : (link : ℕ) (one other : List OnLink) → of_link link (one ++ other) ≡ of_link link one ++ of_link link other
 of_both link [] other = refl
@@ -153,7 +158,7 @@ of_both link (first ∷ one) other = choose (first.link == link) (of_both link o
     choose true rest = ap (λ (l : List Sent). first.datagram ∷ l) rest
     choose false rest = rest
 
-drop_front : (front rest : List Sent) → drop (length front) (front ++ rest) ≡ rest
+pub drop_front : (front rest : List Sent) → drop (length front) (front ++ rest) ≡ rest
 drop_front [] rest = refl
 drop_front (first ∷ front) rest = drop_front front rest
 
@@ -170,7 +175,7 @@ pub record IsFrom (site : Site) (one : OnLink) : Type 0 where
   pub read : reading (key_of site) one.datagram.bytes ≡ Ok pdu
   pub sender : pdu.sender ≡ name_of one.datagram.sender (names_at site one.link)
 
-comes_front : (who : Role) (link : ℕ) (one : OnLink) (events : List LinksEvent) → ComesTo one.link (partner_of one.datagram.sender) one.datagram.bytes events → IsFront (due_one who link one) (all_called_at who link events)
+pub comes_front : (who : Role) (link : ℕ) (one : OnLink) (events : List LinksEvent) → ComesTo one.link (partner_of one.datagram.sender) one.datagram.bytes events → IsFront (due_one who link one) (all_called_at who link events)
 comes_front who link one events comes = subst (λ (l : List LinksEvent). IsFront (due_one who link one) (all_called_at who link l)) (sym comes.are)
     (subst (λ (due : List (List ℕ)). IsFront due (called_at who link first ++ all_called_at who link comes.more)) (append-nil (due_one who link one))
     (front_then (due_one who link one) [] (called_at who link first) (all_called_at who link comes.more) (choose (link == one.link) (is_same (partner_of one.datagram.sender) who))
@@ -184,7 +189,7 @@ comes_front who link one events comes = subst (λ (l : List LinksEvent). IsFront
     choose true false = front_said [] tt
     choose false c = front_said [] tt
 
-abbrev deliver : OnLink → Event
+abbrev pub deliver : OnLink → Event
 deliver one = event.Deliver (receiver one.datagram.sender one.link) one.datagram.bytes
 
 module _ (site : Site) (table : Table) (sections : length table.detectors ≡ length site.detectors) (named : AreLinks (links site) (names_at site)) (few_links : links site ≤ 80)
@@ -224,7 +229,7 @@ module _ (laws : LinkLaws) (sited : SitedTable) (station : IsStation sited.site)
   happens_so P one world same none so = subst (λ (why : Option Refused). P (events_where why (events_of world.sited.site world.sited.table one world.run))) (sym none)
       (subst (λ (s : SitedTable). P (events_of s.site s.table one world.run)) (sym same) so)
 
-  comes_at : (one : OnLink) (world : Played) (before : Links) → HasThese sited world before → IsFrom sited.site one → refusal_of (deliver one) world ≡ None
+  pub comes_at : (one : OnLink) (world : Played) (before : Links) → HasThese sited world before → IsFrom sited.site one → refusal_of (deliver one) world ≡ None
       → ComesTo one.link (partner_of one.datagram.sender) one.datagram.bytes (events_tried (deliver one) world)
   comes_at one world before has from none = happens_so (ComesTo one.link (partner_of one.datagram.sender) one.datagram.bytes) (deliver one) world has.same none
       (arrives sited.site sited.table sections (are_links laws sited station once) few_links world.run before has.whole has.timely has.are one.datagram.sender one.link one.datagram.bytes from.pdu from.below from.read from.sender)
@@ -337,21 +342,44 @@ module _ (laws : LinkLaws) (sited : SitedTable) (station : IsStation sited.site)
   time_is flowing same none = ap (λ (why : Option Refused). events_where why (events_of flowing.state.sited.site flowing.state.sited.table (round_of_time flowing.state.sited.site) flowing.state.run)) none
       ∙ ap (λ (s : SitedTable). events_of s.site s.table (round_of_time s.site) flowing.state.run) same
 
-  module _ (old new : Flowing Played) (leaves : LeavesFresh old new) (between : List Event) (before : Links) (work : Each IsWork between) (has : HasThese sited new.state before)
-      (goes : refusal_of (round_of_time new.state.sited.site) new.state ≡ None) (from : Each (IsFrom sited.site) leaves.more)
-      (arrive : NoneRefused (arrivals new.passed leaves.more) (after new.state (round_of_time new.state.sited.site))) where
-    abbrev timed : Played
-    timed = after new.state (round_of_time new.state.sited.site)
+  -- behind the time of a round
+  abbrev pub timed : Flowing Played → Played
+  timed new = after new.state (round_of_time new.state.sited.site)
 
-    abbrev passed_links : Links
-    passed_links = run_links (time_of_round new) before
+  abbrev pub passed_links : Flowing Played → Links → Links
+  passed_links new before = run_links (time_of_round new) before
 
-    time_followed : Followed sited (time_of_round new) before timed
-    time_followed = tried_followed laws sited station once (round_of_time new.state.sited.site) new.state before has
+  pub time_followed : (new : Flowing Played) (before : Links) → HasThese sited new.state before → Followed sited (time_of_round new) before (timed new)
+  time_followed new before has = tried_followed laws sited station once (round_of_time new.state.sited.site) new.state before has
 
+  -- what is due at an end of a link behind these datagrams, in the next round
+  abbrev pub due_behind : Role → ℕ → List OnLink → Links → List (List ℕ)
+  due_behind who link front before = due_to who (before.time + 10000) (drop (length (of_link link front)) (of_link link before.sent))
+
+  pub due_more : (who : Role) (link : ℕ) (front more : List OnLink) (new : Flowing Played) (before : Links) → HasThese sited new.state before → new.state.run.sent ≡ front ++ more
+      → due_behind who link front before ≡ due_to who (new.state.run.time + 10000) (of_link link more)
+  due_more who link front more new before has sent =
+      ap (λ (time : ℕ). due_to who (time + 10000) (drop (length (of_link link front)) (of_link link before.sent))) has.are.time_is
+      ∙ ap (λ (all : List OnLink). due_to who (new.state.run.time + 10000) (drop (length (of_link link front)) (of_link link all))) (has.are.sent_is ∙ sent)
+      ∙ ap (λ (all : List Sent). due_to who (new.state.run.time + 10000) (drop (length (of_link link front)) all)) (of_both link front more)
+      ∙ ap (due_to who (new.state.run.time + 10000)) (drop_front (of_link link front) (of_link link more))
+
+  -- what a round has left comes, as the next begins
+  pub fresh_come : (old new : Flowing Played) (leaves : LeavesFresh old new) (before : Links) → HasThese sited new.state before → Each (IsFrom sited.site) leaves.more
+      → NoneRefused (arrivals new.passed leaves.more) (timed new) → (who : Role) (link : ℕ)
+      → IsFront (due_behind who link old.state.run.sent before) (all_called_at who link (all_events_tried (map event_of (arrivals new.passed leaves.more)) (timed new)))
+  fresh_come old new leaves before has from arrive who link =
+      subst (λ (due : List (List ℕ)). IsFront due (all_called_at who link (all_events_tried (map event_of (arrivals new.passed leaves.more)) (timed new))))
+      (sym (due_more who link old.state.run.sent leaves.more new before has leaves.sent ∙ dues_are who link new.state.run.time leaves.more leaves.fresh))
+      (all_arrive who link new.passed leaves.more (timed new) (passed_links new before) (time_followed new before has).has from arrive)
+
+  -- A round of which it is known what comes in it: the datagrams that were sent behind these.
+  module _ (old new : Flowing Played) (come : List RoundEvent) (due_in_it : deliveries (stations.arrival new.state) new.passed (length new.state.run.sent - new.passed) ≡ come)
+      (between : List Event) (before : Links) (work : Each IsWork between) (has : HasThese sited new.state before) (goes : refusal_of (round_of_time new.state.sited.site) new.state ≡ None)
+      (comes : (who : Role) (link : ℕ) → IsFront (due_behind who link old.state.run.sent before) (all_called_at who link (all_events_tried (map event_of come) (timed new)))) where
     -- in a round what is due comes, then all nodes tick, and then something is said at most
     arrived : List Event
-    arrived = map event_of (arrivals new.passed leaves.more)
+    arrived = map event_of come
 
     ticked : List Event
     ticked = map event_of (ticks (length new.state.run.sent) 0 (nodes sited.site))
@@ -362,12 +390,12 @@ module _ (laws : LinkLaws) (sited : SitedTable) (station : IsStation sited.site)
     parts : map event_of (behind_time new) ++ between ≡ arrived ++ (ticked ++ rest)
     unfolding arrived ticked rest
     parts =
-        ap (λ (list : List RoundEvent). map event_of (list ++ (ticks count 0 (nodes new.state.sited.site) ++ reaches count 0 new.drives)) ++ between) (due_in_order old new leaves)
-        ∙ ap (λ (s : SitedTable). map event_of (arrivals new.passed leaves.more ++ (ticks count 0 (nodes s.site) ++ reaches count 0 new.drives)) ++ between) has.same
-        ∙ ap (λ (list : List Event). list ++ between) (map_both event_of (arrivals new.passed leaves.more) (ticks count 0 (nodes sited.site) ++ reaches count 0 new.drives)
-        ∙ ap (λ (list : List Event). map event_of (arrivals new.passed leaves.more) ++ list) (map_both event_of (ticks count 0 (nodes sited.site)) (reaches count 0 new.drives)))
-        ∙ append_assoc (map event_of (arrivals new.passed leaves.more)) (map event_of (ticks count 0 (nodes sited.site)) ++ map event_of (reaches count 0 new.drives)) between
-        ∙ ap (λ (list : List Event). map event_of (arrivals new.passed leaves.more) ++ list) (append_assoc (map event_of (ticks count 0 (nodes sited.site))) (map event_of (reaches count 0 new.drives)) between)
+        ap (λ (list : List RoundEvent). map event_of (list ++ (ticks count 0 (nodes new.state.sited.site) ++ reaches count 0 new.drives)) ++ between) due_in_it
+        ∙ ap (λ (s : SitedTable). map event_of (come ++ (ticks count 0 (nodes s.site) ++ reaches count 0 new.drives)) ++ between) has.same
+        ∙ ap (λ (list : List Event). list ++ between) (map_both event_of come (ticks count 0 (nodes sited.site) ++ reaches count 0 new.drives)
+        ∙ ap (λ (list : List Event). map event_of come ++ list) (map_both event_of (ticks count 0 (nodes sited.site)) (reaches count 0 new.drives)))
+        ∙ append_assoc (map event_of come) (map event_of (ticks count 0 (nodes sited.site)) ++ map event_of (reaches count 0 new.drives)) between
+        ∙ ap (λ (list : List Event). map event_of come ++ list) (append_assoc (map event_of (ticks count 0 (nodes sited.site))) (map event_of (reaches count 0 new.drives)) between)
       where
         count : ℕ
         count = length new.state.run.sent
@@ -377,50 +405,50 @@ module _ (laws : LinkLaws) (sited : SitedTable) (station : IsStation sited.site)
     rest_silent = each_both IsSilent (map event_of (reaches (length new.state.run.sent) 0 new.drives)) between (reaches_silent (length new.state.run.sent) 0 new.drives) (work_silent between work)
 
     after_arrived : Played
-    after_arrived = after_each arrived timed
+    after_arrived = after_each arrived (timed new)
 
-    arrived_followed : Followed sited (all_events_tried arrived timed) passed_links after_arrived
+    arrived_followed : Followed sited (all_events_tried arrived (timed new)) (passed_links new before) after_arrived
     unfolding after_arrived
-    arrived_followed = all_followed laws sited station once arrived timed (run_links (time_of_round new) before) time_followed.has
+    arrived_followed = all_followed laws sited station once arrived (timed new) (run_links (time_of_round new) before) (time_followed new before has).has
 
-    calls_are : calls_of_round between new ≡ all_events_tried arrived timed ++ (all_events_tried ticked after_arrived ++ all_events_tried rest (after_each ticked after_arrived))
+    calls_are : calls_of_round between new ≡ all_events_tried arrived (timed new) ++ (all_events_tried ticked after_arrived ++ all_events_tried rest (after_each ticked after_arrived))
     unfolding after_arrived
-    calls_are = ap (λ (list : List Event). all_events_tried list timed) parts
-        ∙ events_both arrived (ticked ++ rest) timed
-        ∙ ap (λ (l : List LinksEvent). all_events_tried arrived timed ++ l) (events_both ticked rest (after_each arrived timed))
+    calls_are = ap (λ (list : List Event). all_events_tried list (timed new)) parts
+        ∙ events_both arrived (ticked ++ rest) (timed new)
+        ∙ ap (λ (l : List LinksEvent). all_events_tried arrived (timed new) ++ l) (events_both ticked rest (after_each arrived (timed new)))
 
     -- what an end of a link is called to
-    work_at : (who : Role) (link : ℕ) → link < links sited.site → IsWorkAt who (dues who link leaves.more) (all_called_at who link (calls_of_round between new))
+    work_at : (who : Role) (link : ℕ) → link < links sited.site → IsWorkAt who (due_behind who link old.state.run.sent before) (all_called_at who link (calls_of_round between new))
     unfolding arrived ticked
     work_at who link below = record {
       front = first ++ second.0;
       back = third;
       are = ap (all_called_at who link) calls_are
-          ∙ called_both who link (all_events_tried arrived timed) (all_events_tried ticked after_arrived ++ all_events_tried rest (after_each ticked after_arrived))
+          ∙ called_both who link (all_events_tried arrived (timed new)) (all_events_tried ticked after_arrived ++ all_events_tried rest (after_each ticked after_arrived))
           ∙ ap (λ (l : List Call). first ++ l) (called_both who link (all_events_tried ticked after_arrived) (all_events_tried rest (after_each ticked after_arrived))
           ∙ ap (λ (l : List Call). l ++ third) second.1.1 ∙ append_assoc second.0 (clock_calls who) third)
           ∙ sym (append_assoc first second.0 (clock_calls who ++ third));
-      comes = both.comes ∙ append-nil (dues who link leaves.more);
+      comes = both.comes ∙ append-nil (due_behind who link old.state.run.sent before);
       before = both.before;
       behind = all_say who link (all_events_tried rest (after_each ticked after_arrived)) (all_silent_say rest (after_each ticked after_arrived) rest_silent);
     }
       where
         first : List Call
-        first = all_called_at who link (all_events_tried arrived timed)
+        first = all_called_at who link (all_events_tried arrived (timed new))
 
         second : TicksAt who link (all_events_tried ticked after_arrived)
-        second = all_tick who link (length new.state.run.sent) after_arrived (run_links (all_events_tried arrived timed) passed_links) below arrived_followed.has
+        second = all_tick who link (length new.state.run.sent) after_arrived (run_links (all_events_tried arrived (timed new)) (passed_links new before)) below arrived_followed.has
 
         third : List Call
         third = all_called_at who link (all_events_tried rest (after_each ticked after_arrived))
 
-        both : IsFront (dues who link leaves.more ++ []) (first ++ second.0)
-        both = front_then (dues who link leaves.more) [] first second.0 (all_arrive who link new.passed leaves.more timed passed_links time_followed.has from arrive) (front_said second.0 second.1.0)
+        both : IsFront (due_behind who link old.state.run.sent before ++ []) (first ++ second.0)
+        both = front_then (due_behind who link old.state.run.sent before) [] first second.0 (comes who link) (front_said second.0 second.1.0)
 
     -- ---- as the link sees it
 
     all_may : MayRunLinks (links sited.site) (names_at sited.site) (time_of_round new ++ calls_of_round between new) before
-    all_may = may_both (links sited.site) (names_at sited.site) (time_of_round new) (calls_of_round between new) before time_followed.may (all_followed laws sited station once (map event_of (behind_time new) ++ between) timed passed_links time_followed.has).may
+    all_may = may_both (links sited.site) (names_at sited.site) (time_of_round new) (calls_of_round between new) before (time_followed new before has).may (all_followed laws sited station once (map event_of (behind_time new) ++ between) (timed new) (passed_links new before) (time_followed new before has).has).may
 
     -- the time and the calls of a round, where this is its time
     abbrev MayGo : ℕ → List LinksEvent → Type 0
@@ -438,28 +466,20 @@ module _ (laws : LinkLaws) (sited : SitedTable) (station : IsStation sited.site)
           (laws.sees link (clock_event ∷ calls_of_round between new) before),
     )
 
-    due_are : (who : Role) (link : ℕ) → due_to who (before.time + 10000) (drop (length (of_link link old.state.run.sent)) (of_link link before.sent)) ≡ dues who link leaves.more
-    due_are who link =
-        ap (λ (time : ℕ). due_to who (time + 10000) (drop (length (of_link link old.state.run.sent)) (of_link link before.sent))) has.are.time_is
-        ∙ ap (λ (sent : List OnLink). due_to who (new.state.run.time + 10000) (drop (length (of_link link old.state.run.sent)) (of_link link sent))) (has.are.sent_is ∙ leaves.sent)
-        ∙ ap (λ (sent : List Sent). due_to who (new.state.run.time + 10000) (drop (length (of_link link old.state.run.sent)) sent)) (of_both link old.state.run.sent leaves.more)
-        ∙ ap (due_to who (new.state.run.time + 10000)) (drop_front (of_link link old.state.run.sent) (of_link link leaves.more))
-        ∙ dues_are who link new.state.run.time leaves.more leaves.fresh
-
     work_on : (who : Role) (link : ℕ) → link < links sited.site
         → IsWorkAt who (due_to who (before.time + 10000) (drop (length (of_link link old.state.run.sent)) (of_link link before.sent))) (calls_in who (calls_on link between new before))
-    work_on who link below = subst (λ (due : List (List ℕ)). IsWorkAt who due (calls_in who (calls_on link between new before))) (sym (due_are who link))
-        (subst (IsWorkAt who (dues who link leaves.more)) (sym (seen_calls who link (calls_of_round between new) passed_links (round_called between new timed work))) (work_at who link below))
+    work_on who link below = subst (IsWorkAt who (due_behind who link old.state.run.sent before))
+        (sym (seen_calls who link (calls_of_round between new) (passed_links new before) (round_called between new (timed new) work))) (work_at who link below)
 
-    pub all_has : HasThese sited (after_each (map event_of (behind_time new) ++ between) timed) (links_behind between new before)
-    all_has = (all_followed laws sited station once (map event_of (behind_time new) ++ between) timed passed_links time_followed.has).has
+    pub all_has : HasThese sited (after_each (map event_of (behind_time new) ++ between) (timed new)) (links_behind between new before)
+    all_has = (all_followed laws sited station once (map event_of (behind_time new) ++ between) (timed new) (passed_links new before) (time_followed new before has).has).has
 
     pub round_at_work : (link : ℕ) → link < links sited.site → IsAtWorkOn sited.site link between old new before
     round_at_work link below = record {
       are = subst (λ (world : Played). AreLinksOf sited.site world.run (links_behind between new before)) (sym (round_tried between new)) all_has.are;
       work = record {
         may = (at_link link below).0;
-        only = calls_alone link (calls_of_round between new) passed_links (round_called between new timed work);
+        only = calls_alone link (calls_of_round between new) (passed_links new before) (round_called between new (timed new) work);
         client = work_on role.Client link below;
         server = work_on role.Server link below;
       };
@@ -510,6 +530,9 @@ at_work_on_links laws arriving old new leaves between before link once station i
     let sited = new.state.sited
     in let standing : IsStanding sited.site new.state.run = subst (IsStanding sited.site) (sym reached.after) (laws.times.standing sited.site sited.table reached.outset reached.events station once reached.lies reached.can)
     in let all = has_all laws.times sited new.state.run station once reached
-    in round_at_work laws sited station once (table_sections sited.site sited.table is_table) old new leaves between before work (record { same = refl; whole = standing.whole; timely = timely; are = are })
-    (time_may_pass sited.site new.state.run all (each_can 0 (clocks_of new.state.run) can)) (all_from sited.site before old.state.run.sent leaves.more timely (are.sent_is ∙ leaves.sent))
-    (none_refused arriving old new leaves once station reached) link below
+    in let sections = table_sections sited.site sited.table is_table
+    in let has : HasThese sited new.state before = record { same = refl; whole = standing.whole; timely = timely; are = are }
+    in round_at_work laws sited station once sections old new (arrivals new.passed leaves.more) (due_in_order old new leaves) between before work has
+    (time_may_pass sited.site new.state.run all (each_can 0 (clocks_of new.state.run) can))
+    (fresh_come laws sited station once sections old new leaves before has (all_from sited.site before old.state.run.sent leaves.more timely (are.sent_is ∙ leaves.sent))
+    (none_refused arriving old new leaves once station reached)) link below

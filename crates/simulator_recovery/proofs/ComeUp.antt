@@ -27,10 +27,10 @@ use Rattle.simulator_run_links.specs.HasLinks.{IsStanding}
 use Rattle.simulator_headline.specs.Reached.{IsReached}
 use Rattle.simulator_recovery.specs.Closes.{LeavesOpenOn}
 use Rattle.simulator_recovery.specs.LinkRounds.{HasRoomOn, HaveRoomOn, IsAtWorkOn, IsUpOn, StayBelowOn, StaysBelowLimit, all_events_tried, behind_time, calls_of_round, calls_on, event_of, flow_of, link_rounds, links_behind, time_of_round}
-use Rattle.simulator_recovery.specs.Rounds.{HasTime, IsWork, LeavesFresh, all_tried, clocks_of, good_rounds}
+use Rattle.simulator_recovery.specs.Rounds.{HasTime, IsWork, LeavesFresh, all_tried, arrivals, clocks_of, good_rounds}
 use Rattle.simulator_recovery.proofs.Addressed.{partners_length}
-use Rattle.simulator_recovery.proofs.Arrives.{ArrivalLaws, none_refused}
-use Rattle.simulator_recovery.proofs.AtWork.{all_from, all_has, clock_event, round_at_work, table_sections, time_is}
+use Rattle.simulator_recovery.proofs.Arrives.{ArrivalLaws, due_in_order, none_refused}
+use Rattle.simulator_recovery.proofs.AtWork.{all_from, all_has, clock_event, fresh_come, round_at_work, table_sections, time_is}
 use Rattle.simulator_recovery.proofs.Clocks.{HasAll, time_may_pass}
 use Rattle.simulator_recovery.proofs.EndCalls.{IsCallOn}
 use Rattle.simulator_recovery.proofs.LinkRounds.{Followed, HasThese, LinkLaws, after_each, all_followed, are_links, links_both, may_both, round_called, round_tried, tens_at}
@@ -135,19 +135,19 @@ links_after [] flowing before = before
 links_after (between ∷ later) flowing before = links_after later (all_tried between (round stations flowing)) (links_behind between flowing before)
 
 -- A link goes through rounds at work, one for each good round of the station.
-record RoundsOn (site : Site) (link : ℕ) (rounds : List (List Event)) (f : Flow) (new : Flowing Played) (before : Links) : Type 0 where
-  after : Links
-  are : AreLinksOf site (good_rounds rounds new).state.run after
-  work : AreAtWork (names_at site link) (lists_on link rounds new before) f
-  ends : seen link after ≡ (work_rounds (lists_on link rounds new before) f).ends
-  below : StayBelowOn link rounds new before → StayBelow (lists_on link rounds new before) f
-  after_is : after ≡ links_after rounds new before
+pub record RoundsOn (site : Site) (link : ℕ) (rounds : List (List Event)) (f : Flow) (new : Flowing Played) (before : Links) : Type 0 where
+  pub after : Links
+  pub are : AreLinksOf site (good_rounds rounds new).state.run after
+  pub work : AreAtWork (names_at site link) (lists_on link rounds new before) f
+  pub ends : seen link after ≡ (work_rounds (lists_on link rounds new before) f).ends
+  pub below : StayBelowOn link rounds new before → StayBelow (lists_on link rounds new before) f
+  pub after_is : after ≡ links_after rounds new before
 
 abbrev flow_with : Ends → ℕ → Flow
 flow_with ends passed = record { ends = ends; passed = passed }
 
 module _ (laws : ComeUpLaws) (sited : SitedTable) (station : IsStation sited.site) (once : Once sited.site) (is_table : IsTableOf sited.site sited.table) (link : ℕ) (there : link < links sited.site) where
-  sections : length sited.table.detectors ≡ length sited.site.detectors
+  pub sections : length sited.table.detectors ≡ length sited.site.detectors
   sections = table_sections sited.site sited.table is_table
 
   -- the time of a round leaves room at the ends as they are later
@@ -157,7 +157,7 @@ module _ (laws : ComeUpLaws) (sited : SitedTable) (station : IsStation sited.sit
       ∙ subst (λ (n : ℕ). seen link (happened_to (clock_event laws.link sited station once sections) before) ≡ later 10000 10000 n (seen link before)) (tens_at (links sited.site) link there)
       (laws.sees_one link (clock_event laws.link sited station once sections) before)) room
 
-  one_more : (between : List Event) (later_rounds : List (List Event)) (old new : Flowing Played) (before : Links) → Each IsWork between → time_of_round new ≡ clock_event laws.link sited station once sections ∷ []
+  pub one_more : (between : List Event) (later_rounds : List (List Event)) (old new : Flowing Played) (before : Links) → Each IsWork between → time_of_round new ≡ clock_event laws.link sited station once sections ∷ []
       → AreLinksOf sited.site new.state.run before → IsAtWorkOn sited.site link between old new before
       → RoundsOn sited.site link later_rounds (flow_of link (length (of_link link new.state.run.sent)) (links_behind between new before)) (all_tried between (round stations new)) (links_behind between new before)
       → RoundsOn sited.site link (between ∷ later_rounds) (flow_of link (length (of_link link old.state.run.sent)) before) new before
@@ -186,7 +186,7 @@ module _ (laws : ComeUpLaws) (sited : SitedTable) (station : IsStation sited.sit
       more : RoundsOn sited.site link later_rounds next (all_tried between (round stations new)) (links_behind between new before)
       more = subst (λ (f : Flow). RoundsOn sited.site link later_rounds f (all_tried between (round stations new)) (links_behind between new before)) is_next rest
 
-  through : (rounds : List (List Event)) (old new : Flowing Played) (leaves : LeavesFresh old new) (before : Links) → HasThese sited new.state before → IsAt sited new.state → Each (Each IsWork) rounds → HasTime (length rounds) new.state.run
+  pub through : (rounds : List (List Event)) (old new : Flowing Played) (leaves : LeavesFresh old new) (before : Links) → HasThese sited new.state before → IsAt sited new.state → Each (Each IsWork) rounds → HasTime (length rounds) new.state.run
       → RoundsOn sited.site link rounds (flow_of link (length (of_link link old.state.run.sent)) before) new before
   through [] old new leaves before has is work can = record { after = before; are = has.are; work = tt; ends = refl; below = λ stay. tt; after_is = refl }
   through (between ∷ later_rounds) old new leaves before has is work can =
@@ -198,13 +198,14 @@ module _ (laws : ComeUpLaws) (sited : SitedTable) (station : IsStation sited.sit
       in let from = all_from sited.site before old.state.run.sent leaves.more has.timely (has.are.sent_is ∙ leaves.sent)
       in let arrive = none_refused laws.arriving old new leaves (subst (λ (s : SitedTable). Once s.site) (sym is.same) once) (subst (λ (s : SitedTable). IsStation s.site) (sym is.same) station)
       (subst (λ (s : SitedTable). IsReached s.site s.table new.state.run) (sym is.same) is.reached)
+      in let comes = fresh_come laws.link sited station once sections old new leaves before has from arrive
       in let next = all_tried between (round stations new)
       in let next_has = subst (λ (world : Played). HasThese sited world (links_behind between new before)) (sym (round_tried between new))
-      (all_has laws.link sited station once sections old new leaves between before work.0 has goes from arrive)
+      (all_has laws.link sited station once sections old new (arrivals new.passed leaves.more) (due_in_order old new leaves) between before work.0 has goes comes)
       in let next_is = work_reached laws.link.times.reach sited between (round stations new) (round_reached laws.link.times.reach sited new is)
       in let goes_on = one_round between new work.0 (subst (λ (s : SitedTable). HasAll s.site new.state.run) (sym is.same) all) able
       in one_more between later_rounds old new before work.0 (time_is laws.link sited station once sections new has.same goes) has.are
-      (round_at_work laws.link sited station once sections old new leaves between before work.0 has goes from arrive link there)
+      (round_at_work laws.link sited station once sections old new (arrivals new.passed leaves.more) (due_in_order old new leaves) between before work.0 has goes comes link there)
       (through later_rounds new next (leaves_fresh between new work.0) (links_behind between new before) next_has next_is work.1
       (subst (Each (λ clock. clock + 10000 * length later_rounds ≤ 9000000000000000)) (sym goes_on.clocks) (each_later (length later_rounds) clocks can)))
 
@@ -268,48 +269,75 @@ module _ (laws : ComeUpLaws) (sited : SitedTable) (station : IsStation sited.sit
       all : HasAll sited.site flowing.state.run
       all = has_all laws.link.times sited flowing.state.run station once reached
 
-  -- The rounds behind it are rounds at work of this link, which has had a run of its own.
-  module _ (first : List Event) (flowing : Flowing Played) (work_first : Each IsWork first) (start : Begun first flowing) where
-    abbrev pub next : Flowing Played
-    next = all_tried first (round stations flowing)
+  -- Good rounds begin, behind these datagrams, which no round tries any more: the links of the station, what happened to this one before, and
+  -- that each of the rounds is a round at work of it.
+  pub record BegunAt (old next : Flowing Played) : Type 0 where
+    pub before : Links
+    pub has : HasThese sited next.state before
+    pub is : IsAt sited next.state
+    pub is_run : IsRun (names_at sited.site link) (start_of link starts_at_zero) (seen link before)
+    pub goes : (rounds : List (List Event)) → Each (Each IsWork) rounds → HasTime (length rounds) next.state.run
+        → RoundsOn sited.site link rounds (flow_of link (length (of_link link old.state.run.sent)) before) next before
 
-    abbrev pub passed_then : ℕ
-    passed_then = length (of_link link flowing.state.run.sent)
+  -- They are rounds at work of this link, which has had a run of its own.
+  module _ (old next : Flowing Played) (start : BegunAt old next) where
+    abbrev pub passed_at : ℕ
+    passed_at = length (of_link link old.state.run.sent)
 
-    abbrev pub flow_then : Flow
-    flow_then = flow_after (names_at sited.site link) (start_of link starts_at_zero) start.is_run.events passed_then
+    abbrev pub flow_at : Flow
+    flow_at = flow_after (names_at sited.site link) (start_of link starts_at_zero) start.is_run.events passed_at
 
-    is_flow : flow_of link passed_then start.before ≡ flow_then
-    is_flow = ap (λ (ends : Ends). record { ends = ends; passed = passed_then }) (sym start.is_run.same)
+    is_flow : flow_of link passed_at start.before ≡ flow_at
+    is_flow = ap (λ (ends : Ends). record { ends = ends; passed = passed_at }) (sym start.is_run.same)
 
-    abbrev pub lists_of : List (List Event) → List (List LinkEvent)
-    lists_of rounds = lists_on link rounds next start.before
+    abbrev pub lists_at : List (List Event) → List (List LinkEvent)
+    lists_at rounds = lists_on link rounds next start.before
 
     -- what so many rounds leave
-    pub record BehindRounds (rounds : List (List Event)) : Type 0 where
+    pub record BehindAt (rounds : List (List Event)) : Type 0 where
       pub after : Links
       pub are : AreLinksOf sited.site (good_rounds rounds next).state.run after
-      pub work : AreAtWork (names_at sited.site link) (lists_of rounds) flow_then
-      pub ends : seen link after ≡ (work_rounds (lists_of rounds) flow_then).ends
-      pub below : StaysBelowLimit sited.site link rounds next → StayBelow (lists_of rounds) flow_then
+      pub work : AreAtWork (names_at sited.site link) (lists_at rounds) flow_at
+      pub ends : seen link after ≡ (work_rounds (lists_at rounds) flow_at).ends
+      pub below : StaysBelowLimit sited.site link rounds next → StayBelow (lists_at rounds) flow_at
       pub after_is : after ≡ links_after rounds next start.before
 
-    pub behind_rounds : (rounds : List (List Event)) → Each (Each IsWork) rounds → HasTime (length rounds) next.state.run → BehindRounds rounds
-    behind_rounds rounds work can = record {
+    pub behind_at : (rounds : List (List Event)) → Each (Each IsWork) rounds → HasTime (length rounds) next.state.run → BehindAt rounds
+    behind_at rounds work can = record {
       after = goes.after;
       are = goes.are;
-      work = subst (AreAtWork (names_at sited.site link) (lists_of rounds)) is_flow goes.work;
-      ends = goes.ends ∙ ap (λ (f : Flow). (work_rounds (lists_of rounds) f).ends) is_flow;
-      below = λ below. subst (StayBelow (lists_of rounds)) is_flow (goes.below (below start.before start.has.are));
+      work = subst (AreAtWork (names_at sited.site link) (lists_at rounds)) is_flow goes.work;
+      ends = goes.ends ∙ ap (λ (f : Flow). (work_rounds (lists_at rounds) f).ends) is_flow;
+      below = λ below. subst (StayBelow (lists_at rounds)) is_flow (goes.below (below start.before start.has.are));
       after_is = goes.after_is;
     }
       where
-        goes : RoundsOn sited.site link rounds (flow_of link passed_then start.before) next start.before
-        goes = through rounds flowing next (leaves_fresh first flowing work_first) start.before start.has start.is work can
+        goes : RoundsOn sited.site link rounds (flow_of link passed_at start.before) next start.before
+        goes = start.goes rounds work can
 
-    pub up_then : (rounds : List (List Event)) → (b : BehindRounds rounds) → Each (Each LeavesOpen) (lists_of rounds) → StayBelow (lists_of rounds) flow_then → recovery_rounds_at_work ≤ length (lists_of rounds) → AreUp (seen link b.after)
-    up_then rounds b open_so below long = subst AreUp (sym b.ends)
-        (laws.up (names_at sited.site link) (start_of link starts_at_zero) start.is_run.events passed_then (lists_of rounds) ((are_links laws.link sited station once).each link there) start.is_run.may b.work open_so below long)
+    pub up_at : (rounds : List (List Event)) → (b : BehindAt rounds) → Each (Each LeavesOpen) (lists_at rounds) → StayBelow (lists_at rounds) flow_at → recovery_rounds_at_work ≤ length (lists_at rounds) → AreUp (seen link b.after)
+    up_at rounds b open_so below long = subst AreUp (sym b.ends)
+        (laws.up (names_at sited.site link) (start_of link starts_at_zero) start.is_run.events passed_at (lists_at rounds) ((are_links laws.link sited station once).each link there) start.is_run.may b.work open_so below long)
+
+  -- The rounds behind a first one.
+  module _ (first : List Event) (flowing : Flowing Played) (work_first : Each IsWork first) (start : Begun first flowing) where
+    abbrev pub begun_at : BegunAt flowing (all_tried first (round stations flowing))
+    begun_at = record {
+      before = start.before;
+      has = start.has;
+      is = start.is;
+      is_run = start.is_run;
+      goes = λ rounds work can. through rounds flowing (all_tried first (round stations flowing)) (leaves_fresh first flowing work_first) start.before start.has start.is work can;
+    }
+
+    abbrev pub flow_then : Flow
+    flow_then = flow_at flowing (all_tried first (round stations flowing)) begun_at
+
+    abbrev pub BehindRounds : List (List Event) → Type 0
+    BehindRounds rounds = BehindAt flowing (all_tried first (round stations flowing)) begun_at rounds
+
+    pub behind_rounds : (rounds : List (List Event)) → Each (Each IsWork) rounds → HasTime (length rounds) (all_tried first (round stations flowing)).state.run → BehindRounds rounds
+    behind_rounds rounds work can = behind_at flowing (all_tried first (round stations flowing)) begun_at rounds work can
 
 pub come_up : ComeUpLaws → (between : List Event) (later_rounds : List (List Event)) (flowing : Flowing Played) (link : ℕ) → Once flowing.state.sited.site → IsStation flowing.state.sited.site
     → IsTableOf flowing.state.sited.site flowing.state.sited.table → IsReached flowing.state.sited.site flowing.state.sited.table flowing.state.run → Each IsWork between → Each (Each IsWork) later_rounds
@@ -322,4 +350,4 @@ come_up laws between later_rounds flowing link once station is_table reached wor
     in let b = behind_rounds laws sited station once is_table link there between flowing work start later_rounds works (start.later_can (length later_rounds) can)
     in let many = lists_length link later_rounds next start.before
     in up_on laws sited station once is_table link there (good_rounds later_rounds next).state.run b.after b.are
-    (up_then laws sited station once is_table link there between flowing work start later_rounds b (rounds_open link later_rounds next start.before works (rounds_stay laws.stays sited station once is_table link there later_rounds next start.is)) (b.below below) (omega (arith, long, many)))
+    (up_at laws sited station once is_table link there flowing next (begun_at laws sited station once is_table link there between flowing work start) later_rounds b (rounds_open link later_rounds next start.before works (rounds_stay laws.stays sited station once is_table link there later_rounds next start.is)) (b.below below) (omega (arith, long, many)))

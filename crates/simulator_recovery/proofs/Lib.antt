@@ -232,6 +232,8 @@ pub mod BeginsRound
 pub mod BeginsMoment
 pub mod BeginsTaken
 pub mod BeginsAnswered
+pub mod FirstRoundArrives
+pub mod FirstRoundUp
 pub mod WithdrawnWaiting
 pub mod WithdrawnSteps
 pub mod WithdrawnRounds

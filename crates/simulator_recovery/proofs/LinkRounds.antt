@@ -128,7 +128,7 @@ all_calm_called (first ∷ others) world calm =
     each_both IsCallOn (events_tried first world) (all_events_tried others (after world first))
     (where_called (refusal_of first world) _ (calm_called world.sited.site world.sited.table first world.run calm.0)) (all_calm_called others (after world first) calm.1)
 
-calm_events : (list : List RoundEvent) → AreCalm list → Each IsCalm (map event_of list)
+pub calm_events : (list : List RoundEvent) → AreCalm list → Each IsCalm (map event_of list)
 calm_events [] calm = tt
 calm_events (first ∷ others) calm = (calm.0, calm_events others calm.1)
 

@@ -22,11 +22,12 @@ use Rattle.simulator_run.specs.Tried.{Played}
 use Rattle.simulator_run_links.specs.HasLinks.{IsStanding}
 use Rattle.simulator_headline.specs.Reached.{IsReached}
 use Rattle.simulator_recovery.specs.Counts.{AllStandByCounts}
+use Rattle.simulator_recovery.specs.FirstRound.{first_ready_rounds}
 use Rattle.simulator_recovery.specs.LinkRounds.{StaysBelowLimit, calls_on, links_behind}
 use Rattle.simulator_recovery.specs.Ready.{HostIsAt, IsReadyOn, ready_rounds}
 use Rattle.simulator_recovery.specs.Rounds.{HasTime, IsWork, all_tried, clocks_of, good_rounds}
 use Rattle.simulator_recovery.proofs.AtLink.{AtLink, at_link, client_said, told_once}
-use Rattle.simulator_recovery.proofs.ComeUp.{BehindRounds, Begun, ComeUpLaws, begun_so, behind_rounds, flow_then, lists_length, lists_on, rounds_open, up_on, up_then}
+use Rattle.simulator_recovery.proofs.ComeUp.{BegunAt, BehindAt, Begun, ComeUpLaws, begun_at, begun_so, behind_at, flow_at, lists_length, lists_on, rounds_open, up_at, up_on}
 use Rattle.simulator_recovery.proofs.LinkRounds.{are_links}
 use Rattle.simulator_recovery.proofs.Moments.{Moment, Passes, client_is_ready, host_is_ready, two_taken}
 use Rattle.simulator_recovery.proofs.Rounds.{rounds_reached}
@@ -96,41 +97,38 @@ passes_so : (old new : Ends) → HandOver old new → Passes old.client.link old
 passes_so old new h = record { to_server = h.to_server.counts; server_few = h.to_server.few; to_client = h.to_client.counts; client_few = h.to_client.few }
 
 module _ (laws : ReadyLaws) (sited : SitedTable) (station : IsStation sited.site) (once : Once sited.site) (is_table : IsTableOf sited.site sited.table) (link : ℕ) (there : link < links sited.site)
-    (first : List Event) (flowing : Flowing Played) (work_first : Each IsWork first) (start : Begun laws.up sited station once is_table link there first flowing) where
-  abbrev pub next : Flowing Played
-  next = all_tried first (round stations flowing)
-
+    (old next : Flowing Played) (start : BegunAt laws.up sited station once is_table link there old next) where
   abbrev pub lists : List (List Event) → List (List LinkEvent)
   lists rounds = lists_on link rounds next start.before
 
   abbrev pub flow : Flow
-  flow = flow_then laws.up sited station once is_table link there first flowing work_first start
+  flow = flow_at laws.up sited station once is_table link there old next start
 
   abbrev pub Behind : List (List Event) → Type 0
-  Behind rounds = BehindRounds laws.up sited station once is_table link there first flowing work_first start rounds
+  Behind rounds = BehindAt laws.up sited station once is_table link there old next start rounds
 
   -- What is so behind rounds that are enough for the link to be up.
-  pub record IsUpBehind (rounds : List (List Event)) : Type 0 where
+  pub record IsUpAt (rounds : List (List Event)) : Type 0 where
     pub behind : Behind rounds
     pub opens : Each (Each LeavesOpen) (lists rounds)
     pub below : StayBelow (lists rounds) flow
     pub long : recovery_rounds_at_work ≤ length rounds
 
   -- And behind one round less: its client is up already.
-  pub record IsSoonUpBehind (rounds : List (List Event)) : Type 0 where
+  pub record IsSoonUpAt (rounds : List (List Event)) : Type 0 where
     pub behind : Behind rounds
     pub opens : Each (Each LeavesOpen) (lists rounds)
     pub below : StayBelow (lists rounds) flow
     pub long : recovery_rounds_at_work ≤ suc (length rounds)
 
-  abbrev soon_of : (rounds : List (List Event)) → IsUpBehind rounds → IsSoonUpBehind rounds
+  abbrev soon_of : (rounds : List (List Event)) → IsUpAt rounds → IsSoonUpAt rounds
   soon_of rounds s = record { behind = s.behind; opens = s.opens; below = s.below; long = let l = s.long in omega (arith, l) }
 
   many : (rounds : List (List Event)) → length (lists rounds) ≡ length rounds
   many rounds = lists_length link rounds next start.before
 
-  pub ups : (rounds : List (List Event)) → (s : IsUpBehind rounds) → AreUp (seen link s.behind.after)
-  ups rounds s = up_then laws.up sited station once is_table link there first flowing work_first start rounds s.behind s.opens s.below (let l = s.long in omega (arith, l, many rounds))
+  pub ups_at : (rounds : List (List Event)) → (s : IsUpAt rounds) → AreUp (seen link s.behind.after)
+  ups_at rounds s = up_at laws.up sited station once is_table link there old next start rounds s.behind s.opens s.below (let l = s.long in omega (arith, l, many rounds))
 
   abbrev world_at : List (List Event) → WorldState
   world_at rounds = (good_rounds rounds next).state.run
@@ -141,14 +139,14 @@ module _ (laws : ReadyLaws) (sited : SitedTable) (station : IsStation sited.site
   standing_at : (rounds : List (List Event)) → IsStanding sited.site (world_at rounds)
   standing_at rounds = let reached = reached_at rounds in subst (IsStanding sited.site) (sym reached.after) (laws.up.link.times.standing sited.site sited.table reached.outset reached.events station once reached.lies reached.can)
 
-  abbrev Moments : (rounds : List (List Event)) → IsUpBehind rounds → Type 0
+  abbrev Moments : (rounds : List (List Event)) → IsUpAt rounds → Type 0
   Moments rounds s = AtLink sited.site station (world_at rounds) (standing_at rounds).whole (laws.stand sited.site sited.table (world_at rounds) station (reached_at rounds)) link (s.behind.after.ends link).client.link (s.behind.after.ends link).server.link
 
-  at_moment : (rounds : List (List Event)) → (s : IsUpBehind rounds) → Moments rounds s
-  at_moment rounds s = at_link sited.site station (world_at rounds) (standing_at rounds).whole (laws.stand sited.site sited.table (world_at rounds) station (reached_at rounds)) link s.behind.after there s.behind.are (ups rounds s)
+  at_moment : (rounds : List (List Event)) → (s : IsUpAt rounds) → Moments rounds s
+  at_moment rounds s = at_link sited.site station (world_at rounds) (standing_at rounds).whole (laws.stand sited.site sited.table (world_at rounds) station (reached_at rounds)) link s.behind.after there s.behind.are (ups_at rounds s)
 
   -- from one round to the next
-  handed : (front : List (List Event)) (last : List Event) → (s : IsSoonUpBehind front) → (t : IsUpBehind (front ++ last ∷ [])) → HandOver (seen link s.behind.after) (seen link t.behind.after)
+  handed : (front : List (List Event)) (last : List Event) → (s : IsSoonUpAt front) → (t : IsUpAt (front ++ last ∷ [])) → HandOver (seen link s.behind.after) (seen link t.behind.after)
   handed front last s t = subst (λ (old : Ends). HandOver old (seen link t.behind.after)) (sym s.behind.ends) (subst (HandOver (work_rounds (lists front) flow).ends) (sym then_is) over)
     where
       calls : (calls : List LinkEvent) × (lists (front ++ last ∷ []) ≡ lists front ++ calls ∷ [])
@@ -167,19 +165,19 @@ module _ (laws : ReadyLaws) (sited : SitedTable) (station : IsStation sited.site
       then_is = t.behind.ends ∙ ap (λ (l : List (List LinkEvent)). (work_rounds l flow).ends) calls.1 ∙ ap (λ (f : Flow). f.ends) (rounds_both (lists front) calls.0 flow)
 
       over : HandOver (work_rounds (lists front) flow).ends (work_round calls.0 (work_rounds (lists front) flow)).ends
-      over = laws.over (names_at sited.site link) (start_of link starts_at_zero) start.is_run.events (length (of_link link flowing.state.run.sent)) (lists front) calls.0 ((are_links laws.up.link sited station once).each link there) start.is_run.may
+      over = laws.over (names_at sited.site link) (start_of link starts_at_zero) start.is_run.events (length (of_link link old.state.run.sent)) (lists front) calls.0 ((are_links laws.up.link sited station once).each link there) start.is_run.may
           work.0 opened.0 room.0 (let l = s.long in omega (arith, l, many front)) work.1 opened.1 room.1
 
-  pub all_over : (front : List (List Event)) (last : List Event) → (s : IsUpBehind front) → (t : IsUpBehind (front ++ last ∷ [])) → HandOver (seen link s.behind.after) (seen link t.behind.after)
-  all_over front last s t = handed front last (soon_of front s) t
+  pub all_over_at : (front : List (List Event)) (last : List Event) → (s : IsUpAt front) → (t : IsUpAt (front ++ last ∷ [])) → HandOver (seen link s.behind.after) (seen link t.behind.after)
+  all_over_at front last s t = handed front last (soon_of front s) t
 
-  pub hand_over : (front : List (List Event)) (last : List Event) → (s : IsUpBehind front) → (t : IsUpBehind (front ++ last ∷ [])) → Passes (s.behind.after.ends link).client.link (s.behind.after.ends link).server.link (t.behind.after.ends link).client.link (t.behind.after.ends link).server.link
-  hand_over front last s t = passes_so (seen link s.behind.after) (seen link t.behind.after) (all_over front last s t)
+  pub hand_over_at : (front : List (List Event)) (last : List Event) → (s : IsUpAt front) → (t : IsUpAt (front ++ last ∷ [])) → Passes (s.behind.after.ends link).client.link (s.behind.after.ends link).server.link (t.behind.after.ends link).client.link (t.behind.after.ends link).server.link
+  hand_over_at front last s t = passes_so (seen link s.behind.after) (seen link t.behind.after) (all_over_at front last s t)
 
   -- the rounds but for the last
-  soon_front_of : (front : List (List Event)) (last : List Event) → Each (Each IsWork) (front ++ last ∷ []) → HasTime (length (front ++ last ∷ [])) next.state.run → IsUpBehind (front ++ last ∷ []) → recovery_rounds_at_work ≤ suc (length front) → IsSoonUpBehind front
+  soon_front_of : (front : List (List Event)) (last : List Event) → Each (Each IsWork) (front ++ last ∷ []) → HasTime (length (front ++ last ∷ [])) next.state.run → IsUpAt (front ++ last ∷ []) → recovery_rounds_at_work ≤ suc (length front) → IsSoonUpAt front
   soon_front_of front last works can t long = record {
-    behind = behind_rounds laws.up sited station once is_table link there first flowing work_first start front (each_front (Each IsWork) front last works).0 (fewer_time (length front) (length (front ++ last ∷ [])) (clocks_of next.state.run) (let n = count_front front last in omega (arith, n)) can);
+    behind = behind_at laws.up sited station once is_table link there old next start front (each_front (Each IsWork) front last works).0 (fewer_time (length front) (length (front ++ last ∷ [])) (clocks_of next.state.run) (let n = count_front front last in omega (arith, n)) can);
     opens = (each_front (Each LeavesOpen) (lists front) calls.0 (subst (Each (Each LeavesOpen)) calls.1 t.opens)).0;
     below = (below_front (lists front) calls.0 flow (subst (λ (l : List (List LinkEvent)). StayBelow l flow) calls.1 t.below)).0;
     long = long;
@@ -188,11 +186,11 @@ module _ (laws : ReadyLaws) (sited : SitedTable) (station : IsStation sited.site
       calls : (calls : List LinkEvent) × (lists (front ++ last ∷ []) ≡ lists front ++ calls ∷ [])
       calls = lists_front link front last next start.before
 
-  pub front_of : (front : List (List Event)) (last : List Event) → Each (Each IsWork) (front ++ last ∷ []) → HasTime (length (front ++ last ∷ [])) next.state.run → IsUpBehind (front ++ last ∷ []) → recovery_rounds_at_work ≤ length front → IsUpBehind front
-  front_of front last works can t long = let s = soon_front_of front last works can t (omega (arith, long)) in record { behind = s.behind; opens = s.opens; below = s.below; long = long }
+  pub front_at : (front : List (List Event)) (last : List Event) → Each (Each IsWork) (front ++ last ∷ []) → HasTime (length (front ++ last ∷ [])) next.state.run → IsUpAt (front ++ last ∷ []) → recovery_rounds_at_work ≤ length front → IsUpAt front
+  front_at front last works can t long = let s = soon_front_of front last works can t (omega (arith, long)) in record { behind = s.behind; opens = s.opens; below = s.below; long = long }
 
   -- five moments, one behind the other, in the first of which the client has given an item
-  module _ (r0 r1 r2 r3 r4 : List (List Event)) (t0 : IsSoonUpBehind r0) (said0 : 1 ≤ (t0.behind.after.ends link).client.link.given) (t1 : IsUpBehind r1) (t2 : IsUpBehind r2) (t3 : IsUpBehind r3) (t4 : IsUpBehind r4)
+  module _ (r0 r1 r2 r3 r4 : List (List Event)) (t0 : IsSoonUpAt r0) (said0 : 1 ≤ (t0.behind.after.ends link).client.link.given) (t1 : IsUpAt r1) (t2 : IsUpAt r2) (t3 : IsUpAt r3) (t4 : IsUpAt r4)
       (p1 : Passes (t0.behind.after.ends link).client.link (t0.behind.after.ends link).server.link (t1.behind.after.ends link).client.link (t1.behind.after.ends link).server.link)
       (p2 : Passes (t1.behind.after.ends link).client.link (t1.behind.after.ends link).server.link (t2.behind.after.ends link).client.link (t2.behind.after.ends link).server.link)
       (p3 : Passes (t2.behind.after.ends link).client.link (t2.behind.after.ends link).server.link (t3.behind.after.ends link).client.link (t3.behind.after.ends link).server.link)
@@ -200,12 +198,12 @@ module _ (laws : ReadyLaws) (sited : SitedTable) (station : IsStation sited.site
     last : Moments r4 t4
     last = at_moment r4 t4
 
-    moment : (rounds : List (List Event)) (t : IsUpBehind rounds) → Moment last.objects (t.behind.after.ends link).client.link (t.behind.after.ends link).server.link
+    moment : (rounds : List (List Event)) (t : IsUpAt rounds) → Moment last.objects (t.behind.after.ends link).client.link (t.behind.after.ends link).server.link
     moment rounds t = let m = at_moment rounds t in subst (λ (n : ℕ). Moment n (t.behind.after.ends link).client.link (t.behind.after.ends link).server.link) (told_once sited.site (controller_at sited.site link) m.objects last.objects m.told last.told) m.moment
 
     is_ready_then : IsReadyOn sited.site link (world_at r4)
     is_ready_then = record {
-      up = up_on laws.up sited station once is_table link there (world_at r4) t4.behind.after t4.behind.are (ups r4 t4);
+      up = up_on laws.up sited station once is_table link there (world_at r4) t4.behind.after t4.behind.are (ups_at r4 t4);
       client = last.at;
       there = last.there;
       client_ready = ap is_ready (sym last.stage_is) ∙ client_is_ready last.objects last.few _ _ _ _ _ _ _ _ _ _ said0 (moment r1 t1) (moment r2 t2) (moment r3 t3) last.moment p1 p2 p3 p4;
@@ -213,16 +211,16 @@ module _ (laws : ReadyLaws) (sited : SitedTable) (station : IsStation sited.site
     }
 
   -- one round less
-  record Less (rounds : List (List Event)) (t : IsUpBehind rounds) : Type 0 where
+  record Less (rounds : List (List Event)) (t : IsUpAt rounds) : Type 0 where
     front : List (List Event)
     works : Each (Each IsWork) front
     can : HasTime (length front) next.state.run
     one_less : length front + 1 ≡ length rounds
-    stage : IsUpBehind front
+    stage : IsUpAt front
     passes : Passes (stage.behind.after.ends link).client.link (stage.behind.after.ends link).server.link (t.behind.after.ends link).client.link (t.behind.after.ends link).server.link
 
   abbrev GoesBack : List (List Event) → Type 0
-  GoesBack rounds = Each (Each IsWork) rounds → HasTime (length rounds) next.state.run → suc recovery_rounds_at_work ≤ length rounds → (t : IsUpBehind rounds) → Less rounds t
+  GoesBack rounds = Each (Each IsWork) rounds → HasTime (length rounds) next.state.run → suc recovery_rounds_at_work ≤ length rounds → (t : IsUpAt rounds) → Less rounds t
 
   goes_back : (rounds : List (List Event)) → GoesBack rounds
   goes_back rounds works can long t = by_last (last_of (length rounds - 1) rounds (omega (arith, long))) works can long t
@@ -230,28 +228,28 @@ module _ (laws : ReadyLaws) (sited : SitedTable) (station : IsStation sited.site
       of_last : (front : List (List Event)) (last : List Event) → GoesBack (front ++ last ∷ [])
       of_last front last works can long t =
           let count = count_front front last
-          in let s = front_of front last works can t (omega (arith, long, count))
+          in let s = front_at front last works can t (omega (arith, long, count))
           in record {
             front = front;
             works = (each_front (Each IsWork) front last works).0;
             can = fewer_time (length front) (length (front ++ last ∷ [])) (clocks_of next.state.run) (omega (arith, count)) can;
             one_less = sym count;
             stage = s;
-            passes = hand_over front last s t;
+            passes = hand_over_at front last s t;
           }
 
       by_last : Last (length rounds - 1) rounds → GoesBack rounds
       by_last l = subst GoesBack (sym l.are) (of_last l.front l.last)
 
   -- and before both are up: the client is up, and has given an item
-  record SoonLess (rounds : List (List Event)) (t : IsUpBehind rounds) : Type 0 where
+  record SoonLess (rounds : List (List Event)) (t : IsUpAt rounds) : Type 0 where
     front : List (List Event)
-    stage : IsSoonUpBehind front
+    stage : IsSoonUpAt front
     said : 1 ≤ (stage.behind.after.ends link).client.link.given
     passes : Passes (stage.behind.after.ends link).client.link (stage.behind.after.ends link).server.link (t.behind.after.ends link).client.link (t.behind.after.ends link).server.link
 
   abbrev GoesSoonBack : List (List Event) → Type 0
-  GoesSoonBack rounds = Each (Each IsWork) rounds → HasTime (length rounds) next.state.run → (t : IsUpBehind rounds) → SoonLess rounds t
+  GoesSoonBack rounds = Each (Each IsWork) rounds → HasTime (length rounds) next.state.run → (t : IsUpAt rounds) → SoonLess rounds t
 
   goes_soon_back : (rounds : List (List Event)) → 1 ≤ length rounds → GoesSoonBack rounds
   goes_soon_back rounds some = by_last (last_of (length rounds - 1) rounds (omega (arith, some)))
@@ -271,12 +269,12 @@ module _ (laws : ReadyLaws) (sited : SitedTable) (station : IsStation sited.site
       by_last : Last (length rounds - 1) rounds → GoesSoonBack rounds
       by_last l = subst GoesSoonBack (sym l.are) (of_last l.front l.last)
 
-  -- the rounds behind the first, in which the link comes up, and three more
-  ready_behind : (rounds : List (List Event)) → Each (Each IsWork) rounds → HasTime (length rounds) next.state.run → ready_rounds ≤ suc (length rounds) → StaysBelowLimit sited.site link rounds next
+  -- the rounds in which the link comes up, and three more
+  pub ready_at : (rounds : List (List Event)) → Each (Each IsWork) rounds → HasTime (length rounds) next.state.run → first_ready_rounds ≤ length rounds → StaysBelowLimit sited.site link rounds next
       → IsReadyOn sited.site link (world_at rounds)
-  ready_behind rounds works can long below =
-      let b = behind_rounds laws.up sited station once is_table link there first flowing work_first start rounds works can
-      in let whole : IsUpBehind rounds = record { behind = b; opens = rounds_open link rounds next start.before works (rounds_stay laws.up.stays sited station once is_table link there rounds next start.is); below = b.below below; long = omega (arith, long) }
+  ready_at rounds works can long below =
+      let b = behind_at laws.up sited station once is_table link there old next start rounds works can
+      in let whole : IsUpAt rounds = record { behind = b; opens = rounds_open link rounds next start.before works (rounds_stay laws.up.stays sited station once is_table link there rounds next start.is); below = b.below below; long = omega (arith, long) }
       in let b3 = goes_back rounds works can (omega (arith, long)) whole
       in let b2 = goes_back b3.front b3.works b3.can (omega (arith, long, b3.one_less)) b3.stage
       in let b1 = goes_back b2.front b2.works b2.can (omega (arith, long, b3.one_less, b2.one_less)) b2.stage
@@ -284,7 +282,7 @@ module _ (laws : ReadyLaws) (sited : SitedTable) (station : IsStation sited.site
       in is_ready_then b0.front b1.front b2.front b3.front rounds b0.stage b0.said b1.stage b2.stage b3.stage whole b0.passes b1.passes b2.passes b3.passes
 
   -- and a controller has taken two items one round before
-  two_taken_then : (r0 r1 r2 r3 : List (List Event)) (t0 : IsSoonUpBehind r0) → 1 ≤ (t0.behind.after.ends link).client.link.given → (t1 : IsUpBehind r1) (t2 : IsUpBehind r2) (t3 : IsUpBehind r3)
+  two_taken_then : (r0 r1 r2 r3 : List (List Event)) (t0 : IsSoonUpAt r0) → 1 ≤ (t0.behind.after.ends link).client.link.given → (t1 : IsUpAt r1) (t2 : IsUpAt r2) (t3 : IsUpAt r3)
       → Passes (t0.behind.after.ends link).client.link (t0.behind.after.ends link).server.link (t1.behind.after.ends link).client.link (t1.behind.after.ends link).server.link
       → Passes (t1.behind.after.ends link).client.link (t1.behind.after.ends link).server.link (t2.behind.after.ends link).client.link (t2.behind.after.ends link).server.link
       → Passes (t2.behind.after.ends link).client.link (t2.behind.after.ends link).server.link (t3.behind.after.ends link).client.link (t3.behind.after.ends link).server.link
@@ -295,15 +293,42 @@ module _ (laws : ReadyLaws) (sited : SitedTable) (station : IsStation sited.site
       last : Moments r3 t3
       last = at_moment r3 t3
 
-      moment_of : (some : List (List Event)) (t : IsUpBehind some) → Moment last.objects (t.behind.after.ends link).client.link (t.behind.after.ends link).server.link
+      moment_of : (some : List (List Event)) (t : IsUpAt some) → Moment last.objects (t.behind.after.ends link).client.link (t.behind.after.ends link).server.link
       moment_of some t = let m = at_moment some t in subst (λ (n : ℕ). Moment n (t.behind.after.ends link).client.link (t.behind.after.ends link).server.link) (told_once sited.site (controller_at sited.site link) m.objects last.objects m.told last.told) m.moment
 
-  pub two_taken_behind : (rounds : List (List Event)) → Each (Each IsWork) rounds → HasTime (length rounds) next.state.run → ready_rounds ≤ suc (suc (length rounds)) → (whole : IsUpBehind rounds) → 2 ≤ (whole.behind.after.ends link).server.link.taken
-  two_taken_behind rounds works can long whole =
+  pub two_taken_at : (rounds : List (List Event)) → Each (Each IsWork) rounds → HasTime (length rounds) next.state.run → ready_rounds ≤ suc (suc (length rounds)) → (whole : IsUpAt rounds) → 2 ≤ (whole.behind.after.ends link).server.link.taken
+  two_taken_at rounds works can long whole =
       let b2 = goes_back rounds works can (omega (arith, long)) whole
       in let b1 = goes_back b2.front b2.works b2.can (omega (arith, long, b2.one_less)) b2.stage
       in let b0 = goes_soon_back b1.front (omega (arith, long, b2.one_less, b1.one_less)) b1.works b1.can b1.stage
       in two_taken_then b0.front b1.front b2.front rounds b0.stage b0.said b1.stage b2.stage whole b0.passes b1.passes b2.passes
+
+-- The rounds behind a first one.
+module _ (laws : ReadyLaws) (sited : SitedTable) (station : IsStation sited.site) (once : Once sited.site) (is_table : IsTableOf sited.site sited.table) (link : ℕ) (there : link < links sited.site)
+    (first : List Event) (flowing : Flowing Played) (work_first : Each IsWork first) (start : Begun laws.up sited station once is_table link there first flowing) where
+  abbrev then_flowing : Flowing Played
+  then_flowing = all_tried first (round stations flowing)
+
+  abbrev begun : BegunAt laws.up sited station once is_table link there flowing then_flowing
+  begun = begun_at laws.up sited station once is_table link there first flowing work_first start
+
+  abbrev pub IsUpBehind : List (List Event) → Type 0
+  IsUpBehind rounds = IsUpAt laws sited station once is_table link there flowing then_flowing begun rounds
+
+  pub ups : (rounds : List (List Event)) → (s : IsUpBehind rounds) → AreUp (seen link s.behind.after)
+  ups rounds s = ups_at laws sited station once is_table link there flowing then_flowing begun rounds s
+
+  pub all_over : (front : List (List Event)) (last : List Event) → (s : IsUpBehind front) → (t : IsUpBehind (front ++ last ∷ [])) → HandOver (seen link s.behind.after) (seen link t.behind.after)
+  all_over front last s t = all_over_at laws sited station once is_table link there flowing then_flowing begun front last s t
+
+  pub hand_over : (front : List (List Event)) (last : List Event) → (s : IsUpBehind front) → (t : IsUpBehind (front ++ last ∷ [])) → Passes (s.behind.after.ends link).client.link (s.behind.after.ends link).server.link (t.behind.after.ends link).client.link (t.behind.after.ends link).server.link
+  hand_over front last s t = hand_over_at laws sited station once is_table link there flowing then_flowing begun front last s t
+
+  pub front_of : (front : List (List Event)) (last : List Event) → Each (Each IsWork) (front ++ last ∷ []) → HasTime (length (front ++ last ∷ [])) then_flowing.state.run → IsUpBehind (front ++ last ∷ []) → recovery_rounds_at_work ≤ length front → IsUpBehind front
+  front_of front last works can t long = front_at laws sited station once is_table link there flowing then_flowing begun front last works can t long
+
+  pub two_taken_behind : (rounds : List (List Event)) → Each (Each IsWork) rounds → HasTime (length rounds) then_flowing.state.run → ready_rounds ≤ suc (suc (length rounds)) → (whole : IsUpBehind rounds) → 2 ≤ (whole.behind.after.ends link).server.link.taken
+  two_taken_behind rounds works can long whole = two_taken_at laws sited station once is_table link there flowing then_flowing begun rounds works can long whole
 
 pub links_ready : ReadyLaws → (between : List Event) (later_rounds : List (List Event)) (flowing : Flowing Played) (link : ℕ) → Once flowing.state.sited.site → IsStation flowing.state.sited.site
     → IsTableOf flowing.state.sited.site flowing.state.sited.table → IsReached flowing.state.sited.site flowing.state.sited.table flowing.state.run → Each IsWork between → Each (Each IsWork) later_rounds
@@ -311,4 +336,4 @@ pub links_ready : ReadyLaws → (between : List Event) (later_rounds : List (Lis
     → StaysBelowLimit flowing.state.sited.site link later_rounds (all_tried between (round stations flowing)) → IsReadyOn flowing.state.sited.site link (good_rounds (between ∷ later_rounds) flowing).state.run
 links_ready laws between later_rounds flowing link once station is_table reached work works can there long below =
     let start = begun_so laws.up flowing.state.sited station once is_table link there between flowing refl reached work
-    in ready_behind laws flowing.state.sited station once is_table link there between flowing work start later_rounds works (start.later_can (length later_rounds) can) (omega (arith, long)) below
+    in ready_at laws flowing.state.sited station once is_table link there flowing (all_tried between (round stations flowing)) (begun_at laws.up flowing.state.sited station once is_table link there between flowing work start) later_rounds works (start.later_can (length later_rounds) can) (omega (arith, long)) below

@@ -49,7 +49,7 @@ abbrev pub AreCalm : List RoundEvent → Type 0
 AreCalm [] = Unit {0}
 AreCalm (first ∷ others) = IsCalm first.event × AreCalm others
 
-calm_joined : (one other : List RoundEvent) → AreCalm one → AreCalm other → AreCalm (one ++ other)
+pub calm_joined : (one other : List RoundEvent) → AreCalm one → AreCalm other → AreCalm (one ++ other)
 calm_joined [] other first second = second
 calm_joined (head ∷ one) other first second = (first.0, calm_joined one other first.1 second)
 

@@ -25,6 +25,7 @@ pub mod KnownAgain
 pub mod Passage
 pub mod BeginsOfMoves
 pub mod HeldPoints
+pub mod FirstRound
 pub mod Withdrawn
 pub mod UnheldPoints
 pub mod Answered

@@ -1,0 +1,253 @@
+-- The links of a station come up from the first of good rounds on, where what is too old to come stays away in it.
+use Rattle.std.proofs.Common.{◌≡◌, ℕ, zero, suc, ◌⊎◌, inl, inr, ◌∙◌, ◌+◌, ◌*◌, ◌<◌, ◌≤◌, List, [], ◌∷◌, ◌++◌, append_assoc, append-nil, length, map, drop, None, Ok, refl, sym, ap, subst, arith}
+use Rattle.std.specs.Prelude.{◌↔◌, IsTrue, ◌-◌}
+use Rattle.rasta_core_recovery.specs.Work.{due_to}
+use Rattle.ixl_table.specs.Table.{IsTableOf}
+use Rattle.simulator_run.specs.layout.Entries.{Site}
+use Rattle.simulator_run.specs.layout.Once.{Once}
+use Rattle.simulator_run.specs.layout.Station.{IsStation}
+use Rattle.simulator_run.specs.ixl_rules.rasta_pdu.PduRead.{reading}
+use Rattle.simulator_run.specs.ixl_rules.rasta_pdu.SafetyCode.{IsIntact, intact}
+use Rattle.simulator_run.specs.ixl_rules.rasta_pdu.declared.key.Key.{Key}
+use Rattle.simulator_run.specs.ixl_rules.rasta_pdu.declared.pdu.Pdu.{Pdu}
+use Rattle.simulator_run.specs.ixl_rules.Table.{SitedTable}
+use Rattle.simulator_run.specs.rasta_core.Bag.{newest_copy}
+use Rattle.simulator_run.specs.rasta_core.Each.{Each}
+use Rattle.simulator_run.specs.rasta_core.EachLink.{AreTimely}
+use Rattle.simulator_run.specs.rasta_core.Links.{AreLinks, Links, OnLink, begun, of_link, run_links}
+use Rattle.simulator_run.specs.rasta_core.identity.Role.{Role}
+use Rattle.simulator_run.specs.simulator_event.declared.event.Event.{Event}
+use Rattle.simulator_run.specs.declared.round.RoundEvent.{RoundEvent}
+use Rattle.simulator_run.specs.Flow.{Flowing, deliveries, reaches, round, round_of_time, stations, ticks}
+use Rattle.simulator_run.specs.Links.{names_at, starts_at_zero}
+use Rattle.simulator_run.specs.Network.{datagrams_of}
+use Rattle.simulator_run.specs.Nodes.{key_of, links, nodes}
+use Rattle.simulator_run.specs.State.{WorldState}
+use Rattle.simulator_run.specs.Tried.{Played, after, refusal_of}
+use Rattle.simulator_run_links.specs.HasLinks.{IsStanding}
+use Rattle.simulator_headline.specs.Reached.{IsReached}
+use Rattle.simulator_recovery.specs.FirstRound.{IsTooOld, OldStaysAway, first_link_rounds, first_ready_rounds}
+use Rattle.simulator_recovery.specs.LinkRounds.{IsAtWorkOn, IsUpOn, StaysBelowLimit, all_events_tried, event_of, flow_of, links_behind}
+use Rattle.simulator_recovery.specs.Ready.{IsReadyOn}
+use Rattle.simulator_recovery.specs.Rounds.{HasTime, IsWork, all_tried, clocks_of, good_rounds}
+use Rattle.simulator_recovery.proofs.Arrives.{passed_time}
+use Rattle.simulator_recovery.proofs.AtWork.{IsFrom, all_from, all_has, due_more, round_at_work, table_sections, time_followed, time_is}
+use Rattle.simulator_recovery.proofs.Clocks.{CanGoOn, HasAll, IsCalm, time_may_pass}
+use Rattle.simulator_recovery.proofs.ComeUp.{BegunAt, ComeUpLaws, RoundsOn, behind_at, lists_length, one_more, rounds_open, through, up_at, up_on}
+use Rattle.simulator_recovery.proofs.EndCalls.{IsFront, all_called_at}
+use Rattle.simulator_recovery.proofs.FirstRoundArrives.{IsTried, all_add, all_there, arrivals_there, first_arrive, none_before}
+use Rattle.simulator_recovery.proofs.LinkRounds.{HasThese, after_both, after_each, are_links, calm_events, round_tried}
+use Rattle.simulator_recovery.proofs.Lists.{each_both, map_both}
+use Rattle.simulator_recovery.proofs.Ready.{ReadyLaws, ready_at}
+use Rattle.simulator_recovery.proofs.Rounds.{IsAt, calm_joined, each_can, each_later, has_all, one_round, reaches_calm, round_reached, ticks_calm, time_happens, tried_happens, work_reached}
+use Rattle.simulator_recovery.proofs.Sends.{HasAdded, adds_none, leaves_fresh, time_sends_none}
+use Rattle.simulator_recovery.proofs.StaysOpen.{rounds_stay}
+
+abbrev pub ReadIsIntact : Type 0
+ReadIsIntact = (key : Key) (bytes : List ℕ) (pdu : Pdu) → reading key bytes ≡ Ok pdu → IsIntact key bytes
+
+abbrev pub IntactIsTested : Type 0
+IntactIsTested = (key : Key) (bytes : List ℕ) → IsTrue (intact key bytes) ↔ IsIntact key bytes
+
+-- ---- what a flow hasn't gone past
+
+pub record IsSplit (n : ℕ) (xs : List OnLink) : Type 0 where
+  pub front : List OnLink
+  pub are : xs ≡ front ++ drop n xs
+  pub many : length (drop n xs) ≡ length xs - n
+  pub at : (length front ≡ n) ⊎ (drop n xs ≡ [])
+
+pub split : (n : ℕ) (xs : List OnLink) → IsSplit n xs
+split zero xs = record { front = []; are = refl; many = omega arith; at = inl refl }
+split (suc n) [] = record { front = []; are = refl; many = omega arith; at = inr refl }
+split (suc n) (x ∷ xs) = let s = split n xs in record { front = x ∷ s.front; are = ap (λ (l : List OnLink). x ∷ l) s.are; many = let m = s.many in omega (arith, m); at = further s.front s.at }
+  where
+    further : (ys : List OnLink) → (length ys ≡ n) ⊎ (drop n xs ≡ []) → (suc (length ys) ≡ suc n) ⊎ (drop n xs ≡ [])
+    further ys (inl e) = inl (ap suc e)
+    further ys (inr e) = inr e
+
+none_due : (world : Played) (place n : ℕ) → n ≡ 0 → deliveries (stations.arrival world) place n ≡ []
+unfolding deliveries
+none_due world place zero e = refl
+none_due world place (suc n) e = absurd (omega (arith, e))
+
+all_due : (world : Played) (n : ℕ) (s : IsSplit n world.run.sent) → deliveries (stations.arrival world) n (length world.run.sent - n) ≡ arrivals_there n (drop n world.run.sent)
+all_due world n s = choose s.at
+  where
+    choose : (length s.front ≡ n) ⊎ (drop n world.run.sent ≡ []) → deliveries (stations.arrival world) n (length world.run.sent - n) ≡ arrivals_there n (drop n world.run.sent)
+    choose (inl e) = subst (λ (k : ℕ). deliveries (stations.arrival world) k (length world.run.sent - n) ≡ arrivals_there k (drop n world.run.sent)) e
+        (all_there world s.front (drop n world.run.sent) (length world.run.sent - n) s.are (sym s.many))
+    choose (inr none) = none_due world n (length world.run.sent - n) (sym s.many ∙ ap (λ (l : List OnLink). length l) none) ∙ sym (ap (arrivals_there n) none)
+
+each_tried : ReadIsIntact → IntactIsTested → (site : Site) (time : ℕ) (last more list : List OnLink) → Each (IsFrom site) list
+    → Each (λ (one : OnLink). IsTooOld time one → newest_copy time one.datagram.bytes (datagrams_of (last ++ more)) ≡ None) list → Each (IsTried site time last) list
+each_tried read tested site time last more [] from away = tt
+each_tried read tested site time last more (one ∷ list) from away = (
+  record {
+    whole = (tested (key_of site) one.datagram.bytes).1 (read (key_of site) one.datagram.bytes from.0.pdu from.0.read);
+    gone = λ old. none_before time one.datagram.bytes last more (away.0 old);
+  },
+  each_tried read tested site time last more list from.1 away.1,
+)
+
+-- ---- the first round and those behind it
+
+module _ (laws : ComeUpLaws) (read : ReadIsIntact) (tested : IntactIsTested) (flowing : Flowing Played) (link : ℕ) (once : Once flowing.state.sited.site) (station : IsStation flowing.state.sited.site)
+    (is_table : IsTableOf flowing.state.sited.site flowing.state.sited.table) (reached : IsReached flowing.state.sited.site flowing.state.sited.table flowing.state.run)
+    (there : link < links flowing.state.sited.site) (away : OldStaysAway flowing) where
+  abbrev pub sited : SitedTable
+  sited = flowing.state.sited
+
+  abbrev pub world : WorldState
+  world = flowing.state.run
+
+  sections : length sited.table.detectors ≡ length sited.site.detectors
+  sections = table_sections sited.site sited.table is_table
+
+  pub standing : IsStanding sited.site world
+  standing = subst (IsStanding sited.site) (sym reached.after) (laws.link.times.standing sited.site sited.table reached.outset reached.events station once reached.lies reached.can)
+
+  named : AreLinks (links sited.site) (names_at sited.site)
+  named = are_links laws.link sited station once
+
+  abbrev pub these : Links
+  these = run_links standing.linked.events (begun (names_at sited.site) starts_at_zero)
+
+  these_timely : AreTimely (links sited.site) (names_at sited.site) these
+  these_timely = laws.link.time (links sited.site) (names_at sited.site) standing.linked.events (begun (names_at sited.site) starts_at_zero) named
+      (laws.arriving.begins (links sited.site) (names_at sited.site) starts_at_zero named) standing.linked.may
+
+  has : HasThese sited flowing.state these
+  has = record { same = refl; whole = standing.whole; timely = these_timely; are = standing.linked.are }
+
+  is : IsAt sited flowing.state
+  is = record { same = refl; reached = reached }
+
+  all : HasAll sited.site world
+  all = has_all laws.link.times sited world station once reached
+
+  pub s : IsSplit flowing.passed world.sent
+  s = split flowing.passed world.sent
+
+  abbrev more : List OnLink
+  more = drop flowing.passed world.sent
+
+  -- a flow of which these were sent before the last round
+  abbrev pub old : Flowing Played
+  old = record flowing { state = record flowing.state { run = record world { sent = s.front } } }
+
+  abbrev time : ℕ
+  time = world.time + 10000
+
+  abbrev come : List RoundEvent
+  come = arrivals_there flowing.passed more
+
+  abbrev behind_it : Played
+  behind_it = after flowing.state (round_of_time sited.site)
+
+  now_sent : behind_it.run.sent ≡ s.front ++ (more ++ [])
+  now_sent = (time_sends_none flowing.state).sent ∙ s.are ∙ ap (λ (l : List OnLink). s.front ++ l) (sym (append-nil more))
+
+  abbrev mid : Played
+  mid = after_each (map event_of come) behind_it
+
+  -- what is sent behind the deliveries
+  abbrev tail : List RoundEvent
+  tail = ticks (length world.sent) 0 (nodes sited.site) ++ reaches (length world.sent) 0 flowing.drives
+
+  parts : map event_of (deliveries (stations.arrival flowing.state) flowing.passed (length world.sent - flowing.passed) ++ tail) ++ [] ≡ map event_of come ++ (map event_of tail ++ [])
+  parts = ap (λ (l : List RoundEvent). map event_of (l ++ tail) ++ []) (all_due flowing.state flowing.passed s)
+      ∙ ap (λ (l : List Event). l ++ []) (map_both event_of come tail) ∙ append_assoc (map event_of come) (map event_of tail) []
+
+  tail_calm : Each IsCalm (map event_of tail ++ [])
+  tail_calm = each_both IsCalm (map event_of tail) []
+      (calm_events tail (calm_joined (ticks (length world.sent) 0 (nodes sited.site)) (reaches (length world.sent) 0 flowing.drives)
+      (ticks_calm (length world.sent) 0 (nodes sited.site)) (reaches_calm (length world.sent) 0 flowing.drives))) tt
+
+  own : HasAdded mid.run (round stations flowing).state
+  own = subst (HasAdded mid.run) (sym (round_tried [] flowing ∙ ap (λ (l : List Event). after_each l behind_it) parts ∙ after_both (map event_of come) (map event_of tail ++ []) behind_it))
+      (all_add mid.run (map event_of tail ++ []) mid tail_calm (record { is = adds_none mid.run }))
+
+  from : Each (IsFrom sited.site) more
+  from = all_from sited.site these s.front more these_timely (has.are.sent_is ∙ s.are)
+
+  tried : Each (IsTried sited.site time mid.run.sent) more
+  tried = each_tried read tested sited.site time mid.run.sent own.is.more more from
+      (subst (λ (l : List OnLink). Each (λ (one : OnLink). IsTooOld time one → newest_copy time one.datagram.bytes (datagrams_of l) ≡ None) more) own.is.sent away)
+
+  module _ (able : Each CanGoOn (clocks_of world)) where
+    goes : refusal_of (round_of_time sited.site) flowing.state ≡ None
+    goes = time_may_pass sited.site world all able
+
+    now : behind_it.run.time ≡ time
+    now = ap (λ (w : Played). w.run.time) (tried_happens flowing.state (round_of_time sited.site) goes) ∙ ap (λ (w : WorldState). w.time) (time_happens sited.site sited.table world)
+        ∙ passed_time 10000 _ world
+
+    comes : (who : Role) (on_link : ℕ)
+        → IsFront (due_to who (these.time + 10000) (drop (length (of_link on_link s.front)) (of_link on_link these.sent))) (all_called_at who on_link (all_events_tried (map event_of come) behind_it))
+    comes who on_link = subst (λ (due : List (List ℕ)). IsFront due (all_called_at who on_link (all_events_tried (map event_of come) behind_it)))
+        (sym (due_more laws.link sited station once sections who on_link s.front more flowing these has s.are))
+        (first_arrive laws.link sited station once sections who on_link time mid.run.sent flowing.passed s.front more [] behind_it _
+        (time_followed laws.link sited station once sections flowing these has).has now now_sent from tried refl)
+
+    module _ (between : List Event) (work : Each IsWork between) where
+      one : IsAtWorkOn sited.site link between old flowing these
+      one = round_at_work laws.link sited station once sections old flowing come (all_due flowing.state flowing.passed s) between these work has goes comes link there
+
+      abbrev next : Flowing Played
+      next = all_tried between (round stations flowing)
+
+      next_has : HasThese sited next.state (links_behind between flowing these)
+      next_has = subst (λ (w : Played). HasThese sited w (links_behind between flowing these)) (sym (round_tried between flowing))
+          (all_has laws.link sited station once sections old flowing come (all_due flowing.state flowing.passed s) between these work has goes comes)
+
+      next_is : IsAt sited next.state
+      next_is = work_reached laws.link.times.reach sited between (round stations flowing) (round_reached laws.link.times.reach sited flowing is)
+
+  goes_through : (rounds : List (List Event)) → Each (Each IsWork) rounds → HasTime (length rounds) world
+      → RoundsOn sited.site link rounds (flow_of link (length (of_link link s.front)) these) flowing these
+  goes_through [] works can = record { after = these; are = has.are; work = tt; ends = refl; below = λ stay. tt; after_is = refl }
+  goes_through (between ∷ later_rounds) (work, works) can =
+      let able : Each CanGoOn (clocks_of world) = each_can (length later_rounds) (clocks_of world) can
+      in one_more laws sited station once is_table link there between later_rounds old flowing these work
+      (time_is laws.link sited station once sections flowing refl (goes able)) has.are (one able between work)
+      (through laws sited station once is_table link there later_rounds flowing (next able between work) (leaves_fresh between flowing work) (links_behind between flowing these)
+      (next_has able between work)
+      (next_is able between work) works
+      (subst (Each (λ clock. clock + 10000 * length later_rounds ≤ 9000000000000000)) (sym (one_round between flowing work all able).clocks) (each_later (length later_rounds) (clocks_of world) can)))
+
+  pub begun_at_once : BegunAt laws sited station once is_table link there old flowing
+  begun_at_once = record {
+    before = these;
+    has = has;
+    is = is;
+    is_run = laws.runs (links sited.site) (names_at sited.site) starts_at_zero standing.linked.events named standing.linked.may link there;
+    goes = goes_through;
+  }
+
+pub come_up_from_the_first : ComeUpLaws → ReadIsIntact → IntactIsTested → (between : List Event) (later_rounds : List (List Event)) (flowing : Flowing Played) (link : ℕ)
+    → Once flowing.state.sited.site
+    → IsStation flowing.state.sited.site → IsTableOf flowing.state.sited.site flowing.state.sited.table → IsReached flowing.state.sited.site flowing.state.sited.table flowing.state.run
+    → Each IsWork between
+    → Each (Each IsWork) later_rounds → HasTime (suc (length later_rounds)) flowing.state.run → link < links flowing.state.sited.site → first_link_rounds ≤ suc (length later_rounds)
+    → OldStaysAway flowing → StaysBelowLimit flowing.state.sited.site link (between ∷ later_rounds) flowing → IsUpOn link (good_rounds (between ∷ later_rounds) flowing).state.run
+come_up_from_the_first laws read tested between later_rounds flowing link once station is_table reached work works can there long away below =
+    let site_table = flowing.state.sited
+    in let start = begun_at_once laws read tested flowing link once station is_table reached there away
+    in let before_it = old laws read tested flowing link once station is_table reached there away
+    in let b = behind_at laws site_table station once is_table link there before_it flowing start (between ∷ later_rounds) (work, works) can
+    in let many = lists_length link (between ∷ later_rounds) flowing start.before
+    in up_on laws site_table station once is_table link there (good_rounds (between ∷ later_rounds) flowing).state.run b.after b.are
+    (up_at laws site_table station once is_table link there before_it flowing start (between ∷ later_rounds) b
+    (rounds_open link (between ∷ later_rounds) flowing start.before (work, works) (rounds_stay laws.stays site_table station once is_table link there (between ∷ later_rounds) flowing start.is))
+    (b.below below) (omega (arith, long, many)))
+
+pub ready_from_the_first : ReadyLaws → ReadIsIntact → IntactIsTested → (between : List Event) (later_rounds : List (List Event)) (flowing : Flowing Played) (link : ℕ) → Once flowing.state.sited.site
+    → IsStation flowing.state.sited.site → IsTableOf flowing.state.sited.site flowing.state.sited.table → IsReached flowing.state.sited.site flowing.state.sited.table flowing.state.run
+    → Each IsWork between
+    → Each (Each IsWork) later_rounds → HasTime (suc (length later_rounds)) flowing.state.run → link < links flowing.state.sited.site → first_ready_rounds ≤ suc (length later_rounds)
+    → OldStaysAway flowing → StaysBelowLimit flowing.state.sited.site link (between ∷ later_rounds) flowing
+    → IsReadyOn flowing.state.sited.site link (good_rounds (between ∷ later_rounds) flowing).state.run
+ready_from_the_first laws read tested between later_rounds flowing link once station is_table reached work works can there long away below =
+    ready_at laws flowing.state.sited station once is_table link there (old laws.up read tested flowing link once station is_table reached there away) flowing
+    (begun_at_once laws.up read tested flowing link once station is_table reached there away) (between ∷ later_rounds) (work, works) can long below
