@@ -244,5 +244,9 @@ pub mod WithdrawnTold
 pub mod WithdrawnEnds
 pub mod TrainsGone
 pub mod AnsweredMoves
+pub mod OnceParts
 pub mod AnsweredSteps
 pub mod AnsweredRounds
+pub mod OnceMovedSteps
+pub mod OnceMoved
+pub mod OnceCounted

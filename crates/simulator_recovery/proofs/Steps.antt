@@ -40,7 +40,7 @@ stays_then one two three first second = record {
   detectors = second.detectors ∙ first.detectors;
 }
 
-changed_length : {X : Type 0} (change : X → X) (place : ℕ) (list : List X) → length (changed change place list) ≡ length list
+pub changed_length : {X : Type 0} (change : X → X) (place : ℕ) (list : List X) → length (changed change place list) ≡ length list
 changed_length change place [] = refl
 changed_length change zero (first ∷ others) = refl
 changed_length change (suc place) (first ∷ others) = ap suc (changed_length change place others)

@@ -36,7 +36,7 @@ none_more_then : (one two three : LinkState) → NoMore one two → NoMore two t
 none_more_then one two three a b = record { given = b.given ∙ a.given; waiting = let m = a.waiting in let n = b.waiting in omega (arith, m, n) }
 
 -- a client that isn't outside behind a part is up
-fallen_up : (client : ClientState) → is_outside (fallen client).stage ≡ false → is_up (fallen client).link.phase ≡ true
+pub fallen_up : (client : ClientState) → is_outside (fallen client).stage ≡ false → is_up (fallen client).link.phase ≡ true
 unfolding fallen
 fallen_up client = choose (is_up client.link.phase) refl
   where

@@ -29,3 +29,4 @@ pub mod FirstRound
 pub mod Withdrawn
 pub mod UnheldPoints
 pub mod Answered
+pub mod OnceMoved
