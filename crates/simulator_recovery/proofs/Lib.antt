@@ -250,3 +250,8 @@ pub mod AnsweredRounds
 pub mod OnceMovedSteps
 pub mod OnceMoved
 pub mod OnceCounted
+pub mod FieldPointsMachine
+pub mod FieldPointsSeen
+pub mod FieldPointsStep
+pub mod FieldPointsAlways
+pub mod FieldPointsKnown

@@ -269,7 +269,7 @@ module _ (laws : OwedLaws) (tell : TellLaws point_behaviour) (version : ℕ) (ow
   abbrev after : Lists
   after = lists_of (called_all connection done.calls ends).server
 
-  step : IsPointStep now input c.host done
+  abbrev pub step : IsPointStep now input c.host done
   step = laws.makes now input c.host
 
   acted_on : ActsOn taken_now done
@@ -287,9 +287,9 @@ module _ (laws : OwedLaws) (tell : TellLaws point_behaviour) (version : ℕ) (ow
   found = found_by now c.host
 
   -- How the step finds the point, with what was given and taken before in the connection that it is in then.
-  record Finds (given taken : List (List ℕ)) : Type 0 where
-    given_so : after.given ≡ given ++ given_now
-    taken_so : after.taken ≡ taken ++ taken_now
+  pub record Finds (given taken : List (List ℕ)) : Type 0 where
+    pub given_so : after.given ≡ given ++ given_now
+    pub taken_so : after.taken ≡ taken ++ taken_now
     aims : Aims (last_side None (commands_of taken)) found.progress
     owes : is_completed (beginning point_behaviour now c.host).stage ≡ true → 4 + length (commands_of taken) ≤ length given + unanswered found.progress
     early : is_completed (beginning point_behaviour now c.host).stage ≡ false → (commands_of taken ≡ []) × (unanswered found.progress ≡ 0)
@@ -298,7 +298,7 @@ module _ (laws : OwedLaws) (tell : TellLaws point_behaviour) (version : ℕ) (ow
   taken_commands given taken f opened = ap commands_of f.taken_so ∙ commands_both taken taken_now ∙ ap (λ (rest : List Telegram). commands_of taken ++ rest) (told_is opened)
 
   -- how many items were given in front of the final reports
-  given_count : (given taken : List (List ℕ)) → Finds given taken → length after.given ≡ (length given + length step.tells.own) + length step.tells.reports
+  pub given_count : (given taken : List (List ℕ)) → Finds given taken → length after.given ≡ (length given + length step.tells.own) + length step.tells.reports
   given_count given taken f =
       let all = ap length (f.given_so ∙ ap (λ (list : List (List ℕ)). given ++ list) step.tells.gives)
       in let parts = length-append given (map (item_of done.host) (step.tells.own ++ step.tells.reports))
@@ -330,7 +330,7 @@ module _ (laws : OwedLaws) (tell : TellLaws point_behaviour) (version : ℕ) (ow
     few_reports : length step.tells.reports ≤ 1
     few_reports = let few = step.few in let one = one_waits (moved_by step.tells).progress in omega (arith, few, one)
 
-    whole : 4 ≤ length given + length step.tells.own
+    pub whole : 4 ≤ length given + length step.tells.own
     whole =
         let all = begun_whole front (moved_by step.tells).sensed step.tells.reports done.host own_name peer_name step.finals few_reports (ap (λ (list : List (List ℕ)). slice_get list 3) (sym split) ∙ fourth own_name peer_name version after.given said_all)
         in let parts = length-append given (map (item_of done.host) step.tells.own)
@@ -379,7 +379,7 @@ module _ (laws : OwedLaws) (tell : TellLaws point_behaviour) (version : ℕ) (ow
           side since (sym (object_is opened) ∙ e)
 
   -- in the connection that it was in
-  finds_inside : is_open ends.server.link.phase ≡ true → Finds ends.server.given ends.server.taken
+  pub finds_inside : is_open ends.server.link.phase ≡ true → Finds ends.server.given ends.server.taken
   finds_inside g = record {
     given_so = given_is tell input connection c ends link_is clock_is counted ∙ ap (λ (o : Option ℕ). kept o ends.server.given ++ given_now) (enters_none tell input connection c ends link_is clock_is counted g);
     taken_so = taken_is tell input connection c ends link_is clock_is counted ∙ ap (λ (o : Option ℕ). kept o ends.server.taken ++ taken_now) (enters_none tell input connection c ends link_is clock_is counted g);
@@ -413,7 +413,7 @@ module _ (laws : OwedLaws) (tell : TellLaws point_behaviour) (version : ℕ) (ow
       same_waits at progress.TimedOut = refl
 
   -- in one that it enters
-  finds_new : is_open ends.server.link.phase ≡ false → (entered : ℕ) → entering input connection ends ≡ Some entered → Finds [] []
+  pub finds_new : is_open ends.server.link.phase ≡ false → (entered : ℕ) → entering input connection ends ≡ Some entered → Finds [] []
   unfolding commands_of
   finds_new g entered h = record {
     given_so = given_is tell input connection c ends link_is clock_is counted ∙ ap (λ (o : Option ℕ). kept o ends.server.given ++ given_now) h;

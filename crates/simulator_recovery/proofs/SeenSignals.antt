@@ -83,7 +83,7 @@ no_rest whole front (first ∷ rest) are long = let so = ap length are in let mo
 -- ---- a signal at one moment
 
 -- a link that is up at a reading is in a connection then
-inside_at : (now : ℕ) (l : LinkState) → is_up (settled now l).phase ≡ true → is_inside now l ≡ true
+pub inside_at : (now : ℕ) (l : LinkState) → is_up (settled now l).phase ≡ true → is_inside now l ≡ true
 inside_at now l up = let so = settled_open now l (up_open (settled now l).phase up) in both (is_open l.phase) (nat_lt now (deadline l)) so.1 (below now (deadline l) so.2)
   where
     below : (a b : ℕ) → a < b → nat_lt a b ≡ true
@@ -181,7 +181,7 @@ given_length peer (stage.AwaitsStatus left) commands e = absurd (false≢true e)
 given_length peer stage.Completed commands e = let n = commanded_length peer commands in omega (arith, n)
 given_length peer stage.AwaitsReport commands e = let n = commanded_length peer commands in omega (arith, n)
 
-given_most : (peer : PeerState) (s : Stage) (commands : List Command) → length (given_by peer s commands) ≤ 2 + length commands
+pub given_most : (peer : PeerState) (s : Stage) (commands : List Command) → length (given_by peer s commands) ≤ 2 + length commands
 given_most peer stage.Outside commands = omega arith
 given_most peer stage.AwaitsAnswer commands = omega arith
 given_most peer stage.AwaitsStart commands = omega arith

@@ -29,7 +29,8 @@ ghost use Rattle.simulator_recovery.specs.UnheldPoints.{AreKnownOrUnheld, HasCle
 
 use crate::{
     accepted_routes_come_in_time, accepted_settings_are_on_course, links_are_ready, links_stay_up,
-    set_routes_come_in_time, set_routes_hold_their_points,
+    points_of_routes_with_authority_are_known, set_routes_come_in_time,
+    set_routes_hold_their_points,
 };
 use simulator_headline::{every_world_is_safe, reached_worlds_are_safe};
 use simulator_run::ixl_rules::{
@@ -80,7 +81,8 @@ pub fn points_held_with_authority_stay_known()
 /// Accepted routes come over clear sections: where the request of a route is accepted behind a good round from the 1566th on, and each point that
 /// it requires is known at its side behind the request, or its move is out, or its own section is clear, the route comes within 52 rounds, as in
 /// `accepted_routes_come_in_time`, whichever other routes hold its points. What is asked of them is asked of an earlier moment alone: behind some
-/// good round from the 1565th on each of these points is known at its side, or no route holds it that is withdrawn or whose authority has ended.
+/// good round from the 1565th on each of these points is known at its side, or no route holds it whose authority has ended, or that is withdrawn
+/// while a move of the point is out.
 /// The premises are else those of `accepted_routes_come_in_time`.
 pub fn accepted_routes_come_over_clear_sections()
     ensures { (between : List Event) (early later : List (List Event)) (before : List Event) (more still : List (List Event)) (flowing : Flowing Played) (route : RouteId) (row : Row)
@@ -99,7 +101,9 @@ pub fn accepted_routes_come_over_clear_sections()
     accepted_routes_come_in_time();
     accepted_settings_are_on_course();
     every_world_is_safe();
+    links_are_ready();
     points_held_with_authority_stay_known();
+    points_of_routes_with_authority_are_known();
     reached_worlds_are_safe();
     request_is_accepted_where_admissible();
     set_routes_hold_their_points();
@@ -123,7 +127,9 @@ pub fn set_routes_come_over_clear_sections()
         → ComesBy number row more still (good_rounds (between ∷ ((early ++ later) ++ one ∷ [])) flowing) }
 {
     every_world_is_safe();
+    links_are_ready();
     points_held_with_authority_stay_known();
+    points_of_routes_with_authority_are_known();
     reached_worlds_are_safe();
     request_is_accepted_where_admissible();
     set_routes_come_in_time();
