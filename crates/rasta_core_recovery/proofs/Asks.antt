@@ -24,11 +24,11 @@ use Rattle.rasta_core_run.specs.body.Body.TheVariants.{ConnectionRequest, Connec
 use Rattle.rasta_core_run.specs.Each.{Each}
 use Rattle.rasta_core_recovery.proofs.Links.{heard, all_heard, worked, end_round}
 use Rattle.rasta_core_recovery.proofs.Calls.{at_reading}
+use Rattle.rasta_core_recovery.proofs.Lists.{each_append}
 use Rattle.rasta_core_recovery.proofs.Words.{IsTalk, IsSimple, Says, Row, voice_of, IsNumbered, says_row}
 use Rattle.rasta_core_recovery.proofs.Deed.{Deed, Leaves, leaves, keeps, asks, takes, hears, lives_state}
 use Rattle.rasta_core_recovery.proofs.Fold.{Out, Lively, heard_case, Next, gone_next, stays_next, all_hear, Work, gone_work, calm_work, beats_work, works, Begins, late, on, begins, stays_out, works_out, round_on}
 use Rattle.rasta_core_recovery.proofs.Course.{Joined, lively, taken_joined, asked_joined}
-use Rattle.rasta_core_recovery.proofs.TunedEnds.{each_append}
 use Rattle.rasta_core_recovery.proofs.Turn.{Either, gone, so, reading_joined, spoken_joined, Ended, gone_end, done, ends}
 
 abbrev pub IsTalkPdu : Pdu → Type 0

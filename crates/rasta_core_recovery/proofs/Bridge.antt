@@ -1,5 +1,5 @@
 -- What comes to two ends in a round, with its bytes, is what comes to their links over PDUs.
-use Rattle.std.proofs.Common.{◌≡◌, ℕ, zero, suc, ◌∙◌, ◌+◌, Bool, true, false, ◌&&◌, not, nat_le, if◌then◌else◌, List, [], ◌∷◌, ◌++◌, length, drop, Option, Result, Ok, append_assoc, append-nil, refl, sym, ap, subst, arith}
+use Rattle.std.proofs.Common.{◌≡◌, ℕ, ◌∙◌, ◌+◌, Bool, true, false, ◌&&◌, not, nat_le, if◌then◌else◌, List, [], ◌∷◌, ◌++◌, length, drop, Option, Result, Ok, append_assoc, append-nil, refl, sym, ap, subst, arith}
 use Rattle.rasta_core_run.specs.State.{LinkState}
 use Rattle.rasta_core_run.specs.Clock.{settled}
 use Rattle.rasta_core_run.specs.PdusHandedOut.{Step, entered}
@@ -22,6 +22,7 @@ use Rattle.rasta_core_run.specs.Names.{Names, AreNames, partner_of, identity_of}
 use Rattle.rasta_core.specs.Invariant.{InFlight, Timely}
 use Rattle.rasta_core.specs.TimedEnds.{Times, times_of}
 use Rattle.rasta_core_recovery.proofs.Links.{Pair, heard, all_heard, worked, end_round, pair_round}
+use Rattle.rasta_core_recovery.proofs.Lists.{each_append, each_drop}
 use Rattle.rasta_core_recovery.proofs.Mirror.{Mirrors, AreRead, arriving, pending, bytes_from, chosen}
 use Rattle.rasta_core_recovery.specs.Rounds.{Flow, can_come, comings, own_work, round_events, good_round}
 use Rattle.rasta_core_run.specs.Bag.{lifetime}
@@ -77,10 +78,6 @@ spelled_append key (p ∷ a) b = ap (λ (r : List (List ℕ)). writing key p ∷
 -- sent at this time, and not lost
 abbrev pub IsNow : ℕ → Sent → Type 0
 IsNow time d = (d.at ≡ time) × (d.is_lost ≡ false)
-
-pub each_append : {X : Type 0} (P : X → Type 0) (xs ys : List X) → Each P xs → Each P ys → Each P (xs ++ ys)
-each_append P [] ys a b = b
-each_append P (x ∷ xs) ys a b = (a.0, each_append P xs ys a.1 b)
 
 pub handed_now : (time : ℕ) (who : Role) (c : Option ℕ) (bs : List (List ℕ)) → Each (IsNow time) (handed_out time who c bs)
 handed_now time who c [] = tt
@@ -522,11 +519,6 @@ lists_of names (d ∷ ds) each = choose d.sender refl (lists_of names ds each.1)
       of_server = subst (λ (s : Role). AreRead names.key (chosen role.Server s d.bytes (bytes_from role.Server ds)) (each.0.0 ∷ l.to_client)) (sym e) (each.0.1, l.of_server);
       of_client = subst (λ (s : Role). AreRead names.key (chosen role.Client s d.bytes (bytes_from role.Client ds)) l.to_server) (sym e) l.of_client;
     }
-
-each_drop : {X : Type 0} (P : X → Type 0) (n : ℕ) (xs : List X) → Each P xs → Each P (drop n xs)
-each_drop P zero xs each = each
-each_drop P (suc n) [] each = tt
-each_drop P (suc n) (x ∷ xs) each = each_drop P n xs each.1
 
 each_arriving : (P : Sent → Type 0) (t : ℕ) (ds : List Sent) → Each P ds → Each P (arriving t ds)
 each_arriving P t [] each = tt

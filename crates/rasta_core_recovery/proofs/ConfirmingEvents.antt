@@ -46,9 +46,10 @@ use Rattle.rasta_core.specs.TimedEnds.{times_of}
 use Rattle.rasta_core.specs.Timely.{IsKnown}
 use Rattle.rasta_core_run.specs.window.Unconfirmed.{Unconfirmed}
 use Rattle.rasta_core_recovery.specs.Confirming.{Answers, AreIn, Confirming, FewWait, IsConfirmed, IsNumbered, IsSaid, reached_by}
-use Rattle.rasta_core_recovery.proofs.Bridge.{HandsOut, KeepsTime, WrittenIsRead, each_append}
+use Rattle.rasta_core_recovery.proofs.Bridge.{HandsOut, KeepsTime, WrittenIsRead}
 use Rattle.rasta_core_recovery.proofs.Confirmed.{Both, Moves, asking_moves, client_inside, client_keeps, client_level, client_moves, never_asks, reached_is, server_joined, server_keeps, server_says, server_speaks, sides_of, with_client, with_server, within, word_closes}
 use Rattle.rasta_core_recovery.proofs.Facts.{are_together}
+use Rattle.rasta_core_recovery.proofs.Lists.{each_append}
 use Rattle.rasta_core_recovery.proofs.StaysIn.{Asks, Does, IsFrom, IsSettledAt, NothingCame, Passes, Read, Speaks, closing_shuts, opens_asking, opens_on, receives_asking, receives_on, sends_asking, sends_on, ticks_asking, ticks_on}
 use Rattle.rasta_core_recovery.proofs.WindowNumbers.{count_both}
 use Rattle.rasta_core_recovery.proofs.Words.{Row, row_most}
@@ -165,9 +166,8 @@ pub found : Laws → (names : Names) → AreNames names → (who : Role) (ends :
     → Passes (end_of who ends).link p → Found names who ends bytes connection p
 found laws names are who ends timely bytes connection may p read pass = found_by laws names are who ends timely bytes connection may p read pass.receiver pass.sender
 
--- ---- calls
+-- ---- what came in a call
 
--- what came in a call
 abbrev pub CameBy : LinkState → Call → Pdu → Type 0
 CameBy l Ticks = NothingCame
 CameBy l Opens = NothingCame

@@ -26,6 +26,7 @@ use Rattle.rasta_core_recovery.proofs.Given.{Grows, grows_then}
 use Rattle.rasta_core_recovery.proofs.Hale.{Hale, hale_on, server_grows}
 use Rattle.rasta_core_recovery.proofs.HandOver.{fits_in}
 use Rattle.rasta_core_recovery.proofs.InTurn.{IsLast, Tells, Whole, all_tell, hears_takes, last_of, last_then, links_both, pdus_both, same_first, waits_above, whole_joined, whole_rest, whole_then}
+use Rattle.rasta_core_recovery.proofs.Lists.{none_of_both}
 use Rattle.rasta_core_recovery.proofs.Mirror.{Mirrors}
 use Rattle.rasta_core_recovery.proofs.Own.{IsOwnAct, own_utters}
 use Rattle.rasta_core_recovery.proofs.Recovers.{Laws, Holds, holds_run, holds_after}
@@ -38,10 +39,6 @@ use Rattle.rasta_core_recovery.proofs.Replies.{BothCut, both_of, client_did, cli
 use Rattle.rasta_core_recovery.proofs.WorkRecovers.{leads, sound_of}
 
 -- ---- what is sent is said
-
-none_of_both : (ps qs : List Pdu) → ps ++ qs ≡ [] → (ps ≡ []) × (qs ≡ [])
-none_of_both [] qs none = (refl, none)
-none_of_both (p ∷ ps) qs none = absurd (cc none)
 
 none_more : (P : Body → Type 0) (h : Header) (n m : ℕ) (ps : List Pdu) → ps ≡ [] → Says P h n ps m → m ≡ n
 none_more P h n m [] none s = sym s

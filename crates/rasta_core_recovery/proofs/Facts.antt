@@ -22,6 +22,7 @@ use Rattle.rasta_core.specs.Order.{BeginsByResponse, OpensOn}
 use Rattle.rasta_core.specs.EndFlow.{EndFlow, IsAt, IsOf}
 use Rattle.rasta_core.specs.LinkAndFlow.{Plays, joined, asking, left, HasJoined, IsStillAsking}
 use Rattle.rasta_core_recovery.proofs.Links.{Pair}
+use Rattle.rasta_core_recovery.proofs.Lists.{each_drop}
 use Rattle.rasta_core_recovery.proofs.Mirror.{Mirrors, AreRead, arriving, pending, bytes_from, chosen}
 use Rattle.rasta_core_recovery.proofs.Words.{IsSpeech}
 use Rattle.rasta_core_recovery.proofs.Returned.{IsReturned}
@@ -85,7 +86,7 @@ pub record Facts (names : Names) (p : Pair) : Type 0 where
   -- a client that is outside for so long has a server that is outside, and nothing is under way
   pub waited : is_open p.client.phase ≡ false → p.client.closed_at + 5990 ≤ p.client.clock → (is_open p.server.phase ≡ false) × (p.to_client ≡ []) × (p.to_server ≡ [])
 
-standing_in : (l : LinkState) → is_open l.phase ≡ true → standing l ≡ Inside (is_asking l) l.own_stamp l.partner_stamp
+pub standing_in : (l : LinkState) → is_open l.phase ≡ true → standing l ≡ Inside (is_asking l) l.own_stamp l.partner_stamp
 standing_in l e = ap (λ (b : Bool). if b then Inside (is_asking l) l.own_stamp l.partner_stamp else Outside l.closed_at) e
 
 standing_out : (l : LinkState) → is_open l.phase ≡ false → standing l ≡ Outside l.closed_at
@@ -123,11 +124,6 @@ together_in names ends timely ordered opened = of_order ordered
 -- two ends inside are in one connection, in order
 pub are_together : (names : Names) (ends : Ends) → Timely names ends → Ordered names ends → is_open ends.client.link.phase ≡ true → is_open ends.server.link.phase ≡ true → AreTogether names ends
 are_together names ends timely ordered client_in server_in = together_in names ends timely ordered server_in
-
-pub each_drop : {X : Type 0} (P : X → Type 0) (n : ℕ) (xs : List X) → Each P xs → Each P (drop n xs)
-each_drop P zero xs each = each
-each_drop P (suc n) [] each = tt
-each_drop P (suc n) (x ∷ xs) each = each_drop P n xs each.1
 
 pub each_map : {X : Type 0} (P Q : X → Type 0) → ((x : X) → P x → Q x) → (xs : List X) → Each P xs → Each Q xs
 each_map P Q f [] each = tt

@@ -1,5 +1,5 @@
 -- Nothing that two ends send falls, event by event.
-use Rattle.std.proofs.Common.{◌≡◌, ℕ, ◌∙◌, ◌+◌, ◌-◌, ◌*◌, ◌^◌, ◌≤◌, ◌<◌, Bool, true, false, ◌==◌, List, [], ◌++◌, length, Option, Some, None, if◌then◌else◌, refl, sym, ap, subst, arith}
+use Rattle.std.proofs.Common.{◌≡◌, ℕ, ◌∙◌, ◌+◌, ◌-◌, ◌*◌, ◌^◌, ◌≤◌, ◌<◌, Bool, true, false, ◌==◌, List, [], ◌++◌, length, Option, Some, None, refl, sym, ap, subst, arith}
 use Rattle.std.proofs.lemmas.Bool.{false≢true}
 use Rattle.rasta_core_run.specs.Sequence.{wire}
 use Rattle.rasta_core_run.specs.State.{LinkState, is_asking, is_client, is_open}
@@ -20,12 +20,13 @@ use Rattle.rasta_core_run.specs.Sentences.{IsIn}
 use Rattle.rasta_core.specs.Invariant.{InFlight, Timely}
 use Rattle.rasta_core.specs.LinkAndFlow.{HasJoined, IsInside}
 use Rattle.rasta_core.specs.Ordered.{Ordered}
-use Rattle.rasta_core.specs.TimedEnds.{Inside, IsInside as StandsInside, Outside, own_stamp, standing, times_of}
+use Rattle.rasta_core.specs.TimedEnds.{IsInside as StandsInside, own_stamp, standing, times_of}
 use Rattle.rasta_core.specs.Timely.{WasReadThen}
 use Rattle.rasta_core_recovery.specs.Confirming.{AreIn}
 use Rattle.rasta_core_recovery.specs.Falls.{IsOf, IsToldAt, Keeps, NothingFalls, Rises, Rising, Speaker, Stand, nothing_sent, stands, the_client, the_server}
 use Rattle.rasta_core_recovery.proofs.ConfirmingEvents.{CameBy, Found, Laws, among, asks_by, both_of, client_enters_none, found_by, opens_not, settled_open, settled_so, stays_outside}
 use Rattle.rasta_core_recovery.proofs.Confirmed.{Both, client_inside, client_joined, never_asks, server_joined, with_client, with_server}
+use Rattle.rasta_core_recovery.proofs.Facts.{standing_in}
 use Rattle.rasta_core_recovery.proofs.FallsCalls.{AskMoved, Moved, asks_on, ask_moves_by, hears_one, joins_by, moves_by, speaks}
 use Rattle.rasta_core_recovery.proofs.FallsGoes.{Brought, Gone, heard_of, joins, moved, partner_on, silent_on}
 use Rattle.rasta_core_recovery.proofs.Asks.{Met}
@@ -35,20 +36,17 @@ use Rattle.rasta_core_recovery.proofs.StaysIn.{Asks, IsSettledAt, joins as joins
 
 -- ---- what an end knows of its own
 
-inside_is : (l : LinkState) → is_open l.phase ≡ true → standing l ≡ Inside (is_asking l) l.own_stamp l.partner_stamp
-inside_is l e = ap (λ (b : Bool). if b then Inside (is_asking l) l.own_stamp l.partner_stamp else Outside l.closed_at) e
-
 pub client_past : (names : Names) (ends : Ends) → Timely names ends → is_open ends.client.link.phase ≡ true → ends.client.link.own_stamp ≤ reading_of ends.client.clock
 client_past names ends timely is_in =
-    let own : own_stamp (standing ends.client.link) ≡ ends.client.link.own_stamp = ap own_stamp (inside_is ends.client.link is_in)
-    in let read = timely.ends_timed.client.was_read (subst StandsInside (sym (inside_is ends.client.link is_in)) tt)
+    let own : own_stamp (standing ends.client.link) ≡ ends.client.link.own_stamp = ap own_stamp (standing_in ends.client.link is_in)
+    in let read = timely.ends_timed.client.was_read (subst StandsInside (sym (standing_in ends.client.link is_in)) tt)
     in let before = timely.ends_timed.client.returned_before
     in omega (arith, own, read, before)
 
 server_past : (names : Names) (ends : Ends) → Timely names ends → is_open ends.server.link.phase ≡ true → ends.server.link.own_stamp ≤ reading_of ends.server.clock
 server_past names ends timely is_in =
-    let own : own_stamp (standing ends.server.link) ≡ ends.server.link.own_stamp = ap own_stamp (inside_is ends.server.link is_in)
-    in let read = timely.ends_timed.server.was_read (subst StandsInside (sym (inside_is ends.server.link is_in)) tt)
+    let own : own_stamp (standing ends.server.link) ≡ ends.server.link.own_stamp = ap own_stamp (standing_in ends.server.link is_in)
+    in let read = timely.ends_timed.server.was_read (subst StandsInside (sym (standing_in ends.server.link is_in)) tt)
     in let before = timely.ends_timed.server.returned_before
     in omega (arith, own, read, before)
 

@@ -35,11 +35,11 @@ comes_later names m most all p le c = record { rounds = c.rounds + m; soon = ome
 
 -- ---- the client is outside, quiet no longer in the next round, and nothing is under way
 
-abbrev the_pair : LinkState → LinkState → List Pdu → List Pdu → Pair
+abbrev pub the_pair : LinkState → LinkState → List Pdu → List Pdu → Pair
 the_pair c s tc ts = record { client = c; server = s; to_client = tc; to_server = ts }
 
-four : {a b c d : LinkState} {e f g h : List Pdu} → a ≡ b → c ≡ d → e ≡ f → g ≡ h → the_pair a c e g ≡ the_pair b d f h
-four w x y z = cc
+pub same_pair : {a b c d : LinkState} {e f g h : List Pdu} → a ≡ b → c ≡ d → e ≡ f → g ≡ h → the_pair a c e g ≡ the_pair b d f h
+same_pair w x y z = cc
 
 module _ (names : Names) (c s client_closed server_closed : ℕ) (client server : Left) (over : client_closed + 6000 ≤ c + 10) where
   abbrev cf : ℕ
@@ -143,7 +143,7 @@ module _ (names : Names) (c s client_closed server_closed : ℕ) (client server 
 -- a client that is outside, and quiet no longer in the next round: its server is outside, and nothing is under way
 pub both_rest : (names : Names) (p : Pair) → Facts names p → is_open p.client.phase ≡ false → p.client.closed_at + 6000 ≤ p.client.clock + 10
     → p ≡ both_down names p.client.clock p.server.clock p.client.closed_at p.server.closed_at (left_of p.client) (left_of p.server)
-both_rest names p facts client_out over = four (out_is names role.Client p.client facts.client client_out) (out_is names role.Server p.server facts.server waited.0) waited.1 waited.2
+both_rest names p facts client_out over = same_pair (out_is names role.Client p.client facts.client client_out) (out_is names role.Server p.server facts.server waited.0) waited.1 waited.2
   where
     waited : (is_open p.server.phase ≡ false) × (p.to_client ≡ []) × (p.to_server ≡ [])
     waited = facts.waited client_out (omega (arith, over))

@@ -28,12 +28,12 @@ use Rattle.rasta_core_run.specs.Names.{AreNames, Names}
 use Rattle.rasta_core_run.specs.Run.{Ends, called, later, lost, restarted}
 use Rattle.rasta_core.specs.Invariant.{InFlight, Timely}
 use Rattle.rasta_core.specs.TimedEnds.{times_of}
-use Rattle.rasta_core_recovery.proofs.Bridge.{each_append}
 use Rattle.rasta_core_recovery.proofs.Calls.{not_down}
 use Rattle.rasta_core_recovery.proofs.ConfirmingEvents.{CameBy, Laws, does_by, each_without, settled_open, settled_so, turned}
 use Rattle.rasta_core_recovery.proofs.Deed.{lives_state}
 use Rattle.rasta_core_recovery.proofs.FallsCalls.{AskMoved, ask_moves_by, asks_on, joins_by}
 use Rattle.rasta_core_recovery.proofs.FallsEvents.{client_past}
+use Rattle.rasta_core_recovery.proofs.Lists.{each_append}
 use Rattle.rasta_core_recovery.proofs.Opens.{Left, asking_link, request, resting_link}
 use Rattle.rasta_core_recovery.proofs.Stays.{entered_out, left_of, out_is}
 use Rattle.rasta_core_recovery.proofs.StaysIn.{Does, IsSettledAt, answers, calm, entering, gives, takes}

@@ -12,7 +12,7 @@ use Rattle.rasta_core_recovery.proofs.Converse.{Talk}
 use Rattle.rasta_core_recovery.proofs.Course.{Joined}
 use Rattle.rasta_core_recovery.proofs.Early.{HealthyOrOld, early_from}
 use Rattle.rasta_core_recovery.proofs.Facts.{Calls, Facts, IsFirst}
-use Rattle.rasta_core_recovery.proofs.Fates.{Asking as AskingStep, Comes, Leaves, Stays, asking_step, asks_on, comes_later, goes_out, in_it_of, joining, joins, leaves_comes, out_comes, search, search_from, seen_narrow, server_joined, stays_comes}
+use Rattle.rasta_core_recovery.proofs.Fates.{Asking as AskingStep, Comes, Leaves, Stays, asking_step, asks_on, comes_later, goes_out, in_it_of, joining, joins, leaves_comes, out_comes, search, search_from, seen_narrow, server_joined, stays_comes, same_pair}
 use Rattle.rasta_core_recovery.proofs.FirstGrants.{Asking, ServerFirst, grants, rests, server_first}
 use Rattle.rasta_core_recovery.proofs.FirstRises.{Climbs}
 use Rattle.rasta_core_recovery.proofs.FirstTalk.{talk_at_once, talk_on_joining}
@@ -62,12 +62,6 @@ first_of names p facts asking shut =
 
 abbrev the_step : LinkState → List Pdu → Step
 the_step l ps = record { link = l; pdus = ps }
-
-abbrev the_pair : LinkState → LinkState → List Pdu → List Pdu → Pair
-the_pair c s tc ts = record { client = c; server = s; to_client = tc; to_server = ts }
-
-four : {a b c d : LinkState} {e f g h : List Pdu} → a ≡ b → c ≡ d → e ≡ f → g ≡ h → the_pair a c e g ≡ the_pair b d f h
-four w x y z = cc
 
 asked_as : {a b c d : ℕ} (names : Names) (clock closed : ℕ) → a ≡ b → c ≡ d → asking_link names clock closed a c ≡ asking_link names clock closed b d
 asked_as names clock closed e f = cc
@@ -159,7 +153,7 @@ module _ (names : Names) (n : ℕ) (p : Pair) (long : 1561 ≤ n) (seen : Seen n
 
         whole : pair_round p ≡ just_granted names (pair_round p).client.closed_at p.server.closed_at p.client.own_first sf p.client.own_stamp taken_at asking_now.fits sf_fits
             (pair_round p).client.clock
-        whole = four (asking_then.link ∙ asked_as names (pair_round p).client.clock (pair_round p).client.closed_at first_same own) server_then (ap (λ (s : Step). s.pdus) same) mute
+        whole = same_pair (asking_then.link ∙ asked_as names (pair_round p).client.clock (pair_round p).client.closed_at first_same own) server_then (ap (λ (s : Step). s.pdus) same) mute
 
     -- its server was outside
     was_outside : is_open p.server.phase ≡ false → Comes names 1561 p

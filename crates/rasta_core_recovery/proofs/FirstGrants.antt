@@ -16,9 +16,10 @@ use Rattle.rasta_core.specs.Ordered.{Ordered}
 use Rattle.rasta_core.specs.TimedEnds.{times_of}
 use Rattle.rasta_core_recovery.specs.Rounds.{Flow}
 use Rattle.rasta_core_recovery.proofs.Calls.{Lives, heard_lives, worked_calm}
-use Rattle.rasta_core_recovery.proofs.Facts.{each_both, each_drop, each_map, each_read, in_newest, is_inside}
+use Rattle.rasta_core_recovery.proofs.Facts.{each_both, each_map, each_read, in_newest, is_inside}
 use Rattle.rasta_core_recovery.proofs.FirstAsked.{Asked, IsAsked, IsRequestOf, open_asking}
 use Rattle.rasta_core_recovery.proofs.Links.{Pair, all_heard, end_round, heard, worked}
+use Rattle.rasta_core_recovery.proofs.Lists.{each_drop}
 use Rattle.rasta_core_recovery.proofs.Mirror.{Mirrors}
 use Rattle.rasta_core_recovery.proofs.Opens.{Left, asking_link, granted_link, not_quiet, request, response, resting_link, same_eq, server_rests}
 use Rattle.rasta_core_recovery.proofs.Stays.{quiet_stays, settled_out}

@@ -14,9 +14,10 @@ use Rattle.rasta_core.specs.Ordered.{Ordered}
 use Rattle.rasta_core.specs.TimedEnds.{Times, times_of}
 use Rattle.rasta_core_recovery.specs.Falls.{IsOf, IsToldAt, Keeps, NoneFalls, Rises, Rising, Speaker, Stand, nothing_sent, stands, the_client, the_server}
 use Rattle.rasta_core_recovery.specs.Rounds.{Flow, can_come}
-use Rattle.rasta_core_recovery.proofs.Facts.{each_drop, each_map, in_newest, is_inside, young_client, young_server}
+use Rattle.rasta_core_recovery.proofs.Facts.{each_map, in_newest, is_inside, young_client, young_server}
 use Rattle.rasta_core_recovery.proofs.FallsLists.{none_falls, none_then}
 use Rattle.rasta_core_recovery.proofs.Links.{Pair}
+use Rattle.rasta_core_recovery.proofs.Lists.{each_drop}
 use Rattle.rasta_core_recovery.proofs.Mirror.{AreRead, Mirrors, arriving, bytes_from, chosen}
 use Rattle.rasta_core_recovery.proofs.Words.{Chain, IsNumbered, Row, row_most, voice_of}
 

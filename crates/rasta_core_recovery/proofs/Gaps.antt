@@ -20,11 +20,8 @@ use Rattle.rasta_core_recovery.proofs.Stays.{left_of, new_is_healthy}
 use Rattle.rasta_core_recovery.proofs.Facts.{Facts}
 use Rattle.rasta_core_recovery.proofs.Pasts.{Past}
 use Rattle.rasta_core_recovery.proofs.Seen.{round_first, rounds_add}
-use Rattle.rasta_core_recovery.proofs.Fates.{both_rest, client_quiet, server_quiet, server_stays, mute_quiet}
+use Rattle.rasta_core_recovery.proofs.Fates.{both_rest, client_quiet, server_quiet, server_stays, mute_quiet, the_pair}
 use Rattle.rasta_core_recovery.proofs.Limit.{told, parting, full_round, closes_at_limit, parting_is, goes_out, out_by_one, out_by_two}
-
-abbrev the_pair : LinkState → LinkState → List Pdu → List Pdu → Pair
-the_pair c s tc ts = record { client = c; server = s; to_client = tc; to_server = ts }
 
 -- what is so after each round
 pub record Lasts (names : Names) (p : Pair) : Type 0 where

@@ -1,5 +1,5 @@
 -- Health is kept by a round.
-use Rattle.std.proofs.Common.{◌≡◌, ℕ, suc, ◌∙◌, ◌+◌, ◌*◌, ◌-◌, ◌^◌, ◌≤◌, ◌<◌, Bool, true, false, ◌==◌, nat_le, nat_lt, if◌then◌else◌, List, [], ◌∷◌, ◌++◌, refl, sym, ap, subst, arith}
+use Rattle.std.proofs.Common.{◌≡◌, ℕ, suc, ◌∙◌, ◌+◌, ◌*◌, ◌-◌, ◌^◌, ◌≤◌, ◌<◌, Bool, true, false, nat_le, nat_lt, if◌then◌else◌, List, [], ◌∷◌, ◌++◌, refl, sym, ap, subst, arith}
 use Rattle.std.proofs.lemmas.Bool.Decides.{nat_tests}
 use Rattle.rasta_core_run.specs.Sequence.{wire, stamp, distance, before}
 use Rattle.rasta_core_run.specs.State.{LinkState, is_open, is_up, is_asking}
@@ -19,6 +19,7 @@ use Rattle.rasta_core_run.specs.Names.{Names, identity_of, partner_of}
 use Rattle.rasta_core_recovery.proofs.Links.{Pair, worked, end_round, pair_round}
 use Rattle.rasta_core_recovery.proofs.Healthy.{beats, count, is_reading, IsRecent, IsAlive, IsSteady, Follows, Beside, Hears, Near, Healthy}
 use Rattle.rasta_core_recovery.proofs.Calls.{Lives, at_reading, ticking_beats, opening_lives, worked_calm, heard_round, quiet_round, spoken}
+use Rattle.rasta_core_recovery.proofs.Opens.{same_eq, step_is}
 
 abbrev pub made : LinkState → List Pdu → Step
 made l pdus = record { link = l; pdus = pdus }
@@ -68,9 +69,6 @@ works now who l true at up young room more due = speaks who (more refl)
     speaks : (who : Role) → (who ≡ role.Client → l.sent + 1 < 2147483000) → worked now who l ≡ record { link = spoken true l; pdus = beats true (spoken true l) }
     speaks role.Client further = ap (λ (s : Step). then_do s (λ k. opening now k)) beat ∙ ap (λ (s : Step). made s.link (beats true said ++ s.pdus)) (stays (further refl)) ∙ ends
     speaks role.Server further = beat ∙ ends
-
-same_eq : (a : ℕ) → (a == a) ≡ true
-same_eq a = grind (arith, nat_tests)
 
 -- a heartbeat as its receiver sees it: the next one, which confirms up to a count and returns an own reading
 abbrev pub word : LinkState → ℕ → ℕ → ℕ → Pdu
@@ -373,11 +371,6 @@ identity_stays false true now own m l = refl
 identity_stays true false now own m l = refl
 identity_stays true true now own m l = refl
 
-round_is : (p : Pair) (c s : Step) → end_round (p.client.clock + 10) p.to_client p.client ≡ c → end_round (p.server.clock + 10) p.to_server p.server ≡ s
-    → pair_round p ≡ record { client = c.link; server = s.link; to_client = s.pdus; to_server = c.pdus }
-unfolding pair_round
-round_is p c s e f = cc
-
 -- ---- an end that is up and was heard lately
 
 steady_word : (f g : Bool) (l m : LinkState) → IsSteady f l m → IsSteady f (spoken g l) m
@@ -444,7 +437,7 @@ module _ (names : Names) (of_client of_server : Bool) (p : Pair) (h : Beside nam
   s1 = spoken gs (heard_by of_client (p.server.clock + 10) h.hears_server.reading p.client p.server)
 
   is : pair_round p ≡ record { client = c1; server = s1; to_client = beats gs s1; to_server = beats gc c1 }
-  is = round_is p _ _
+  is = step_is p _ _
       (ap (λ (ps : List Pdu). end_round (p.client.clock + 10) ps p.client) h.to_client
       ∙ healthy_round names role.Client of_server of_client gc p.client p.server (record { own = h.client; other = h.server }) h.hears_server h.hears_client client_young client_room (omega (arith, server_room)) (λ e c. client_more e) refl)
       (ap (λ (ps : List Pdu). end_round (p.server.clock + 10) ps p.server) h.to_server

@@ -11,16 +11,13 @@ use Rattle.rasta_core_recovery.proofs.Links.{Pair}
 use Rattle.rasta_core_recovery.proofs.Acts.{WorkRound, behind}
 use Rattle.rasta_core_recovery.proofs.Bridge.{mirror_of}
 use Rattle.rasta_core_recovery.proofs.Hale.{Hale, Onward, hale_on, server_level, client_grows, server_onward}
+use Rattle.rasta_core_recovery.proofs.Lists.{none_are}
 use Rattle.rasta_core_recovery.proofs.Mirror.{Mirrors}
 use Rattle.rasta_core_recovery.proofs.Recovers.{Laws, holds_after}
 use Rattle.rasta_core_recovery.proofs.Replies.{chain_count, client_young, server_young}
 use Rattle.rasta_core_recovery.proofs.WorkBridge.{Follows, follows}
 use Rattle.rasta_core_recovery.proofs.WorkRecovers.{leads, sound_of}
 use Rattle.rasta_core_recovery.proofs.WorkSum.{all_come}
-
-pub none_are : {X : Type 0} (xs : List X) → length xs ≡ 0 → xs ≡ []
-none_are [] none = refl
-none_are (x ∷ xs) none = absurd (omega (arith, none))
 
 -- One client at two moments of a connection: time has passed, it has sent no fewer PDUs, and where it has sent no more it last sent when
 -- it did.

@@ -16,6 +16,7 @@ use Rattle.rasta_core_recovery.proofs.Calls.{opening_lives, ticking_beats, ticki
 use Rattle.rasta_core_recovery.proofs.Course.{Joined, lively}
 use Rattle.rasta_core_recovery.proofs.Hale.{Hale, hale_on}
 use Rattle.rasta_core_recovery.proofs.InTurn.{Takes, Tells, Whole, all_tell, gives_at_once, hears_takes, pdus_both, links_both, same_first, whole_joined, whole_rest, whole_then}
+use Rattle.rasta_core_recovery.proofs.Lists.{none_of_both}
 use Rattle.rasta_core_recovery.proofs.Own.{lives_of}
 use Rattle.rasta_core_recovery.proofs.Replies.{client_did, client_is, client_whole, server_brings, server_did, server_is, server_whole}
 use Rattle.rasta_core_recovery.proofs.Heartbeats.{round_lasts}
@@ -267,15 +268,11 @@ one_unconfirmed now (Gives item) l none is room = choose (is_ok (acceptance l)) 
         no_greater : (n : ℕ) → stops_at_greatest n ≤ n
         no_greater n = grind arith
 
-none_of : (ps qs : List Pdu) → ps ++ qs ≡ [] → (ps ≡ []) × (qs ≡ [])
-none_of [] qs none = (refl, none)
-none_of (p ∷ ps) qs none = absurd (cc none)
-
 all_unconfirmed : (now : ℕ) (acts : List Act) (l : LinkState) → all_brought acts ≡ [] → Whole now acts l → confirmed_items (all_did now acts l).link ≤ confirmed_items l
 unfolding all_did
 all_unconfirmed now [] l none w = omega arith
 all_unconfirmed now (a ∷ acts) l none w =
-    let both = none_of (brought a) (all_brought acts) none
+    let both = none_of_both (brought a) (all_brought acts) none
     in let one = one_unconfirmed now a l both.0 w.within.0 w.room.0
     in let more = all_unconfirmed now acts (did now a l).link both.1 (whole_then now a acts l w).0
     in omega (arith, one, more)

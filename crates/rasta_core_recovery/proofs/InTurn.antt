@@ -16,15 +16,15 @@ use Rattle.rasta_core.specs.Order.{Rises}
 use Rattle.rasta_core_recovery.proofs.Links.{heard}
 use Rattle.rasta_core_recovery.proofs.Acts.{Act, Hears, Beats, Asks, Gives, did, all_did, brought, all_brought, HasRoom, Roomy}
 use Rattle.rasta_core_recovery.proofs.Calls.{entered_lives, heard_lives, opening_lives, ticking_beats, ticking_calm}
+use Rattle.rasta_core_recovery.proofs.Lists.{each_append}
 use Rattle.rasta_core_recovery.proofs.Words.{IsPlain, IsSimple, Says, simple_plain}
 use Rattle.rasta_core_recovery.proofs.Deed.{Deed, InTurn, Taken, leaves, keeps, asks, takes, hears}
 use Rattle.rasta_core_recovery.proofs.Fold.{Lively, same_clock}
 use Rattle.rasta_core_recovery.proofs.Own.{IsOwnAct, Utters, lives_of, own_utters}
 use Rattle.rasta_core_recovery.proofs.Course.{Joined, lively}
-use Rattle.rasta_core_recovery.proofs.TunedEnds.{each_append}
 use Rattle.rasta_core_recovery.proofs.WindowNumbers.{before_is as before_one, count_both}
 use Rattle.rasta_core_recovery.proofs.Within.{Within, each_split}
-use Rattle.rasta_core_recovery.proofs.WorkTurn.{IsSimplePdu}
+use Rattle.rasta_core_recovery.proofs.WorkTurn.{expects_still, IsSimplePdu}
 
 -- ---- items that wait, by the PDUs under which they do
 
@@ -117,18 +117,15 @@ next_expected p l k ps t turn fits = t.expected ∙ ap (λ (n : ℕ). wire l.exp
 
 -- ---- how far an end comes at most
 
-same_expected : (l k : LinkState) (qs : List Pdu) → Utters l k qs → k.expected ≡ l.expected
-same_expected l k qs u = ap (λ (j : LinkState). j.expected) u.same
-
 one_most : (now : ℕ) (a : Act) (l : LinkState) → Joined now l → HasRoom l → Each IsSimplePdu (brought a) → l.expected + length (brought a) < 2 ^ 31 → (did now a l).link.expected ≤ l.expected + length (brought a)
 one_most now (Hears p) l is room simple fits = choose (one_hears now p l is room simple.0)
   where
     choose : Meets p l (did now (Hears p) l).link (did now (Hears p) l).pdus → (did now (Hears p) l).link.expected ≤ l.expected + 1
     choose (skips e) = omega (arith, e)
     choose (turns t turn) = let e = next_expected p l _ _ t turn fits in omega (arith, e)
-one_most now Beats l is room simple fits = let e = same_expected l _ _ (own_utters now Beats l tt (lively now l is) room) in omega (arith, e)
-one_most now Asks l is room simple fits = let e = same_expected l _ _ (own_utters now Asks l tt (lively now l is) room) in omega (arith, e)
-one_most now (Gives item) l is room simple fits = let e = same_expected l _ _ (own_utters now (Gives item) l tt (lively now l is) room) in omega (arith, e)
+one_most now Beats l is room simple fits = let e = expects_still l _ _ (own_utters now Beats l tt (lively now l is) room) in omega (arith, e)
+one_most now Asks l is room simple fits = let e = expects_still l _ _ (own_utters now Asks l tt (lively now l is) room) in omega (arith, e)
+one_most now (Gives item) l is room simple fits = let e = expects_still l _ _ (own_utters now (Gives item) l tt (lively now l is) room) in omega (arith, e)
 
 within_first : (now : ℕ) (acts : List Act) (l : LinkState) → Within now acts l → Joined now l
 within_first now [] l within = within

@@ -1,4 +1,5 @@
 -- Two links by rounds, over PDUs.
+pub mod Lists
 pub mod Links
 pub mod Healthy
 pub mod Mirror

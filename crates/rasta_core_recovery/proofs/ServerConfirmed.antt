@@ -28,10 +28,10 @@ use Rattle.rasta_core.specs.Order.{Carries, IsClosing, IsRequest, IsSent, IsUnan
 use Rattle.rasta_core.specs.Ordered.{AreTogether, IsAlone, IsSpelledIn, Ordered, alone, together, unbegun}
 use Rattle.rasta_core_recovery.specs.Confirming.{AreIn, Confirms, IsNumbered, reached_by}
 use Rattle.rasta_core_recovery.specs.ServerConfirming.{AwaitsAnswers, IsSaidByClient, ServerConfirming, ServerIsConfirmed, exchanged}
-use Rattle.rasta_core_recovery.proofs.Bridge.{each_append}
 use Rattle.rasta_core_recovery.proofs.Confirmed.{Both, Moves, Sides, client_inside, client_joined, client_keeps, client_level, client_moves, exchange, never_asks, server_joined, server_keeps, server_level, server_says, server_speaks, sides_of, within, word_closes}
 use Rattle.rasta_core_recovery.proofs.ConfirmingEvents.{Alike, CameBy, Laws, Spells, among, as_many_wait, asks_by, both_new, both_of, both_old, client_both_new, client_both_old, client_given_is, client_in_flow, client_is, client_new, client_sent, client_taken_is, client_was_in, connection_then, delivered_is, does, does_by, each_without, enters_by, enters_none, few_alike, found, given_is, in_flow, later_alike, numbered_alike, sent_then, server_new, server_ordered, server_timely, settled_so, spell, stays_outside, taken_is, then_is, turned}
 use Rattle.rasta_core_recovery.proofs.Facts.{is_newest}
+use Rattle.rasta_core_recovery.proofs.Lists.{each_append}
 use Rattle.rasta_core_recovery.proofs.StaysIn.{Asks, Does, IsFrom, IsSettledAt, Passes, Speaks, joins, still}
 use Rattle.rasta_core_recovery.proofs.WindowNumbers.{count_both}
 

@@ -15,6 +15,7 @@ use Rattle.rasta_core_run.specs.Each.{Each}
 use Rattle.rasta_core_recovery.proofs.Links.{heard, all_heard}
 use Rattle.rasta_core_recovery.proofs.Healthy.{is_reading, waits}
 use Rattle.rasta_core_recovery.proofs.Calls.{heard_lives}
+use Rattle.rasta_core_recovery.proofs.Lists.{each_append}
 use Rattle.rasta_core_recovery.proofs.Words.{IsPlain, IsSimple, IsNoAnswer, Says, Voice, voice_of, IsWord, Chain, chain_lower, chain_then, chain_ends}
 use Rattle.rasta_core_recovery.proofs.Deed.{InTurn, Blocked, stranger, other, opens, far, stale, unconfirming, discarded, Passes, Taken, Asked, Deed, leaves, keeps, asks, takes, hears}
 use Rattle.rasta_core_recovery.proofs.Fold.{Out, heard_case, same_clock, Next, gone_next, stays_next, all_hear}
@@ -29,10 +30,6 @@ IsNoAnswerPdu p = IsNoAnswer p.body
 pub says_plain : (h : Header) (n end : ℕ) (ps : List Pdu) → Says IsPlain h n ps end → Each IsPlainPdu ps
 says_plain h n end [] s = tt
 says_plain h n end (p ∷ ps) s = (s.1, says_plain h (n + 1) end ps s.2)
-
-pub each_append : {X : Type 0} (P : X → Type 0) (xs ys : List X) → Each P xs → Each P ys → Each P (xs ++ ys)
-each_append P [] ys a b = b
-each_append P (x ∷ xs) ys a b = (a.0, each_append P xs ys a.1 b)
 
 same_eq : (a b : ℕ) → a ≡ b → (a == b) ≡ true
 same_eq a b e = subst (λ (x : ℕ). (a == x) ≡ true) e (grind (arith, nat_tests))

@@ -13,11 +13,12 @@ use Rattle.rasta_core_run.specs.Each.{Each}
 use Rattle.rasta_core_recovery.proofs.Links.{heard, all_heard, worked, end_round}
 use Rattle.rasta_core_recovery.proofs.Healthy.{beats, waits}
 use Rattle.rasta_core_recovery.proofs.Calls.{at_reading, spoken}
+use Rattle.rasta_core_recovery.proofs.Lists.{each_append}
 use Rattle.rasta_core_recovery.proofs.Words.{IsTalk, IsPlain, plain_talk, Row, Voice, voice_of, IsNumbered, Chain, chain_then, row_then, says_row, says_chain}
 use Rattle.rasta_core_recovery.proofs.Deed.{Deed, leaves, keeps, asks, takes, hears}
 use Rattle.rasta_core_recovery.proofs.Fold.{Out, heard_case, Next, gone_next, stays_next, all_hear, Work, gone_work, calm_work, beats_work, works, Begins, late, on, begins, stays_out, works_out, round_on}
 use Rattle.rasta_core_recovery.proofs.Course.{Joined, lively, Goes, goes_none, goes_then, voice_goes, taken_joined, asked_joined, asked_goes, taken_goes}
-use Rattle.rasta_core_recovery.proofs.TunedEnds.{IsPlainPdu, IsNoAnswerPdu, not_before, IsShut, IsOutdated, Reached, unheard, waiting, off, low, Deaf, each_append, Round, Bounds, Ghost, Tuned, HasHeard, HasWaited, Mode, Hearing, Answers, tunes}
+use Rattle.rasta_core_recovery.proofs.TunedEnds.{IsPlainPdu, IsNoAnswerPdu, not_before, IsShut, IsOutdated, Reached, unheard, waiting, off, low, Deaf, Round, Bounds, Ghost, Tuned, HasHeard, HasWaited, Mode, Hearing, Answers, tunes}
 
 -- an end that waits for a retransmission is up
 pub waits_up : (at : Phase) → waits at ≡ true → is_up at ≡ true

@@ -21,14 +21,14 @@ use Rattle.rasta_core_recovery.proofs.Confirms.{some_reached, taken_confirmed}
 use Rattle.rasta_core_recovery.proofs.Course.{Joined, lively}
 use Rattle.rasta_core_recovery.proofs.Facts.{are_together}
 use Rattle.rasta_core_recovery.proofs.Given.{Grows, grows_then}
-use Rattle.rasta_core_recovery.proofs.Hale.{Hale, hale_on, server_grows}
+use Rattle.rasta_core_recovery.proofs.Hale.{Hale, hale_on, room_first, server_grows}
 use Rattle.rasta_core_recovery.proofs.HandOver.{fits_in}
 use Rattle.rasta_core_recovery.proofs.InTurn.{Tells, Whole, all_tell, last_of, same_first, waits_above, whole_joined, whole_rest, whole_then}
+use Rattle.rasta_core_recovery.proofs.Lists.{each_append}
 use Rattle.rasta_core_recovery.proofs.Mirror.{Mirrors}
 use Rattle.rasta_core_recovery.proofs.Own.{IsOwnAct, own_utters}
 use Rattle.rasta_core_recovery.proofs.Recovers.{Laws, Holds, holds_run, holds_after}
 use Rattle.rasta_core_recovery.proofs.Replies.{BothCut, both_of, client_did, client_is, client_whole, client_young, cut, may_part, server_brings, server_is, server_whole, server_young}
-use Rattle.rasta_core_recovery.proofs.TunedEnds.{each_append}
 use Rattle.rasta_core_recovery.proofs.WindowNumbers.{count_both}
 use Rattle.rasta_core_recovery.proofs.Within.{Within, all_grow, brought_both, each_split}
 use Rattle.rasta_core_recovery.proofs.WorkBridge.{Follows, follows}
@@ -37,10 +37,6 @@ use Rattle.rasta_core_recovery.proofs.WorkSum.{all_come}
 use Rattle.rasta_core_recovery.proofs.WorkTurn.{IsSimplePdu}
 
 -- ---- the first part of a round
-
-room_first : (now : ℕ) (acts : List Act) (l : LinkState) → Roomy now acts l → HasRoom l
-room_first now [] l room = room
-room_first now (a ∷ acts) l room = room.0
 
 -- an end that takes all that comes does so in the first part of it
 whole_front : (now : ℕ) (one other : List Act) (l : LinkState) → Whole now (one ++ other) l → Whole now one l

@@ -11,7 +11,8 @@ use Rattle.rasta_core_recovery.proofs.Links.{Pair}
 use Rattle.rasta_core_recovery.proofs.Acts.{WorkRound, behind}
 use Rattle.rasta_core_recovery.proofs.Bridge.{mirror_of}
 use Rattle.rasta_core_recovery.proofs.Hale.{Hale, Onward, client_level, client_onward, hale_on, server_grows}
-use Rattle.rasta_core_recovery.proofs.Heartbeats.{Lasts, lasts_then, none_are}
+use Rattle.rasta_core_recovery.proofs.Heartbeats.{Lasts, lasts_then}
+use Rattle.rasta_core_recovery.proofs.Lists.{none_are}
 use Rattle.rasta_core_recovery.proofs.Mirror.{Mirrors}
 use Rattle.rasta_core_recovery.proofs.Recovers.{Laws, holds_after}
 use Rattle.rasta_core_recovery.proofs.Replies.{chain_count, client_young, server_young}

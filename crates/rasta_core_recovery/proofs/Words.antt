@@ -1,5 +1,5 @@
 -- What an end says in a round: PDUs with rising numbers, all with the stamp of that round.
-use Rattle.std.proofs.Common.{◌≡◌, ℕ, suc, ◌∙◌, ◌+◌, ◌^◌, ◌≤◌, ◌<◌, Bool, true, false, List, [], ◌∷◌, ◌++◌, length, if◌then◌else◌, refl, sym, ap, subst, arith}
+use Rattle.std.proofs.Common.{◌≡◌, ℕ, suc, ◌∙◌, ◌+◌, ◌^◌, ◌≤◌, ◌<◌, false, List, [], ◌∷◌, ◌++◌, length, refl, sym, ap, subst, arith}
 use Rattle.rasta_core_run.specs.Sequence.{wire, before, stamp}
 use Rattle.rasta_core_run.specs.State.{LinkState, is_asking}
 use Rattle.rasta_core_run.specs.PdusHandedOut.{header_of, pdu_of}
@@ -9,6 +9,7 @@ use Rattle.rasta_core_run.specs.window.Unconfirmed.{Unconfirmed}
 use Rattle.rasta_core_run.specs.pdu.Pdu.{Pdu}
 use Rattle.rasta_core_run.specs.body.Body.{Body}
 use Rattle.rasta_core_run.specs.body.Body.TheVariants.{ConnectionRequest, ConnectionResponse, RetransmissionRequest, RetransmissionResponse, DisconnectionRequest, Heartbeat, Data, RetransmittedData}
+use Rattle.rasta_core_recovery.proofs.Health.{chosen_not}
 
 -- what an end inside may say: nothing that opens
 abbrev pub IsTalk : Body → Type 0
@@ -148,10 +149,6 @@ chain_row v n c r end d q [] (i, j, k) = i
 chain_row v n c r end d q (p ∷ ps) (x, y, h, i, w, more) = (w.numbered, chain_row v (n + 1) x y end d q ps more)
 
 -- ---- what an end that has joined says, as a chain
-
-chosen_not : (b : Bool) (x : ℕ) → b ≡ false → (if b then 0 else x) ≡ x
-chosen_not true x e = cc
-chosen_not false x e = refl
 
 -- of a header: what a link's header is by its fields
 pub record Speaks (l : LinkState) (v : Voice) (count kept : ℕ) : Type 0 where

@@ -10,14 +10,11 @@ use Rattle.rasta_core_run.specs.Names.{Names, partner_of}
 use Rattle.rasta_core_recovery.specs.Rounds.{Flow, can_come, comings, own_work, good_round}
 use Rattle.rasta_core_recovery.specs.Work.{IsAtWork, IsBeforeTick, IsCall, IsWorkAt, LeavesOpen, all_coming, called_in, calls_in, clock_calls, due_to, work_round}
 use Rattle.rasta_core_recovery.proofs.Happen.{may_happen}
+use Rattle.rasta_core_recovery.proofs.Lists.{each_append}
 
 called_both : (who : Role) (one other : List Event) → calls_in who (one ++ other) ≡ calls_in who one ++ calls_in who other
 called_both who [] other = refl
 called_both who (first ∷ one) other = ap (λ (l : List Call). called_in who first ++ l) (called_both who one other) ∙ sym (append_assoc (called_in who first) (calls_in who one) (calls_in who other))
-
-each_both : {X : Type 0} (P : X → Type 0) (xs ys : List X) → Each P xs → Each P ys → Each P (xs ++ ys)
-each_both P [] ys a b = b
-each_both P (x ∷ xs) ys a b = (a.0, each_both P xs ys a.1 b)
 
 module _ (time : ℕ) where
   comings_call : (ds : List Sent) → Each IsCall (comings time ds)
@@ -80,13 +77,13 @@ module _ (time : ℕ) where
 pub good_is_at_work : (names : Names) (f : Flow) → IsAtWork names f (comings (f.ends.time + 10000) (drop f.passed f.ends.sent) ++ own_work)
 good_is_at_work names f = record {
   may = may_happen names f;
-  only = each_both IsCall (comings (f.ends.time + 10000) (drop f.passed f.ends.sent)) own_work (comings_call (f.ends.time + 10000) (drop f.passed f.ends.sent)) (tt, (tt, (tt, tt)));
+  only = each_append IsCall (comings (f.ends.time + 10000) (drop f.passed f.ends.sent)) own_work (comings_call (f.ends.time + 10000) (drop f.passed f.ends.sent)) (tt, (tt, (tt, tt)));
   client = work_at (f.ends.time + 10000) role.Client (drop f.passed f.ends.sent);
   server = work_at (f.ends.time + 10000) role.Server (drop f.passed f.ends.sent);
 }
 
 pub good_leaves_open : (f : Flow) → Each LeavesOpen (comings (f.ends.time + 10000) (drop f.passed f.ends.sent) ++ own_work)
-good_leaves_open f = each_both LeavesOpen (comings (f.ends.time + 10000) (drop f.passed f.ends.sent)) own_work (comings_open (f.ends.time + 10000) (drop f.passed f.ends.sent)) (tt, (tt, (tt, tt)))
+good_leaves_open f = each_append LeavesOpen (comings (f.ends.time + 10000) (drop f.passed f.ends.sent)) own_work (comings_open (f.ends.time + 10000) (drop f.passed f.ends.sent)) (tt, (tt, (tt, tt)))
 
 pub good_is_work_round : (f : Flow) → good_round f ≡ work_round (comings (f.ends.time + 10000) (drop f.passed f.ends.sent) ++ own_work) f
 unfolding good_round

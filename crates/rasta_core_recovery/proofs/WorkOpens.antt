@@ -1,9 +1,9 @@
 -- A connection that opens at work: items are given between its first PDUs, and where an end isn't up they come to nothing.
-use Rattle.std.proofs.Common.{◌≡◌, ℕ, ◌∙◌, ◌+◌, ◌-◌, ◌^◌, ◌≤◌, ◌<◌, true, false, ◌==◌, nat_le, nat_lt, if◌then◌else◌, List, [], ◌∷◌, ◌++◌, append_assoc, refl, sym, ap, subst, arith}
+use Rattle.std.proofs.Common.{◌≡◌, ℕ, ◌∙◌, ◌+◌, ◌-◌, ◌^◌, ◌≤◌, ◌<◌, true, false, ◌==◌, nat_lt, if◌then◌else◌, List, [], ◌∷◌, ◌++◌, append_assoc, refl, sym, ap, subst, arith}
 use Rattle.std.specs.Prelude.{is_ok}
 use Rattle.std.proofs.lemmas.Bool.Decides.{nat_tests}
 use Rattle.rasta_core_run.specs.Sequence.{wire, stamp, distance}
-use Rattle.rasta_core_run.specs.State.{LinkState, is_open, is_up}
+use Rattle.rasta_core_run.specs.State.{LinkState, is_up}
 use Rattle.rasta_core_run.specs.Clock.{settled, deadline, state_at}
 use Rattle.rasta_core_run.specs.PdusHandedOut.{Step, silent, then_do, entered, limited, beating, giving, sending, header_of, pdu_of}
 use Rattle.rasta_core_run.specs.Establishment.{requesting, beginning, meeting, judging, granting, joining}
@@ -14,16 +14,17 @@ use Rattle.rasta_core_run.specs.identity.Role.TheVariants as role
 use Rattle.rasta_core_run.specs.pdu.Pdu.{Pdu}
 use Rattle.rasta_core_run.specs.Each.{Each}
 use Rattle.rasta_core_run.specs.Names.{Names}
+use Rattle.rasta_core_recovery.proofs.Fold.{settled_in}
 use Rattle.rasta_core_recovery.proofs.Links.{heard}
 use Rattle.rasta_core_recovery.proofs.Acts.{Act, Hears, Beats, Asks, Gives, did, all_did, acted, all_brought, clock_acts, IsBefore, IsGift, IsWork, HasRoom, Roomy}
-use Rattle.rasta_core_recovery.proofs.Calls.{Lives, at_reading, entered_lives, opening_lives, heard_lives}
+use Rattle.rasta_core_recovery.proofs.Calls.{Lives, entered_lives, opening_lives, heard_lives}
+use Rattle.rasta_core_recovery.proofs.Lists.{each_append}
 use Rattle.rasta_core_recovery.proofs.Words.{Voice, voice_of, Chain, chain_then}
-use Rattle.rasta_core_recovery.proofs.Opens.{Left, resting_link, asking_link, request, granted_link, response, joined_link, first_beat, up_link}
+use Rattle.rasta_core_recovery.proofs.Opens.{Left, resting_link, asking_link, request, granted_link, response, joined_link, first_beat, up_link, not_quiet, same_eq}
 use Rattle.rasta_core_recovery.proofs.Stays.{settled_out, entered_out}
 use Rattle.rasta_core_recovery.proofs.Own.{Utters, Calm}
 use Rattle.rasta_core_recovery.proofs.WorkFold.{Done, gone_done, so_done, works_through}
 use Rattle.rasta_core_recovery.proofs.Course.{Joined, lively, Goes, goes_none, goes_then, voice_goes}
-use Rattle.rasta_core_recovery.proofs.TunedEnds.{each_append}
 use Rattle.rasta_core_recovery.proofs.WorkTurn.{IsSimplePdu, utters_joined, utters_goes, utters_chain, utters_simple}
 
 -- ---- the parts of a round
@@ -142,12 +143,6 @@ server_rests_at_work names now clock closed_at left acts w =
     ∙ ap (λ (k : LinkState). all_did now (w.front ++ (clock_acts role.Server ++ w.back)) k) (settled_out now (resting_link names role.Server clock closed_at left) refl)
     ∙ mute_server now w.front w.back (resting_link names role.Server now closed_at left) (gifts_of w.front w.before w.brings) w.behind (entered_out now (resting_link names role.Server now closed_at left) refl) refl
 
-not_quiet : (now closed_at : ℕ) → closed_at + 6000 ≤ now → nat_lt now (closed_at + 6000) ≡ false
-not_quiet now closed_at h = grind (arith, nat_tests)
-
-same_eq : (a : ℕ) → (a == a) ≡ true
-same_eq a = grind (arith, nat_tests)
-
 opens_now : (names : Names) (now closed_at : ℕ) (left : Left) → closed_at + 6000 ≤ now
     → opening now (resting_link names role.Client now closed_at left) ≡ record { link = asking_link names now closed_at (wire left.own_first left.sent) now; pdus = request names (wire left.own_first left.sent) now ∷ [] }
 unfolding opening entered limited settled deadline state_at requesting beginning sending header_of pdu_of
@@ -178,18 +173,11 @@ client_opens_at_work names now clock closed_at left acts over w =
 
 -- ---- a client that has asked
 
-settles_lives : (now : ℕ) (l : LinkState) → is_open l.phase ≡ true → now < l.own_stamp + 1800 → settled now l ≡ at_reading now l
-unfolding settled deadline
-settles_lives now l is_in young = rw (is_in, late) refl
-  where
-    late : nat_le (l.own_stamp + 1800) now ≡ false
-    late = let y = young in grind (arith, nat_tests)
-
 pub client_waits_at_work : (names : Names) (now closed_at first at clock : ℕ) (acts : List Act) → now < at + 1800 → IsWork role.Client [] acts
     → acted now acts (asking_link names clock closed_at first at) ≡ silent (asking_link names now closed_at first at)
 client_waits_at_work names now closed_at first at clock acts young w =
     round_is role.Client now [] acts (asking_link names clock closed_at first at) w
-    ∙ ap (λ (k : LinkState). all_did now (w.front ++ (clock_acts role.Client ++ w.back)) k) (settles_lives now (asking_link names clock closed_at first at) refl young)
+    ∙ ap (λ (k : LinkState). all_did now (w.front ++ (clock_acts role.Client ++ w.back)) k) (settled_in now (asking_link names clock closed_at first at) refl young)
     ∙ mute_client now w.front w.back asked (gifts_of w.front w.before w.brings) w.behind (entered_lives now asked lives) refl (opening_lives now asked lives)
   where
     asked : LinkState
@@ -231,7 +219,7 @@ pub server_waits_at_work : (names : Names) (now closed_at first at clock : ℕ) 
     → acted now acts (granted_link names clock closed_at first pdu at) ≡ silent (granted_link names now closed_at first pdu at)
 server_waits_at_work names now closed_at first at clock pdu acts young w =
     round_is role.Server now [] acts (granted_link names clock closed_at first pdu at) w
-    ∙ ap (λ (k : LinkState). all_did now (w.front ++ (clock_acts role.Server ++ w.back)) k) (settles_lives now (granted_link names clock closed_at first pdu at) refl young)
+    ∙ ap (λ (k : LinkState). all_did now (w.front ++ (clock_acts role.Server ++ w.back)) k) (settled_in now (granted_link names clock closed_at first pdu at) refl young)
     ∙ mute_server now w.front w.back (granted_link names now closed_at first pdu at) (gifts_of w.front w.before w.brings) w.behind
     (entered_lives now (granted_link names now closed_at first pdu at) (record { connected = refl; young = young; room = omega arith })) refl
 
@@ -375,7 +363,7 @@ client_joins_at_work names now closed_at first at clock server_first reading act
     enters = entered_lives now asked (record { connected = refl; young = young; room = omega arith })
 
     settles : settled now (asking_link names clock closed_at first at) ≡ asked
-    settles = settles_lives now (asking_link names clock closed_at first at) refl young
+    settles = settled_in now (asking_link names clock closed_at first at) refl young
 
     joins_it : heard now answer asked ≡ record { link = joined; pdus = beat ∷ [] }
     joins_it = heard_joins names now closed_at first at server_first reading young fits
@@ -465,7 +453,7 @@ server_comes_up_at_work names closed_at first asked server_first at clock now be
     enters = entered_lives now granted lives
 
     settles : settled now (granted_link names clock closed_at server_first (request names first asked) at) ≡ granted
-    settles = settles_lives now (granted_link names clock closed_at server_first (request names first asked) at) refl (omega (arith, g, h))
+    settles = settled_in now (granted_link names clock closed_at server_first (request names first asked) at) refl (omega (arith, g, h))
 
     comes_it : heard now spoken granted ≡ record { link = up_link names now closed_at server_first (request names first asked) at (stamp beat); pdus = [] }
     comes_it = heard_comes_up names closed_at first asked server_first at now beat g h fits server_fits

@@ -12,12 +12,13 @@ use Rattle.rasta_core_recovery.proofs.Links.{heard}
 use Rattle.rasta_core_recovery.proofs.Acts.{Act, all_did, acted, IsWork, HasRoom, Roomy}
 use Rattle.rasta_core_recovery.proofs.Healthy.{is_reading, waits}
 use Rattle.rasta_core_recovery.proofs.Calls.{at_reading}
+use Rattle.rasta_core_recovery.proofs.Lists.{each_append}
 use Rattle.rasta_core_recovery.proofs.Words.{IsSimple, Says, simple_plain, simple_talk, simple_no_answer, says_most, Row, Voice, voice_of, IsNumbered, Chain, says_row, says_chain}
 use Rattle.rasta_core_recovery.proofs.Fold.{Out, Next, gone_next, stays_next}
 use Rattle.rasta_core_recovery.proofs.Own.{Utters, Calm}
 use Rattle.rasta_core_recovery.proofs.WorkFold.{Done, gone_done, so_done, works_through, round_through}
 use Rattle.rasta_core_recovery.proofs.Course.{Joined, lively, Goes, goes_none, voice_goes, speaks_now}
-use Rattle.rasta_core_recovery.proofs.TunedEnds.{IsPlainPdu, IsNoAnswerPdu, not_before, Round, Bounds, Ghost, HasHeard, HasWaited, Mode, Shut, far_off, outdated, missed, stuck, nothing, Reached, unheard, waiting, off, low, Deaf, IsOutdated, each_append, Hearing, Answers, tunes_one}
+use Rattle.rasta_core_recovery.proofs.TunedEnds.{IsPlainPdu, IsNoAnswerPdu, not_before, Round, Bounds, Ghost, HasHeard, HasWaited, Mode, Shut, far_off, outdated, missed, stuck, nothing, Reached, unheard, waiting, off, low, Deaf, IsOutdated, Hearing, Answers, tunes_one}
 use Rattle.rasta_core_recovery.proofs.Turn.{waits_up, Either, gone, so, Rowed, rowed_then, rows_step, Numbers, linked_then, Spoke, Notes, end_mode, Heeds, reading_joined}
 
 abbrev pub IsSimplePdu : Pdu → Type 0
@@ -49,7 +50,7 @@ utters_goes now l k qs at u = record {
 pub utters_row : (l k : LinkState) (qs : List Pdu) → Utters l k qs → Row (IsNumbered (voice_of l)) l.sent qs k.sent
 utters_row l k qs u = says_row IsSimple simple_talk (voice_of l) l l.sent k.sent qs refl u.says
 
-expects_still : (l k : LinkState) (qs : List Pdu) → Utters l k qs → k.expected ≡ l.expected
+pub expects_still : (l k : LinkState) (qs : List Pdu) → Utters l k qs → k.expected ≡ l.expected
 expects_still l k qs u = ap (λ (j : LinkState). j.expected) u.same
 
 pub utters_chain : (now kept : ℕ) (l k : LinkState) (qs : List Pdu) → Joined now l → 1 ≤ l.expected → l.expected < 2 ^ 31 → l.partner_stamp ≡ stamp kept → Utters l k qs

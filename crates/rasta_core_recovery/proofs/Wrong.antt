@@ -1,6 +1,6 @@
 -- A client that doesn't open again stays outside, and so does its server.
 use Rattle.std.proofs.Common.{◌≡◌, ℕ, zero, suc, ◌∙◌, ◌+◌, Bool, true, false, List, [], ◌∷◌, ◌++◌, length, drop, refl, sym, ap, subst, arith}
-use Rattle.rasta_core_run.specs.State.{LinkState, is_open, is_up}
+use Rattle.rasta_core_run.specs.State.{LinkState, is_open}
 use Rattle.rasta_core_run.specs.Clock.{settled, deadline, state_at}
 use Rattle.rasta_core_run.specs.Outbox.{spellings}
 use Rattle.rasta_core_run.specs.PdusHandedOut.{Step, silent, then_do, entered, limited, beating, sending}
@@ -8,24 +8,16 @@ use Rattle.rasta_core_run.specs.Establishment.{beginning, requesting}
 use Rattle.rasta_core_run.specs.Calls.{created, opening, ticking}
 use Rattle.rasta_core_run.specs.identity.Role.{Role}
 use Rattle.rasta_core_run.specs.identity.Role.TheVariants as role
-use Rattle.rasta_core_run.specs.phase.Phase.{Phase}
-use Rattle.rasta_core_run.specs.phase.Phase.TheVariants as phase
 use Rattle.rasta_core_run.specs.Ends.{Sent, EndState, Ticks, outcome, end_after, end_later, handed_out, reading_of}
 use Rattle.rasta_core_run.specs.Run.{Ends, end_of, called, later}
 use Rattle.rasta_core_run.specs.Events.{Passes, MayRun, run, started}
 use Rattle.rasta_core_run.specs.Names.{Names}
 use Rattle.rasta_core_recovery.specs.Rounds.{AreUp, Flow, comings, flow_after}
 use Rattle.rasta_core_recovery.specs.WrongRounds.{NeverUp, RestsFor, asks_in_vain, asks_once, at_zero, round_where, rounds_where, work_where}
+use Rattle.rasta_core_recovery.proofs.Fold.{not_up}
 use Rattle.rasta_core_recovery.proofs.Stays.{settled_out, entered_out}
 
 -- ---- an end outside
-
-not_up : (p : Phase) → is_open p ≡ false → is_up p ≡ false
-not_up phase.Closed o = refl
-not_up phase.Start o = cc
-not_up phase.Up o = cc
-not_up phase.RetransmissionRequested o = cc
-not_up phase.RetransmissionRunning o = cc
 
 out_ticks : (now : ℕ) (l : LinkState) → is_open l.phase ≡ false → ticking now l ≡ silent (record l { clock = now })
 unfolding ticking beating

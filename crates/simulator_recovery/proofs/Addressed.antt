@@ -1,5 +1,5 @@
 -- To which of its clients the interlocking hands a datagram of a controller: to the one on the link on which it was sent.
-use Rattle.std.proofs.Common.{◌≡◌, ◌≢◌, ℕ, zero, suc, ◌+◌, ◌-◌, ◌<◌, ◌≤◌, ◌==◌, nat_lt, not, Bool, true, false, if◌then◌else◌, List, [], ◌∷◌, ◌++◌, length, map, Option, Some, None, slice_get, refl, sym, ap, subst, ◌∙◌, arith}
+use Rattle.std.proofs.Common.{◌≡◌, ◌≢◌, ℕ, zero, suc, ◌+◌, ◌-◌, ◌<◌, ◌==◌, nat_lt, not, Bool, true, false, if◌then◌else◌, List, [], ◌∷◌, ◌++◌, length, map, Option, Some, None, slice_get, refl, sym, ap, subst, ◌∙◌, arith}
 use Rattle.std.specs.Prelude.{cond, ◌&&◌, nat_le}
 use Rattle.std.specs.List.{position, position_or_len}
 use Rattle.std.proofs.lemmas.Bool.Decides.{nat_tests}
@@ -25,17 +25,9 @@ use Rattle.simulator_run_links.specs.Calls.{link_at}
 use Rattle.simulator_run_links.specs.Whole.{IsWhole}
 use Rattle.simulator_recovery.proofs.Lists.{at_place, map_length}
 use Rattle.simulator_recovery.proofs.Steps.{IsThere}
+use Rattle.simulator_recovery.proofs.Tests.{is_less, is_not, same_number}
 
 -- ---- the first place at which a test passes
-
-is_less : (a b : ℕ) → nat_lt a b ≡ true → a < b
-is_less a b e = grind (arith, nat_tests)
-
-is_not : (a b : ℕ) → nat_lt a b ≡ false → b ≤ a
-is_not a b e = grind (arith, nat_tests)
-
-same_number : (a b : ℕ) → (a == b) ≡ true → a ≡ b
-same_number a b e = grind (arith, nat_tests)
 
 is_same_number : (a b : ℕ) → a ≡ b → (a == b) ≡ true
 is_same_number a b e = grind (arith, nat_tests)

@@ -67,8 +67,8 @@ use Rattle.simulator_recovery.proofs.OwnReports.{asks_none_other, point_kind, si
 use Rattle.simulator_recovery.proofs.PointAnswers.{Answering, answering_first, answering_on}
 use Rattle.simulator_recovery.proofs.PointCounts.{waits, within_ever}
 use Rattle.simulator_recovery.proofs.Standing.{stand_first}
-use Rattle.simulator_recovery.proofs.StationTalk.{first_talks}
 use Rattle.simulator_recovery.proofs.StationTells.{StationTellLaws, Telling, telling_first, telling_on}
+use Rattle.simulator_recovery.proofs.TalkEvents.{first_talks}
 
 pub record ExpectedLaws : Type 0 where
   pub talked : TalkedLaws

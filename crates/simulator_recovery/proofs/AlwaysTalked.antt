@@ -24,7 +24,8 @@ use Rattle.simulator_recovery.specs.Counts.{AllStandByCounts}
 use Rattle.simulator_recovery.proofs.AlwaysOnLinks.{CanBe, HasHeld, OnLinksLaws, always_held}
 use Rattle.simulator_recovery.proofs.MatchedEnds.{Matching, matching_first, matching_on}
 use Rattle.simulator_recovery.proofs.Standing.{stand_after, stand_first}
-use Rattle.simulator_recovery.proofs.StationTalk.{TalkLaws, TalkOf, event_talks, first_talks}
+use Rattle.simulator_recovery.proofs.StationTalk.{TalkLaws, TalkOf}
+use Rattle.simulator_recovery.proofs.TalkEvents.{event_talks, first_talks}
 
 pub record TalkedLaws : Type 0 where
   pub links : OnLinksLaws
@@ -45,7 +46,7 @@ module _ (laws : TalkedLaws) (site : Site) (table : Table) (station : IsStation 
       in record {
         stands = stand_after site table station happening world before.stands;
         matching = matching;
-        talk = event_talks laws.talk laws.may_come site table is_table happening world network can (record { stands = before.stands.clients; speaks = before.matching.clients; talk = before.talk }) matching.clients;
+        talk = event_talks laws.talk laws.may_come site table is_table happening world network can (record { stands = before.stands.clients; speaks = before.matching.clients; talk = before.talk });
       }
 
   pub talking_first : (outset : Outset) → AreTalking (world_at site table outset) (begun (names_at site) starts_at_zero)

@@ -30,8 +30,7 @@ use Rattle.simulator_recovery.proofs.DueGiven.{waits_there}
 use Rattle.simulator_recovery.proofs.DueShapes.{one_keeps}
 use Rattle.simulator_recovery.proofs.FewItems.{GivesFew}
 use Rattle.simulator_recovery.proofs.GivenNoMore.{NoCommand, over_rests}
-use Rattle.simulator_recovery.proofs.IxlClients.{changed_at}
-use Rattle.simulator_recovery.proofs.NothingDueMoves.{point_client}
+use Rattle.simulator_recovery.proofs.IxlClients.{changed_at, point_client}
 use Rattle.simulator_recovery.proofs.OnceParts.{ClientsKeep, IsGivenMove, On, here, step_on}
 use Rattle.simulator_recovery.proofs.SidesClient.{hears_nothing, stands, ticks_nothing}
 use Rattle.simulator_recovery.proofs.SignalParts.{IsQuiet, PartsKeep, step_held}

@@ -1,8 +1,7 @@
 -- What is kept of the routes, of the signals' aspects, and of the calls of all links by each part of a step of an interlocking.
-use Rattle.std.proofs.Common.{◌≡◌, ℕ, Bool, true, false, ◌&&◌, List, ◌++◌, length, map, Option, Some, None, slice_get, if◌then◌else◌, refl, sym, ap, ◌∙◌, inl}
+use Rattle.std.proofs.Common.{◌≡◌, ℕ, Bool, true, false, ◌&&◌, List, ◌++◌, map, Option, Some, None, slice_get, refl, inl}
 use Rattle.std.proofs.lemmas.Bool.{false≢true}
-use Rattle.std.proofs.lemmas.Option.{same_Some}
-use Rattle.std.specs.Prelude.{◌||◌, not}
+use Rattle.std.specs.Prelude.{not}
 use Rattle.simulator_run.specs.layout.declared.ids.RouteId.{RouteId}
 use Rattle.simulator_run.specs.rasta_core.Outbox.{OutboxState}
 use Rattle.simulator_run.specs.rasta_pdu.PduRead.{reading}
@@ -15,19 +14,20 @@ use Rattle.simulator_run.specs.ixl_client.ClientSoFar.{ClientSoFar, LinkCall, be
 use Rattle.simulator_run.specs.ixl_client.Step.{commanding, hearing, ticking}
 use Rattle.simulator_run.specs.ixl_client.declared.command.Command.TheVariants as client_commands
 use Rattle.simulator_run.specs.ixl_rules.Commands.{commanded_by, obeyed, refusal, set_anew}
-use Rattle.simulator_run.specs.ixl_rules.Rules.{authorised, come_to, count, ended, ending_authority, freed, freed_by_cancel, freed_by_passage, freeing_by_cancel, freeing_by_passage, freeing_next, frees_cancelled, frees_next, is_move_due, is_proceed_due, is_proceeding, is_stop_due, is_waiting, is_withdrawn, moved, moving, moving_one, one_freed, proceeding, ruled, withdrawing, withdrawn}
+use Rattle.simulator_run.specs.ixl_rules.Rules.{authorised, come_to, count, is_move_due, is_proceed_due, is_proceeding, is_stop_due, is_waiting, moving_one, proceeding, ruled, withdrawing}
 use Rattle.simulator_run.specs.ixl_rules.State.{IxlState, KnownSignalState, RouteState, changed}
-use Rattle.simulator_run.specs.ixl_rules.Step.{Commands, Datagram, Input, Tick, addressed, all_clocked, clocked_known_signal, detector_hearing, detector_ticking, given, known_point_hearing, known_point_ticking, known_signal_hearing, known_signal_ticking, looking, looking_by, looks, node_hearing, occupied_heard, route_looks, stepped, ticked, watching}
-use Rattle.simulator_run.specs.ixl_rules.StepSoFar.{Detector, Node, Point, Signal, StepSoFar, at_route, detector_after, giving_aspect, giving_move, known_signal_after, noted, with_detector, with_one, with_route}
+use Rattle.simulator_run.specs.ixl_rules.Step.{Commands, Datagram, Input, Tick, addressed, all_clocked, clocked_known_signal, detector_hearing, detector_ticking, given, known_point_hearing, known_point_ticking, known_signal_hearing, known_signal_ticking, looking, looks, node_hearing, occupied_heard, stepped, ticked, watching}
+use Rattle.simulator_run.specs.ixl_rules.StepSoFar.{Detector, Node, Point, Signal, StepSoFar, detector_after, giving_aspect, giving_move, known_signal_after, noted, with_detector, with_one, with_route}
 use Rattle.simulator_run.specs.ixl_rules.Table.{Need, Row, Table, at}
-use Rattle.simulator_run.specs.ixl_rules.View.{all_clear, all_known, is_at_known_stop, is_known_signal_at_stop, is_signal_ready, was_authorised}
+use Rattle.simulator_run.specs.ixl_rules.View.{all_clear, all_known, is_at_known_stop, is_known_signal_at_stop, is_signal_ready}
 use Rattle.simulator_run.specs.ixl_rules.declared.command.Command.{Command}
 use Rattle.simulator_run.specs.ixl_rules.declared.command.Command.TheVariants as commands
 use Rattle.simulator_run.specs.ixl_rules.declared.command.Refusal.{Refusal}
 use Rattle.simulator_run.specs.ixl_rules.declared.phase.Phase.TheVariants as phase
-use Rattle.simulator_recovery.proofs.DueShapes.{along_keeps, one_keeps, over_keeps, repeated_keeps, where_keeps}
-use Rattle.simulator_recovery.proofs.IxlSoFar.{first_true, last_true, test_of}
-use Rattle.simulator_recovery.proofs.SignalParts.{AtRoute, IsQuiet, freed_quietly, is_ready_there, is_waiting_there, looks_quietly, new_signal, none_passes, not_cancelled_there, was_freed, was_withdrawn}
+use Rattle.simulator_recovery.proofs.DueShapes.{along_keeps, either_keeps, one_keeps, over_keeps, ruled_keeps, there_keeps, ticked_keeps, where_keeps}
+use Rattle.simulator_recovery.proofs.IxlSoFar.{test_of}
+use Rattle.simulator_recovery.proofs.SignalParts.{AtRoute, IsQuiet, is_ready_there, is_waiting_there, new_signal, none_passes, not_cancelled_there, at_keeps, ending_keeps, next_keeps, cancel_keeps, watching_keeps, looking_keeps}
+use Rattle.simulator_recovery.proofs.Tests.{first_true}
 
 -- ---- what a part of a step does
 
@@ -88,23 +88,6 @@ module _ (now : ℕ) (table : Table) (P : List RouteState → List KnownSignalSt
       last true false c d e f h = absurd (false≢true h)
       last false b c d e f h = absurd (false≢true h)
 
-  -- ---- its shapes
-
-  -- where there is one
-  there_held : {A : Type 0} (found : Option A) (does : A → StepSoFar → StepSoFar) (part : StepSoFar) → (found ≡ None → ⊥) → ((one : A) → found ≡ Some one → Held (does one part)) → Held (with_one found does part)
-  there_held None does part there each = absurd (there refl)
-  there_held (Some one) does part there each = each one refl
-
-  route_held : (number : ℕ) (does : Row → RouteState → StepSoFar → StepSoFar) → ((row : Row) (route : RouteState) (part : StepSoFar) → AtRoute table number row route part.ixl.routes → Held part → Held (does row route part))
-      → (part : StepSoFar) → Held part → Held (at_route table number does part)
-  unfolding at_route
-  route_held number does each part all = one_keeps Held (slice_get table.rows number) (λ row part. with_one (slice_get part.ixl.routes number) (does row) part) part
-      (λ row e. one_keeps Held (slice_get part.ixl.routes number) (does row) part (λ route f. each row route part (record { row_there = e; there = f }) all) all) all
-
-  where_either : (b : Bool) (one other : StepSoFar) → (b ≡ true → Held one) → (b ≡ false → Held other) → Held (if b then one else other)
-  where_either true one other so not = so refl
-  where_either false one other so not = not refl
-
   quietly : (number : ℕ) (change : RouteState → RouteState) (part : StepSoFar) → ((route : RouteState) → slice_get part.ixl.routes number ≡ Some route → IsQuiet route (change route)) → Held part → Held (with_route number change part)
   quietly number change part quiet all = keep.quiet number change part.ixl.routes part.ixl.known_signals part.calls quiet all
 
@@ -113,7 +96,8 @@ module _ (now : ℕ) (table : Table) (P : List RouteState → List KnownSignalSt
       → ((known : KnownSignalState) (done : ClientSoFar) → slice_get part.ixl.known_signals signal ≡ Some known → IsCommanded now aspect known.client done
       → P part.ixl.routes (changed (λ old. new_signal aspect done.client.link.given done.client known) signal part.ixl.known_signals) (part.calls ++ map (λ call. (Signal signal, call)) done.calls)) → Held (giving_aspect now signal aspect part)
   unfolding giving_aspect
-  aspect_held signal aspect part ready each = there_held (slice_get part.ixl.known_signals signal) _ part (none_passes part.ixl.known_signals signal (λ known. is_ready known.client.stage) ready)
+  aspect_held signal aspect part ready each = there_keeps Held (slice_get part.ixl.known_signals signal) _ part
+      (none_passes part.ixl.known_signals signal (λ known. is_ready known.client.stage) ready)
       (λ known e. each known (commanding now (client_commands.Indicate aspect) (begun known.client part.outbox)) e
       (record { ready = test_of part.ixl.known_signals signal (λ known. is_ready known.client.stage) known e ready; outbox = part.outbox; is = refl }))
 
@@ -127,63 +111,29 @@ module _ (now : ℕ) (table : Table) (P : List RouteState → List KnownSignalSt
 
   withdrawing_held : (number : ℕ) (part : StepSoFar) → Held part → Held (withdrawing now table number part)
   unfolding withdrawing
-  withdrawing_held number = route_held number _ (λ row route part at all. where_keeps Held (is_stop_due table part.ixl row route) part _ (λ due.
+  withdrawing_held number = at_keeps Held table number _ (λ row route part at all. where_keeps Held (is_stop_due table part.ixl row route) part _ (λ due.
       let given : is_proceeding route.phase ≡ true = first_true (is_proceeding route.phase) _ due
-      in where_either (is_signal_ready part.ixl row.entry) _ _
+      in either_keeps Held (is_signal_ready part.ixl row.entry) _ _
       (λ ready. aspect_held row.entry aspects.Stop (with_route number (come_to phase.Withdrawn) part) ready (λ known done e so. keep.withdraws number row route known done part.ixl.routes part.ixl.known_signals part.calls at given e so all))
       (λ not_ready. keep.falls number row route part.ixl.routes part.ixl.known_signals part.calls at given not_ready all)) all)
 
-  ending_held : (number : ℕ) (part : StepSoFar) → Held part → Held (ending_authority now table number part)
-  unfolding ending_authority
-  ending_held number = route_held number _ (λ row route part at all. where_keeps Held (is_withdrawn route.phase && is_at_known_stop now part.ixl row.entry) part _ (λ due. quietly number _ part (λ one e. was_withdrawn now one (ap (λ (r : RouteState). is_withdrawn r.phase) (same_Some one route (sym e ∙ at.there)) ∙ first_true (is_withdrawn route.phase) (is_at_known_stop now part.ixl row.entry) due)) all) all)
-
-  next_held : (number : ℕ) (part : StepSoFar) → Held part → Held (freeing_next table number part)
-  unfolding freeing_next
-  next_held number = route_held number _ (λ row route part at all. where_keeps Held (frees_next table part.ixl row route route.phase) part _ (λ due. quietly number (one_freed row route.phase) part (λ one e. freed_quietly row route.phase one (ap (λ (r : RouteState). r.phase) (same_Some one route (sym e ∙ at.there)))) all) all)
-
-  passage_held : (number : ℕ) (part : StepSoFar) → Held part → Held (freeing_by_passage table number part)
-  unfolding freeing_by_passage
-  passage_held number = route_held number _ (λ row route part at. repeated_keeps Held (length row.sections) (freeing_next table number) (next_held number) part)
-
-  cancel_held : (number : ℕ) (part : StepSoFar) → Held part → Held (freeing_by_cancel now table number part)
-  unfolding freeing_by_cancel
-  cancel_held number = route_held number _ (λ row route part at all. where_keeps Held (route.cancelled && frees_cancelled now table part.ixl row route route.phase) part _ (λ due. quietly number freed part (λ one e. was_freed now table part.ixl row one
-      (ap (λ (r : RouteState). frees_cancelled now table part.ixl row r r.phase) (same_Some one route (sym e ∙ at.there)) ∙ last_true route.cancelled (frees_cancelled now table part.ixl row route route.phase) due)) all) all)
-
   moving_one_held : (number : ℕ) (need : Need) (part : StepSoFar) → Held part → Held (moving_one now table number need part)
   unfolding moving_one
-  moving_one_held number need = route_held number _ (λ row route part at all. where_keeps Held (is_move_due table part.ixl number route need) part _ (λ due. move_held need.point need.side part all) all)
-
-  moving_held : (number : ℕ) (part : StepSoFar) → Held part → Held (moving now table number part)
-  unfolding moving
-  moving_held number = route_held number _ (λ row route part at. along_keeps Held (moving_one now table number) (moving_one_held number) row.needs part)
+  moving_one_held number need = at_keeps Held table number _ (λ row route part at all. where_keeps Held (is_move_due table part.ixl number route need) part _
+      (λ due. move_held need.point need.side part all) all)
 
   proceeding_held : (number : ℕ) (part : StepSoFar) → Held part → Held (proceeding now table number part)
   unfolding proceeding
-  proceeding_held number = route_held number _ (λ row route part at all. where_keeps Held (is_proceed_due now table part.ixl row route) part _ (λ due.
+  proceeding_held number = at_keeps Held table number _ (λ row route part at all. where_keeps Held (is_proceed_due now table part.ixl row route) part _ (λ due.
       aspect_held row.entry row.aspect (with_route number (authorised table part.ixl row) part) (is_ready_there now table part.ixl row route due) (λ known done e so.
       keep.proceeds number row route known done (authorised table part.ixl row) part.ixl.routes part.ixl.known_signals part.calls at (is_waiting_there now table part.ixl row route due)
       (not_cancelled_there now table part.ixl row route due) (λ one. refl) e (is_stopped_there row route part.ixl known e due) so all)) all)
 
-  watching_held : (number : ℕ) (part : StepSoFar) → Held part → Held (watching table number part)
-  unfolding watching
-  watching_held number = route_held number _ (λ row route part at all. where_keeps Held (is_proceeding route.phase || is_withdrawn route.phase) part _ (λ due. quietly number _ part (λ one e. inl (refl, λ cancelled. cancelled)) all) all)
-
   ruled_held : (part : StepSoFar) → Held part → Held (ruled now table part)
-  ruled_held part all =
-      over_keeps Held (proceeding now table) proceeding_held (count table) (moved now table part)
-      (over_keeps Held (moving now table) moving_held (count table) (freed_by_cancel now table part)
-      (over_keeps Held (freeing_by_cancel now table) cancel_held (count table) (freed_by_passage now table part)
-      (over_keeps Held (freeing_by_passage table) passage_held (count table) (ended now table part)
-      (over_keeps Held (ending_authority now table) ending_held (count table) (withdrawn now table part)
-      (over_keeps Held (withdrawing now table) withdrawing_held (count table) part all)))))
+  ruled_held = ruled_keeps Held now table withdrawing_held (ending_keeps now table Held quietly) (next_keeps now table Held quietly)
+      (cancel_keeps now table Held quietly) moving_one_held proceeding_held
 
   -- ---- what is heard
-
-  looking_held : (look : ℕ × Bool) (part : StepSoFar) → Held part → Held (looking table look part)
-  unfolding looking_by
-  looking_held look = over_keeps Held (looking_by look.0 look.1 table) (λ number. route_held number _ (λ row route part at all. where_keeps Held (was_authorised route.phase) part _ (λ due.
-      quietly number (route_looks look.0 look.1 row) part (λ one e. looks_quietly look.0 look.1 row one) all) all)) (count table)
 
   hearing_held : (bytes : List ℕ) (node : Node) (part : StepSoFar) → Held part → Held (node_hearing now table bytes node part)
   unfolding node_hearing known_signal_hearing known_point_hearing detector_hearing
@@ -193,7 +143,7 @@ module _ (now : ℕ) (table : Table) (P : List RouteState → List KnownSignalSt
       keep.point place (hearing now bytes (begun known.client part.outbox)).calls part.ixl.routes part.ixl.known_signals part.calls all) all
   hearing_held bytes (Detector place) part all = one_keeps Held (slice_get table.detectors place) _ part (λ sections f. one_keeps Held (slice_get part.ixl.detectors place) _ part (λ known e.
       let done = hearing now bytes (begun known.client part.outbox)
-      in along_keeps Held (looking table) looking_held (looks sections known done.heard done.client)
+      in along_keeps Held (looking table) (looking_keeps now table Held quietly) (looks sections known done.heard done.client)
       (with_detector place (detector_after (occupied_heard done.heard known.occupied) done.client) (noted (Detector place) done part))
       (keep.detector place done.calls part.ixl.routes part.ixl.known_signals part.calls all)) all) all
 
@@ -241,12 +191,9 @@ module _ (now : ℕ) (table : Table) (P : List RouteState → List KnownSignalSt
       keep.detector place (ticking now (begun known.client part.outbox)).calls part.ixl.routes part.ixl.known_signals part.calls all) all
 
   ticked_held : (input : Input) (part : StepSoFar) → Held part → Held (ticked now input part)
-  unfolding ticked
-  ticked_held Tick part all = over_keeps Held (detector_ticking now) detector_ticked (length part.ixl.detectors) _
-      (over_keeps Held (known_point_ticking now) point_ticked (length part.ixl.known_points) _ (over_keeps Held (known_signal_ticking now) signal_ticked (length part.ixl.known_signals) part all))
-  ticked_held (Datagram bytes) part all = all
-  ticked_held (Commands command) part all = all
+  ticked_held = ticked_keeps Held now signal_ticked point_ticked detector_ticked
 
   pub step_held : (key : Key) (input : Input) (part : StepSoFar) → Held part → Held (stepped now table key input part)
   unfolding stepped
-  step_held key input part all = ticked_held input _ (ruled_held _ (over_keeps Held (watching table) watching_held (count table) _ (given_held key input (record part { ixl = all_clocked now part.ixl }) (clocked_held part all))))
+  step_held key input part all = ticked_held input _ (ruled_held _ (over_keeps Held (watching table) (watching_keeps now table Held quietly) (count table) _
+      (given_held key input (record part { ixl = all_clocked now part.ixl }) (clocked_held part all))))

@@ -26,7 +26,7 @@ use Rattle.simulator_run.specs.ixl_rules.declared.phase.Phase.TheVariants as pha
 use Rattle.simulator_recovery.proofs.AspectCalls.{CallsKeep, DoneBy, IsCommanded, hears, noted_at, ticks}
 use Rattle.simulator_recovery.proofs.ClientLinks.{up_open}
 use Rattle.simulator_recovery.proofs.FewItems.{GivenBy, GivesFew, LeavesWindow, few_wait}
-use Rattle.simulator_recovery.proofs.IxlClients.{changed_at, mapped_at}
+use Rattle.simulator_recovery.proofs.IxlClients.{changed_at, mapped_at, signal_client, signal_is}
 use Rattle.simulator_recovery.proofs.IxlSoFar.{at_itself, at_node, at_other, set_at}
 use Rattle.simulator_recovery.proofs.Lists.{each_both}
 use Rattle.simulator_recovery.proofs.SignalParts.{AtRoute, GoesOn, IsGiven, IsOver, IsQuiet, hears as hears_on, new_signal, ticks as ticks_on}
@@ -86,35 +86,12 @@ record Inside (aspect : Option Aspect) (number : ℕ) (client : ClientState) : T
   four : AtMost 4 client
 
 known_after : (aspect : Option Aspect) (number : ℕ) (indicated : Option Aspect) (client : ClientState) → GivesFew true client → (is_outside client.stage ≡ false → Inside aspect number client) → FewWait (known_signal_after aspect number indicated client)
-unfolding known_signal_after
-known_after aspect number indicated client few so = choose (is_outside client.stage) refl
-  where
-    out : KnownSignalState
-    out = record { client = client; aspect = None; number = 0; indicated = None }
-
-    in_it : KnownSignalState
-    in_it = record { client = client; aspect = aspect; number = number; indicated = indicated }
-
-    choose : (b : Bool) → is_outside client.stage ≡ b → FewWait (if b then out else in_it)
-    choose true e = record { gives = few; up = λ inside. absurd (false≢true (sym inside ∙ e)); none = λ f. outside_few client e few; number = λ a f. absurd (cc f); four = outside_at_most 4 client e few }
-    choose false e = let i = so e in record { gives = few; up = λ inside. i.up; none = i.none; number = i.number_is; four = i.four }
-
-pub client_after : (aspect : Option Aspect) (number : ℕ) (indicated : Option Aspect) (client : ClientState) → (known_signal_after aspect number indicated client).client ≡ client
-unfolding known_signal_after
-client_after aspect number indicated client = choose (is_outside client.stage)
-  where
-    out : KnownSignalState
-    out = record { client = client; aspect = None; number = 0; indicated = None }
-
-    in_it : KnownSignalState
-    in_it = record { client = client; aspect = aspect; number = number; indicated = indicated }
-
-    choose : (b : Bool) → (if b then out else in_it).client ≡ client
-    choose true = refl
-    choose false = refl
+known_after aspect number indicated client few so = signal_is FewWait aspect number indicated client
+    (λ e. record { gives = few; up = λ inside. absurd (false≢true (sym inside ∙ e)); none = λ f. outside_few client e few; number = λ a f. absurd (cc f); four = outside_at_most 4 client e few })
+    (λ e. let i = so e in record { gives = few; up = λ inside. i.up; none = i.none; number = i.number_is; four = i.four })
 
 at_most_after : (most : ℕ) (aspect : Option Aspect) (number : ℕ) (indicated : Option Aspect) (client : ClientState) → AtMost most client → AtMost most (known_signal_after aspect number indicated client).client
-at_most_after most aspect number indicated client few = subst (AtMost most) (sym (client_after aspect number indicated client)) few
+at_most_after most aspect number indicated client few = subst (AtMost most) (sym (signal_client aspect number indicated client)) few
 
 -- ---- a part of a step that is no command
 

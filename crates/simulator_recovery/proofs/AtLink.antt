@@ -1,7 +1,6 @@
 -- The client and the controller at the two ends of a link of a station, and what they count.
 use Rattle.std.proofs.Common.{◌≡◌, ℕ, ◌+◌, ◌-◌, ◌<◌, ◌≤◌, nat_lt, Bool, true, false, not, List, ◌++◌, length, map, Option, Some, None, slice_get, refl, sym, ap, subst, ◌∙◌, arith}
 use Rattle.std.specs.Prelude.{option_map}
-use Rattle.std.proofs.lemmas.Bool.{false≢true}
 use Rattle.std.proofs.lemmas.Bool.Decides.{nat_tests}
 use Rattle.std.proofs.lemmas.Option.{same_Some, slice_get-map}
 use Rattle.simulator_run.specs.layout.Entries.{DetectorEntry, Site}
@@ -10,8 +9,6 @@ use Rattle.simulator_run.specs.rasta_core.Clock.{settled}
 use Rattle.simulator_run.specs.rasta_core.Ends.{reading_of}
 use Rattle.simulator_run.specs.rasta_core.Links.{Links, seen}
 use Rattle.simulator_run.specs.rasta_core.State.{LinkState, is_open, is_up}
-use Rattle.simulator_run.specs.rasta_core.phase.Phase.{Phase}
-use Rattle.simulator_run.specs.rasta_core.phase.Phase.TheVariants as phases
 use Rattle.simulator_run.specs.object_host.Host.{HostState}
 use Rattle.simulator_run.specs.object_host.declared.stage.Stage.{Stage}
 use Rattle.simulator_run.specs.ixl_client.Client.{ClientState}
@@ -25,10 +22,12 @@ use Rattle.simulator_recovery.specs.Conversation.{HostHasActedOn}
 use Rattle.simulator_recovery.specs.Counts.{AllStandByCounts, ClientStandsByCounts, HasCounted, HostCountsByStage, HostHasGiven}
 use Rattle.simulator_recovery.specs.Ready.{HostIsAt}
 use Rattle.simulator_recovery.proofs.Addressed.{at_behind, at_front, partners_length}
+use Rattle.simulator_recovery.proofs.ClientLinks.{up_open}
 use Rattle.simulator_recovery.proofs.LinkCounts.{settled_open}
 use Rattle.simulator_recovery.proofs.Lists.{at_place, map_length}
 use Rattle.simulator_recovery.proofs.Moments.{Moment, said_one}
 use Rattle.simulator_recovery.proofs.StationKeeps.{all_at}
+use Rattle.simulator_recovery.proofs.Tests.{is_less, is_not}
 
 -- ---- three lists one behind the other
 
@@ -44,13 +43,6 @@ of_third a b c before between place one long other e =
   where
     apart : before + between + place ≡ before + (between + place)
     apart = omega arith
-
-up_open : (phase : Phase) → is_up phase ≡ true → is_open phase ≡ true
-up_open phases.Closed up = absurd (false≢true up)
-up_open phases.Start up = absurd (false≢true up)
-up_open phases.Up up = refl
-up_open phases.RetransmissionRequested up = refl
-up_open phases.RetransmissionRunning up = refl
 
 -- ---- one link
 
@@ -182,12 +174,6 @@ module _ (site : Site) (station : IsStation site) (world : WorldState) (whole : 
         host_at = subst (λ (n : Option Node). HostIsAt n world b.0.host.stage) (sym is) (b.0, b.1, refl);
         counts = λ e. host_part (length entry.0.sections) b.0.host (host.stands e);
       }
-
-  is_less : (a b : ℕ) → nat_lt a b ≡ true → a < b
-  is_less a b e = grind (arith, nat_tests)
-
-  is_not : (a b : ℕ) → nat_lt a b ≡ false → b ≤ a
-  is_not a b e = grind (arith, nat_tests)
 
   lt_true : (a b : ℕ) → a < b → nat_lt a b ≡ true
   lt_true a b few = grind (arith, nat_tests, few)

@@ -73,7 +73,7 @@ silent_says site table (event.Lose bytes) world silent = absurd silent
 silent_says site table (event.Reach point position) world silent = reached_says site point.0 (sense.Position position) world
 silent_says site table (event.Restart node clock first) world silent = absurd silent
 
-where_says : (why : Option Refused) (events : List LinksEvent) → Each SaysOn events → Each SaysOn (events_where why events)
+pub where_says : (why : Option Refused) (events : List LinksEvent) → Each SaysOn events → Each SaysOn (events_where why events)
 where_says None events each = each
 where_says (Some why) events each = tt
 

@@ -17,7 +17,6 @@ use Rattle.simulator_run.specs.ixl_client.ClientSoFar.{ClientSoFar, begun}
 use Rattle.simulator_run.specs.ixl_client.Step.{at_stage, clocked, commanding, fallen, message_of, posting, stage_after_command}
 use Rattle.simulator_run.specs.ixl_client.declared.command.Command.{Command as ClientCommand}
 use Rattle.simulator_run.specs.ixl_client.declared.command.Command.TheVariants as client_commands
-use Rattle.simulator_run.specs.ixl_client.declared.stage.Stage.{Stage}
 use Rattle.simulator_run.specs.ixl_client.declared.stage.Stage.TheVariants as stage
 use Rattle.simulator_run.specs.ixl_rules.Commands.{commanded_by, obeyed, refusal}
 use Rattle.simulator_run.specs.ixl_rules.Rules.{come_to, count, is_proceeding, is_stop_due, is_withdrawn, ruled, stopped, withdrawing, withdrawn}
@@ -34,16 +33,18 @@ use Rattle.simulator_run.specs.simulator_event.declared.reply.Answer.TheVariants
 use Rattle.simulator_run.specs.Happens.{answered, happens, interlocking_stepped}
 use Rattle.simulator_run.specs.State.{WorldState}
 use Rattle.simulator_recovery.specs.Counts.{ClientStandsByCounts, HasCounted}
-use Rattle.simulator_recovery.proofs.AspectWindows.{client_after}
 use Rattle.simulator_recovery.proofs.AtLink.{mapped}
-use Rattle.simulator_recovery.proofs.Cancelled.{accepted_so, stopped_routes}
+use Rattle.simulator_recovery.proofs.Cancelled.{accepted_so, clocked_routes, stopped_routes}
 use Rattle.simulator_recovery.proofs.ClientLinks.{post_up, up_open}
 use Rattle.simulator_recovery.proofs.GivenNoMore.{IsAs, NoCommand, Rests, RestsSo, rests_keep}
-use Rattle.simulator_recovery.proofs.IxlSoFar.{first_true, test_of}
+use Rattle.simulator_recovery.proofs.IxlClients.{signal_client, signal_is}
+use Rattle.simulator_recovery.proofs.IxlSoFar.{test_of}
 use Rattle.simulator_recovery.proofs.LinkCounts.{settled_open}
 use Rattle.simulator_recovery.proofs.SignalParts.{behind_withdrawal, clocked_held, commanded_held, over_held, watching_held, withdrawing_held}
 use Rattle.simulator_recovery.proofs.Spent.{within_some}
 use Rattle.simulator_recovery.proofs.StopsGiven.{AnyCommand, StopsStand, changed_elsewhere, changed_here, differs, fails, is_equal, proceeding_set, stand_keep, waiting_set}
+use Rattle.simulator_recovery.proofs.Tests.{first_true}
+use Rattle.simulator_recovery.proofs.WaitingItems.{ready_inside}
 
 -- Something was given to a signal with a number above these, or no aspect in its present connection.
 abbrev pub IsPast : ℕ → KnownSignalState → Type 0
@@ -58,14 +59,6 @@ as_past items one other (inr (same, number)) (inr more) = inr (omega (arith, num
 
 counts_more : (n : ℕ) → stops_at_greatest n < 2 ^ 31 → stops_at_greatest n < stops_at_greatest (n + 1)
 counts_more n small = grind (arith, small)
-
-pub ready_inside : (s : Stage) → is_ready s ≡ true → is_outside s ≡ false
-ready_inside stage.Outside e = absurd (false≢true e)
-ready_inside stage.AwaitsAnswer e = refl
-ready_inside stage.AwaitsStart e = refl
-ready_inside (stage.AwaitsStatus left) e = refl
-ready_inside stage.Completed e = refl
-ready_inside stage.AwaitsReport e = refl
 
 -- a client that is inside behind a command has given an item more
 pub command_counts : (now : ℕ) (command : ClientCommand) (part : ClientSoFar) (taken many : ℕ) → is_outside (commanding now command part).client.stage ≡ false → HasCounted taken many part.client.link
@@ -110,13 +103,7 @@ clocked_counts now client stands inside = by_up (is_up (settled now client.link)
 
 -- a signal is given its number
 past_after : (items : ℕ) (aspect : Option Aspect) (number : ℕ) (indicated : Option Aspect) (client : ClientState) → (is_outside client.stage ≡ false → items < number) → IsPast items (known_signal_after aspect number indicated client)
-unfolding known_signal_after
-past_after items aspect number indicated client more = choose (is_outside client.stage) refl
-  where
-    choose : (b : Bool) → is_outside client.stage ≡ b
-        → IsPast items (if b then record { client = client; aspect = None; number = 0; indicated = None } else record { client = client; aspect = aspect; number = number; indicated = indicated })
-    choose true e = inl refl
-    choose false e = inr (more e)
+past_after items aspect number indicated client more = signal_is (IsPast items) aspect number indicated client (λ outside. inl refl) (λ inside. inr (more inside))
 
 -- ---- what is given
 
@@ -354,10 +341,6 @@ pub clocked_there : (now : ℕ) (ixl : IxlState) (signal : ℕ) (known : KnownSi
 unfolding all_clocked
 clocked_there now ixl signal known there = mapped (clocked_known_signal now) ixl.known_signals signal known there
 
-pub clocked_routes : (now : ℕ) (ixl : IxlState) → (all_clocked now ixl).routes ≡ ixl.routes
-unfolding all_clocked
-clocked_routes now ixl = refl
-
 -- what a cancel does to the route and to the signals
 pub cancelled_at : (ixl : IxlState) (route : RouteId) (one : RouteState) → slice_get ixl.routes route.0 ≡ Some one → slice_get (obeyed (commands.Cancel route) ixl).routes route.0 ≡ Some (record one { cancelled = true })
 unfolding obeyed
@@ -397,7 +380,7 @@ cancel_past site table world route row one known row_there stand none there proc
 
     counts_so : is_ready late.client.stage ≡ true → CountsSo known.client.link.given late.client
     counts_so ready =
-        let same = client_after known.aspect known.number known.indicated (clocked now known.client)
+        let same = signal_client known.aspect known.number known.indicated (clocked now known.client)
         in subst (CountsSo known.client.link.given) (sym same) (clocked_counts now known.client counts (ap (λ (c : ClientState). is_outside c.stage) (sym same) ∙ ready_inside late.client.stage ready))
 
     goes_heard : Goes now table route.0 row row_there true known.client.link.given small late counts_so heard

@@ -40,7 +40,6 @@ use Rattle.simulator_recovery.proofs.AuthorityLists.{links_last, lists_last, tim
 use Rattle.simulator_recovery.proofs.AuthorityRounds.{AuthorityLaws, Goes, Held, controls_timed, even_links, gives_last, held_after, held_even, later_client_taken, later_given, later_sent, later_server_taken, none_taken_between, round_calm, round_due_so, round_gives_few, round_grows, round_may, round_room, server_through, client_through, stands_there, stands_timed, start_is, taken_even, taken_most, timed_host}
 use Rattle.simulator_recovery.proofs.ClientLinks.{up_open}
 use Rattle.simulator_recovery.proofs.ComeUp.{Begun, flow_then, links_after, lists_length, lists_on}
-use Rattle.simulator_recovery.proofs.HandedOver.{settled_given}
 use Rattle.simulator_recovery.proofs.LinkCounts.{settled_open}
 use Rattle.simulator_recovery.proofs.LinkRounds.{after_each, are_links, round_tried}
 use Rattle.simulator_recovery.proofs.Lists.{at_place}
@@ -49,10 +48,11 @@ use Rattle.simulator_recovery.proofs.RepliedCounts.{owed, owed_most}
 use Rattle.simulator_recovery.proofs.RepliedGiving.{up_asks}
 use Rattle.simulator_recovery.proofs.RepliedRound.{GivesLast, HoldsConfirmed, IsRound, Replies, signal_replies}
 use Rattle.simulator_recovery.proofs.RepliedThrough.{IsInOf, run_timely}
-use Rattle.simulator_recovery.proofs.RepliedWalk.{Controls, GivesFew, Stands, controls, counted_given, counted_taken}
+use Rattle.simulator_recovery.proofs.RepliedWalk.{Controls, GivesFew, Stands, controls}
 use Rattle.simulator_recovery.proofs.RepliedWindow.{GaveLast}
 use Rattle.simulator_recovery.proofs.Rounds.{take_their_time}
-use Rattle.simulator_recovery.proofs.Spent.{settled_taken}
+use Rattle.simulator_recovery.proofs.Shown.{counted_given, counted_taken}
+use Rattle.simulator_recovery.proofs.Spent.{settled_given, settled_taken}
 use Rattle.simulator_recovery.proofs.StopComes.{last_round}
 
 pub record EndingLaws : Type 0 where

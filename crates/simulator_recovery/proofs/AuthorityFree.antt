@@ -38,10 +38,10 @@ use Rattle.simulator_recovery.specs.NothingDue.{Proceeds}
 use Rattle.simulator_recovery.specs.Ready.{ready_rounds}
 use Rattle.simulator_recovery.specs.Rounds.{HasTime, IsWork, all_tried, good_rounds}
 use Rattle.simulator_recovery.proofs.AuthorityBehindCancel.{all_works, authority_ends_behind_cancel, few, happened, none}
-use Rattle.simulator_recovery.proofs.AuthorityCancels.{cancelled_at, clocked_routes}
+use Rattle.simulator_recovery.proofs.AuthorityCancels.{cancelled_at}
 use Rattle.simulator_recovery.proofs.AuthorityEnds.{EndingLaws}
 use Rattle.simulator_recovery.proofs.AuthorityOver.{none_third}
-use Rattle.simulator_recovery.proofs.Cancelled.{NoCommand, OfRoute, RouteKeeps, accepted_so, none_comes, route_keep}
+use Rattle.simulator_recovery.proofs.Cancelled.{NoCommand, OfRoute, RouteKeeps, accepted_so, none_comes, route_keep, clocked_routes}
 use Rattle.simulator_recovery.proofs.GivenNoMore.{over_rests, round_keeps}
 use Rattle.simulator_recovery.proofs.NothingDueFrees.{FreeLaw, nothing_waits_to_be_freed}
 use Rattle.simulator_recovery.proofs.Rounds.{IsAt, rounds_reached}

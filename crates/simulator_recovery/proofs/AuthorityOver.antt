@@ -35,9 +35,10 @@ use Rattle.simulator_recovery.proofs.GivenNoMore.{round_gives_no_more, round_sta
 use Rattle.simulator_recovery.proofs.LinkRounds.{after_both, after_each, round_tried}
 use Rattle.simulator_recovery.proofs.Lists.{each_both}
 use Rattle.simulator_recovery.proofs.Ready.{IsUpBehind, Last, count_front, each_front, fewer_time, front_of, last_of, two_taken_behind, ups}
-use Rattle.simulator_recovery.proofs.RepliedWalk.{Stands, counted_given, counted_taken}
+use Rattle.simulator_recovery.proofs.RepliedWalk.{Stands}
 use Rattle.simulator_recovery.proofs.Rounds.{IsAt, rounds_reached}
 use Rattle.simulator_recovery.proofs.SeenSignals.{client_same, controller_there, known_there, seen_then}
+use Rattle.simulator_recovery.proofs.Shown.{counted_given, counted_taken}
 use Rattle.simulator_recovery.proofs.StaysOpen.{rounds_stay}
 use Rattle.simulator_recovery.proofs.StopAwaited.{not_outlived}
 use Rattle.simulator_recovery.proofs.StopComes.{last_round}

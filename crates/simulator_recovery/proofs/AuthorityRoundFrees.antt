@@ -21,10 +21,9 @@ use Rattle.simulator_run.specs.Tried.{Played, after}
 use Rattle.simulator_headline.specs.Reached.{IsReached}
 use Rattle.simulator_recovery.specs.LinkRounds.{behind_time, event_of}
 use Rattle.simulator_recovery.specs.Rounds.{IsWork, all_tried}
-use Rattle.simulator_recovery.proofs.AuthorityRounds.{work_events}
 use Rattle.simulator_recovery.proofs.Clocks.{IsCalm, calm_still}
 use Rattle.simulator_recovery.proofs.DueEvents.{MakesAnew, event_then}
-use Rattle.simulator_recovery.proofs.LinkRounds.{after_each, round_tried}
+use Rattle.simulator_recovery.proofs.LinkRounds.{after_each, round_tried, work_events}
 use Rattle.simulator_recovery.proofs.NothingDueFrees.{FreeLaw, nothing_ended_waits}
 use Rattle.simulator_recovery.proofs.Rounds.{AreCalm, IsAt, ReachLaws, behind_calm, tried_happens, tried_keeps, tried_reached}
 

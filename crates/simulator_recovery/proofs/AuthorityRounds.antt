@@ -1,5 +1,5 @@
 -- A good round of a station, as the link of a signal goes through it.
-use Rattle.std.proofs.Common.{◌≡◌, inl, inr, ℕ, ◌+◌, ◌<◌, ◌≤◌, ◌==◌, Bool, true, false, if◌then◌else◌, List, [], ◌∷◌, ◌++◌, append-nil, length, map, replicate, Option, Some, None, slice_get, refl, sym, ap, subst, ◌∙◌, arith}
+use Rattle.std.proofs.Common.{◌≡◌, inl, inr, ℕ, ◌+◌, ◌<◌, ◌≤◌, ◌==◌, Bool, true, false, if◌then◌else◌, List, [], ◌∷◌, ◌++◌, append-nil, length, map, replicate, Some, None, slice_get, refl, sym, ap, subst, ◌∙◌, arith}
 use Rattle.std.proofs.lemmas.List.{length-append}
 use Rattle.std.proofs.lemmas.Option.{same_Some}
 use Rattle.rasta_core_recovery.specs.Work.{HaveRoom, IsAtWork, IsBehindTick, LeavesOpen}
@@ -24,8 +24,6 @@ use Rattle.simulator_run.specs.signal_ctl.Signal.{SignalState}
 use Rattle.simulator_run.specs.ixl_rules.Table.{SitedTable, Table}
 use Rattle.simulator_run.specs.simulator_event.declared.event.Event.{Event}
 use Rattle.simulator_run.specs.simulator_event.declared.event.Event.TheVariants as event
-use Rattle.simulator_run.specs.simulator_event.refused.Refused.{Refused}
-use Rattle.simulator_run.specs.declared.round.RoundEvent.{RoundEvent}
 use Rattle.simulator_run.specs.Flow.{Flowing, round, round_of_time, stations}
 use Rattle.simulator_run.specs.Happens.{passed}
 use Rattle.simulator_run.specs.Links.{names_at}
@@ -34,14 +32,14 @@ use Rattle.simulator_run.specs.Refusals.{refusal}
 use Rattle.simulator_run.specs.State.{ClockedControllerState, WorldState}
 use Rattle.simulator_run.specs.Tried.{Played, after, refusal_of}
 use Rattle.simulator_run_links.specs.Events.{events_of}
-use Rattle.simulator_recovery.specs.LinkRounds.{all_events_tried, behind_time, calls_of_round, calls_on, event_of, events_tried, events_where, links_behind, time_of_round}
+use Rattle.simulator_recovery.specs.LinkRounds.{all_events_tried, behind_time, calls_of_round, calls_on, event_of, events_tried, links_behind, time_of_round}
 use Rattle.simulator_recovery.specs.Rounds.{HasTime, IsWork, all_tried, clocks_of, good_rounds}
-use Rattle.simulator_recovery.proofs.AtWork.{clock_event, table_sections, time_is}
+use Rattle.simulator_recovery.proofs.AtWork.{clock_event, table_sections, time_is, where_says}
 use Rattle.simulator_recovery.proofs.Clocks.{IsCalm, time_may_pass}
 use Rattle.simulator_recovery.proofs.ComeUp.{links_after}
 use Rattle.simulator_recovery.proofs.ConfirmedLinks.{ConfirmLaws}
 use Rattle.simulator_recovery.proofs.EndCalls.{SaysOn}
-use Rattle.simulator_recovery.proofs.LinkRounds.{Followed, HasThese, after_each, are_links, events_both, links_both, round_tried, tens_at, tried_followed}
+use Rattle.simulator_recovery.proofs.LinkRounds.{Followed, HasThese, after_each, are_links, events_both, links_both, round_tried, tens_at, tried_followed, calm_events, work_events}
 use Rattle.simulator_recovery.proofs.Lists.{each_both}
 use Rattle.simulator_recovery.proofs.NodeCalls.{command_says_on, sensed_says}
 use Rattle.simulator_recovery.proofs.RepliedAlone.{ComesDue, RunsAlone, alone, runs_alone}
@@ -52,7 +50,7 @@ use Rattle.simulator_recovery.proofs.RepliedRound.{RoundLaws}
 use Rattle.simulator_recovery.proofs.RepliedThrough.{IsInOf, IsInThrough, in_through, may_front, run_both, run_timely, through_front, through_here}
 use Rattle.simulator_recovery.proofs.RepliedWalk.{Controls, GivesFew, Leads, Stands, WalkLaws, controls, leads, on_both}
 use Rattle.simulator_recovery.proofs.RepliedWindow.{GaveLast}
-use Rattle.simulator_recovery.proofs.Rounds.{AreCalm, IsAt, behind_calm, each_can, has_all, time_happens, tried_happens, tried_reached, work_calm}
+use Rattle.simulator_recovery.proofs.Rounds.{IsAt, behind_calm, each_can, has_all, time_happens, tried_happens, tried_reached}
 use Rattle.simulator_recovery.proofs.SeenSignals.{SignalLaws}
 use Rattle.simulator_recovery.proofs.StationKeeps.{later_at}
 
@@ -62,14 +60,6 @@ pub record AuthorityLaws : Type 0 where
   pub signals : SignalLaws
 
 -- ---- what comes between rounds only gives items
-
-calm_events : (list : List RoundEvent) → AreCalm list → Each IsCalm (map event_of list)
-calm_events [] calm = tt
-calm_events (first ∷ others) calm = (calm.0, calm_events others calm.1)
-
-pub work_events : (between : List Event) → Each IsWork between → Each IsCalm between
-work_events [] work = tt
-work_events (first ∷ others) work = (work_calm first work.0, work_events others work.1)
 
 work_says : (site : Site) (table : Table) (one : Event) (world : WorldState) → IsWork one → Each SaysOn (events_of site table one world)
 unfolding events_of
@@ -81,10 +71,6 @@ work_says site table (event.Deliver node bytes) world work = absurd work
 work_says site table (event.Lose bytes) world work = absurd work
 work_says site table (event.Reach point position) world work = absurd work
 work_says site table (event.Restart node clock first) world work = absurd work
-
-where_says : (why : Option Refused) (events : List LinksEvent) → Each SaysOn events → Each SaysOn (events_where why events)
-where_says None events each = each
-where_says (Some why) events each = tt
 
 all_say_so : (list : List Event) (world : Played) → Each IsWork list → Each SaysOn (all_events_tried list world)
 all_say_so [] world work = tt

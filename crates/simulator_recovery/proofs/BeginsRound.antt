@@ -49,7 +49,7 @@ use Rattle.simulator_recovery.proofs.MovesReported.{ReportLaws, timed_clock}
 use Rattle.simulator_recovery.proofs.MovesRound.{found_there}
 use Rattle.simulator_recovery.proofs.Ready.{Last, last_of}
 use Rattle.simulator_recovery.proofs.Rounds.{IsAt, rounds_reached}
-use Rattle.simulator_recovery.proofs.SeenSignals.{counted_taken}
+use Rattle.simulator_recovery.proofs.Shown.{counted_taken}
 use Rattle.simulator_recovery.proofs.Spent.{settled_taken}
 use Rattle.simulator_recovery.proofs.StopComes.{last_round}
 

@@ -280,9 +280,9 @@ refusal_is : (now : ℕ) (table : Table) (route : RouteId) (ixl : IxlState) → 
 unfolding refusal
 refusal_is now table route ixl = refl
 
-same_routes : (now : ℕ) (ixl : IxlState) → (all_clocked now ixl).routes ≡ ixl.routes
+pub clocked_routes : (now : ℕ) (ixl : IxlState) → (all_clocked now ixl).routes ≡ ixl.routes
 unfolding all_clocked
-same_routes now ixl = refl
+clocked_routes now ixl = refl
 
 pub accepted_so : (site : Site) (table : Table) (world : WorldState) (route : RouteId) → answered site table (event.Request (commands.Cancel route)) world ≡ answer.Accepted
     → refusal (reading_of world.station.clock) table (commands.Cancel route) (all_clocked (reading_of world.station.clock) world.station.ixl) ≡ None
@@ -304,7 +304,7 @@ cancel_leaves_none site table world route row reached there accepted k other one
     set = was_set now (all_clocked now world.station.ixl) (slice_get (all_clocked now world.station.ixl).routes route.0) (sym (refusal_is now table route (all_clocked now world.station.ixl)) ∙ none)
 
     set_there : slice_get world.station.ixl.routes route.0 ≡ Some set.0
-    set_there = ap (λ (routes : List RouteState). slice_get routes route.0) (sym (same_routes now world.station.ixl)) ∙ set.1
+    set_there = ap (λ (routes : List RouteState). slice_get routes route.0) (sym (clocked_routes now world.station.ixl)) ∙ set.1
 
     -- another route from the signal wasn't set before
     unset : k ≢ route.0 → OfRoute k IsUnset world.station.ixl.routes []

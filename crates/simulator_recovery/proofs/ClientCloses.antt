@@ -25,11 +25,12 @@ use Rattle.simulator_run.specs.ixl_client.declared.stage.Stage.TheVariants as st
 use Rattle.simulator_recovery.specs.Conversation.{ClientActs, ClientHasActedOn}
 use Rattle.simulator_recovery.proofs.ClientCalls.{ticking_calls}
 use Rattle.simulator_recovery.proofs.ClientConversation.{client_acts}
-use Rattle.simulator_recovery.proofs.ClientCounts.{Counts, acts, count_one, posted_at}
+use Rattle.simulator_recovery.proofs.ClientCounts.{Counts, acts, posted_at}
+use Rattle.simulator_recovery.proofs.ClientItem.{answers, changes, completes, Goes, starts, tells}
 use Rattle.simulator_recovery.proofs.ClientLinks.{up_open}
-use Rattle.simulator_recovery.proofs.ClientTalk.{Fate, Goes, answers, asks, changes, closes, completes, fate, goes, starts, tells}
+use Rattle.simulator_recovery.proofs.ClientTalk.{Fate, asks, closes, fate, goes}
 use Rattle.simulator_recovery.proofs.ExpectedItems.{EachExpected, HasBegun}
-use Rattle.simulator_recovery.proofs.Lists.{each_both}
+use Rattle.simulator_recovery.proofs.Lists.{count_push, each_both}
 
 -- a call that closes the link for its own full window at most
 abbrev pub ByWindow : LinkCall → Type 0
@@ -99,7 +100,7 @@ module _ (peer : PeerState) (given : List (List ℕ)) where
   module _ (old new : Stage) (count : ℕ) (s : Stands old count) where
     goes_few : Goes peer old new → IsFew old count → IsTrue (reports_changes peer.protocol) ⊎ IsFew new (count + 1)
     goes_few (starts e f) few = inr (subst (λ (x : Stage). IsFew x (count + 1)) (sym f) (subst (λ (x : Stage). IsFew x count) e few))
-    goes_few (tells left e f) few = inr (subst (λ (x : Stage). IsFew x (count + 1)) (sym f) (subst (λ (x : Stage). IsFew x count) e few))
+    goes_few (tells left some e f) few = inr (subst (λ (x : Stage). IsFew x (count + 1)) (sym f) (subst (λ (x : Stage). IsFew x count) e few))
     goes_few (completes e f) few =
         let all = subst (λ (x : Stage). ClientHasActedOn peer x count) e s.acted
         in let some = subst (λ (x : Stage). IsFew x count) e few
@@ -109,14 +110,14 @@ module _ (peer : PeerState) (given : List (List ℕ)) where
 
     goes_begun : Goes peer old new → HasBegun new (count + 1)
     goes_begun (starts e f) = let one = subst (λ (x : Stage). ClientHasActedOn peer x count) e s.acted in subst (λ (x : Stage). HasBegun x (count + 1)) (sym f) (omega (arith, one))
-    goes_begun (tells left e f) = let some = subst (λ (x : Stage). HasBegun x count) e s.begun in subst (λ (x : Stage). HasBegun x (count + 1)) (sym f) (omega (arith, some))
+    goes_begun (tells left some e f) = let some = subst (λ (x : Stage). HasBegun x count) e s.begun in subst (λ (x : Stage). HasBegun x (count + 1)) (sym f) (omega (arith, some))
     goes_begun (completes e f) = subst (λ (x : Stage). HasBegun x (count + 1)) (sym f) tt
     goes_begun (changes turn e f) = subst (λ (x : Stage). HasBegun x (count + 1)) (sym f) tt
     goes_begun (answers e f) = subst (λ (x : Stage). HasBegun x (count + 1)) (sym f) tt
 
     goes_inside : Goes peer old new → is_outside new ≡ false
     goes_inside (starts e f) = ap is_outside f
-    goes_inside (tells left e f) = ap is_outside f
+    goes_inside (tells left some e f) = ap is_outside f
     goes_inside (completes e f) = ap is_outside f
     goes_inside (changes turn e f) = ap is_outside f
     goes_inside (answers e f) = ap is_outside f
@@ -155,7 +156,7 @@ module _ (peer : PeerState) (given : List (List ℕ)) where
           (expected part.client.stage count item at w.stands.acted w.inside w.stands.begun (hears_at part.client.stage count item at w.stands.hears)))
 
       one_acted : length done.acted ≡ length part.acted + 1
-      one_acted = ap length does.acted ∙ count_one part.acted item
+      one_acted = ap length does.acted ∙ count_push part.acted item
 
       acted_then : ClientHasActedOn peer done.client.stage (count + 1)
       acted_then = subst (λ (n : ℕ). ClientHasActedOn peer done.client.stage (count + n)) (let a = counts.acted in let e = one_acted in omega (arith, a, e))
@@ -198,7 +199,7 @@ module _ (peer : PeerState) (given : List (List ℕ)) where
     all_walk [] front rest part are w = w.none
     all_walk (item ∷ others) front rest part are w = choose (is_open part.client.link.phase)
         (all_walk others (front ++ item ∷ []) rest (acting now item part) (are ∙ sym (append_assoc front (item ∷ []) (others ++ rest)))
-        (subst (λ (n : ℕ). Walks n (acting now item part)) (sym (count_one front item)) (one_walks item part (length front) here w)))
+        (subst (λ (n : ℕ). Walks n (acting now item part)) (sym (count_push front item)) (one_walks item part (length front) here w)))
       where
         here : slice_get given (length front) ≡ Some item
         here = ap (λ (list : List (List ℕ)). slice_get list (length front)) are ∙ at_end front (others ++ rest) item

@@ -1,8 +1,7 @@
 -- What a client expects it acts on, and closes nothing.
-use Rattle.std.proofs.Common.{◌≡◌, inl, inr, ℕ, ◌-◌, Bool, true, false, List, [], ◌∷◌, ◌++◌, append_assoc, append-nil, length, Option, Some, Result, Ok, Err, refl, sym, ap, subst, ◌∙◌, if◌then◌else◌, arith}
+use Rattle.std.proofs.Common.{◌≡◌, inl, inr, ℕ, ◌-◌, Bool, true, false, List, [], ◌∷◌, ◌++◌, append_assoc, append-nil, length, Option, Some, Result, Ok, Err, refl, sym, ap, subst, ◌∙◌, if◌then◌else◌}
 use Rattle.std.specs.Prelude.{◌==◌, ◌&&◌}
 use Rattle.std.specs.Str.{bytes_eq}
-use Rattle.std.proofs.lemmas.Bool.Decides.{nat_tests}
 use Rattle.std.proofs.lemmas.Option.{none-some}
 use Rattle.std.proofs.lemmas.Bool.{false≢true}
 use Rattle.std.proofs.lemmas.Slice.Eq.{bytes_eq-Decides}
@@ -27,6 +26,7 @@ use Rattle.simulator_run.specs.ixl_client.declared.indication.ObjectState.{Objec
 use Rattle.simulator_run.specs.ixl_client.declared.stage.Stage.{Stage}
 use Rattle.simulator_run.specs.ixl_client.declared.stage.Stage.TheVariants as stage
 use Rattle.simulator_recovery.specs.Conversation.{ClientActs, ClientGives}
+use Rattle.simulator_recovery.proofs.Tests.{same_true}
 
 if_true : {M : Type 0} (b : Bool) (x y : M) → b ≡ true → (if b then x else y) ≡ x
 if_true true x y e = refl
@@ -35,9 +35,6 @@ if_true false x y e = absurd (false≢true e)
 at_true : {M : Type 0} (P : M → Type 0) (b : Bool) (x y : M) → b ≡ true → P x → P (if b then x else y)
 at_true P true x y e so = so
 at_true P false x y e so = absurd (false≢true e)
-
-same_number : (n : ℕ) → (n == n) ≡ true
-same_number n = grind (arith, nat_tests)
 
 -- what is posted
 record Posts (now : ℕ) (before after : ClientSoFar) : Type 0 where
@@ -102,10 +99,10 @@ module _ (now : ℕ) (item : List ℕ) (part : ClientSoFar) where
     unfolding following
     expected stage.Outside is = absurd is
     expected stage.AwaitsAnswer is = subst (λ what. Acts (following now item what part)) (sym (tells_is (VersionAnswer Match peer.version) stage.AwaitsAnswer is))
-        (at_true (λ what. Acts (following now item what part)) (peer.version == peer.version) _ _ (same_number peer.version) agrees)
+        (at_true (λ what. Acts (following now item what part)) (peer.version == peer.version) _ _ (same_true peer.version) agrees)
     expected stage.AwaitsStart is = subst (λ what. Acts (following now item what part)) (sym (tells_is StartInitialisation stage.AwaitsStart is))
         (record { acted = refl; more = []; calls = sym (append-nil part.calls); gives = λ none. tt })
-    expected (stage.AwaitsStatus left) (inl (tells, status)) = indicates (length peer.objects - left) (stage.AwaitsStatus left) tells (rw (same_number (length peer.objects - left), status) refl)
+    expected (stage.AwaitsStatus left) (inl (tells, status)) = indicates (length peer.objects - left) (stage.AwaitsStatus left) tells (rw (same_true (length peer.objects - left), status) refl)
     expected (stage.AwaitsStatus left) (inr (none_left, tells)) = subst (λ what. Acts (following now item what part)) (sym (tells_is InitialisationCompleted (stage.AwaitsStatus left) tells))
         (at_true (λ what. Acts (following now item what part)) (left == 0) _ _ (ap (λ (n : ℕ). n == 0) none_left)
         (record { acted = refl; more = []; calls = sym (append-nil part.calls); gives = λ none. tt }))

@@ -1,32 +1,25 @@
 -- The stage of a client tells how many items it has acted on in its connection.
-use Rattle.std.proofs.Common.{◌≡◌, ℕ, ◌+◌, ◌-◌, ◌<◌, Bool, true, false, List, [], ◌∷◌, ◌++◌, length, Option, Some, None, Result, Ok, Err, refl, sym, ap, subst, ◌∙◌, if◌then◌else◌, arith}
-use Rattle.std.specs.Prelude.{◌==◌, ◌&&◌}
-use Rattle.std.specs.Str.{bytes_eq}
+use Rattle.std.proofs.Common.{◌≡◌, ℕ, ◌+◌, ◌-◌, Bool, true, false, List, [], ◌∷◌, length, refl, sym, ap, subst, ◌∙◌, if◌then◌else◌, arith}
+use Rattle.std.specs.Prelude.{◌&&◌}
 use Rattle.std.proofs.lemmas.Bool.{false≢true}
-use Rattle.std.proofs.lemmas.Bool.Decides.{nat_tests}
-use Rattle.std.proofs.lemmas.Option.{slice_get_within}
 use Rattle.simulator_run.specs.rasta_core.Calls.{answer_to_send, receiving}
 use Rattle.simulator_run.specs.rasta_core.State.{is_open, is_up}
 use Rattle.simulator_run.specs.rasta_core.reason.Reason.TheVariants as reason
-use Rattle.simulator_run.specs.sci_telegram.TelegramRead.{reading}
 use Rattle.simulator_run.specs.sci_telegram.Telegrams.{writing}
-use Rattle.simulator_run.specs.sci_telegram.declared.fault.SciFault.{SciFault}
-use Rattle.simulator_run.specs.sci_telegram.declared.message.Initialisation.{Initialisation}
-use Rattle.simulator_run.specs.sci_telegram.declared.message.Initialisation.TheVariants.{InitialisationCompleted, InitialisationRequest, StartInitialisation, VersionAnswer, VersionCheck}
+use Rattle.simulator_run.specs.sci_telegram.declared.message.Initialisation.TheVariants.{VersionCheck}
 use Rattle.simulator_run.specs.sci_telegram.declared.message.Message.{Message}
 use Rattle.simulator_run.specs.sci_telegram.declared.message.Message.TheVariants as message
-use Rattle.simulator_run.specs.sci_telegram.declared.telegram.Telegram.{Telegram}
 use Rattle.simulator_run.specs.ixl_client.Client.{PeerState, is_outside}
 use Rattle.simulator_run.specs.ixl_client.ClientSoFar.{ClientSoFar, Closes, Opens, Receives, Sends, Ticks, calling}
-use Rattle.simulator_run.specs.ixl_client.Meaning.{initial_meaning, is_for_client, is_in_turn, is_in_version, is_match, is_status, meaning, meaning_of, place_of, report_meaning, state_in}
-use Rattle.simulator_run.specs.ixl_client.Step.{acted_on, acting, acting_all, at_stage, commanding, ending, fallen, following, hearing, is_refused_by_window, meaning_of_item, message_of, posting, rising, saying, stage_after_command, stage_after_report, telegram_to, ticking}
+use Rattle.simulator_run.specs.ixl_client.Step.{acted_on, acting, acting_all, at_stage, commanding, ending, fallen, hearing, is_refused_by_window, message_of, posting, rising, saying, stage_after_command, telegram_to, ticking}
 use Rattle.simulator_run.specs.ixl_client.declared.command.Command.{Command}
 use Rattle.simulator_run.specs.ixl_client.declared.command.Command.TheVariants as commands
-use Rattle.simulator_run.specs.ixl_client.declared.indication.ObjectState.{ObjectState}
 use Rattle.simulator_run.specs.ixl_client.declared.stage.Stage.{Stage}
 use Rattle.simulator_run.specs.ixl_client.declared.stage.Stage.TheVariants as stage
 use Rattle.simulator_recovery.specs.Conversation.{ClientHasActedOn, KeepsCount}
-use Rattle.simulator_recovery.proofs.Addressed.{found_at}
+use Rattle.simulator_recovery.proofs.ClientItem.{answers, changes, completes, Goes, one_item, starts, tells}
+use Rattle.simulator_recovery.proofs.Lists.{count_push}
+use Rattle.simulator_recovery.proofs.Tests.{none_more}
 
 -- how many items more were acted on, with the same peer
 pub record Counts (before after : ClientSoFar) : Type 0 where
@@ -34,9 +27,6 @@ pub record Counts (before after : ClientSoFar) : Type 0 where
   pub more : ℕ
   pub acted : length after.acted ≡ length before.acted + more
   pub on : (count : ℕ) → ClientHasActedOn before.client.peer before.client.stage count → ClientHasActedOn before.client.peer after.client.stage (count + more)
-
-none_more : (count : ℕ) → count + 0 ≡ count
-none_more count = omega arith
 
 pub counts_then : (one two three : ClientSoFar) → Counts one two → Counts two three → Counts one three
 counts_then one two three first second = record {
@@ -92,21 +82,6 @@ posted_acted now told part = choose (is_refused_by_window (answer_to_send now pa
     choose true = refl
     choose false = refl
 
-pub count_one : (acted : List (List ℕ)) (item : List ℕ) → length (acted ++ item ∷ []) ≡ length acted + 1
-count_one [] item = refl
-count_one (first ∷ acted) item = let e = count_one acted item in omega (arith, e)
-
-either : {M : Type 0} (P : M → Type 0) (b : Bool) (x y : M) → (b ≡ true → P x) → P y → P (if b then x else y)
-either P true x y one other = one refl
-either P false x y one other = other
-
-both_true : (a b : Bool) → (a && b) ≡ true → a ≡ true
-both_true true b e = refl
-both_true false b e = absurd (false≢true e)
-
-same_number : (a b : ℕ) → (a == b) ≡ true → a ≡ b
-same_number a b e = grind (arith, nat_tests)
-
 module _ (now : ℕ) (item : List ℕ) (part : ClientSoFar) where
   abbrev On : ClientSoFar → Type 0
   On after = Counts part after
@@ -120,81 +95,22 @@ module _ (now : ℕ) (item : List ℕ) (part : ClientSoFar) where
       → ((count : ℕ) → ClientHasActedOn part.client.peer part.client.stage count → ClientHasActedOn part.client.peer after.client.stage (count + 1)) → On after
   one_more after peer acted on = record { peer = peer; more = 1; acted = acted; on = on }
 
-  -- at this stage
-  abbrev At : Stage → ClientSoFar → Type 0
-  At how_far after = part.client.stage ≡ how_far → On after
+  to : (new old : Stage) → new ≡ old → (count : ℕ) → ClientHasActedOn part.client.peer old count → ClientHasActedOn part.client.peer new count
+  to new old is count has = subst (λ (s : Stage). ClientHasActedOn part.client.peer s count) (sym is) has
 
-  from : (how_far : Stage) → part.client.stage ≡ how_far → (count : ℕ) → ClientHasActedOn part.client.peer part.client.stage count → ClientHasActedOn part.client.peer how_far count
-  from how_far is count has = subst (λ (s : Stage). ClientHasActedOn part.client.peer s count) is has
-
-  initial : (told : Initialisation) (how_far : Stage) → At how_far (following now item (initial_meaning part.client.peer told how_far) part)
-  unfolding following
-  initial (VersionAnswer agreement version) stage.AwaitsAnswer is = either (λ what. On (following now item what part)) (is_match agreement && version == part.client.peer.version) _ _
-      (λ e. one_more _ (posted_at now _ stage.AwaitsStart (acted_on item part)) (ap length (posted_acted now _ (acted_on item part)) ∙ count_one part.acted item)
-      (λ count has. let none = from stage.AwaitsAnswer is count has in omega (arith, none)))
-      (closes_none reason.Version)
-  initial (VersionAnswer agreement version) stage.Outside is = closes_none reason.State
-  initial (VersionAnswer agreement version) stage.AwaitsStart is = closes_none reason.State
-  initial (VersionAnswer agreement version) (stage.AwaitsStatus left) is = closes_none reason.State
-  initial (VersionAnswer agreement version) stage.Completed is = closes_none reason.State
-  initial (VersionAnswer agreement version) stage.AwaitsReport is = closes_none reason.State
-  initial StartInitialisation stage.AwaitsStart is = one_more _ refl (count_one part.acted item) (λ count has. let one = from stage.AwaitsStart is count has in omega (arith, one))
-  initial StartInitialisation stage.Outside is = closes_none reason.State
-  initial StartInitialisation stage.AwaitsAnswer is = closes_none reason.State
-  initial StartInitialisation (stage.AwaitsStatus left) is = closes_none reason.State
-  initial StartInitialisation stage.Completed is = closes_none reason.State
-  initial StartInitialisation stage.AwaitsReport is = closes_none reason.State
-  initial InitialisationCompleted (stage.AwaitsStatus left) is = either (λ what. On (following now item what part)) (left == 0) _ _
-      (λ e. one_more _ refl (count_one part.acted item) (λ count has. let some = from (stage.AwaitsStatus left) is count has in let none = same_number left 0 e in omega (arith, some, none)))
-      (closes_none reason.State)
-  initial InitialisationCompleted stage.Outside is = closes_none reason.State
-  initial InitialisationCompleted stage.AwaitsAnswer is = closes_none reason.State
-  initial InitialisationCompleted stage.AwaitsStart is = closes_none reason.State
-  initial InitialisationCompleted stage.Completed is = closes_none reason.State
-  initial InitialisationCompleted stage.AwaitsReport is = closes_none reason.State
-  initial InitialisationRequest how_far is = closes_none reason.State
-  initial (VersionCheck version) how_far is = closes_none reason.State
-
-  -- a state in its turn, of an object that the client knows
-  in_turn : (place : ℕ) (state : ObjectState) (how_far : Stage) → place < length part.client.peer.objects → is_in_turn part.client.peer place state how_far ≡ true
-      → (count : ℕ) → ClientHasActedOn part.client.peer how_far count → ClientHasActedOn part.client.peer (stage_after_report how_far) (count + 1)
-  in_turn place state stage.Outside known turn count has = absurd (false≢true turn)
-  in_turn place state stage.AwaitsAnswer known turn count has = absurd (false≢true turn)
-  in_turn place state stage.AwaitsStart known turn count has = absurd (false≢true turn)
-  in_turn place state (stage.AwaitsStatus left) known turn count has =
-      let here = same_number place (length part.client.peer.objects - left) (both_true (place == length part.client.peer.objects - left) (is_status state) turn)
-      in omega (arith, here, known, has)
-  in_turn place state stage.Completed known turn count has = omega (arith, has)
-  in_turn place state stage.AwaitsReport known turn count has = omega (arith, has)
-
-  report : (sender : List ℕ) (found : Option ℕ) → place_of part.client.peer sender ≡ found → (state : Option ObjectState) (how_far : Stage) → At how_far (following now item (report_meaning part.client.peer found state how_far) part)
-  unfolding following
-  report sender (Some place) at (Some state) how_far is = either (λ what. On (following now item what part)) (is_in_turn part.client.peer place state how_far && is_in_version part.client.peer.version state) _ _
-      (λ e. one_more _ refl (count_one part.acted item) (λ count has. subst (λ (s : Stage). ClientHasActedOn part.client.peer (stage_after_report s) (count + 1)) (sym is)
-      (in_turn place state how_far known (both_true (is_in_turn part.client.peer place state how_far) (is_in_version part.client.peer.version state) e) count (from how_far is count has))))
-      (closes_none reason.State)
-    where
-      known : place < length part.client.peer.objects
-      known = let there = found_at (λ name. bytes_eq name sender) part.client.peer.objects place at in slice_get_within part.client.peer.objects place there.0 there.1
-  report sender (Some place) at None how_far is = closes_none reason.State
-  report sender None at (Some state) how_far is = closes_none reason.State
-  report sender None at None how_far is = closes_none reason.State
-
-  told_by : (sender : List ℕ) (told : Message) (how_far : Stage) → At how_far (following now item (meaning_of part.client.peer sender told how_far) part)
-  unfolding following
-  told_by sender (message.Initialisation protocol told) how_far is = either (λ what. On (following now item what part)) (bytes_eq sender part.client.peer.name) _ _ (λ e. initial told how_far is) (closes_none reason.State)
-  told_by sender (message.Point told) how_far is = report sender (place_of part.client.peer sender) refl (state_in (message.Point told)) how_far is
-  told_by sender (message.Signal told) how_far is = report sender (place_of part.client.peer sender) refl (state_in (message.Signal told)) how_far is
-  told_by sender (message.Detection told) how_far is = report sender (place_of part.client.peer sender) refl (state_in (message.Detection told)) how_far is
-
-  read : (how_far : Stage) (what : Result Telegram SciFault) → At how_far (following now item (meaning_of_item part.client.peer how_far what) part)
-  unfolding following meaning
-  read how_far (Ok telegram) is = either (λ what. On (following now item what part)) (is_for_client part.client.peer telegram) _ _ (λ e. told_by telegram.sender telegram.message how_far is) (closes_none reason.State)
-  read how_far (Err fault) is = closes_none reason.State
+  -- what a stage tells of the count
+  told : (old new : Stage) → Goes part.client.peer old new → (count : ℕ) → ClientHasActedOn part.client.peer old count → ClientHasActedOn part.client.peer new (count + 1)
+  told old new (starts e f) count has = to new (stage.AwaitsStatus (length part.client.peer.objects)) f (count + 1) (let one = to stage.AwaitsStart old (sym e) count has in omega (arith, one))
+  told old new (tells left some e f) count has = to new (stage.AwaitsStatus (left - 1)) f (count + 1) (let so_far = to (stage.AwaitsStatus left) old (sym e) count has in omega (arith, some, so_far))
+  told old new (completes e f) count has = to new stage.Completed f (count + 1) (let all = to (stage.AwaitsStatus 0) old (sym e) count has in omega (arith, all))
+  told old new (changes turn e f) count has = to new stage.Completed f (count + 1) (let all = to stage.Completed old (sym e) count has in omega (arith, all))
+  told old new (answers e f) count has = to new stage.Completed f (count + 1) (let all = to stage.AwaitsReport old (sym e) count has in omega (arith, all))
 
   pub acts : On (acting now item part)
-  unfolding acting
-  acts = read part.client.stage (reading item) refl
+  acts = one_item now item part On (closes_none reason.State) (closes_none reason.Version)
+      (λ is. one_more _ (posted_at now _ stage.AwaitsStart (acted_on item part)) (ap length (posted_acted now _ (acted_on item part)) ∙ count_push part.acted item)
+      (λ count has. let none = to stage.AwaitsAnswer part.client.stage (sym is) count has in omega (arith, none)))
+      (λ after same called peer acted on. one_more after peer acted (told part.client.stage after.client.stage on))
 
 pub all_act : (now : ℕ) (items : List (List ℕ)) (part : ClientSoFar) → Counts part (acting_all now items part)
 unfolding acting_all

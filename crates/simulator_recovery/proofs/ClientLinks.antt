@@ -1,7 +1,6 @@
 -- While the link of a client is open it counts what the stage tells.
-use Rattle.std.proofs.Common.{◌≡◌, ℕ, suc, ◌∙◌, ◌+◌, ◌⊎◌, inl, inr, Bool, true, false, not, ◌&&◌, ◌==◌, nat_lt, List, [], ◌∷◌, length, Option, Some, None, Result, Ok, Err, if◌then◌else◌, refl, sym, ap, subst, arith}
+use Rattle.std.proofs.Common.{◌≡◌, ℕ, suc, ◌∙◌, ◌+◌, ◌⊎◌, inl, inr, Bool, true, false, not, ◌&&◌, nat_lt, List, [], ◌∷◌, length, Result, Ok, Err, if◌then◌else◌, refl, sym, ap, subst, arith}
 use Rattle.std.specs.Prelude.{is_ok}
-use Rattle.std.specs.Str.{bytes_eq}
 use Rattle.std.proofs.lemmas.Bool.{false≢true}
 use Rattle.simulator_run.specs.rasta_core.Calls.{acceptance, answer_to_send, created, opening, receiving, sending_item, ticking as link_ticking}
 use Rattle.simulator_run.specs.rasta_core.Clock.{settled}
@@ -15,27 +14,24 @@ use Rattle.simulator_run.specs.rasta_core.phase.Phase.{Phase}
 use Rattle.simulator_run.specs.rasta_core.phase.Phase.TheVariants as phases
 use Rattle.simulator_run.specs.rasta_core.reason.Reason.{Reason}
 use Rattle.simulator_run.specs.rasta_core.reason.Reason.TheVariants as reason
-use Rattle.simulator_run.specs.sci_telegram.TelegramRead.{reading}
 use Rattle.simulator_run.specs.sci_telegram.Telegrams.{writing}
-use Rattle.simulator_run.specs.sci_telegram.declared.fault.SciFault.{SciFault}
-use Rattle.simulator_run.specs.sci_telegram.declared.message.Initialisation.{Initialisation}
-use Rattle.simulator_run.specs.sci_telegram.declared.message.Initialisation.TheVariants.{InitialisationCompleted, InitialisationRequest, StartInitialisation, VersionAnswer, VersionCheck}
+use Rattle.simulator_run.specs.sci_telegram.declared.message.Initialisation.TheVariants.{InitialisationRequest, VersionCheck}
 use Rattle.simulator_run.specs.sci_telegram.declared.message.Message.{Message}
 use Rattle.simulator_run.specs.sci_telegram.declared.message.Message.TheVariants as message
-use Rattle.simulator_run.specs.sci_telegram.declared.telegram.Telegram.{Telegram}
 use Rattle.simulator_run.specs.ixl_client.Client.{ClientState, PeerState, is_outside, new_client}
 use Rattle.simulator_run.specs.ixl_client.ClientSoFar.{ClientSoFar, Closes, Opens, Receives, Sends, Ticks, calling}
-use Rattle.simulator_run.specs.ixl_client.Meaning.{initial_meaning, is_for_client, is_in_turn, is_in_version, is_match, meaning, meaning_of, place_of, report_meaning, state_in}
-use Rattle.simulator_run.specs.ixl_client.Step.{acted_on, acting, acting_all, at_stage, clocked, commanding, fallen, following, hearing, is_refused_by_window, meaning_of_item, message_of, posting, rising, saying, stage_after_command, stage_after_report, telegram_to, ticking}
+use Rattle.simulator_run.specs.ixl_client.Step.{acted_on, acting, acting_all, at_stage, clocked, commanding, fallen, hearing, is_refused_by_window, message_of, posting, rising, saying, stage_after_command, telegram_to, ticking}
 use Rattle.simulator_run.specs.ixl_client.declared.command.Command.{Command}
 use Rattle.simulator_run.specs.ixl_client.declared.command.Command.TheVariants as commands
-use Rattle.simulator_run.specs.ixl_client.declared.indication.ObjectState.{ObjectState}
 use Rattle.simulator_run.specs.ixl_client.declared.stage.Stage.{Stage}
 use Rattle.simulator_run.specs.ixl_client.declared.stage.Stage.TheVariants as stage
 use Rattle.simulator_recovery.specs.Conversation.{ClientHasActedOn}
 use Rattle.simulator_recovery.specs.Counts.{ClientHasGiven, ClientStandsByCounts, HasCounted}
-use Rattle.simulator_recovery.proofs.ClientCounts.{Counts, acts, all_act, count_one, posted_acted, posted_at, rises}
+use Rattle.simulator_recovery.proofs.ClientCounts.{Counts, acts, all_act, posted_acted, posted_at, rises}
+use Rattle.simulator_recovery.proofs.ClientItem.{answers, changes, completes, Goes, not_outside, one_item, starts, tells}
 use Rattle.simulator_recovery.proofs.LinkCounts.{AfterReceipt, close_closes, comes_in, open_counts, receipt_counts, send_counts, send_phase, send_was_open, settled_again, settled_open, stays_in, tick_counts, tick_was_open}
+use Rattle.simulator_recovery.proofs.Lists.{count_push}
+use Rattle.simulator_recovery.proofs.Tests.{none_more, one_fewer}
 
 pub up_open : (phase : Phase) → is_up phase ≡ true → is_open phase ≡ true
 up_open phases.Closed up = absurd (false≢true up)
@@ -43,12 +39,6 @@ up_open phases.Start up = absurd (false≢true up)
 up_open phases.Up up = refl
 up_open phases.RetransmissionRequested up = refl
 up_open phases.RetransmissionRunning up = refl
-
-none_more : (n : ℕ) → n + 0 ≡ n
-none_more n = omega arith
-
-one_fewer : (taken left : ℕ) → taken + suc left ≡ (taken + 1) + left
-one_fewer taken left = omega arith
 
 pub not_true : (a b : Bool) → a ≡ not b → b ≡ true → a ≡ false
 not_true a true e f = e
@@ -242,10 +232,6 @@ data After (now : ℕ) (item : List ℕ) (part after : ClientSoFar) : Type 0 whe
       → ((given : ℕ) → ClientHasGiven part.client.stage given → ClientHasGiven after.client.stage given) → After now item part after
   asks : (told : Message) → after.client.link ≡ (posting now told (acted_on item part)).client.link → length after.acted ≡ length part.acted + 1 → part.client.stage ≡ stage.AwaitsAnswer → after.client.stage ≡ stage.AwaitsStart → After now item part after
 
-pub either : {M : Type 0} (P : M → Type 0) (b : Bool) (x y : M) → (b ≡ true → P x) → P y → P (if b then x else y)
-either P true x y one other = one refl
-either P false x y one other = other
-
 module _ (now : ℕ) (item : List ℕ) (part : ClientSoFar) where
   abbrev On : ClientSoFar → Type 0
   On after = After now item part after
@@ -254,86 +240,18 @@ module _ (now : ℕ) (item : List ℕ) (part : ClientSoFar) where
   unfolding calling
   closed why = closes (close_closes now why part.client.link)
 
-  abbrev At : Stage → ClientSoFar → Type 0
-  At how_far after = part.client.stage ≡ how_far → On after
-
-  -- where what was given at one stage is enough for the next
-  from : (how_far : Stage) (after : Stage) → part.client.stage ≡ how_far → ((given : ℕ) → ClientHasGiven how_far given → ClientHasGiven after given) → (given : ℕ) → ClientHasGiven part.client.stage given → ClientHasGiven after given
-  from how_far after is enough given has = enough given (subst (λ (s : Stage). ClientHasGiven s given) is has)
-
-  initial : (told : Initialisation) (how_far : Stage) → At how_far (following now item (initial_meaning part.client.peer told how_far) part)
-  unfolding following
-  initial (VersionAnswer agreement version) stage.AwaitsAnswer is = either (λ what. On (following now item what part)) (is_match agreement && version == part.client.peer.version) _ _
-      (λ e. asks (message.Initialisation part.client.peer.protocol InitialisationRequest) refl (ap length (posted_acted now _ (acted_on item part)) ∙ count_one part.acted item) is refl)
-      (closed reason.Version)
-  initial (VersionAnswer agreement version) stage.Outside is = closed reason.State
-  initial (VersionAnswer agreement version) stage.AwaitsStart is = closed reason.State
-  initial (VersionAnswer agreement version) (stage.AwaitsStatus left) is = closed reason.State
-  initial (VersionAnswer agreement version) stage.Completed is = closed reason.State
-  initial (VersionAnswer agreement version) stage.AwaitsReport is = closed reason.State
-  initial StartInitialisation stage.AwaitsStart is = goes_on refl (count_one part.acted item) refl (from stage.AwaitsStart (stage.AwaitsStatus 0) is (λ given has. has))
-  initial StartInitialisation stage.Outside is = closed reason.State
-  initial StartInitialisation stage.AwaitsAnswer is = closed reason.State
-  initial StartInitialisation (stage.AwaitsStatus left) is = closed reason.State
-  initial StartInitialisation stage.Completed is = closed reason.State
-  initial StartInitialisation stage.AwaitsReport is = closed reason.State
-  initial InitialisationCompleted (stage.AwaitsStatus left) is = either (λ what. On (following now item what part)) (left == 0) _ _
-      (λ e. goes_on refl (count_one part.acted item) refl (from (stage.AwaitsStatus left) stage.Completed is (λ given has. has)))
-      (closed reason.State)
-  initial InitialisationCompleted stage.Outside is = closed reason.State
-  initial InitialisationCompleted stage.AwaitsAnswer is = closed reason.State
-  initial InitialisationCompleted stage.AwaitsStart is = closed reason.State
-  initial InitialisationCompleted stage.Completed is = closed reason.State
-  initial InitialisationCompleted stage.AwaitsReport is = closed reason.State
-  initial InitialisationRequest how_far is = closed reason.State
-  initial (VersionCheck version) how_far is = closed reason.State
-
-  -- a state in its turn
-  enough : (place : ℕ) (state : ObjectState) (how_far : Stage) → is_in_turn part.client.peer place state how_far ≡ true → (given : ℕ) → ClientHasGiven how_far given → ClientHasGiven (stage_after_report how_far) given
-  enough place state stage.Outside turn given has = absurd (false≢true turn)
-  enough place state stage.AwaitsAnswer turn given has = absurd (false≢true turn)
-  enough place state stage.AwaitsStart turn given has = absurd (false≢true turn)
-  enough place state (stage.AwaitsStatus left) turn given has = has
-  enough place state stage.Completed turn given has = has
-  enough place state stage.AwaitsReport turn given has = has
-
-  not_outside : (how_far : Stage) → is_outside (stage_after_report how_far) ≡ false
-  not_outside stage.Outside = refl
-  not_outside stage.AwaitsAnswer = refl
-  not_outside stage.AwaitsStart = refl
-  not_outside (stage.AwaitsStatus left) = refl
-  not_outside stage.Completed = refl
-  not_outside stage.AwaitsReport = refl
-
-  both_true : (a b : Bool) → (a && b) ≡ true → a ≡ true
-  both_true true b e = refl
-  both_true false b e = absurd (false≢true e)
-
-  report : (found : Option ℕ) (state : Option ObjectState) (how_far : Stage) → At how_far (following now item (report_meaning part.client.peer found state how_far) part)
-  unfolding following
-  report (Some place) (Some state) how_far is = either (λ what. On (following now item what part)) (is_in_turn part.client.peer place state how_far && is_in_version part.client.peer.version state) _ _
-      (λ e. goes_on refl (count_one part.acted item) (not_outside part.client.stage) (λ given has. subst (λ (s : Stage). ClientHasGiven (stage_after_report s) given) (sym is)
-      (enough place state how_far (both_true (is_in_turn part.client.peer place state how_far) (is_in_version part.client.peer.version state) e) given (subst (λ (s : Stage). ClientHasGiven s given) is has))))
-      (closed reason.State)
-  report (Some place) None how_far is = closed reason.State
-  report None (Some state) how_far is = closed reason.State
-  report None None how_far is = closed reason.State
-
-  told_by : (sender : List ℕ) (told : Message) (how_far : Stage) → At how_far (following now item (meaning_of part.client.peer sender told how_far) part)
-  unfolding following
-  told_by sender (message.Initialisation protocol told) how_far is = either (λ what. On (following now item what part)) (bytes_eq sender part.client.peer.name) _ _ (λ e. initial told how_far is) (closed reason.State)
-  told_by sender (message.Point told) how_far is = report (place_of part.client.peer sender) (state_in (message.Point told)) how_far is
-  told_by sender (message.Signal told) how_far is = report (place_of part.client.peer sender) (state_in (message.Signal told)) how_far is
-  told_by sender (message.Detection told) how_far is = report (place_of part.client.peer sender) (state_in (message.Detection told)) how_far is
-
-  read : (how_far : Stage) (what : Result Telegram SciFault) → At how_far (following now item (meaning_of_item part.client.peer how_far what) part)
-  unfolding following meaning
-  read how_far (Ok telegram) is = either (λ what. On (following now item what part)) (is_for_client part.client.peer telegram) _ _ (λ e. told_by telegram.sender telegram.message how_far is) (closed reason.State)
-  read how_far (Err fault) is = closed reason.State
+  -- what was given at one stage is enough for the next
+  enough : (old new : Stage) → Goes part.client.peer old new → (given : ℕ) → ClientHasGiven old given → ClientHasGiven new given
+  enough old new (starts e f) given has = subst (λ (s : Stage). ClientHasGiven s given) (sym f) (subst (λ (s : Stage). ClientHasGiven s given) e has)
+  enough old new (tells left some e f) given has = subst (λ (s : Stage). ClientHasGiven s given) (sym f) (subst (λ (s : Stage). ClientHasGiven s given) e has)
+  enough old new (completes e f) given has = subst (λ (s : Stage). ClientHasGiven s given) (sym f) (subst (λ (s : Stage). ClientHasGiven s given) e has)
+  enough old new (changes turn e f) given has = subst (λ (s : Stage). ClientHasGiven s given) (sym f) (subst (λ (s : Stage). ClientHasGiven s given) e has)
+  enough old new (answers e f) given has = subst (λ (s : Stage). ClientHasGiven s given) (sym f) (subst (λ (s : Stage). ClientHasGiven s given) e has)
 
   after : On (acting now item part)
-  unfolding acting
-  after = read part.client.stage (reading item) refl
+  after = one_item now item part On (closed reason.State) (closed reason.Version)
+      (λ is. asks (message.Initialisation part.client.peer.protocol InitialisationRequest) refl (ap length (posted_acted now _ (acted_on item part)) ∙ count_push part.acted item) is refl)
+      (λ one same called peer acted on. goes_on same acted (not_outside part.client.stage one.client.stage on) (enough part.client.stage one.client.stage on))
 
 -- an item counts
 one_risen : (now : ℕ) (item : List ℕ) (left : ℕ) (part : ClientSoFar) → Risen (suc left) part.client → Risen left (acting now item part).client

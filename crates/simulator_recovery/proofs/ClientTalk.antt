@@ -1,9 +1,7 @@
 -- What a client gives in a step is what its stages tell.
-use Rattle.std.proofs.Common.{◌≡◌, ℕ, suc, ◌∙◌, ◌+◌, ◌-◌, ◌≤◌, ◌⊎◌, inl, inr, Bool, true, false, not, ◌&&◌, ◌==◌, List, [], ◌∷◌, ◌++◌, length, map, Option, Some, None, Result, Ok, Err, if◌then◌else◌, refl, sym, ap, subst, arith}
+use Rattle.std.proofs.Common.{◌≡◌, ℕ, suc, ◌∙◌, ◌+◌, ◌-◌, ◌≤◌, ◌⊎◌, inl, inr, Bool, true, false, not, ◌&&◌, List, [], ◌∷◌, ◌++◌, length, map, Result, Ok, Err, if◌then◌else◌, refl, sym, ap, subst, arith}
 use Rattle.std.specs.Prelude.{is_ok, nat_le}
-use Rattle.std.specs.Str.{bytes_eq}
 use Rattle.std.proofs.lemmas.Bool.{false≢true}
-use Rattle.std.proofs.lemmas.Bool.Decides.{nat_tests}
 use Rattle.simulator_run.specs.layout.Entries.{Site}
 use Rattle.simulator_run.specs.rasta_core.Calls.{acceptance, answer_to_send, opening, opens, receiving, sending_item, ticking as link_ticking}
 use Rattle.simulator_run.specs.rasta_core.Ends.{Call}
@@ -17,36 +15,30 @@ use Rattle.simulator_run.specs.rasta_pdu.declared.body.Body.TheVariants.{Heartbe
 use Rattle.simulator_run.specs.rasta_core.phase.Phase.TheVariants as phases
 use Rattle.simulator_run.specs.rasta_core.reason.Reason.{Reason}
 use Rattle.simulator_run.specs.rasta_core.reason.Reason.TheVariants as reason
-use Rattle.simulator_run.specs.sci_telegram.TelegramRead.{reading}
 use Rattle.simulator_run.specs.sci_telegram.Telegrams.{writing}
-use Rattle.simulator_run.specs.sci_telegram.declared.fault.SciFault.{SciFault}
-use Rattle.simulator_run.specs.sci_telegram.declared.message.Aspect.{Aspect}
 use Rattle.simulator_run.specs.sci_telegram.declared.message.Initialisation.{Initialisation}
-use Rattle.simulator_run.specs.sci_telegram.declared.message.Initialisation.TheVariants.{InitialisationCompleted, InitialisationRequest, StartInitialisation, VersionAnswer, VersionCheck}
+use Rattle.simulator_run.specs.sci_telegram.declared.message.Initialisation.TheVariants.{InitialisationRequest, VersionCheck}
 use Rattle.simulator_run.specs.sci_telegram.declared.message.Message.{Message}
 use Rattle.simulator_run.specs.sci_telegram.declared.message.Message.TheVariants as message
 use Rattle.simulator_run.specs.sci_telegram.declared.message.Protocol.TheVariants as protocols
-use Rattle.simulator_run.specs.sci_telegram.declared.message.Side.{Side}
-use Rattle.simulator_run.specs.sci_telegram.declared.telegram.Telegram.{Telegram}
-use Rattle.simulator_run.specs.ixl_client.Client.{ClientState, PeerState, is_available, is_outside, is_ready}
+use Rattle.simulator_run.specs.ixl_client.Client.{ClientState, PeerState, is_outside, is_ready}
 use Rattle.simulator_run.specs.ixl_client.ClientSoFar.{ClientSoFar, Closes, LinkCall, Opens, Receives, Sends, Ticks, as_call, call_made, calling}
 use Rattle.simulator_run.specs.ixl_client.ItemsSaid.{item_of}
-use Rattle.simulator_run.specs.ixl_client.Meaning.{initial_meaning, is_for_client, is_in_turn, is_in_version, is_match, meaning, meaning_of, place_of, report_meaning, reports_changes, state_in}
-use Rattle.simulator_run.specs.ixl_client.Step.{acted_on, acting, acting_all, at_stage, commanding, fallen, following, hearing, is_refused_by_window, meaning_of_item, message_of, posting, rising, saying, stage_after_command, stage_after_report, telegram_to, ticking}
+use Rattle.simulator_run.specs.ixl_client.Meaning.{reports_changes}
+use Rattle.simulator_run.specs.ixl_client.Step.{acted_on, acting, acting_all, at_stage, commanding, fallen, hearing, is_refused_by_window, message_of, posting, rising, saying, stage_after_command, telegram_to, ticking}
 use Rattle.simulator_run.specs.ixl_client.declared.command.Command.{Command}
 use Rattle.simulator_run.specs.ixl_client.declared.command.Command.TheVariants as commands
-use Rattle.simulator_run.specs.ixl_client.declared.indication.ObjectState.{ObjectState}
 use Rattle.simulator_run.specs.ixl_client.declared.stage.Stage.{Stage}
 use Rattle.simulator_run.specs.ixl_client.declared.stage.Stage.TheVariants as stage
 use Rattle.simulator_run.specs.ixl_rules.StepSoFar.{Detector, Node, Point, Signal}
 use Rattle.simulator_machine_links.specs.Flows.{given_after, given_by, taken_after, taken_by}
-use Rattle.simulator_recovery.specs.ClientSaid.{AllAnswered, AtMostOneWaits, ClientHasSaid, ClientSaid, ClientTalks, HasCommanded, IsGivenTo, asked, checked, commanded, nothing}
+use Rattle.simulator_recovery.specs.ClientSaid.{AllAnswered, AtMostOneWaits, ClientHasSaid, ClientSaid, ClientTalks, HasCommanded, asked, checked, commanded, nothing}
 use Rattle.simulator_recovery.specs.Conversation.{ClientHasActedOn}
-use Rattle.simulator_recovery.specs.Matched.{IsSpoken}
-use Rattle.simulator_recovery.proofs.ClientCounts.{Counts, acts, count_one, posted_acted, posted_at}
+use Rattle.simulator_recovery.proofs.ClientCounts.{Counts, acts, posted_acted, posted_at}
+use Rattle.simulator_recovery.proofs.ClientItem.{answers, changes, completes, Goes, not_outside, one_item, starts, tells}
 use Rattle.simulator_recovery.proofs.ClientLinks.{answer_down, answer_up, not_false, not_true, outside_is, up_open}
 use Rattle.simulator_recovery.proofs.LinkCounts.{close_closes, entered_open, send_phase, send_was_open, tick_was_open}
-use Rattle.simulator_recovery.proofs.Lists.{each_both, map_both}
+use Rattle.simulator_recovery.proofs.Lists.{count_push, map_both, none_long}
 
 -- ---- calls one behind another
 
@@ -110,100 +102,15 @@ said_ever site node peer s count taken items few has = by_stage s has
 
 -- ---- one item that is acted on
 
--- how an item leads from one stage to the next
-pub data Goes (peer : PeerState) (old new : Stage) : Type 0 where
-  starts : old ≡ stage.AwaitsStart → new ≡ stage.AwaitsStatus (length peer.objects) → Goes peer old new
-  tells : (left : ℕ) → old ≡ stage.AwaitsStatus left → new ≡ stage.AwaitsStatus (left - 1) → Goes peer old new
-  completes : old ≡ stage.AwaitsStatus 0 → new ≡ stage.Completed → Goes peer old new
-  changes : reports_changes peer.protocol ≡ true → old ≡ stage.Completed → new ≡ stage.Completed → Goes peer old new
-  answers : old ≡ stage.AwaitsReport → new ≡ stage.Completed → Goes peer old new
-
 -- it closes the link, or leads on, or the client asks for the initialisation
 pub data Fate (now : ℕ) (item : List ℕ) (part after : ClientSoFar) : Type 0 where
   closes : (why : Reason) → after ≡ calling now (Closes why) part → Fate now item part after
   goes : after.client.link ≡ part.client.link → after.calls ≡ part.calls → after.client.peer ≡ part.client.peer → length after.acted ≡ length part.acted + 1 → Goes part.client.peer part.client.stage after.client.stage → Fate now item part after
   asks : part.client.stage ≡ stage.AwaitsAnswer → after ≡ at_stage stage.AwaitsStart (saying now InitialisationRequest (acted_on item part)) → Fate now item part after
 
-either : {M : Type 0} (P : M → Type 0) (b : Bool) (x y : M) → (b ≡ true → P x) → P y → P (if b then x else y)
-either P true x y one other = one refl
-either P false x y one other = other
-
-both_true : (a b : Bool) → (a && b) ≡ true → a ≡ true
-both_true true b e = refl
-both_true false b e = absurd (false≢true e)
-
-pub is_none : (n : ℕ) → (n == 0) ≡ true → n ≡ 0
-is_none n e = grind (arith, nat_tests)
-
-module _ (now : ℕ) (item : List ℕ) (part : ClientSoFar) where
-  abbrev pub On : ClientSoFar → Type 0
-  On after = Fate now item part after
-
-  violates : On (calling now (Closes reason.State) part)
-  violates = closes reason.State refl
-
-  differs : On (calling now (Closes reason.Version) part)
-  differs = closes reason.Version refl
-
-  abbrev At : Stage → ClientSoFar → Type 0
-  At how_far after = part.client.stage ≡ how_far → On after
-
-  initial : (told : Initialisation) (how_far : Stage) → At how_far (following now item (initial_meaning part.client.peer told how_far) part)
-  unfolding following
-  initial (VersionAnswer agreement version) stage.AwaitsAnswer is = either (λ what. On (following now item what part)) (is_match agreement && version == part.client.peer.version) _ _ (λ e. asks is refl) differs
-  initial (VersionAnswer agreement version) stage.Outside is = violates
-  initial (VersionAnswer agreement version) stage.AwaitsStart is = violates
-  initial (VersionAnswer agreement version) (stage.AwaitsStatus left) is = violates
-  initial (VersionAnswer agreement version) stage.Completed is = violates
-  initial (VersionAnswer agreement version) stage.AwaitsReport is = violates
-  initial StartInitialisation stage.AwaitsStart is = goes refl refl refl (count_one part.acted item) (starts is refl)
-  initial StartInitialisation stage.Outside is = violates
-  initial StartInitialisation stage.AwaitsAnswer is = violates
-  initial StartInitialisation (stage.AwaitsStatus left) is = violates
-  initial StartInitialisation stage.Completed is = violates
-  initial StartInitialisation stage.AwaitsReport is = violates
-  initial InitialisationCompleted (stage.AwaitsStatus left) is = either (λ what. On (following now item what part)) (left == 0) _ _
-      (λ e. goes refl refl refl (count_one part.acted item) (completes (is ∙ ap stage.AwaitsStatus (is_none left e)) refl)) violates
-  initial InitialisationCompleted stage.Outside is = violates
-  initial InitialisationCompleted stage.AwaitsAnswer is = violates
-  initial InitialisationCompleted stage.AwaitsStart is = violates
-  initial InitialisationCompleted stage.Completed is = violates
-  initial InitialisationCompleted stage.AwaitsReport is = violates
-  initial InitialisationRequest how_far is = violates
-  initial (VersionCheck version) how_far is = violates
-
-  -- a state in its turn
-  in_turn : (place : ℕ) (state : ObjectState) (how_far : Stage) → part.client.stage ≡ how_far → is_in_turn part.client.peer place state how_far ≡ true → Goes part.client.peer part.client.stage (stage_after_report part.client.stage)
-  in_turn place state stage.Outside is turn = absurd (false≢true turn)
-  in_turn place state stage.AwaitsAnswer is turn = absurd (false≢true turn)
-  in_turn place state stage.AwaitsStart is turn = absurd (false≢true turn)
-  in_turn place state (stage.AwaitsStatus left) is turn = tells left is (ap stage_after_report is)
-  in_turn place state stage.Completed is turn = changes turn is (ap stage_after_report is)
-  in_turn place state stage.AwaitsReport is turn = answers is (ap stage_after_report is)
-
-  report : (found : Option ℕ) (state : Option ObjectState) (how_far : Stage) → At how_far (following now item (report_meaning part.client.peer found state how_far) part)
-  unfolding following
-  report (Some place) (Some state) how_far is = either (λ what. On (following now item what part)) (is_in_turn part.client.peer place state how_far && is_in_version part.client.peer.version state) _ _
-      (λ e. goes refl refl refl (count_one part.acted item) (in_turn place state how_far is (both_true (is_in_turn part.client.peer place state how_far) (is_in_version part.client.peer.version state) e))) violates
-  report (Some place) None how_far is = violates
-  report None (Some state) how_far is = violates
-  report None None how_far is = violates
-
-  told_by : (sender : List ℕ) (told : Message) (how_far : Stage) → At how_far (following now item (meaning_of part.client.peer sender told how_far) part)
-  unfolding following
-  told_by sender (message.Initialisation protocol told) how_far is = either (λ what. On (following now item what part)) (bytes_eq sender part.client.peer.name) _ _ (λ e. initial told how_far is) violates
-  told_by sender (message.Point told) how_far is = report (place_of part.client.peer sender) (state_in (message.Point told)) how_far is
-  told_by sender (message.Signal told) how_far is = report (place_of part.client.peer sender) (state_in (message.Signal told)) how_far is
-  told_by sender (message.Detection told) how_far is = report (place_of part.client.peer sender) (state_in (message.Detection told)) how_far is
-
-  read : (how_far : Stage) (what : Result Telegram SciFault) → At how_far (following now item (meaning_of_item part.client.peer how_far what) part)
-  unfolding following meaning
-  read how_far (Ok telegram) is = either (λ what. On (following now item what part)) (is_for_client part.client.peer telegram) _ _ (λ e. told_by telegram.sender telegram.message how_far is) violates
-  read how_far (Err fault) is = violates
-
-  pub fate : On (acting now item part)
-  unfolding acting
-  fate = read part.client.stage (reading item) refl
+pub fate : (now : ℕ) (item : List ℕ) (part : ClientSoFar) → Fate now item part (acting now item part)
+fate now item part = one_item now item part (Fate now item part) (closes reason.State refl) (closes reason.Version refl) (λ is. asks is refl)
+    (λ after same called peer acted on. goes same called peer acted on)
 
 -- ---- a client of a node
 
@@ -335,7 +242,7 @@ module _ (site : Site) (node : Node) (peer : PeerState) (of : OfNode node peer) 
   next_said old new count g (starts e f) acted said =
       let one = subst (λ (s : Stage). ClientHasActedOn peer s count) e acted
       in subst (λ (s : Stage). ClientHasSaid site node peer s (count + 1) g) (sym f) (omega (arith, one), subst (λ (s : Stage). ClientHasSaid site node peer s count g) e said)
-  next_said old new count g (tells left e f) acted said =
+  next_said old new count g (tells left some e f) acted said =
       let so = subst (λ (s : Stage). ClientHasSaid site node peer s count g) e said
       in let some = so.0 in subst (λ (s : Stage). ClientHasSaid site node peer s (count + 1) g) (sym f) (omega (arith, some), so.1)
   next_said old new count g (completes e f) acted said =
@@ -364,13 +271,6 @@ module _ (site : Site) (node : Node) (peer : PeerState) (of : OfNode node peer) 
       at_node (Signal place) (c, one) = (record { commands = c.commands; each = c.each; are = c.are; waits = tt }, tt)
       at_node (Point place) (c, one) = (record { commands = c.commands; each = c.each; are = c.are; waits = inr (omega (arith, one)) }, one)
       at_node (Detector place) (c, one) = (record { commands = c.commands; each = c.each; are = c.are; waits = tt }, tt)
-
-  not_outside : (old new : Stage) → Goes peer old new → is_outside new ≡ false
-  not_outside old new (starts e f) = ap is_outside f
-  not_outside old new (tells left e f) = ap is_outside f
-  not_outside old new (completes e f) = ap is_outside f
-  not_outside old new (changes turn e f) = ap is_outside f
-  not_outside old new (answers e f) = ap is_outside f
 
   -- a telegram of the initialisation, as the client's peer writes it
   said_item : (told : Initialisation) (part : ClientSoFar) → part.client.peer ≡ peer → writing (telegram_to part.client.peer (message.Initialisation part.client.peer.protocol told)) ≡ item_of peer told
@@ -487,7 +387,7 @@ module _ (site : Site) (node : Node) (peer : PeerState) (of : OfNode node peer) 
         where
           at_peer : Goes peer part.client.stage done.client.stage
           at_peer = subst (λ (p : PeerState). Goes p part.client.stage done.client.stage) mid.peer_is on
-      choose (asks is at) = asked_so is (ap (λ (p : ClientSoFar). length p.acted) at ∙ ap length (posted_acted now _ (acted_on item part)) ∙ count_one part.acted item) done refl at
+      choose (asks is at) = asked_so is (ap (λ (p : ClientSoFar). length p.acted) at ∙ ap length (posted_acted now _ (acted_on item part)) ∙ count_push part.acted item) done refl at
 
   all_risen : (items : List (List ℕ)) (part : ClientSoFar) (t : List (List ℕ)) → Risen (length items) part t → Risen 0 (acting_all now items part) t
   unfolding acting_all
@@ -647,10 +547,6 @@ module _ (site : Site) (node : Node) (peer : PeerState) (of : OfNode node peer) 
 
       took : List (List ℕ)
       took = taken_after now (map (as_call connection) part.calls) link taken
-
-      none_long : (list : List (List ℕ)) → length list ≡ 0 → list ≡ []
-      none_long [] e = refl
-      none_long (first ∷ others) e = absurd (omega (arith, e))
 
   -- ---- the parts of a step
 
@@ -874,98 +770,3 @@ module _ (site : Site) (node : Node) (peer : PeerState) (of : OfNode node peer) 
         };
         risen = λ up. ticked_mid.risen (ap is_up (sym (stays_phase e (up_open _ up))) ∙ up);
       }
-
--- ---- what a command leads to
-
--- one command more
-abbrev one_more : (site : Site) (node : Node) (peer : PeerState) (count : ℕ) (g : List (List ℕ)) (command : Command) → IsGivenTo site node command → (c : HasCommanded site node peer count g)
-    → AtMostOneWaits node (length peer.objects) (length (c.commands ++ command ∷ [])) count → HasCommanded site node peer count (g ++ commanded peer command ∷ [])
-one_more site node peer count g command fits c waits = record {
-  commands = c.commands ++ command ∷ [];
-  each = each_both (IsGivenTo site node) c.commands (command ∷ []) c.each (fits, tt);
-  are = ap (λ (list : List (List ℕ)). list ++ commanded peer command ∷ []) c.are
-      ∙ ap (λ (list : List (List ℕ)). item_of peer (VersionCheck peer.version) ∷ item_of peer InitialisationRequest ∷ list) (sym (map_both (commanded peer) c.commands (command ∷ [])));
-  waits = waits;
-}
-
-pub aspect_leads : (site : Site) (place : ℕ) (peer : PeerState) (aspect : Aspect) → IsSpoken site aspect → (s : Stage) → is_ready s ≡ true → (count : ℕ) (g : List (List ℕ))
-    → ClientHasSaid site (Signal place) peer s count g → ClientHasSaid site (Signal place) peer (stage_after_command (commands.Indicate aspect) s) count (g ++ commanded peer (commands.Indicate aspect) ∷ [])
-aspect_leads site place peer aspect spoken stage.Completed e count g (c, all) = (one_more site (Signal place) peer count g (commands.Indicate aspect) spoken c tt, tt)
-aspect_leads site place peer aspect spoken stage.AwaitsReport e count g (c, one) = (one_more site (Signal place) peer count g (commands.Indicate aspect) spoken c tt, tt)
-aspect_leads site place peer aspect spoken stage.Outside e count g has = absurd (false≢true e)
-aspect_leads site place peer aspect spoken stage.AwaitsAnswer e count g has = absurd (false≢true e)
-aspect_leads site place peer aspect spoken stage.AwaitsStart e count g has = absurd (false≢true e)
-aspect_leads site place peer aspect spoken (stage.AwaitsStatus left) e count g has = absurd (false≢true e)
-
-grown : (list : List Command) (one : Command) → length (list ++ one ∷ []) ≡ length list + 1
-grown [] one = refl
-grown (first ∷ list) one = let e = grown list one in omega (arith, e)
-
-pub move_leads : (site : Site) (place : ℕ) (peer : PeerState) (side : Side) (s : Stage) → is_available s ≡ true → (count : ℕ) (g : List (List ℕ))
-    → ClientHasSaid site (Point place) peer s count g → ClientHasSaid site (Point place) peer (stage_after_command (commands.Move side) s) count (g ++ commanded peer (commands.Move side) ∷ [])
-move_leads site place peer side stage.Completed e count g (c, all) = let many = grown c.commands (commands.Move side) in
-    (one_more site (Point place) peer count g (commands.Move side) tt c (inr (omega (arith, all, many))), omega (arith, all, many))
-move_leads site place peer side stage.AwaitsReport e count g has = absurd (false≢true e)
-move_leads site place peer side stage.Outside e count g has = absurd (false≢true e)
-move_leads site place peer side stage.AwaitsAnswer e count g has = absurd (false≢true e)
-move_leads site place peer side stage.AwaitsStart e count g has = absurd (false≢true e)
-move_leads site place peer side (stage.AwaitsStatus left) e count g has = absurd (false≢true e)
-
-pub available_ready : (s : Stage) → is_available s ≡ true → is_ready s ≡ true
-available_ready stage.Completed e = refl
-available_ready stage.AwaitsReport e = absurd (false≢true e)
-available_ready stage.Outside e = absurd (false≢true e)
-available_ready stage.AwaitsAnswer e = absurd (false≢true e)
-available_ready stage.AwaitsStart e = absurd (false≢true e)
-available_ready (stage.AwaitsStatus left) e = absurd (false≢true e)
-
--- ---- one part behind another
-
-module _ (now connection : ℕ) where
-  pub all_made_behind : (one other : List Call) (l : LinkState) → (all_made now (one ++ other) l).link ≡ (all_made now other (all_made now one l).link).link
-  unfolding all_made
-  all_made_behind [] other l = refl
-  all_made_behind (first ∷ one) other l = all_made_behind one other (made_by now first l).link
-
-  pub all_gave_behind : (one other : List Call) (l : LinkState) (given : List (List ℕ)) → given_after now (one ++ other) l given ≡ given_after now other (all_made now one l).link (given_after now one l given)
-  unfolding all_made given_after
-  all_gave_behind [] other l given = refl
-  all_gave_behind (first ∷ one) other l given = all_gave_behind one other (made_by now first l).link (given_by now first l given)
-
-  pub all_took_behind : (one other : List Call) (l : LinkState) (taken : List (List ℕ)) → taken_after now (one ++ other) l taken ≡ taken_after now other (all_made now one l).link (taken_after now one l taken)
-  unfolding all_made taken_after
-  all_took_behind [] other l taken = refl
-  all_took_behind (first ∷ one) other l taken = all_took_behind one other (made_by now first l).link (taken_by now first l taken)
-
-  module _ (site : Site) (node : Node) (peer : PeerState) (of : OfNode node peer) (link : LinkState) (given taken : List (List ℕ)) where
-    abbrev From : ClientState → List LinkCall → Type 0
-    From = SoFar site node peer of now connection link given taken
-
-    -- what is so behind a part that begins here is so behind both
-    pub so_far_behind : (calls more : List LinkCall) (client after : ClientState) → From client calls
-        → SoFar site node peer of now connection client.link (given_after now (map (as_call connection) calls) link given) (taken_after now (map (as_call connection) calls) link taken) after more
-        → From after (calls ++ more)
-    unfolding all_made given_after taken_after
-    so_far_behind calls more client after first then_so = record {
-      link_is = then_so.link_is ∙ ap (λ (l : LinkState). (all_made now (map (as_call connection) more) l).link) first.link_is
-          ∙ sym (all_made_behind (map (as_call connection) calls) (map (as_call connection) more) link) ∙ ap (λ (cs : List Call). (all_made now cs link).link) (sym both);
-      peer_is = then_so.peer_is;
-      talks = subst (λ (g : List (List ℕ)). ClientTalks site node after g (taken_after now (map (as_call connection) (calls ++ more)) link taken)) (sym gave)
-          (subst (λ (t : List (List ℕ)). ClientTalks site node after (given_after now (map (as_call connection) more) client.link (given_after now (map (as_call connection) calls) link given)) t) (sym took) then_so.talks);
-    }
-      where
-        both : map (as_call connection) (calls ++ more) ≡ map (as_call connection) calls ++ map (as_call connection) more
-        both = map_both (as_call connection) calls more
-
-        gave : given_after now (map (as_call connection) (calls ++ more)) link given ≡ given_after now (map (as_call connection) more) client.link (given_after now (map (as_call connection) calls) link given)
-        gave = ap (λ (cs : List Call). given_after now cs link given) both ∙ all_gave_behind (map (as_call connection) calls) (map (as_call connection) more) link given
-            ∙ ap (λ (l : LinkState). given_after now (map (as_call connection) more) l (given_after now (map (as_call connection) calls) link given)) (sym first.link_is)
-
-        took : taken_after now (map (as_call connection) (calls ++ more)) link taken ≡ taken_after now (map (as_call connection) more) client.link (taken_after now (map (as_call connection) calls) link taken)
-        took = ap (λ (cs : List Call). taken_after now cs link taken) both ∙ all_took_behind (map (as_call connection) calls) (map (as_call connection) more) link taken
-            ∙ ap (λ (l : LinkState). taken_after now (map (as_call connection) more) l (taken_after now (map (as_call connection) calls) link taken)) (sym first.link_is)
-
-    -- a part begins here
-    pub begins_here : (client : ClientState) → client.peer ≡ peer → client.link ≡ link → ClientTalks site node client given taken → From client []
-    unfolding all_made given_after taken_after
-    begins_here client peer_is same talks = record { link_is = same; peer_is = peer_is; talks = talks }

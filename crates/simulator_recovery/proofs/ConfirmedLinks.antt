@@ -27,9 +27,10 @@ use Rattle.simulator_recovery.specs.LinkRounds.{IsUpOn, StaysBelowLimit, calls_o
 use Rattle.simulator_recovery.specs.RepliesOn.{RepliesAfter, RepliesBehind, RepliesOn}
 use Rattle.simulator_recovery.specs.Rounds.{HasTime, IsWork, all_tried, clocks_of, good_rounds}
 use Rattle.simulator_recovery.proofs.ComeUp.{Begun, begun_so, behind_rounds, links_after, lists_length, lists_on, rounds_open, up_on}
-use Rattle.simulator_recovery.proofs.HandedOver.{client_is, settled_given}
+use Rattle.simulator_recovery.proofs.HandedOver.{client_is}
 use Rattle.simulator_recovery.proofs.LinkRounds.{are_links}
 use Rattle.simulator_recovery.proofs.Ready.{IsUpBehind, ReadyLaws, below_front, count_front, each_front, fewer_time, front_of, lists_front, rounds_both, ups, work_front}
+use Rattle.simulator_recovery.proofs.Spent.{settled_given}
 use Rattle.simulator_recovery.proofs.StaysOpen.{rounds_stay}
 
 pub settled_confirmed : (now : ℕ) (l : LinkState) → confirmed_items (settled now l) ≡ confirmed_items l

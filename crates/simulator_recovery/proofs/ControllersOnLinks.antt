@@ -1,7 +1,6 @@
 -- What is kept of every controller of a station, with what its end has given, by its steps is kept by each event of the station.
 use Rattle.std.proofs.Common.{◌≡◌, ◌≢◌, ℕ, zero, suc, ◌∙◌, ◌<◌, ◌==◌, Bool, true, false, List, [], ◌∷◌, length, map, Option, Some, None, slice_get, slice_set, ◌⊎◌, inl, inr, refl, sym, ap, subst, arith}
 use Rattle.std.specs.Prelude.{drop}
-use Rattle.std.proofs.lemmas.Bool.Decides.{nat_tests}
 use Rattle.std.proofs.lemmas.Option.{none-some, same_Some, slice_get_within}
 use Rattle.object_host_theorem.specs.World.{as_call, called_all}
 use Rattle.simulator_run.specs.layout.Entries.{DetectorEntry, Site}
@@ -50,6 +49,7 @@ use Rattle.simulator_recovery.proofs.AtLink.{mapped, of_second, of_third}
 use Rattle.simulator_recovery.proofs.IxlClients.{changed_at}
 use Rattle.simulator_recovery.proofs.Lists.{at_place, map_length}
 use Rattle.simulator_recovery.proofs.StationKeeps.{later_at}
+use Rattle.simulator_recovery.proofs.Tests.{same_number}
 
 -- ---- lists and links
 
@@ -63,9 +63,6 @@ set_there (x ∷ xs) (suc place) new (suc k) y e = choose (set_there xs place ne
     choose : ((k ≡ place) × (y ≡ new)) ⊎ ((k ≢ place) × (slice_get xs k ≡ Some y)) → ((suc k ≡ suc place) × (y ≡ new)) ⊎ ((suc k ≢ suc place) × (slice_get xs k ≡ Some y))
     choose (inl (f, g)) = inl (ap suc f, g)
     choose (inr (f, g)) = inr (λ same. f (omega (arith, same)), g)
-
-same_number : (a b : ℕ) → (a == b) ≡ true → a ≡ b
-same_number a b e = grind (arith, nat_tests)
 
 -- what an end gave and took in its last connection
 pub record Lists : Type 0 where

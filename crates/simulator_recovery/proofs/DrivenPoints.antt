@@ -39,13 +39,13 @@ use Rattle.simulator_run.specs.Tried.{Played, after, world_where}
 use Rattle.simulator_run.specs.Tried.{driven as found_driven}
 use Rattle.simulator_recovery.specs.Moves.{IsDriven, IsDrivenBehind}
 use Rattle.simulator_recovery.specs.Rounds.{IsWork, all_tried}
-use Rattle.simulator_recovery.proofs.Lists.{at_place}
+use Rattle.simulator_recovery.proofs.Lists.{at_place, set_own}
 use Rattle.simulator_recovery.proofs.Rounds.{tried_keeps}
 
 -- ---- a drive in a step
 
 -- what is answered wasn't a drive that goes on
-answered_drive : (how : Progress) (side : Side) (since : ℕ) → answered how ≡ progress.Driving side since → how ≡ progress.Driving side since
+pub answered_drive : (how : Progress) (side : Side) (since : ℕ) → answered how ≡ progress.Driving side since → how ≡ progress.Driving side since
 answered_drive progress.Answered side since e = absurd (cc e)
 answered_drive (progress.Driving to from) side since e = e
 answered_drive progress.Arrived side since e = absurd (cc e)
@@ -137,11 +137,6 @@ pub driver : (place : ℕ) (points : List (ClockedControllerState PointState)) (
 driver place [] side e = absurd (none-some side e)
 driver zero (c ∷ points) side e = (c, refl, e)
 driver (suc place) (c ∷ points) side e = driver place points side e
-
-set_own : {X : Type 0} (list : List X) (place : ℕ) (new y : X) → slice_get (slice_set list place new) place ≡ Some y → y ≡ new
-set_own [] place new y e = absurd (none-some y e)
-set_own (x ∷ list) zero new y e = sym (same_Some new y e)
-set_own (x ∷ list) (suc place) new y e = set_own list place new y e
 
 set_other : (points : List (ClockedControllerState PointState)) (at place : ℕ) (new : ClockedControllerState PointState) → place < at → driven_at place (slice_set points at new) ≡ driven_at place points
 set_other [] at place new below = refl

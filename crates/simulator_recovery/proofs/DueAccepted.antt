@@ -1,5 +1,5 @@
 -- What an accepted request of a route leaves behind it.
-use Rattle.std.proofs.Common.{◌≡◌, ◌⊎◌, inl, inr, ℕ, ◌==◌, ◌&&◌, Bool, true, false, List, length, Option, Some, None, slice_get, refl, sym, ap, subst, ◌∙◌}
+use Rattle.std.proofs.Common.{◌≡◌, ◌⊎◌, inl, inr, ℕ, ◌==◌, ◌&&◌, Bool, true, false, List, Option, Some, None, slice_get, refl, sym, ap, subst, ◌∙◌}
 use Rattle.std.specs.Prelude.{not}
 use Rattle.std.specs.Cmp.{nat_cmp_total, unsigned_tied}
 use Rattle.std.specs.FinSet.{contains, contains-remove, remove}
@@ -32,7 +32,7 @@ use Rattle.simulator_recovery.specs.NothingDue.{HasAspect, Waits}
 use Rattle.simulator_recovery.proofs.Cancelled.{not_refused}
 use Rattle.simulator_recovery.proofs.DueCourse.{at_changed, stopped_leaves, until_moved, waits_held, waits_keep, watching_held}
 use Rattle.simulator_recovery.proofs.DueRoutes.{RequestLaw}
-use Rattle.simulator_recovery.proofs.DueShapes.{along_keeps, over_keeps, repeated_keeps, route_keeps, where_keeps}
+use Rattle.simulator_recovery.proofs.DueShapes.{along_keeps, over_keeps, passage_keeps, route_keeps, where_keeps}
 use Rattle.simulator_recovery.proofs.DueTests.{known_surely, known_then}
 use Rattle.simulator_recovery.proofs.IxlClients.{mapped_at}
 use Rattle.simulator_recovery.proofs.NothingDueMoves.{MoveLaw, MoveLeaves, move_leaves, moved_point, step_none}
@@ -63,8 +63,7 @@ module _ (now : ℕ) (table : Table) (old : IxlState) where
   next_stands number part is = route_keeps (FieldStands old) table number _ part (λ row route there here. where_keeps (FieldStands old) (frees_next table part.ixl row route route.phase) part _ (λ due. is) is) is
 
   passage_stands : (number : ℕ) (part : StepSoFar) → FieldStands old part → FieldStands old (freeing_by_passage table number part)
-  unfolding freeing_by_passage
-  passage_stands number part is = route_keeps (FieldStands old) table number _ part (λ row route there here. repeated_keeps (FieldStands old) (length row.sections) (freeing_next table number) (next_stands number) part is) is
+  passage_stands = passage_keeps (FieldStands old) now table next_stands
 
   cancel_stands : (number : ℕ) (part : StepSoFar) → FieldStands old part → FieldStands old (freeing_by_cancel now table number part)
   unfolding freeing_by_cancel

@@ -1,5 +1,5 @@
 -- How a set route goes on over an event: it waits, or proceeds.
-use Rattle.std.proofs.Common.{◌≡◌, ◌≢◌, ◌⊎◌, inl, inr, ℕ, ◌==◌, ◌&&◌, Bool, true, false, if◌then◌else◌, List, length, Option, Some, None, slice_get, refl, sym, ap, subst, ◌∙◌}
+use Rattle.std.proofs.Common.{◌≡◌, ◌≢◌, ◌⊎◌, inl, inr, ℕ, ◌==◌, ◌&&◌, Bool, true, false, if◌then◌else◌, List, Option, Some, None, slice_get, refl, sym, ap, subst, ◌∙◌}
 use Rattle.std.specs.Prelude.{◌||◌, not}
 use Rattle.std.proofs.lemmas.Bool.{false≢true}
 use Rattle.std.proofs.lemmas.Option.{none-some, same_Some}
@@ -33,13 +33,13 @@ use Rattle.simulator_headline.specs.Reached.{IsReached}
 use Rattle.simulator_recovery.specs.NothingDue.{CancelsNot, IsUpheld, KeepsSetting, HasAspect, UpholdsAspect, Waits, input_of, known_in_step}
 use Rattle.simulator_recovery.proofs.AlwaysStopped.{standing_then}
 use Rattle.simulator_recovery.proofs.DueEvents.{MakesAnew, event_then, input_is}
-use Rattle.simulator_recovery.proofs.DueShapes.{along_keeps, one_keeps, over_keeps, repeated_keeps, route_keeps, where_keeps}
+use Rattle.simulator_recovery.proofs.DueShapes.{along_keeps, moving_keeps, one_keeps, over_keeps, passage_keeps, route_keeps, where_keeps}
 use Rattle.simulator_recovery.proofs.DueTicks.{ticks_bring_nothing}
-use Rattle.simulator_recovery.proofs.IxlSoFar.{first_true}
 use Rattle.simulator_recovery.proofs.NothingDueMoves.{move_leaves}
 use Rattle.simulator_recovery.proofs.NothingDueProceeds.{AspectLeaves, aspect_leaves}
 use Rattle.simulator_recovery.proofs.SignalParts.{watched_held, withdrawing_held}
 use Rattle.simulator_recovery.proofs.StopsGiven.{AnyCommand, StopsStand, changed_elsewhere, changed_here, differs, is_equal, proceeding_set, request_unset, stand_keep}
+use Rattle.simulator_recovery.proofs.Tests.{first_true}
 
 -- ---- one route of a list
 
@@ -116,8 +116,7 @@ module _ (now : ℕ) (table : Table) (k : ℕ) (F : RouteState → Type 0) (keep
       (λ due. turned number (one_freed row route.phase) part route here (λ holds. absurd (by_phase (frees_next table part.ixl row route) refl refl route holds due)) is) is) is
 
   passage_held : (number : ℕ) (part : StepSoFar) → Held part → Held (freeing_by_passage table number part)
-  unfolding freeing_by_passage
-  passage_held number part is = route_keeps Held table number _ part (λ row route there here. repeated_keeps Held (length row.sections) (freeing_next table number) (next_held number) part is) is
+  passage_held = passage_keeps Held now table next_held
 
   cancel_held : (number : ℕ) (part : StepSoFar) → Held part → Held (freeing_by_cancel now table number part)
   unfolding freeing_by_cancel
@@ -130,8 +129,7 @@ module _ (now : ℕ) (table : Table) (k : ℕ) (F : RouteState → Type 0) (keep
       (λ due. subst (λ (routes : List RouteState). At routes k F) (sym (move_leaves now need.point need.side part).routes) is) is) is
 
   moving_held : (number : ℕ) (part : StepSoFar) → Held part → Held (moving now table number part)
-  unfolding moving
-  moving_held number part is = route_keeps Held table number _ part (λ row route there here. along_keeps Held (moving_one now table number) (moving_one_held number) row.needs part is) is
+  moving_held = moving_keeps Held now table moving_one_held
 
   pub until_moved : (part : StepSoFar) → Held (withdrawn now table part) → Held (moved now table part)
   until_moved part is =

@@ -1,5 +1,5 @@
 -- A move that is given to a point which a set route holds goes to the side at which the route holds it.
-use Rattle.std.proofs.Common.{◌≡◌, ◌⊎◌, inl, inr, ℕ, ◌<◌, ◌==◌, ◌&&◌, Bool, true, false, List, ◌++◌, length, map, if◌then◌else◌, Some, slice_get, refl, sym, ap, subst, ◌∙◌, arith}
+use Rattle.std.proofs.Common.{◌≡◌, ◌⊎◌, inl, inr, ℕ, ◌<◌, ◌==◌, ◌&&◌, Bool, true, false, List, ◌++◌, map, if◌then◌else◌, Some, slice_get, refl, sym, ap, subst, ◌∙◌, arith}
 use Rattle.std.specs.Prelude.{not}
 use Rattle.std.specs.List.{Contains}
 use Rattle.std.proofs.lemmas.Bool.{false≢true}
@@ -20,7 +20,7 @@ use Rattle.simulator_run.specs.ixl_client.declared.command.Command.TheVariants a
 use Rattle.simulator_run.specs.ixl_rules.Due.{IsHeldAt}
 use Rattle.simulator_run.specs.ixl_rules.Rules.{authorised, count, is_move_due, is_over_clear, is_proceed_due, is_unmoved, is_waiting, moved, moving, moving_one, proceeding, ruled}
 use Rattle.simulator_run.specs.ixl_rules.State.{IxlState, KnownPointState, RouteState}
-use Rattle.simulator_run.specs.ixl_rules.Step.{Commands, Datagram, Input, Tick, detector_ticking, known_point_ticking, known_signal_ticking, stepped, ticked}
+use Rattle.simulator_run.specs.ixl_rules.Step.{Input, detector_ticking, known_point_ticking, known_signal_ticking, stepped, ticked}
 use Rattle.simulator_run.specs.ixl_rules.StepSoFar.{Node, Point, StepSoFar, giving_aspect, giving_move, with_route}
 use Rattle.simulator_run.specs.ixl_rules.Table.{Need, Row, Table}
 use Rattle.simulator_run.specs.ixl_rules.View.{freed_sections, is_held_with_authority, is_known, is_point_available, is_set}
@@ -33,7 +33,7 @@ use Rattle.simulator_recovery.specs.ClientSaid.{commanded}
 use Rattle.simulator_recovery.specs.NothingDue.{GivesMoveTo, known_in_step}
 use Rattle.simulator_recovery.proofs.DueHeld.{Holder, InOrder, agree, at_moves, contains_map, holder, in_order_of, routes_apart, same_points, seen_in}
 use Rattle.simulator_recovery.proofs.DueRoutes.{PointsApart, RequestLaw}
-use Rattle.simulator_recovery.proofs.DueShapes.{along_within, one_else, one_keeps, over_keeps, route_keeps, where_keeps}
+use Rattle.simulator_recovery.proofs.DueShapes.{along_within, one_else, one_keeps, over_keeps, route_keeps, ticked_keeps, where_keeps}
 use Rattle.simulator_recovery.proofs.DueTicks.{ticks_bring_nothing}
 use Rattle.simulator_recovery.proofs.NothingDueMoves.{MoveLaw, MoveLeaves, move_leaves}
 use Rattle.simulator_recovery.proofs.NothingDueProceeds.{aspect_leaves}
@@ -70,11 +70,7 @@ module _ (called : Node × LinkCall) where
   detector_called now place part is = one_keeps Called (slice_get part.ixl.detectors place) _ part (λ known e. still_called _ _ part is) is
 
   ticked_called : (now : ℕ) (input : Input) (part : StepSoFar) → Called part → Called (ticked now input part)
-  unfolding ticked
-  ticked_called now Tick part is = over_keeps Called (detector_ticking now) (detector_called now) (length part.ixl.detectors) _
-      (over_keeps Called (known_point_ticking now) (point_called now) (length part.ixl.known_points) _ (over_keeps Called (known_signal_ticking now) (signal_called now) (length part.ixl.known_signals) part is))
-  ticked_called now (Datagram bytes) part is = is
-  ticked_called now (Commands command) part is = is
+  ticked_called now = ticked_keeps Called now (signal_called now) (point_called now) (detector_called now)
 
 -- ---- a move is called
 

@@ -51,14 +51,14 @@ use Rattle.simulator_headline.specs.Reached.{IsReached}
 use Rattle.simulator_recovery.specs.Counts.{EachClient}
 use Rattle.simulator_recovery.specs.NothingDue.{IsInside, IsUpAtClock, known_in_step}
 use Rattle.simulator_recovery.proofs.AtLink.{mapped}
-use Rattle.simulator_recovery.proofs.ClientLinks.{clocked_peer, commanding_peer, either, hearing_peer, ticking_peer, up_open}
+use Rattle.simulator_recovery.proofs.ClientLinks.{clocked_peer, commanding_peer, hearing_peer, ticking_peer, up_open}
 use Rattle.simulator_recovery.proofs.DueShapes.{along_keeps, one_keeps, over_keeps, route_keeps, where_keeps}
 use Rattle.simulator_recovery.proofs.DueTicks.{available_inside}
 use Rattle.simulator_recovery.proofs.IxlAlways.{always_whole}
-use Rattle.simulator_recovery.proofs.IxlClients.{ClientsKeep, mapped_at, step_kept}
+use Rattle.simulator_recovery.proofs.IxlClients.{ClientsKeep, mapped_at, point_client, step_kept}
 use Rattle.simulator_recovery.proofs.IxlSoFar.{set_at}
 use Rattle.simulator_recovery.proofs.LinkCounts.{close_closes}
-use Rattle.simulator_recovery.proofs.NothingDueMoves.{point_client}
+use Rattle.simulator_recovery.proofs.Tests.{either}
 
 -- ---- a point that awaits no report hears none
 

@@ -1,5 +1,5 @@
 -- The rules of a step bring up no link: what is in a connection behind a step was so behind its input.
-use Rattle.std.proofs.Common.{◌≡◌, ℕ, ◌==◌, ◌&&◌, Bool, true, false, List, length, slice_get, refl, sym, ap, subst, ◌∙◌}
+use Rattle.std.proofs.Common.{◌≡◌, ℕ, ◌==◌, ◌&&◌, Bool, true, false, List, slice_get, refl, sym, ap, subst, ◌∙◌}
 use Rattle.std.specs.Prelude.{◌||◌, not}
 use Rattle.std.proofs.lemmas.Bool.{false≢true}
 use Rattle.simulator_run.specs.layout.Entries.{Site}
@@ -20,7 +20,7 @@ use Rattle.simulator_run.specs.Happens.{interlocking_stepped}
 use Rattle.simulator_run.specs.State.{WorldState}
 use Rattle.simulator_recovery.specs.NothingDue.{IsClearFor, IsInside, known_in_step}
 use Rattle.simulator_recovery.proofs.DueHeld.{heard_in, seen_in}
-use Rattle.simulator_recovery.proofs.DueShapes.{along_keeps, over_keeps, repeated_keeps, route_keeps, where_keeps}
+use Rattle.simulator_recovery.proofs.DueShapes.{along_keeps, over_keeps, passage_keeps, route_keeps, where_keeps}
 use Rattle.simulator_recovery.proofs.DueTests.{at_shown}
 use Rattle.simulator_recovery.proofs.DueTicks.{BringsNothing, all_clear_before, available_inside, ready_before, ticks_bring_nothing}
 use Rattle.simulator_recovery.proofs.NothingDueMoves.{MoveLeaves, move_leaves}
@@ -105,8 +105,7 @@ module _ (now : ℕ) (table : Table) (old : IxlState) where
   next_held number part is = route_keeps Held table number _ part (λ row one there here. where_keeps Held (frees_next table part.ixl row one one.phase) part _ (λ due. changed_held number _ part is) is) is
 
   passage_held : (number : ℕ) (part : StepSoFar) → Held part → Held (freeing_by_passage table number part)
-  unfolding freeing_by_passage
-  passage_held number part is = route_keeps Held table number _ part (λ row one there here. repeated_keeps Held (length row.sections) (freeing_next table number) (next_held number) part is) is
+  passage_held = passage_keeps Held now table next_held
 
   cancel_held : (number : ℕ) (part : StepSoFar) → Held part → Held (freeing_by_cancel now table number part)
   unfolding freeing_by_cancel

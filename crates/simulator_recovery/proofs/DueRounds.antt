@@ -1,16 +1,13 @@
 -- How a set route goes on over good rounds, with events between them.
-use Rattle.std.proofs.Common.{◌≡◌, ◌⊎◌, inl, inr, ℕ, zero, suc, Bool, true, false, nat_lt, if◌then◌else◌, List, [], ◌∷◌, ◌++◌, map, Option, Some, None, slice_get, refl, sym, subst}
+use Rattle.std.proofs.Common.{◌≡◌, ◌⊎◌, inl, inr, ℕ, List, [], ◌∷◌, map, Some, slice_get, refl, sym, subst}
 use Rattle.ixl_table.specs.Table.{IsTableOf}
 use Rattle.simulator_run.specs.layout.Entries.{Site}
 use Rattle.simulator_run.specs.rasta_core.Each.{Each}
 use Rattle.simulator_run.specs.ixl_rules.Due.{At}
 use Rattle.simulator_run.specs.ixl_rules.Table.{Row, SitedTable}
 use Rattle.simulator_run.specs.simulator_event.declared.event.Event.{Event}
-use Rattle.simulator_run.specs.simulator_event.declared.event.Event.TheVariants as event
-use Rattle.simulator_run.specs.simulator_event.declared.event.NodeId.{NodeId}
-use Rattle.simulator_run.specs.declared.round.FoundDriven.{FoundDriven}
 use Rattle.simulator_run.specs.declared.round.RoundEvent.{RoundEvent}
-use Rattle.simulator_run.specs.Flow.{Flowing, all_did, deliveries, delivery, did, due, position_of, reach, reaches, round, stations, ticks}
+use Rattle.simulator_run.specs.Flow.{Flowing, all_did, did, due, reaches, round, stations}
 use Rattle.simulator_run.specs.Happens.{happens}
 use Rattle.simulator_run.specs.State.{WorldState}
 use Rattle.simulator_run.specs.Tried.{Played, after}
@@ -23,48 +20,12 @@ use Rattle.simulator_recovery.proofs.DueRoutes.{RequestLaw}
 use Rattle.simulator_recovery.proofs.DueStops.{known_proceeds}
 use Rattle.simulator_recovery.proofs.NothingDueMoves.{MoveLaw}
 use Rattle.simulator_recovery.proofs.NothingDueProceeds.{ProceedLaw}
-use Rattle.simulator_recovery.proofs.Rounds.{IsAt, ReachLaws, tried_keeps, tried_reached}
+use Rattle.simulator_recovery.proofs.Rounds.{AllAre, behind_time_are, IsAt, ReachLaws, tried_keeps, tried_reached}
 
 -- ---- the events of a round cancel no route, and make nothing anew
 
-module _ (site : Site) (number : ℕ) where
-  abbrev AllKeep : List RoundEvent → Type 0
-  AllKeep [] = Unit {0}
-  AllKeep (first ∷ others) = KeepsSetting site number first.event × AllKeep others
-
-  joined : (one other : List RoundEvent) → AllKeep one → AllKeep other → AllKeep (one ++ other)
-  joined [] other first second = second
-  joined (head ∷ one) other first second = (first.0, joined one other first.1 second)
-
-  delivery_keeps : (place : ℕ) (arrival : Option (NodeId × List ℕ)) → AllKeep (delivery place arrival)
-  delivery_keeps place None = tt
-  delivery_keeps place (Some arrival) = (tt, tt)
-
-  deliveries_keep : (arrival : ℕ → Option (NodeId × List ℕ)) (place more : ℕ) → AllKeep (deliveries arrival place more)
-  unfolding deliveries
-  deliveries_keep arrival place zero = tt
-  deliveries_keep arrival place (suc more) = joined (delivery place (arrival place)) (deliveries arrival (suc place) more) (delivery_keeps place (arrival place)) (deliveries_keep arrival (suc place) more)
-
-  ticks_keep : (passed node more : ℕ) → AllKeep (ticks passed node more)
-  unfolding ticks
-  ticks_keep passed node zero = tt
-  ticks_keep passed node (suc more) = (tt, ticks_keep passed (suc node) more)
-
-  reach_keeps : (passed point : ℕ) (drive : Option FoundDriven) → AllKeep (reach passed point drive)
-  reach_keeps passed point None = tt
-  reach_keeps passed point (Some drive) = choose (nat_lt drive.rounds 50)
-    where
-      choose : (b : Bool) → AllKeep (if b then [] else (record { event = event.Reach (record { 0 = point }) (position_of drive.side); passed = passed } ∷ []))
-      choose true = tt
-      choose false = (tt, tt)
-
-  reaches_keep : (passed point : ℕ) (drives : List (Option FoundDriven)) → AllKeep (reaches passed point drives)
-  unfolding reaches
-  reaches_keep passed point [] = tt
-  reaches_keep passed point (drive ∷ drives) = joined (reach passed point drive) (reaches passed (suc point) drives) (reach_keeps passed point drive) (reaches_keep passed (suc point) drives)
-
-  due_keep : (flowing : Flowing Played) → AllKeep (due stations flowing)
-  due_keep flowing = (tt, joined (deliveries _ flowing.passed _) _ (deliveries_keep _ flowing.passed _) (joined (ticks _ 0 _) _ (ticks_keep _ 0 _) (reaches_keep _ 0 flowing.drives)))
+pub due_keep : (site : Site) (number : ℕ) (flowing : Flowing Played) → AllAre (KeepsSetting site number) (due stations flowing)
+due_keep site number flowing = (tt, behind_time_are (KeepsSetting site number) (λ node bytes. tt) (λ node. tt) (λ point position. tt) flowing)
 
 -- ---- one event, and many
 
@@ -91,7 +52,8 @@ module _ (stop : StopLaw) (move : MoveLaw) (reaches : ReachLaws) (sited : SitedT
         subst (λ (s : SitedTable). GoesOn (happens s.site s.table one world.run)) (sym stands.is.same) (event_goes_on one world.run stands.is.reached keeps (finds.0 none) stands.goes_on));
   }
 
-  all_did_stand : (list : List RoundEvent) (flowing : Flowing Played) → AllKeep sited.site number list → EachFinds (FindsUpheld sited.site sited.table number row) (map (λ (one : RoundEvent). one.event) list) flowing.state → Stands flowing.state
+  all_did_stand : (list : List RoundEvent) (flowing : Flowing Played) → AllAre (KeepsSetting sited.site number) list → EachFinds (FindsUpheld sited.site sited.table number row)
+      (map (λ (one : RoundEvent). one.event) list) flowing.state → Stands flowing.state
       → Stands (all_did stations list flowing).state
   unfolding all_did
   all_did_stand [] flowing keep finds stands = stands

@@ -35,15 +35,15 @@ use Rattle.simulator_run.specs.Nodes.{key_of}
 use Rattle.simulator_run.specs.State.{WorldState}
 use Rattle.simulator_headline.specs.Reached.{IsReached}
 use Rattle.simulator_recovery.proofs.DueCourse.{stopped_leaves}
-use Rattle.simulator_recovery.proofs.DueShapes.{along_keeps, one_keeps, over_keeps, repeated_keeps, route_keeps, where_keeps}
+use Rattle.simulator_recovery.proofs.DueShapes.{along_keeps, one_keeps, over_keeps, passage_keeps, route_keeps, where_keeps}
 use Rattle.simulator_recovery.proofs.DueTicks.{ticks_bring_nothing}
 use Rattle.simulator_recovery.proofs.IxlAlways.{always}
 use Rattle.simulator_recovery.proofs.IxlClients.{changed_at, mapped_at}
-use Rattle.simulator_recovery.proofs.IxlSoFar.{first_true}
 use Rattle.simulator_recovery.proofs.NothingDueMoves.{move_leaves}
 use Rattle.simulator_recovery.proofs.NothingDueProceeds.{aspect_leaves}
 use Rattle.simulator_recovery.proofs.SignalParts.{is_waiting_there}
 use Rattle.simulator_recovery.proofs.StopsGiven.{waiting_set}
+use Rattle.simulator_recovery.proofs.Tests.{first_true}
 
 -- ---- how a route goes on
 
@@ -175,8 +175,7 @@ module _ (now : ℕ) (table : Table) (P : List RouteState → Type 0) (onward : 
       (λ due. turned number (one_freed other one.phase) part one here (one_freed_onward other one one.phase refl) is) is) is
 
   pub passage_held : (number : ℕ) (part : StepSoFar) → Held part → Held (freeing_by_passage table number part)
-  unfolding freeing_by_passage
-  passage_held number part is = route_keeps Held table number _ part (λ other one there here. repeated_keeps Held (length other.sections) (freeing_next table number) (next_held number) part is) is
+  passage_held = passage_keeps Held now table next_held
 
   pub cancel_held : (number : ℕ) (part : StepSoFar) → Held part → Held (freeing_by_cancel now table number part)
   unfolding freeing_by_cancel

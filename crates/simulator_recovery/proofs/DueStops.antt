@@ -1,5 +1,5 @@
 -- A route that waits finds its signal at known stop, where its link is ready.
-use Rattle.std.proofs.Common.{◌≡◌, ◌≢◌, ◌⊎◌, inl, inr, ℕ, ◌≤◌, Bool, true, false, if◌then◌else◌, List, [], Option, Some, None, slice_get, refl, sym, ap, subst, ◌∙◌, arith}
+use Rattle.std.proofs.Common.{◌≡◌, ◌≢◌, ◌⊎◌, inl, inr, ℕ, ◌≤◌, true, false, List, [], Option, Some, None, slice_get, refl, sym, ap, subst, ◌∙◌, arith}
 use Rattle.std.proofs.lemmas.Bool.{false≢true, le-leb, leb-true}
 use Rattle.std.proofs.lemmas.Bool.Decides.{nat_tests}
 use Rattle.std.proofs.lemmas.Option.{same_Some}
@@ -33,7 +33,7 @@ use Rattle.simulator_recovery.proofs.AspectWindows.{FewWait, GivenWhenReady, Win
 use Rattle.simulator_recovery.proofs.DueRoutes.{RequestLaw}
 use Rattle.simulator_recovery.proofs.GivenNoMore.{over_rests}
 use Rattle.simulator_recovery.proofs.IxlAlways.{always}
-use Rattle.simulator_recovery.proofs.IxlClients.{changed_at, mapped_at}
+use Rattle.simulator_recovery.proofs.IxlClients.{changed_at, mapped_at, signal_is}
 use Rattle.simulator_recovery.proofs.IxlSoFar.{at_node, set_at}
 use Rattle.simulator_recovery.proofs.NothingDueProceeds.{ProceedLaw, nothing_proceeds}
 use Rattle.simulator_recovery.proofs.SignalParts.{AtRoute, IsQuiet, new_signal}
@@ -52,15 +52,10 @@ more_confirmed aspects.Proceed number before after more taken = taken
 more_confirmed aspects.Slow number before after more taken = taken
 
 went_taken : (known : KnownSignalState) (client : ClientState) (indicated : Option Aspect) → Went known.client client → GivenWhenReady known → FewWait known → Taken known → Taken (known_signal_after known.aspect known.number indicated client)
-unfolding known_signal_after
-went_taken known client indicated went ready few taken = choose (is_outside client.stage) refl
+went_taken known client indicated went ready few taken = signal_is Taken known.aspect known.number indicated client
+    (λ e now_ready. refl)
+    (λ e now_ready. by_aspect e known.aspect refl)
   where
-    none : KnownSignalState
-    none = record { client = client; aspect = None; number = 0; indicated = None }
-
-    some : KnownSignalState
-    some = record { client = client; aspect = known.aspect; number = known.number; indicated = indicated }
-
     by_aspect : is_outside client.stage ≡ false → (a : Option Aspect) → known.aspect ≡ a → has_taken_stop known.aspect known.number (confirmed_items client.link) ≡ true
     by_aspect inside None e = ap (λ (o : Option Aspect). has_taken_stop o known.number (confirmed_items client.link)) e
     by_aspect inside (Some aspect) e =
@@ -71,10 +66,6 @@ went_taken known client indicated went ready few taken = choose (is_outside clie
         in let before = sym (ap (λ (o : Option Aspect). has_taken_stop o known.number (confirmed_items known.client.link)) e) ∙ taken was_ready
         in ap (λ (o : Option Aspect). has_taken_stop o known.number (confirmed_items client.link)) e
         ∙ more_confirmed aspect known.number (confirmed_items known.client.link) (confirmed_items client.link) (omega (arith, given, waiting)) before
-
-    choose : (b : Bool) → is_outside client.stage ≡ b → Taken (if b then none else some)
-    choose true e = λ now_ready. refl
-    choose false e = λ now_ready. by_aspect e known.aspect refl
 
 -- ---- what is kept
 

@@ -12,7 +12,7 @@ use Rattle.simulator_run.specs.ixl_rules.Rules.{is_proceed_due, is_waiting}
 use Rattle.simulator_run.specs.ixl_rules.State.{IxlState, KnownDetectorState, RouteState}
 use Rattle.simulator_run.specs.ixl_rules.Table.{Need, Row, Table, at, passes}
 use Rattle.simulator_run.specs.ixl_rules.View.{all_clear, all_known, is_at_known_stop, is_clear, is_known, is_side, is_signal_ready}
-use Rattle.simulator_recovery.proofs.IxlSoFar.{first_true, last_true}
+use Rattle.simulator_recovery.proofs.Tests.{first_true, last_true}
 
 -- ---- what a list has at a place
 

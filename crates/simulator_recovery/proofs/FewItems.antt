@@ -1,8 +1,7 @@
 -- A client that is given no command gives two items in a connection: the check of its version, and the request for the
 -- initialisation. So its window has room for them.
-use Rattle.std.proofs.Common.{◌≡◌, ℕ, ◌∙◌, ◌+◌, ◌≤◌, ◌<◌, ◌⊎◌, inl, inr, Bool, true, false, ◌&&◌, ◌==◌, nat_lt, List, [], ◌∷◌, ◌++◌, length, Option, Some, None, Result, Ok, Err, if◌then◌else◌, refl, sym, ap, subst, arith}
+use Rattle.std.proofs.Common.{◌≡◌, ℕ, ◌∙◌, ◌+◌, ◌≤◌, ◌<◌, ◌⊎◌, inl, inr, Bool, true, false, ◌&&◌, nat_lt, List, [], ◌∷◌, ◌++◌, length, if◌then◌else◌, refl, sym, ap, subst, arith}
 use Rattle.std.specs.Prelude.{is_ok}
-use Rattle.std.specs.Str.{bytes_eq}
 use Rattle.std.proofs.lemmas.Bool.{false≢true}
 use Rattle.std.proofs.lemmas.Bool.Decides.{nat_tests}
 use Rattle.simulator_run.specs.rasta_core.Calls.{acceptance, answer_to_send, created, opening, receiving, sending_item, ticking as link_ticking}
@@ -16,26 +15,19 @@ use Rattle.simulator_run.specs.rasta_core.identity.Identity.{Identity}
 use Rattle.simulator_run.specs.rasta_core.phase.Phase.TheVariants as phases
 use Rattle.simulator_run.specs.rasta_core.reason.Reason.{Reason}
 use Rattle.simulator_run.specs.rasta_core.reason.Reason.TheVariants as reason
-use Rattle.simulator_run.specs.sci_telegram.TelegramRead.{reading}
 use Rattle.simulator_run.specs.sci_telegram.Telegrams.{writing}
-use Rattle.simulator_run.specs.sci_telegram.declared.fault.SciFault.{SciFault}
-use Rattle.simulator_run.specs.sci_telegram.declared.message.Initialisation.{Initialisation}
-use Rattle.simulator_run.specs.sci_telegram.declared.message.Initialisation.TheVariants.{InitialisationCompleted, InitialisationRequest, StartInitialisation, VersionAnswer, VersionCheck}
+use Rattle.simulator_run.specs.sci_telegram.declared.message.Initialisation.TheVariants.{VersionCheck}
 use Rattle.simulator_run.specs.sci_telegram.declared.message.Message.{Message}
-use Rattle.simulator_run.specs.sci_telegram.declared.message.Message.TheVariants as message
-use Rattle.simulator_run.specs.sci_telegram.declared.telegram.Telegram.{Telegram}
 use Rattle.simulator_run.specs.ixl_client.Client.{ClientState, PeerState, is_outside, is_ready, new_client}
 use Rattle.simulator_run.specs.ixl_client.ClientSoFar.{ClientSoFar, Closes, LinkCall, Opens, Receives, Sends, Ticks, begun, calling}
-use Rattle.simulator_run.specs.ixl_client.Meaning.{initial_meaning, is_for_client, is_in_turn, is_in_version, is_match, meaning, meaning_of, place_of, report_meaning, state_in}
-use Rattle.simulator_run.specs.ixl_client.Step.{acted_on, acting, acting_all, at_stage, clocked, commanding, fallen, following, hearing, is_refused_by_window, meaning_of_item, message_of, posting, rising, saying, stage_after_command, stage_after_report, telegram_to, ticking}
+use Rattle.simulator_run.specs.ixl_client.Step.{acted_on, acting, acting_all, at_stage, clocked, commanding, fallen, hearing, is_refused_by_window, message_of, posting, rising, saying, stage_after_command, telegram_to, ticking}
 use Rattle.simulator_run.specs.ixl_client.declared.command.Command.{Command}
 use Rattle.simulator_run.specs.ixl_client.declared.command.Command.TheVariants as commands
-use Rattle.simulator_run.specs.ixl_client.declared.indication.ObjectState.{ObjectState}
 use Rattle.simulator_run.specs.ixl_client.declared.stage.Stage.{Stage}
 use Rattle.simulator_run.specs.ixl_client.declared.stage.Stage.TheVariants as stage
 use Rattle.simulator_recovery.specs.Counts.{HasCounted}
+use Rattle.simulator_recovery.proofs.ClientItem.{answers, changes, completes, Goes, one_item, starts, tells}
 use Rattle.simulator_recovery.proofs.ClientLinks.{answer_down, up_open}
-use Rattle.simulator_recovery.proofs.ClientTalk.{Goes, answers, changes, completes, is_none, starts, tells}
 use Rattle.simulator_recovery.proofs.LinkCounts.{AfterReceipt, close_closes, comes_in, entered_open, open_counts, receipt_counts, send_counts, send_phase, send_was_open, settled_open, stays_in, tick_counts, tick_was_open}
 use Rattle.simulator_recovery.proofs.Lists.{each_both}
 
@@ -203,19 +195,11 @@ module _ (now : ℕ) where
 
 -- ---- an item
 
-either : {M : Type 0} (P : M → Type 0) (b : Bool) (x y : M) → (b ≡ true → P x) → P y → P (if b then x else y)
-either P true x y one other = one refl
-either P false x y one other = other
-
-both_true : (a b : Bool) → (a && b) ≡ true → a ≡ true
-both_true true b e = refl
-both_true false b e = absurd (false≢true e)
-
 module _ (commanded : Bool) (now : ℕ) (item : List ℕ) (part : ClientSoFar) (fine : Fine commanded part) where
   -- what a stage tells of what was given is so at the next
   goes_few : (old new : Stage) (n : ℕ) → Goes part.client.peer old new → GivenBy commanded old n → GivenBy commanded new n
   goes_few old new n (starts e f) few = subst (λ (s : Stage). GivenBy commanded s n) (sym f) (subst (λ (s : Stage). GivenBy commanded s n) e few)
-  goes_few old new n (tells left e f) few = subst (λ (s : Stage). GivenBy commanded s n) (sym f) (subst (λ (s : Stage). GivenBy commanded s n) e few)
+  goes_few old new n (tells left some e f) few = subst (λ (s : Stage). GivenBy commanded s n) (sym f) (subst (λ (s : Stage). GivenBy commanded s n) e few)
   goes_few old new n (completes e f) few = subst (λ (s : Stage). GivenBy commanded s n) (sym f) (by_kind commanded (subst (λ (s : Stage). GivenBy commanded s n) e few))
     where
       by_kind : (b : Bool) → GivenBy b (stage.AwaitsStatus 0) n → GivenBy b stage.Completed n
@@ -230,9 +214,6 @@ module _ (commanded : Bool) (now : ℕ) (item : List ℕ) (part : ClientSoFar) (
 
   abbrev On : ClientSoFar → Type 0
   On after = Fine commanded after
-
-  abbrev At : Stage → ClientSoFar → Type 0
-  At how_far after = part.client.stage ≡ how_far → On after
 
   violates : On (calling now (Closes reason.State) part)
   violates = shuts now commanded reason.State part tt fine
@@ -252,62 +233,9 @@ module _ (commanded : Bool) (now : ℕ) (item : List ℕ) (part : ClientSoFar) (
     calls = subst (Each LeavesWindow) (sym called) fine.calls;
   }
 
-  initial : (told : Initialisation) (how_far : Stage) → At how_far (following now item (initial_meaning part.client.peer told how_far) part)
-  unfolding following
-  initial (VersionAnswer agreement version) stage.AwaitsAnswer is = either (λ what. On (following now item what part)) (is_match agreement && version == part.client.peer.version) _ _
-      (λ e. requests now commanded _ (acted_on item part) is (record { few = fine.few; calls = fine.calls })) differs
-  initial (VersionAnswer agreement version) stage.Outside is = violates
-  initial (VersionAnswer agreement version) stage.AwaitsStart is = violates
-  initial (VersionAnswer agreement version) (stage.AwaitsStatus left) is = violates
-  initial (VersionAnswer agreement version) stage.Completed is = violates
-  initial (VersionAnswer agreement version) stage.AwaitsReport is = violates
-  initial StartInitialisation stage.AwaitsStart is = leads _ refl refl (starts is refl)
-  initial StartInitialisation stage.Outside is = violates
-  initial StartInitialisation stage.AwaitsAnswer is = violates
-  initial StartInitialisation (stage.AwaitsStatus left) is = violates
-  initial StartInitialisation stage.Completed is = violates
-  initial StartInitialisation stage.AwaitsReport is = violates
-  initial InitialisationCompleted (stage.AwaitsStatus left) is = either (λ what. On (following now item what part)) (left == 0) _ _
-      (λ e. leads _ refl refl (completes (is ∙ ap stage.AwaitsStatus (is_none left e)) refl)) violates
-  initial InitialisationCompleted stage.Outside is = violates
-  initial InitialisationCompleted stage.AwaitsAnswer is = violates
-  initial InitialisationCompleted stage.AwaitsStart is = violates
-  initial InitialisationCompleted stage.Completed is = violates
-  initial InitialisationCompleted stage.AwaitsReport is = violates
-  initial InitialisationRequest how_far is = violates
-  initial (VersionCheck version) how_far is = violates
-
-  in_turn : (place : ℕ) (state : ObjectState) (how_far : Stage) → part.client.stage ≡ how_far → is_in_turn part.client.peer place state how_far ≡ true → Goes part.client.peer part.client.stage (stage_after_report part.client.stage)
-  in_turn place state stage.Outside is turn = absurd (false≢true turn)
-  in_turn place state stage.AwaitsAnswer is turn = absurd (false≢true turn)
-  in_turn place state stage.AwaitsStart is turn = absurd (false≢true turn)
-  in_turn place state (stage.AwaitsStatus left) is turn = tells left is (ap stage_after_report is)
-  in_turn place state stage.Completed is turn = changes turn is (ap stage_after_report is)
-  in_turn place state stage.AwaitsReport is turn = answers is (ap stage_after_report is)
-
-  report : (found : Option ℕ) (state : Option ObjectState) (how_far : Stage) → At how_far (following now item (report_meaning part.client.peer found state how_far) part)
-  unfolding following
-  report (Some place) (Some state) how_far is = either (λ what. On (following now item what part)) (is_in_turn part.client.peer place state how_far && is_in_version part.client.peer.version state) _ _
-      (λ e. leads _ refl refl (in_turn place state how_far is (both_true (is_in_turn part.client.peer place state how_far) (is_in_version part.client.peer.version state) e))) violates
-  report (Some place) None how_far is = violates
-  report None (Some state) how_far is = violates
-  report None None how_far is = violates
-
-  told_by : (sender : List ℕ) (told : Message) (how_far : Stage) → At how_far (following now item (meaning_of part.client.peer sender told how_far) part)
-  unfolding following
-  told_by sender (message.Initialisation protocol told) how_far is = either (λ what. On (following now item what part)) (bytes_eq sender part.client.peer.name) _ _ (λ e. initial told how_far is) violates
-  told_by sender (message.Point told) how_far is = report (place_of part.client.peer sender) (state_in (message.Point told)) how_far is
-  told_by sender (message.Signal told) how_far is = report (place_of part.client.peer sender) (state_in (message.Signal told)) how_far is
-  told_by sender (message.Detection told) how_far is = report (place_of part.client.peer sender) (state_in (message.Detection told)) how_far is
-
-  read : (how_far : Stage) (what : Result Telegram SciFault) → At how_far (following now item (meaning_of_item part.client.peer how_far what) part)
-  unfolding following meaning
-  read how_far (Ok telegram) is = either (λ what. On (following now item what part)) (is_for_client part.client.peer telegram) _ _ (λ e. told_by telegram.sender telegram.message how_far is) violates
-  read how_far (Err fault) is = violates
-
   one_acts : Fine commanded (acting now item part)
-  unfolding acting
-  one_acts = read part.client.stage (reading item) refl
+  one_acts = one_item now item part On violates differs (λ is. requests now commanded _ (acted_on item part) is (record { few = fine.few; calls = fine.calls }))
+      (λ after same called peer acted on. leads after same called on)
 
 all_act : (commanded : Bool) (now : ℕ) (items : List (List ℕ)) (part : ClientSoFar) → Fine commanded part → Fine commanded (acting_all now items part)
 unfolding acting_all

@@ -1,12 +1,12 @@
 -- In a good round no aspect is given to a signal from which no route proceeds, and none waits but a cancelled one.
-use Rattle.std.proofs.Common.{◌≡◌, ◌≢◌, ◌⊎◌, inl, inr, ℕ, zero, suc, Bool, true, false, if◌then◌else◌, nat_lt, List, [], ◌∷◌, ◌++◌, Option, Some, None, slice_get, refl, sym, ap, subst, ◌∙◌}
+use Rattle.std.proofs.Common.{◌≡◌, ◌≢◌, ◌⊎◌, inl, inr, ℕ, true, false, List, [], ◌∷◌, Option, Some, None, slice_get, refl, sym, ap, subst, ◌∙◌}
 use Rattle.std.proofs.lemmas.Bool.{false≢true}
 use Rattle.std.proofs.lemmas.Option.{none-some, same_Some}
 use Rattle.simulator_run.specs.layout.Entries.{Site}
 use Rattle.simulator_run.specs.rasta_core.Ends.{reading_of}
 use Rattle.simulator_run.specs.sci_telegram.declared.message.Aspect.{Aspect}
 use Rattle.simulator_run.specs.sci_telegram.declared.message.Aspect.TheVariants as aspects
-use Rattle.simulator_run.specs.ixl_client.Client.{ClientState, is_outside}
+use Rattle.simulator_run.specs.ixl_client.Client.{ClientState}
 use Rattle.simulator_run.specs.ixl_client.ClientSoFar.{begun}
 use Rattle.simulator_run.specs.ixl_client.Step.{clocked, ticking}
 use Rattle.simulator_run.specs.ixl_rules.Rules.{come_to, is_proceeding, is_waiting}
@@ -19,18 +19,16 @@ use Rattle.simulator_run.specs.ixl_rules.declared.phase.Phase.{Phase}
 use Rattle.simulator_run.specs.ixl_rules.declared.phase.Phase.TheVariants as phase
 use Rattle.simulator_run.specs.simulator_event.declared.event.Event.{Event}
 use Rattle.simulator_run.specs.simulator_event.declared.event.Event.TheVariants as event
-use Rattle.simulator_run.specs.simulator_event.declared.event.NodeId.{NodeId}
-use Rattle.simulator_run.specs.declared.round.FoundDriven.{FoundDriven}
 use Rattle.simulator_run.specs.declared.round.RoundEvent.{RoundEvent}
-use Rattle.simulator_run.specs.Flow.{Flowing, all_did, deliveries, delivery, did, due, position_of, reach, reaches, round, stations, ticks}
+use Rattle.simulator_run.specs.Flow.{Flowing, all_did, did, due, round, stations}
 use Rattle.simulator_run.specs.Happens.{delivered_to, detector_stepped, happens, interlocking_stepped, passed, point_stepped, signal_stepped, ticked_at}
 use Rattle.simulator_run.specs.Network.{connection_of, copy_of}
 use Rattle.simulator_run.specs.Nodes.{Detector, Interlocking, Node, Point, Signal, key_of, node_at}
 use Rattle.simulator_run.specs.State.{WorldState}
 use Rattle.simulator_run.specs.Tried.{Played, after}
 use Rattle.simulator_recovery.specs.Lamps.{GivesNoMore, NoneProceeds}
-use Rattle.simulator_recovery.proofs.IxlClients.{changed_at, mapped_at}
-use Rattle.simulator_recovery.proofs.Rounds.{tried_keeps}
+use Rattle.simulator_recovery.proofs.IxlClients.{changed_at, mapped_at, signal_is}
+use Rattle.simulator_recovery.proofs.Rounds.{AllAre, behind_time_are, tried_keeps}
 use Rattle.simulator_recovery.proofs.SignalParts.{AtRoute, IsOver, IsQuiet, PartsKeep, new_signal, step_held}
 
 -- ---- what is kept
@@ -41,18 +39,7 @@ IsAs aspect number known = (known.aspect ≡ None) ⊎ ((known.aspect ≡ aspect
 
 -- a signal whose client is another
 after_is : (aspect : Option Aspect) (number : ℕ) (indicated : Option Aspect) (client : ClientState) → IsAs aspect number (known_signal_after aspect number indicated client)
-unfolding known_signal_after
-after_is aspect number indicated client = choose (is_outside client.stage)
-  where
-    none : KnownSignalState
-    none = record { client = client; aspect = None; number = 0; indicated = None }
-
-    some : KnownSignalState
-    some = record { client = client; aspect = aspect; number = number; indicated = indicated }
-
-    choose : (b : Bool) → IsAs aspect number (if b then none else some)
-    choose true = inl refl
-    choose false = inr (refl, refl)
+after_is aspect number indicated client = signal_is (IsAs aspect number) aspect number indicated client (λ outside. inl refl) (λ inside. inr (refl, refl))
 
 as_then : (aspect : Option Aspect) (number : ℕ) (one other : KnownSignalState) → IsAs aspect number one → IsAs one.aspect one.number other → IsAs aspect number other
 as_then aspect number one other was (inl none) = inl none
@@ -154,42 +141,10 @@ IsOfRound (event.Reach point position) = Unit {0}
 IsOfRound _ = ⊥
 
 abbrev pub AreOfRound : List RoundEvent → Type 0
-AreOfRound [] = Unit {0}
-AreOfRound (first ∷ others) = IsOfRound first.event × AreOfRound others
-
-both_of : (one other : List RoundEvent) → AreOfRound one → AreOfRound other → AreOfRound (one ++ other)
-both_of [] other first second = second
-both_of (head ∷ one) other first second = (first.0, both_of one other first.1 second)
-
-delivery_of : (place : ℕ) (arrival : Option (NodeId × List ℕ)) → AreOfRound (delivery place arrival)
-delivery_of place None = tt
-delivery_of place (Some arrival) = (tt, tt)
-
-deliveries_of : (arrival : ℕ → Option (NodeId × List ℕ)) (place more : ℕ) → AreOfRound (deliveries arrival place more)
-unfolding deliveries
-deliveries_of arrival place zero = tt
-deliveries_of arrival place (suc more) = both_of (delivery place (arrival place)) (deliveries arrival (suc place) more) (delivery_of place (arrival place)) (deliveries_of arrival (suc place) more)
-
-ticks_of : (passed node more : ℕ) → AreOfRound (ticks passed node more)
-unfolding ticks
-ticks_of passed node zero = tt
-ticks_of passed node (suc more) = (tt, ticks_of passed (suc node) more)
-
-reach_of : (passed point : ℕ) (drive : Option FoundDriven) → AreOfRound (reach passed point drive)
-reach_of passed point None = tt
-reach_of passed point (Some drive) = choose (nat_lt drive.rounds 50)
-  where
-    choose : (b : Bool) → AreOfRound (if b then [] else (record { event = event.Reach (record { 0 = point }) (position_of drive.side); passed = passed } ∷ []))
-    choose true = tt
-    choose false = (tt, tt)
-
-reaches_of : (passed point : ℕ) (drives : List (Option FoundDriven)) → AreOfRound (reaches passed point drives)
-unfolding reaches
-reaches_of passed point [] = tt
-reaches_of passed point (drive ∷ drives) = both_of (reach passed point drive) (reaches passed (suc point) drives) (reach_of passed point drive) (reaches_of passed (suc point) drives)
+AreOfRound list = AllAre IsOfRound list
 
 pub due_of : (flowing : Flowing Played) → AreOfRound (due stations flowing)
-due_of flowing = (tt, both_of (deliveries _ flowing.passed _) _ (deliveries_of _ flowing.passed _) (both_of (ticks _ 0 _) _ (ticks_of _ 0 _) (reaches_of _ 0 flowing.drives)))
+due_of flowing = (tt, behind_time_are IsOfRound (λ node bytes. tt) (λ node. tt) (λ point position. tt) flowing)
 
 -- ---- what each step of an interlocking keeps where no command comes
 

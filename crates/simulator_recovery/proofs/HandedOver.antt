@@ -1,16 +1,15 @@
 -- What is given on a link of a station by one round has come over behind the next.
-use Rattle.std.proofs.Common.{◌≡◌, ℕ, suc, ◌^◌, ◌<◌, ◌≤◌, ◌&&◌, nat_le, Bool, true, false, if◌then◌else◌, List, [], ◌∷◌, ◌++◌, length, Some, slice_get, refl, sym, ap, subst, ◌∙◌, arith}
+use Rattle.std.proofs.Common.{◌≡◌, ℕ, suc, ◌^◌, ◌<◌, ◌≤◌, List, [], ◌∷◌, ◌++◌, length, Some, slice_get, refl, sym, ap, subst, ◌∙◌, arith}
 use Rattle.std.proofs.lemmas.Option.{same_Some}
 use Rattle.ixl_table.specs.Table.{IsTableOf}
 use Rattle.simulator_run.specs.layout.Entries.{Site}
 use Rattle.simulator_run.specs.layout.Once.{Once}
 use Rattle.simulator_run.specs.layout.Station.{IsStation}
-use Rattle.simulator_run.specs.rasta_core.Clock.{deadline, settled}
+use Rattle.simulator_run.specs.rasta_core.Clock.{settled}
 use Rattle.simulator_run.specs.rasta_core.Each.{Each}
 use Rattle.simulator_run.specs.rasta_core.Ends.{reading_of}
 use Rattle.simulator_run.specs.rasta_core.Links.{Links}
-use Rattle.simulator_run.specs.rasta_core.State.{LinkState, is_open}
-use Rattle.simulator_run.specs.rasta_core.phase.Phase.TheVariants as phase
+use Rattle.simulator_run.specs.rasta_core.State.{LinkState}
 use Rattle.simulator_run.specs.simulator_event.declared.event.Event.{Event}
 use Rattle.simulator_run.specs.Flow.{Flowing, round, stations}
 use Rattle.simulator_run.specs.Links.{AreLinksOf, ServerEnd}
@@ -26,16 +25,8 @@ use Rattle.simulator_recovery.proofs.ComeUp.{begun_so, behind_rounds, rounds_ope
 use Rattle.simulator_recovery.proofs.Lists.{at_place}
 use Rattle.simulator_recovery.proofs.Moments.{Passes}
 use Rattle.simulator_recovery.proofs.Ready.{IsUpBehind, ReadyLaws, count_front, front_of, hand_over, ups}
-use Rattle.simulator_recovery.proofs.Spent.{settled_taken}
+use Rattle.simulator_recovery.proofs.Spent.{settled_given, settled_taken}
 use Rattle.simulator_recovery.proofs.StaysOpen.{rounds_stay}
-
-pub settled_given : (now : ℕ) (l : LinkState) → (settled now l).given ≡ l.given
-unfolding settled
-settled_given now l = choose (is_open l.phase && nat_le (deadline l) now)
-  where
-    choose : (b : Bool) → (if b then record l { phase = phase.Closed; closed_at = deadline l; clock = now } else record l { clock = now }).given ≡ l.given
-    choose true = refl
-    choose false = refl
 
 -- ---- the ends of a link that is up
 

@@ -14,8 +14,9 @@ use Rattle.simulator_run.specs.ixl_client.Step.{acting, acting_all, commanding, 
 use Rattle.simulator_run.specs.ixl_client.declared.command.Command.TheVariants.{Move}
 use Rattle.simulator_run.specs.ixl_client.declared.stage.Stage.{Stage}
 use Rattle.simulator_run.specs.ixl_client.declared.stage.Stage.TheVariants as stage
+use Rattle.simulator_recovery.proofs.ClientItem.{answers, changes, completes, Goes, starts, tells}
 use Rattle.simulator_recovery.proofs.ClientLinks.{up_open}
-use Rattle.simulator_recovery.proofs.ClientTalk.{Fate, Goes, answers, asks, changes, closes, completes, fate, goes, starts, tells}
+use Rattle.simulator_recovery.proofs.ClientTalk.{Fate, asks, closes, fate, goes}
 use Rattle.simulator_recovery.proofs.LinkCounts.{close_closes}
 
 -- The items that a client which awaited a report has acted on, by its stage behind them: none, or the report.
@@ -26,14 +27,14 @@ pub data HearsOne (s : Stage) (items : List (List ℕ)) : Type 0 where
 -- where an item leads from stages at which a client is ready
 completed_changes : (peer : PeerState) (old new : Stage) → Goes peer old new → old ≡ stage.Completed → reports_changes peer.protocol ≡ true
 completed_changes peer old new (starts e f) is = absurd (false≢true (ap is_ready (sym e ∙ is)))
-completed_changes peer old new (tells left e f) is = absurd (false≢true (ap is_ready (sym e ∙ is)))
+completed_changes peer old new (tells left some e f) is = absurd (false≢true (ap is_ready (sym e ∙ is)))
 completed_changes peer old new (completes e f) is = absurd (false≢true (ap is_ready (sym e ∙ is)))
 completed_changes peer old new (changes turn e f) is = turn
 completed_changes peer old new (answers e f) is = absurd (false≢true (ap is_available (sym e ∙ is)))
 
 awaiting_completes : (peer : PeerState) (old new : Stage) → Goes peer old new → old ≡ stage.AwaitsReport → new ≡ stage.Completed
 awaiting_completes peer old new (starts e f) is = absurd (false≢true (ap is_ready (sym e ∙ is)))
-awaiting_completes peer old new (tells left e f) is = absurd (false≢true (ap is_ready (sym e ∙ is)))
+awaiting_completes peer old new (tells left some e f) is = absurd (false≢true (ap is_ready (sym e ∙ is)))
 awaiting_completes peer old new (completes e f) is = f
 awaiting_completes peer old new (changes turn e f) is = f
 awaiting_completes peer old new (answers e f) is = f

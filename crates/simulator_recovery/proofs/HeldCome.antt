@@ -42,11 +42,11 @@ use Rattle.simulator_recovery.proofs.KnownReports.{ComeLaws, count_in, report_te
 use Rattle.simulator_recovery.proofs.Lists.{at_place, each_both, map_length}
 use Rattle.simulator_recovery.proofs.MovesAnswered.{rounds_both}
 use Rattle.simulator_recovery.proofs.MovesLists.{each_split, same_front}
-use Rattle.simulator_recovery.proofs.ProceedsStays.{below_before}
 use Rattle.simulator_recovery.proofs.Ready.{links_ready}
 use Rattle.simulator_recovery.proofs.Rounds.{reached_on, rounds_reached}
 use Rattle.simulator_recovery.proofs.RoutesCome.{ComesLaws, goes_behind}
 use Rattle.simulator_recovery.proofs.StationTalk.{took}
+use Rattle.simulator_recovery.proofs.WindowsAlone.{below_two}
 
 pub record AwaitedLaws : Type 0 where
   pub come : ComeLaws
@@ -127,7 +127,7 @@ module _ (laws : AwaitedLaws) (between : List Event) (later_rounds more : List (
   start_ready : IsReadyOn site link start.state.run
   start_ready = links_ready laws.routes.up.ready between later_rounds flowing link once station is_table reached work first_works
       (fewer later_rounds front flowing.state.run front_can) below_links long
-      (λ before are. below_before link later_rounds front next before (front_below.points need within before are))
+      (λ before are. below_two link later_rounds front next before (front_below.points need within before are))
 
   new_ready : IsReadyOn site link new.state.run
   new_ready = subst (λ (f : Flowing Played). IsReadyOn site link f.state.run) (rounds_both later_rounds front next)

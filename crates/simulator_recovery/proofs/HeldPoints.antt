@@ -21,8 +21,8 @@ use Rattle.simulator_run.specs.ixl_rules.StepSoFar.{Detector, Node, Point, Signa
 use Rattle.simulator_machine_links.specs.Flows.{taken_after}
 use Rattle.simulator_recovery.specs.Counts.{ClientStandsByCounts}
 use Rattle.simulator_recovery.proofs.AspectCalls.{noted_at}
+use Rattle.simulator_recovery.proofs.ClientBehind.{all_took_behind}
 use Rattle.simulator_recovery.proofs.ClientLinks.{ClockedStands, commanding_stands, hearing_stands, ticking_stands}
-use Rattle.simulator_recovery.proofs.ClientTalk.{all_took_behind}
 use Rattle.simulator_recovery.proofs.DueTicks.{inside_ticks, outside_up}
 use Rattle.simulator_recovery.proofs.HeldClient.{HearsOne, hears_one, moved_awaits, nothing}
 use Rattle.simulator_recovery.proofs.IxlClients.{mapped_at}

@@ -38,12 +38,12 @@ use Rattle.simulator_recovery.specs.SidesOfMoves.{AwaitsMove}
 use Rattle.simulator_recovery.proofs.DueTests.{known_surely}
 use Rattle.simulator_recovery.proofs.Lists.{each_both}
 use Rattle.simulator_recovery.proofs.MovesLists.{each_split}
-use Rattle.simulator_recovery.proofs.ProceedsStays.{below_before}
 use Rattle.simulator_recovery.proofs.Ready.{count_front, fewer_time}
 use Rattle.simulator_recovery.proofs.Rounds.{IsAt, TimeLaws, round_reached, rounds_reached, tried_happens, work_reached}
 use Rattle.simulator_recovery.proofs.RoutesCome.{point_there}
 use Rattle.simulator_recovery.proofs.StopComes.{last_round, last_tried}
 use Rattle.simulator_recovery.proofs.UnheldProceeding.{ProceedingKnown, held_behind}
+use Rattle.simulator_recovery.proofs.WindowsAlone.{below_two}
 
 -- ---- rounds
 
@@ -61,8 +61,8 @@ fewer front rest world can = fewer_time (suc (length front)) (suc (length (front
 
 pub below_front : (site : Site) (row : Row) (front rest : List (List Event)) (flowing : Flowing Played) → AreBelowLimit site row (front ++ rest) flowing → AreBelowLimit site row front flowing
 below_front site row front rest flowing below = record {
-  signal = λ before are. below_before row.entry front rest flowing before (below.signal before are);
-  points = λ need within before are. below_before (point_link site need.point) front rest flowing before (below.points need within before are);
+  signal = λ before are. below_two row.entry front rest flowing before (below.signal before are);
+  points = λ need within before are. below_two (point_link site need.point) front rest flowing before (below.points need within before are);
 }
 
 throughout_front : (holds : Played → Type 0) (front rest : List (List Event)) (flowing : Flowing Played) → Throughout holds (front ++ rest) flowing → Throughout holds front flowing

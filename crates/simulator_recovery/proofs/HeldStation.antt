@@ -199,7 +199,8 @@ module _ (clients : PointLaws) (talk : TalkLaws) (move : MoveLaw) (request : Req
       → (happening : Event) (world : WorldState) (network : Links) → CanBe site table happening world network → (had : List (List ℕ)) → GivenAt had world network
       → Follows had (happens site table happening world).station.ixl (run_links (events_of site table happening world) network)
   event_outcome may_come happening world network can had is = event_kept talk may_come site table (GivenAt had) (Follows had) (same_follows had)
-      (λ input connection one w n step given follows. step_outcome input connection one w n step had given) (new_follows had) happening world network can is first
+      (λ input connection one w n step given follows. step_outcome input connection one w n step had given)
+      (λ begins w one n whole lists before follows. new_follows had begins n) happening world network can is first
     where
       first : Follows had world.station.ixl network
       first held known e inside = record {

@@ -2,6 +2,7 @@
 use Rattle.std.proofs.Common.{◌≡◌, ℕ, zero, suc, ◌+◌, ◌≤◌, Bool, true, false, not, List, [], ◌∷◌, ◌++◌, length, Option, Some, None, Result, Ok, Err, refl, sym, ap, subst, ◌∙◌, if◌then◌else◌, arith}
 use Rattle.std.specs.Prelude.{◌==◌, ◌&&◌, is_ok}
 use Rattle.std.proofs.lemmas.Bool.{false≢true}
+use Rattle.std.proofs.lemmas.List.{length-append}
 use Rattle.simulator_run.specs.rasta_core.Calls.{answer_to_send, receiving}
 use Rattle.simulator_run.specs.rasta_core.Receipt.{Receipt}
 use Rattle.simulator_run.specs.rasta_core.State.{is_open}
@@ -22,6 +23,7 @@ use Rattle.simulator_run.specs.object_host.declared.report.Report.{Report}
 use Rattle.simulator_run.specs.object_host.declared.stage.Stage.{Stage}
 use Rattle.simulator_run.specs.object_host.declared.stage.Stage.TheVariants as stage
 use Rattle.simulator_recovery.specs.Conversation.{HostHasActedOn}
+use Rattle.simulator_recovery.proofs.Tests.{none_more}
 
 module _ {Object : Type 0} (does : Behaviour Object) (now : ℕ) where
   -- a part of a step counts on
@@ -33,18 +35,11 @@ module _ {Object : Type 0} (does : Behaviour Object) (now : ℕ) where
     stage_is : part.host.stage ≡ host.stage
     acted : part.acted ≡ []
 
-  none_more : (count : ℕ) → count + 0 ≡ count
-  none_more count = omega arith
-
   stays_counts : (count : ℕ) (host : HostState Object) (part : HostSoFar Object) → Stays host part → HostHasActedOn host.stage count → Counts count part
   stays_counts count host part stays has = subst (λ (n : ℕ). HostHasActedOn part.host.stage n) (sym (ap (λ (l : List (List ℕ)). count + length l) stays.acted ∙ none_more count)) (subst (λ (s : Stage). HostHasActedOn s count) (sym stays.stage_is) has)
 
-  count_both : (one other : List (List ℕ)) → length (one ++ other) ≡ length one + length other
-  count_both [] other = omega arith
-  count_both (first ∷ one) other = let e = count_both one other in omega (arith, e)
-
   counts_then : (count : ℕ) (first : HostSoFar Object) (next : HostState Object → HostSoFar Object) → Counts count first → ((more : ℕ) → HostHasActedOn first.host.stage more → Counts more (next first.host)) → Counts count (then_do first next)
-  counts_then count first next one other = let both = count_both first.acted (next first.host).acted in let sum : (count + length first.acted) + length (next first.host).acted ≡ count + length (first.acted ++ (next first.host).acted) = omega (arith, both) in
+  counts_then count first next one other = let both = length-append first.acted (next first.host).acted in let sum : (count + length first.acted) + length (next first.host).acted ≡ count + length (first.acted ++ (next first.host).acted) = omega (arith, both) in
       subst (HostHasActedOn (next first.host).host.stage) sum (other (count + length first.acted) one)
 
   stays_then : (host : HostState Object) (first : HostSoFar Object) (next : HostState Object → HostSoFar Object) → Stays host first → ((h : HostState Object) → Stays h (next h)) → Stays host (then_do first next)

@@ -2,7 +2,6 @@
 -- host's names.
 use Rattle.std.proofs.Common.{◌≡◌, ℕ, zero, suc, Bool, true, false, not, ◌&&◌, ◌==◌, List, [], ◌∷◌, Option, Some, None, Result, Ok, Err, if◌then◌else◌, refl, sym, ap, ◌∙◌}
 use Rattle.std.specs.Prelude.{is_ok}
-use Rattle.std.proofs.lemmas.Bool.{false≢true}
 use Rattle.simulator_run.specs.rasta_core.Calls.{answer_to_send, receiving}
 use Rattle.simulator_run.specs.rasta_core.Clock.{alive_until, settled}
 use Rattle.simulator_run.specs.rasta_core.State.{is_open}
@@ -24,6 +23,7 @@ use Rattle.simulator_run.specs.object_host.declared.report.Report.{Report}
 use Rattle.simulator_run.specs.object_host.declared.sense.Sense.{Sense}
 use Rattle.simulator_run.specs.object_host.declared.stage.Stage.{Stage}
 use Rattle.simulator_run.specs.object_host.declared.stage.Stage.TheVariants as stage
+use Rattle.simulator_recovery.proofs.Tests.{last_true}
 
 -- what is kept of an object, whatever it is told in a version
 pub record ObjectKeeps {Object : Type 0} (does : Behaviour Object) (Fits : Object → Type 0) (version : ℕ) : Type 0 where
@@ -33,10 +33,6 @@ pub record ObjectKeeps {Object : Type 0} (does : Behaviour Object) (Fits : Objec
   pub keeps : (moment : ℕ) (object : Object) → Fits object → Fits (does.after_keep moment object)
   pub pays : (object : Object) → Fits object → Fits (does.after_paid object)
   pub loses : (object : Object) → Fits object → Fits (does.after_loss object)
-
-pub both_of : (a b : Bool) → (a && b) ≡ true → b ≡ true
-both_of true b e = e
-both_of false b e = absurd (false≢true e)
 
 module _ {Object : Type 0} (does : Behaviour Object) (Fits : Object → Type 0) (version : ℕ) (own_name peer_name : List ℕ) (keep : ObjectKeeps does Fits version) where
   pub record Kept (host : HostState Object) : Type 0 where
@@ -123,7 +119,7 @@ module _ {Object : Type 0} (does : Behaviour Object) (Fits : Object → Type 0) 
     acted item (Ok telegram) host k = choose (is_admitted does telegram host) refl
       where
         choose : (b : Bool) → is_admitted does telegram host ≡ b → Kept (if b then following does now item telegram (meaning telegram.message host.stage) host else violating now host).host
-        choose true e = followed item telegram telegram.message host.stage host (ap (λ (v : ℕ). is_in_version v telegram.message) (sym k.version_is) ∙ both_of (is_from_peer does telegram host) (is_in_version host.version telegram.message) e) k
+        choose true e = followed item telegram telegram.message host.stage host (ap (λ (v : ℕ). is_in_version v telegram.message) (sym k.version_is) ∙ last_true (is_from_peer does telegram host) (is_in_version host.version telegram.message) e) k
         choose false e = violated host k
 
     all_acted : (items : List (List ℕ)) (host : HostState Object) → Kept host → Kept (acting_all does now items host).host

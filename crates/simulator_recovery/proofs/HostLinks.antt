@@ -30,6 +30,7 @@ use Rattle.simulator_run.specs.object_host.declared.stage.Stage.TheVariants as s
 use Rattle.simulator_recovery.specs.Conversation.{HostHasActedOn}
 use Rattle.simulator_recovery.specs.Counts.{HasCounted, HostHasGiven, HostStandsByCounts, TellsAsMany, objects_told}
 use Rattle.simulator_recovery.proofs.LinkCounts.{AfterReceipt, AfterSend, close_closes, comes_in, receipt_counts, send_counts, send_was_open, settled_again, settled_open, stays_in, tick_counts, tick_was_open}
+use Rattle.simulator_recovery.proofs.Tests.{none_more, one_fewer}
 
 module _ {Object : Type 0} (does : Behaviour Object) (many : TellsAsMany does) (objects : ℕ) (now : ℕ) where
   abbrev pub Tells : Object → Type 0
@@ -47,9 +48,6 @@ module _ {Object : Type 0} (does : Behaviour Object) (many : TellsAsMany does) (
   pub record Mid (left : ℕ) (host : HostState Object) : Type 0 where
     pub tells : Tells host.object
     pub midway : is_open host.link.phase ≡ true → Midway left host
-
-  pub none_more : (n : ℕ) → n + 0 ≡ n
-  none_more n = omega arith
 
   -- ---- reports
 
@@ -119,9 +117,6 @@ module _ {Object : Type 0} (does : Behaviour Object) (many : TellsAsMany does) (
       choose : (suc left ≡ 0) ⊎ (is_up host.link.phase ≡ true) → is_up host.link.phase ≡ true
       choose (inl e) = absurd (cc e)
       choose (inr up) = up
-
-  one_fewer : (taken left : ℕ) → taken + suc left ≡ (taken + 1) + left
-  one_fewer taken left = omega arith
 
   -- the version is answered
   pub answers : (left version : ℕ) (host : HostState Object) → host.stage ≡ stage.AwaitsCheck → Mid (suc left) host → Mid left (answering does now version host).host

@@ -1,8 +1,7 @@
 -- A step of a host closes no link, where the host expects each item that comes.
-use Rattle.std.proofs.Common.{◌≡◌, ℕ, zero, suc, ◌+◌, ◌≤◌, ◌∙◌, Bool, true, false, not, ◌&&◌, ◌==◌, List, [], ◌∷◌, ◌++◌, length, Option, Some, None, Result, Ok, Err, slice_get, if◌then◌else◌, refl, sym, ap, subst, arith}
+use Rattle.std.proofs.Common.{◌≡◌, ℕ, zero, suc, ◌+◌, ◌≤◌, ◌∙◌, Bool, true, false, not, ◌&&◌, List, [], ◌∷◌, ◌++◌, length, Option, Some, None, Result, Ok, Err, slice_get, if◌then◌else◌, refl, sym, ap, subst, arith}
 use Rattle.std.specs.Prelude.{is_ok}
 use Rattle.std.proofs.lemmas.Bool.{false≢true}
-use Rattle.std.proofs.lemmas.Bool.Decides.{nat_tests}
 use Rattle.simulator_run.specs.layout.Entries.{Site}
 use Rattle.simulator_run.specs.rasta_core.Each.{Each}
 use Rattle.simulator_run.specs.rasta_core.Calls.{answer_to_send, receiving}
@@ -38,6 +37,7 @@ use Rattle.simulator_recovery.proofs.HostCounts.{acts as counts_item}
 use Rattle.simulator_recovery.proofs.HostKeeps.{Kept, ObjectKeeps, acted as keeps_item, begins as keeps_beginning, came as keeps_receipt}
 use Rattle.simulator_recovery.proofs.Lists.{each_both}
 use Rattle.simulator_recovery.proofs.SaidItems.{is_talking, item_expected, said_at}
+use Rattle.simulator_recovery.proofs.Tests.{same_true}
 
 -- a call that closes nothing
 abbrev pub StaysOpen : LinkCall → Type 0
@@ -162,13 +162,10 @@ module _ {Object : Type 0} (does : Behaviour Object) (now : ℕ) where
 
   -- ---- one item
 
-  same_number : (n : ℕ) → (n == n) ≡ true
-  same_number n = grind (arith, nat_tests)
-
   answer_talks : (host : HostState Object) → is_talking (answering does now host.version host).host.stage ≡ true
   unfolding answering
   answer_talks host = subst (λ (b : Bool). is_talking (if b then at_stage stage.AwaitsRequest (posting now (said does (VersionAnswer Match host.version)) host) else at_stage stage.Refused (posting now (said does (VersionAnswer NoMatch host.version)) host)).host.stage ≡ true)
-      (sym (same_number host.version)) refl
+      (sym (same_true host.version)) refl
 
   command_talks : (telegram : Telegram) (host : HostState Object) → host.stage ≡ stage.Completed → is_talking (commanding does now telegram host).host.stage ≡ true
   unfolding commanding violating

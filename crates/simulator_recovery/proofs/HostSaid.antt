@@ -30,10 +30,11 @@ use Rattle.simulator_run.specs.rasta_core.Each.{Each}
 use Rattle.simulator_recovery.specs.Counts.{HostHasGiven, HostHasSaid, HostStandsByCounts, IsOwed, TellsAsMany, given_before}
 use Rattle.simulator_recovery.specs.Told.{Begins, OwedFit, SaidAll, SaidBy, SaidSome}
 use Rattle.simulator_recovery.proofs.GivenPrefix.{first_given, ok_open, sends, shut_gives}
-use Rattle.simulator_recovery.proofs.HostKeeps.{Kept, ObjectKeeps, begins as begins_kept, both_of}
+use Rattle.simulator_recovery.proofs.HostKeeps.{Kept, ObjectKeeps, begins as begins_kept}
 use Rattle.simulator_recovery.proofs.HostLinks.{Begun, Mid, Said, acts, all_posted_open, begins, is_up_there, post_all, post_one, posted_open, risen_same, status_few, was_accepted, comes}
 use Rattle.simulator_recovery.proofs.LinkCounts.{close_closes, tick_was_open}
 use Rattle.simulator_recovery.proofs.Lists.{each_both, map_both}
+use Rattle.simulator_recovery.proofs.Tests.{last_true}
 
 -- ---- calls
 
@@ -364,7 +365,7 @@ module _ {Object : Type 0} (does : Behaviour Object) (many : TellsAsMany does) (
   act_says items left taken (Ok telegram) host tells is mid has = choose (is_admitted does telegram host) refl
     where
       choose : (b : Bool) → is_admitted does telegram host ≡ b → Says items host (if b then following does now taken telegram (meaning telegram.message host.stage) host else violating now host)
-      choose true e = follow_says items left taken telegram telegram.message host.stage host tells refl (ap (λ (v : ℕ). is_in_version v telegram.message) (sym is.version_is) ∙ both_of (is_from_peer does telegram host) (is_in_version host.version telegram.message) e) is mid has
+      choose true e = follow_says items left taken telegram telegram.message host.stage host tells refl (ap (λ (v : ℕ). is_in_version v telegram.message) (sym is.version_is) ∙ last_true (is_from_peer does telegram host) (is_in_version host.version telegram.message) e) is mid has
       choose false e = closes items host is has
 
   all_say : (items : List (List ℕ)) (came : List (List ℕ)) (host : HostState Object) → AllTell Wrong version came → Is host → Mid does many objects now (length came) host → Has items host → Says items host (acting_all does now came host)

@@ -1,7 +1,8 @@
 -- In a world of a commanding client and a host, the stage of the host tells how many items it has acted on in its connection.
-use Rattle.std.proofs.Common.{◌≡◌, ℕ, ◌+◌, Bool, true, false, not, List, [], ◌∷◌, ◌++◌, length, Option, Some, None, refl, sym, ap, subst, ◌∙◌, if◌then◌else◌, arith}
+use Rattle.std.proofs.Common.{◌≡◌, ℕ, ◌+◌, Bool, true, false, not, List, ◌++◌, length, Option, Some, None, refl, sym, ap, subst, ◌∙◌, if◌then◌else◌, arith}
 use Rattle.std.specs.Prelude.{◌&&◌, nat_le}
 use Rattle.std.proofs.lemmas.Bool.{false≢true}
+use Rattle.std.proofs.lemmas.List.{length-append}
 use Rattle.object_host_theorem.specs.World.{ClientRestarts, Commands, Elsewhere, Event, HostRestarts, Loses, Passes, Steps, World, begun, entering, happened, host_of, host_restarted, step_of, stepped}
 use Rattle.simulator_run.specs.rasta_core.Calls.{created}
 use Rattle.simulator_run.specs.rasta_core.Clock.{deadline, settled}
@@ -28,9 +29,12 @@ pub record WorldLaws {Object : Type 0} (does : Behaviour Object) : Type 0 where
   pub outside : (input : Input) (connection : ℕ) (world : World Object) → entering input connection world.ends ≡ None → is_open world.ends.server.link.phase ≡ false
       → is_open (stepped does input connection world).ends.server.link.phase ≡ false
 
-count_both : (one other : List (List ℕ)) → length (one ++ other) ≡ length one + length other
-count_both [] other = omega arith
-count_both (first ∷ one) other = let e = count_both one other in omega (arith, e)
+-- a host whose link is open enters no connection
+pub enters_none : {Object : Type 0} (input : Input) (connection : ℕ) (world : World Object) → is_open world.ends.server.link.phase ≡ true → entering input connection world.ends ≡ None
+unfolding outcome
+enters_none inputs.Tick connection world inside = refl
+enters_none (inputs.Sense sense) connection world inside = refl
+enters_none (inputs.Datagram bytes) connection world inside = rw inside refl
 
 module _ {Object : Type 0} (does : Behaviour Object) (laws : WorldLaws does) where
   -- a link that is open isn't lost by the clock, and one that isn't leaves the host outside
@@ -64,13 +68,6 @@ module _ {Object : Type 0} (does : Behaviour Object) (laws : WorldLaws does) whe
       choose : (s : Stage) → world.stage ≡ s → (c : Bool) → is_open world.ends.server.link.phase ≡ c → Begins world (told (if not (is_outside world.stage) && not (is_open world.ends.server.link.phase) then lost else host_of world))
       choose s at c e = by_tests (is_outside world.stage) (is_open world.ends.server.link.phase) refl refl
 
-  -- a host whose link is open enters no connection
-  enters_none : (input : Input) (connection : ℕ) (world : World Object) → is_open world.ends.server.link.phase ≡ true → entering input connection world.ends ≡ None
-  unfolding outcome
-  enters_none inputs.Tick connection world inside = refl
-  enters_none (inputs.Sense sense) connection world inside = refl
-  enters_none (inputs.Datagram bytes) connection world inside = rw inside refl
-
   step_stands : (input : Input) (connection : ℕ) (world : World Object) → IsSettled world → StandsAtItsStage world → StandsAtItsStage (stepped does input connection world)
   unfolding stepped
   step_stands input connection world is stands open_after = by_open (is_open world.ends.server.link.phase) refl (entering input connection world.ends) refl
@@ -94,7 +91,7 @@ module _ {Object : Type 0} (does : Behaviour Object) (laws : WorldLaws does) whe
       Behind entered = HostHasActedOn (step_of does input world).host.stage (length (kept entered world.acted ++ acted))
 
       sum : HostHasActedOn (step_of does input world).host.stage (length world.acted + length acted) → HostHasActedOn (step_of does input world).host.stage (length (world.acted ++ acted))
-      sum has = subst (HostHasActedOn (step_of does input world).host.stage) (sym (count_both world.acted acted)) has
+      sum has = subst (HostHasActedOn (step_of does input world).host.stage) (sym (length-append world.acted acted)) has
 
       by_open : (c : Bool) → is_open world.ends.server.link.phase ≡ c → (entered : Option ℕ) → entering input connection world.ends ≡ entered → Behind (entering input connection world.ends)
       by_open true e entered f = subst Behind (sym (enters_none input connection world e)) (sum (counted (length world.acted) (subst (λ (s : Stage). HostHasActedOn s (length world.acted)) (sym (begun_so.inside e)) (stands e))))

@@ -4,7 +4,7 @@ use Rattle.std.proofs.lemmas.Bool.{false≢true}
 use Rattle.object_host_theorem.specs.World.{ClientRestarts, Commands, Elsewhere, Event, HostRestarts, Loses, MayRun, Passes, Steps, World, begun, entering, happened, host_of, host_restarted, run, step_of, stepped}
 use Rattle.simulator_run.specs.rasta_core.Calls.{created}
 use Rattle.simulator_run.specs.rasta_core.Each.{Each}
-use Rattle.simulator_run.specs.rasta_core.Ends.{end_later, end_restarted, kept, outcome, reading_of}
+use Rattle.simulator_run.specs.rasta_core.Ends.{end_later, end_restarted, kept, reading_of}
 use Rattle.simulator_run.specs.rasta_core.Events.{Start}
 use Rattle.simulator_run.specs.rasta_core.Invariant.{Timely}
 use Rattle.simulator_run.specs.rasta_core.Names.{AreNames, Names}
@@ -17,7 +17,6 @@ use Rattle.simulator_run.specs.object_host.Hosted.{new_host}
 use Rattle.simulator_run.specs.object_host.Made.{items_given}
 use Rattle.simulator_run.specs.object_host.Told.{item_of}
 use Rattle.simulator_run.specs.object_host.declared.input.Input.{Input}
-use Rattle.simulator_run.specs.object_host.declared.input.Input.TheVariants as inputs
 use Rattle.simulator_run.specs.object_host.declared.report.Report.{Report}
 use Rattle.simulator_run.specs.object_host.declared.stage.Stage.{Stage}
 use Rattle.simulator_recovery.specs.Conversation.{HostHasActedOn, IsSettled}
@@ -25,7 +24,7 @@ use Rattle.simulator_recovery.specs.Counts.{HasCounted, HostHasGiven, HostHasSai
 use Rattle.simulator_recovery.proofs.HostLinks.{new_stands, step_stands}
 use Rattle.simulator_recovery.proofs.HostRuns.{RunLaws, event_is, event_may, link_events}
 use Rattle.simulator_recovery.proofs.HostSaid.{step_says}
-use Rattle.simulator_recovery.proofs.HostStands.{WorldLaws}
+use Rattle.simulator_recovery.proofs.HostStands.{enters_none, WorldLaws}
 use Rattle.simulator_recovery.proofs.LinkCounts.{settled_open}
 
 -- the same stage and object, with a link that is as open and counts the same
@@ -48,12 +47,6 @@ module _ {Object : Type 0} (does : Behaviour Object) (many : TellsAsMany does) (
     ≡ kept (entering input connection world.ends) world.ends.server.given ++ items_given (reading_of world.ends.server.clock) (step_of does input world).calls world.ends.server.link) where
   abbrev Stands : World Object → Type 0
   Stands world = StandsByWhatItSaid does objects world
-
-  enters_none : (input : Input) (connection : ℕ) (world : World Object) → is_open world.ends.server.link.phase ≡ true → entering input connection world.ends ≡ None
-  unfolding outcome
-  enters_none inputs.Tick connection world inside = refl
-  enters_none (inputs.Sense sense) connection world inside = refl
-  enters_none (inputs.Datagram bytes) connection world inside = rw inside refl
 
   pub step_said : (input : Input) (connection : ℕ) (world : World Object) → IsSettled world → Stands world → Stands (stepped does input connection world)
   unfolding stepped

@@ -1,6 +1,5 @@
 -- Ends of a link that are up are in one connection.
-use Rattle.std.proofs.Common.{◌≡◌, ℕ, ◌<◌, true, Some, refl, sym, ap, subst, ◌∙◌}
-use Rattle.std.proofs.lemmas.Bool.{false≢true}
+use Rattle.std.proofs.Common.{◌≡◌, ℕ, ◌<◌, true, Some, sym, ap, subst, ◌∙◌}
 use Rattle.std.proofs.lemmas.Option.{same_Some}
 use Rattle.simulator_run.specs.layout.Entries.{Site}
 use Rattle.simulator_run.specs.rasta_core.Clock.{settled}
@@ -11,28 +10,20 @@ use Rattle.simulator_run.specs.rasta_core.Links.{Links, seen}
 use Rattle.simulator_run.specs.rasta_core.Names.{Names}
 use Rattle.simulator_run.specs.rasta_core.Run.{Ends, end_of}
 use Rattle.simulator_run.specs.rasta_core.Sentences.{IsIn}
-use Rattle.simulator_run.specs.rasta_core.State.{LinkState, is_open, is_up}
+use Rattle.simulator_run.specs.rasta_core.State.{LinkState, is_up}
 use Rattle.simulator_run.specs.rasta_core.identity.Role.{Role}
 use Rattle.simulator_run.specs.rasta_core.identity.Role.TheVariants as role
-use Rattle.simulator_run.specs.rasta_core.phase.Phase.{Phase}
-use Rattle.simulator_run.specs.rasta_core.phase.Phase.TheVariants as phases
 use Rattle.simulator_run.specs.Links.{AreLinksOf, names_at}
 use Rattle.simulator_run.specs.Nodes.{links, partners}
 use Rattle.simulator_run.specs.State.{WorldState}
 use Rattle.simulator_recovery.specs.LinkRounds.{AreInOne, IsUpOn}
 use Rattle.simulator_recovery.proofs.Addressed.{partners_length}
+use Rattle.simulator_recovery.proofs.ClientLinks.{up_open}
 use Rattle.simulator_recovery.proofs.Lists.{at_place}
 
 pub record ConnectionLaws : Type 0 where
   pub up : (names : Names) (ends : Ends) → Timely names ends → is_up ends.client.link.phase ≡ true → ends.server.connection ≡ ends.client.connection
   pub some : (names : Names) (ends : Ends) (who : Role) → Timely names ends → IsIn who ends → (connection : ℕ) × ((end_of who ends).connection ≡ Some connection)
-
-up_open : (phase : Phase) → is_up phase ≡ true → is_open phase ≡ true
-up_open phases.Closed up = absurd (false≢true up)
-up_open phases.Start up = absurd (false≢true up)
-up_open phases.Up up = refl
-up_open phases.RetransmissionRequested up = refl
-up_open phases.RetransmissionRunning up = refl
 
 pub in_one : ConnectionLaws → (site : Site) (link : ℕ) (world : WorldState) (these : Links) → link < links site → AreTimely (links site) (names_at site) these → AreLinksOf site world these → IsUpOn link world → AreInOne link these
 in_one laws site link world these below timely are up =

@@ -1,6 +1,5 @@
 -- What is kept of every client in a step of an interlocking.
-use Rattle.std.proofs.Common.{◌≡◌, ℕ, zero, suc, Bool, true, false, List, [], ◌∷◌, length, map, Option, Some, None, slice_get, ◌⊎◌, inl, inr, if◌then◌else◌, refl, sym, ap, subst}
-use Rattle.std.specs.FinSet.{empty}
+use Rattle.std.proofs.Common.{◌≡◌, ℕ, zero, suc, Bool, true, false, List, [], ◌∷◌, map, Option, Some, None, slice_get, ◌⊎◌, inl, inr, if◌then◌else◌, refl, sym, ap, subst}
 use Rattle.std.proofs.lemmas.Option.{none-some, same_Some}
 use Rattle.simulator_run.specs.bit_row.Places.{Places}
 use Rattle.simulator_run.specs.rasta_pdu.PduRead.{reading}
@@ -13,15 +12,17 @@ use Rattle.simulator_run.specs.ixl_client.Step.{clocked, commanding, hearing, ti
 use Rattle.simulator_run.specs.ixl_client.declared.command.Command.{Command as ClientCommand}
 use Rattle.simulator_run.specs.ixl_client.declared.command.Command.TheVariants as client_commands
 use Rattle.simulator_run.specs.ixl_rules.Commands.{commanded_by, obeyed, refusal, unmoved_for}
-use Rattle.simulator_run.specs.ixl_rules.Rules.{count, ended, ending_authority, freed_by_cancel, freed_by_passage, freeing_by_cancel, freeing_by_passage, freeing_next, is_move_due, is_proceed_due, is_stop_due, moved, moving, moving_one, proceeding, repeated, ruled, withdrawing, withdrawn}
+use Rattle.simulator_run.specs.ixl_rules.Rules.{count, is_move_due, is_proceed_due, is_stop_due, moving_one, proceeding, ruled, withdrawing}
 use Rattle.simulator_run.specs.ixl_rules.State.{IxlState, KnownDetectorState, KnownPointState, KnownSignalState, RouteState, changed}
-use Rattle.simulator_run.specs.ixl_rules.Step.{Commands, Datagram, Input, Tick, addressed, all_clocked, clocked_detector, clocked_known_point, clocked_known_signal, detector_hearing, detector_ticking, given, known_point_hearing, known_point_ticking, known_signal_hearing, known_signal_ticking, looking, looking_by, looks, node_hearing, occupied_heard, stepped, ticked, watching}
-use Rattle.simulator_run.specs.ixl_rules.StepSoFar.{Detector, Node, Point, Signal, StepSoFar, along, at_route, detector_after, giving_aspect, giving_move, known_point_after, known_signal_after, noted, over, with_detector, with_one, with_route}
-use Rattle.simulator_run.specs.ixl_rules.Table.{Need, Row, Table}
+use Rattle.simulator_run.specs.ixl_rules.Step.{Commands, Datagram, Input, Tick, addressed, all_clocked, clocked_detector, clocked_known_point, clocked_known_signal, detector_hearing, detector_ticking, given, known_point_hearing, known_point_ticking, known_signal_hearing, known_signal_ticking, looking, looks, node_hearing, occupied_heard, stepped, ticked, watching}
+use Rattle.simulator_run.specs.ixl_rules.StepSoFar.{Detector, Node, Point, Signal, StepSoFar, detector_after, giving_aspect, giving_move, known_point_after, known_signal_after, noted, with_detector, with_one, with_route}
+use Rattle.simulator_run.specs.ixl_rules.Table.{Need, Table}
 use Rattle.simulator_run.specs.ixl_rules.declared.command.Command.{Command}
 use Rattle.simulator_run.specs.ixl_rules.declared.command.Command.TheVariants as commands
 use Rattle.simulator_run.specs.ixl_rules.declared.command.Refusal.{Refusal}
 use Rattle.simulator_recovery.specs.Counts.{EachClient}
+use Rattle.simulator_recovery.proofs.DueShapes.{along_keeps, looking_turns, one_keeps, over_keeps, route_holds, ticked_keeps, turned_keeps, watching_turns, where_both}
+use Rattle.simulator_recovery.proofs.Tests.{either}
 
 -- ---- lists of which one is changed
 
@@ -43,6 +44,36 @@ mapped_at f [] k y e = absurd (none-some y e)
 mapped_at f (x ∷ xs) zero y e = (x, refl, sym (same_Some (f x) y e))
 mapped_at f (x ∷ xs) (suc k) y e = mapped_at f xs k y e
 
+-- ---- an object that is known, by its client
+
+-- A signal with this client: nothing was given where the client is outside.
+pub signal_is : (P : KnownSignalState → Type 0) (aspect : Option Aspect) (number : ℕ) (indicated : Option Aspect) (client : ClientState)
+    → (is_outside client.stage ≡ true → P (record { client = client; aspect = None; number = 0; indicated = None }))
+    → (is_outside client.stage ≡ false → P (record { client = client; aspect = aspect; number = number; indicated = indicated })) → P (known_signal_after aspect number indicated client)
+unfolding known_signal_after
+signal_is P aspect number indicated client outside inside = choose (is_outside client.stage) refl
+  where
+    none : KnownSignalState
+    none = record { client = client; aspect = None; number = 0; indicated = None }
+
+    some : KnownSignalState
+    some = record { client = client; aspect = aspect; number = number; indicated = indicated }
+
+    choose : (b : Bool) → is_outside client.stage ≡ b → P (if b then none else some)
+    choose true = outside
+    choose false = inside
+
+pub signal_client : (aspect : Option Aspect) (number : ℕ) (indicated : Option Aspect) (client : ClientState) → (known_signal_after aspect number indicated client).client ≡ client
+signal_client aspect number indicated client = signal_is (λ (known : KnownSignalState). known.client ≡ client) aspect number indicated client (λ outside. refl) (λ inside. refl)
+
+pub point_client : (side : Option Side) (places : Places) (client : ClientState) → (known_point_after side places client).client ≡ client
+unfolding known_point_after
+point_client side places client = either (λ (known : KnownPointState). known.client ≡ client) (is_outside client.stage) _ _ (λ outside. refl) refl
+
+pub detector_client : (occupied : Places) (client : ClientState) → (detector_after occupied client).client ≡ client
+unfolding detector_after
+detector_client occupied client = either (λ (known : KnownDetectorState). known.client ≡ client) (is_outside client.stage) _ _ (λ outside. refl) refl
+
 -- ---- all clients
 
 -- What a step of a client keeps: of a client whose link is settled at the reading, and of any.
@@ -54,50 +85,6 @@ pub record ClientsKeep (now : ℕ) (P0 P1 : Node → ClientState → Type 0) : T
   pub ticks : (node : Node) (part : ClientSoFar) → P0 node part.client → P0 node (ticking now part).client
 
 module _ (now : ℕ) (P0 P1 : Node → ClientState → Type 0) (keep : ClientsKeep now P0 P1) where
-  -- ---- one client is another
-
-  signal_client : (aspect : Option Aspect) (number : ℕ) (indicated : Option Aspect) (client : ClientState) → (known_signal_after aspect number indicated client).client ≡ client
-  unfolding known_signal_after
-  signal_client aspect number indicated client = choose (is_outside client.stage)
-    where
-      none : KnownSignalState
-      none = record { client = client; aspect = None; number = 0; indicated = None }
-
-      some : KnownSignalState
-      some = record { client = client; aspect = aspect; number = number; indicated = indicated }
-
-      choose : (b : Bool) → (if b then none else some).client ≡ client
-      choose true = refl
-      choose false = refl
-
-  point_client : (side : Option Side) (places : Places) (client : ClientState) → (known_point_after side places client).client ≡ client
-  unfolding known_point_after
-  point_client side places client = choose (is_outside client.stage)
-    where
-      none : KnownPointState
-      none = record { client = client; side = None; moved = empty }
-
-      some : KnownPointState
-      some = record { client = client; side = side; moved = places }
-
-      choose : (b : Bool) → (if b then none else some).client ≡ client
-      choose true = refl
-      choose false = refl
-
-  detector_client : (occupied : Places) (client : ClientState) → (detector_after occupied client).client ≡ client
-  unfolding detector_after
-  detector_client occupied client = choose (is_outside client.stage)
-    where
-      none : KnownDetectorState
-      none = record { client = client; occupied = empty }
-
-      some : KnownDetectorState
-      some = record { client = client; occupied = occupied }
-
-      choose : (b : Bool) → (if b then none else some).client ≡ client
-      choose true = refl
-      choose false = refl
-
   signal_set : (place : ℕ) (new : KnownSignalState) (ixl : IxlState) → P0 (Signal place) new.client → EachClient P0 ixl → EachClient P0 (record ixl { known_signals = changed (λ old. new) place ixl.known_signals })
   signal_set place new ixl is all = record { signals = λ k known e. choose k known (changed_at (λ old. new) place ixl.known_signals k known e); points = all.points; detectors = all.detectors }
     where
@@ -119,33 +106,8 @@ module _ (now : ℕ) (P0 P1 : Node → ClientState → Type 0) (keep : ClientsKe
       choose k known (inl (e, x, f, g)) = subst (λ (n : ℕ). P0 (Detector n) known.client) (sym e) (subst (λ (y : KnownDetectorState). P0 (Detector place) y.client) (sym g) is)
       choose k known (inr f) = all.detectors k known f
 
-  -- ---- the shapes of a step
-
-  one_kept : {A : Type 0} (found : Option A) (does : A → StepSoFar → StepSoFar) (part : StepSoFar) → ((one : A) → found ≡ Some one → EachClient P0 (does one part).ixl) → EachClient P0 part.ixl → EachClient P0 (with_one found does part).ixl
-  one_kept None does part each all = all
-  one_kept (Some one) does part each all = each one refl
-
-  route_kept : (table : Table) (number : ℕ) (does : Row → RouteState → StepSoFar → StepSoFar) → ((row : Row) (route : RouteState) (part : StepSoFar) → EachClient P0 part.ixl → EachClient P0 (does row route part).ixl)
-      → (part : StepSoFar) → EachClient P0 part.ixl → EachClient P0 (at_route table number does part).ixl
-  unfolding at_route
-  route_kept table number does each part all = one_kept (slice_get table.rows number) (λ row part. with_one (slice_get part.ixl.routes number) (does row) part) part
-      (λ row e. one_kept (slice_get part.ixl.routes number) (does row) part (λ route f. each row route part all) all) all
-
-  over_kept : (does : ℕ → StepSoFar → StepSoFar) → ((number : ℕ) (part : StepSoFar) → EachClient P0 part.ixl → EachClient P0 (does number part).ixl) → (n : ℕ) (part : StepSoFar) → EachClient P0 part.ixl → EachClient P0 (over does n part).ixl
-  over_kept does each zero part all = all
-  over_kept does each (suc n) part all = each n (over does n part) (over_kept does each n part all)
-
-  along_kept : {A : Type 0} (does : A → StepSoFar → StepSoFar) → ((one : A) (part : StepSoFar) → EachClient P0 part.ixl → EachClient P0 (does one part).ixl) → (list : List A) (part : StepSoFar) → EachClient P0 part.ixl → EachClient P0 (along does list part).ixl
-  along_kept does each [] part all = all
-  along_kept does each (first ∷ others) part all = along_kept does each others (does first part) (each first part all)
-
-  repeated_kept : (n : ℕ) (does : StepSoFar → StepSoFar) → ((part : StepSoFar) → EachClient P0 part.ixl → EachClient P0 (does part).ixl) → (part : StepSoFar) → EachClient P0 part.ixl → EachClient P0 (repeated n does part).ixl
-  repeated_kept zero does each part all = all
-  repeated_kept (suc n) does each part all = repeated_kept n does each (does part) (each part all)
-
-  where_kept : (b : Bool) (part one : StepSoFar) → EachClient P0 one.ixl → EachClient P0 part.ixl → EachClient P0 (if b then one else part).ixl
-  where_kept true part one so all = so
-  where_kept false part one so all = all
+  abbrev Kept : StepSoFar → Type 0
+  Kept part = EachClient P0 part.ixl
 
   with_route_kept : (number : ℕ) (change : RouteState → RouteState) (part : StepSoFar) → EachClient P0 part.ixl → EachClient P0 (with_route number change part).ixl
   with_route_kept number change part all = record { signals = all.signals; points = all.points; detectors = all.detectors }
@@ -154,12 +116,12 @@ module _ (now : ℕ) (P0 P1 : Node → ClientState → Type 0) (keep : ClientsKe
 
   aspect_kept : (signal : ℕ) (aspect : Aspect) (part : StepSoFar) → EachClient P0 part.ixl → EachClient P0 (giving_aspect now signal aspect part).ixl
   unfolding giving_aspect
-  aspect_kept signal aspect part all = one_kept (slice_get part.ixl.known_signals signal) _ part (λ known e.
+  aspect_kept signal aspect part all = one_keeps Kept (slice_get part.ixl.known_signals signal) _ part (λ known e.
       signal_set signal _ part.ixl (subst (P0 (Signal signal)) (sym (signal_client _ _ _ _)) (keep.commands (Signal signal) (client_commands.Indicate aspect) (begun known.client part.outbox) (all.signals signal known e))) all) all
 
   move_kept : (point : ℕ) (side : Side) (part : StepSoFar) → EachClient P0 part.ixl → EachClient P0 (giving_move now point side part).ixl
   unfolding giving_move
-  move_kept point side part all = one_kept (slice_get part.ixl.known_points point) _ part (λ known e.
+  move_kept point side part all = one_keeps Kept (slice_get part.ixl.known_points point) _ part (λ known e.
       point_set point _ part.ixl (subst (P0 (Point point)) (sym (point_client _ _ _)) (keep.commands (Point point) (client_commands.Move side) (begun known.client part.outbox) (all.points point known e))) all) all
 
   -- ---- the rules
@@ -167,56 +129,23 @@ module _ (now : ℕ) (P0 P1 : Node → ClientState → Type 0) (keep : ClientsKe
   module _ (table : Table) where
     withdrawing_kept : (number : ℕ) (part : StepSoFar) → EachClient P0 part.ixl → EachClient P0 (withdrawing now table number part).ixl
     unfolding withdrawing
-    withdrawing_kept number = route_kept table number _ (λ row route part all. where_kept (is_stop_due table part.ixl row route) part _
-        (where_kept _ _ _ (aspect_kept row.entry _ _ (with_route_kept number _ part all)) (with_route_kept number _ part all)) all)
-
-    ending_kept : (number : ℕ) (part : StepSoFar) → EachClient P0 part.ixl → EachClient P0 (ending_authority now table number part).ixl
-    unfolding ending_authority
-    ending_kept number = route_kept table number _ (λ row route part all. where_kept _ part _ (with_route_kept number _ part all) all)
-
-    next_kept : (number : ℕ) (part : StepSoFar) → EachClient P0 part.ixl → EachClient P0 (freeing_next table number part).ixl
-    unfolding freeing_next
-    next_kept number = route_kept table number _ (λ row route part all. where_kept _ part _ (with_route_kept number _ part all) all)
-
-    passage_kept : (number : ℕ) (part : StepSoFar) → EachClient P0 part.ixl → EachClient P0 (freeing_by_passage table number part).ixl
-    unfolding freeing_by_passage
-    passage_kept number = route_kept table number _ (λ row route. repeated_kept (length row.sections) (freeing_next table number) (next_kept number))
-
-    cancel_kept : (number : ℕ) (part : StepSoFar) → EachClient P0 part.ixl → EachClient P0 (freeing_by_cancel now table number part).ixl
-    unfolding freeing_by_cancel
-    cancel_kept number = route_kept table number _ (λ row route part all. where_kept _ part _ (with_route_kept number _ part all) all)
+    withdrawing_kept number = route_holds Kept table number _ (λ row route part there here all. where_both Kept (is_stop_due table part.ixl row route) part _
+        (where_both Kept _ _ _ (aspect_kept row.entry _ _ (with_route_kept number _ part all)) (with_route_kept number _ part all)) all)
 
     moving_one_kept : (number : ℕ) (need : Need) (part : StepSoFar) → EachClient P0 part.ixl → EachClient P0 (moving_one now table number need part).ixl
     unfolding moving_one
-    moving_one_kept number need = route_kept table number _ (λ row route part all. where_kept (is_move_due table part.ixl number route need) part _ (move_kept need.point need.side part all) all)
-
-    moving_kept : (number : ℕ) (part : StepSoFar) → EachClient P0 part.ixl → EachClient P0 (moving now table number part).ixl
-    unfolding moving
-    moving_kept number = route_kept table number _ (λ row route. along_kept (moving_one now table number) (moving_one_kept number) row.needs)
+    moving_one_kept number need = route_holds Kept table number _ (λ row route part there here all. where_both Kept (is_move_due table part.ixl number route need) part _
+        (move_kept need.point need.side part all) all)
 
     proceeding_kept : (number : ℕ) (part : StepSoFar) → EachClient P0 part.ixl → EachClient P0 (proceeding now table number part).ixl
     unfolding proceeding
-    proceeding_kept number = route_kept table number _ (λ row route part all. where_kept (is_proceed_due now table part.ixl row route) part _
+    proceeding_kept number = route_holds Kept table number _ (λ row route part there here all. where_both Kept (is_proceed_due now table part.ixl row route) part _
         (aspect_kept row.entry row.aspect _ (with_route_kept number _ part all)) all)
 
-    watching_kept : (number : ℕ) (part : StepSoFar) → EachClient P0 part.ixl → EachClient P0 (watching table number part).ixl
-    unfolding watching
-    watching_kept number = route_kept table number _ (λ row route part all. where_kept _ part _ (with_route_kept number _ part all) all)
-
     ruled_kept : (part : StepSoFar) → EachClient P0 part.ixl → EachClient P0 (ruled now table part).ixl
-    ruled_kept part all =
-        over_kept (proceeding now table) proceeding_kept (count table) (moved now table part)
-        (over_kept (moving now table) moving_kept (count table) (freed_by_cancel now table part)
-        (over_kept (freeing_by_cancel now table) cancel_kept (count table) (freed_by_passage now table part)
-        (over_kept (freeing_by_passage table) passage_kept (count table) (ended now table part)
-        (over_kept (ending_authority now table) ending_kept (count table) (withdrawn now table part)
-        (over_kept (withdrawing now table) withdrawing_kept (count table) part all)))))
+    ruled_kept = turned_keeps Kept now table with_route_kept withdrawing_kept moving_one_kept proceeding_kept
 
     -- ---- what is heard
-
-    looking_kept : (look : ℕ × Bool) (part : StepSoFar) → EachClient P0 part.ixl → EachClient P0 (looking table look part).ixl
-    unfolding looking_by
-    looking_kept look = over_kept (looking_by look.0 look.1 table) (λ number. route_kept table number _ (λ row route part all. where_kept _ part _ (with_route_kept number _ part all) all)) (count table)
 
     weaker_all : (ixl : IxlState) → EachClient P1 ixl → EachClient P0 ixl
     weaker_all ixl all = record {
@@ -227,14 +156,14 @@ module _ (now : ℕ) (P0 P1 : Node → ClientState → Type 0) (keep : ClientsKe
 
     hearing_kept : (bytes : List ℕ) (node : Node) (part : StepSoFar) → EachClient P1 part.ixl → EachClient P0 (node_hearing now table bytes node part).ixl
     unfolding node_hearing known_signal_hearing known_point_hearing detector_hearing
-    hearing_kept bytes (Signal place) part all = one_kept (slice_get part.ixl.known_signals place) _ part (λ known e.
+    hearing_kept bytes (Signal place) part all = one_keeps Kept (slice_get part.ixl.known_signals place) _ part (λ known e.
         signal_set place _ part.ixl (subst (P0 (Signal place)) (sym (signal_client _ _ _ _)) (keep.hears (Signal place) bytes (begun known.client part.outbox) (all.signals place known e))) (weaker_all part.ixl all)) (weaker_all part.ixl all)
-    hearing_kept bytes (Point place) part all = one_kept (slice_get part.ixl.known_points place) _ part (λ known e.
+    hearing_kept bytes (Point place) part all = one_keeps Kept (slice_get part.ixl.known_points place) _ part (λ known e.
         point_set place _ part.ixl (subst (P0 (Point place)) (sym (point_client _ _ _)) (keep.hears (Point place) bytes (begun known.client part.outbox) (all.points place known e))) (weaker_all part.ixl all)) (weaker_all part.ixl all)
-    hearing_kept bytes (Detector place) part all = one_kept (slice_get table.detectors place) _ part (λ sections f. one_kept (slice_get part.ixl.detectors place) _ part (λ known e.
+    hearing_kept bytes (Detector place) part all = one_keeps Kept (slice_get table.detectors place) _ part (λ sections f. one_keeps Kept (slice_get part.ixl.detectors place) _ part (λ known e.
         let done = hearing now bytes (begun known.client part.outbox)
         in let heard = with_detector place (detector_after (occupied_heard done.heard known.occupied) done.client) (noted (Detector place) done part)
-        in along_kept (looking table) looking_kept (looks sections known done.heard done.client) heard
+        in along_keeps Kept (looking table) (looking_turns Kept now table with_route_kept) (looks sections known done.heard done.client) heard
         (detector_set place (detector_after (occupied_heard done.heard known.occupied) done.client) part.ixl (subst (P0 (Detector place)) (sym (detector_client (occupied_heard done.heard known.occupied) done.client)) (keep.hears (Detector place) bytes (begun known.client part.outbox) (all.detectors place known e))) (weaker_all part.ixl all)))
         (weaker_all part.ixl all)) (weaker_all part.ixl all)
 
@@ -279,26 +208,23 @@ module _ (now : ℕ) (P0 P1 : Node → ClientState → Type 0) (keep : ClientsKe
 
     signal_ticked : (place : ℕ) (part : StepSoFar) → EachClient P0 part.ixl → EachClient P0 (known_signal_ticking now place part).ixl
     unfolding known_signal_ticking
-    signal_ticked place part all = one_kept (slice_get part.ixl.known_signals place) _ part (λ known e.
+    signal_ticked place part all = one_keeps Kept (slice_get part.ixl.known_signals place) _ part (λ known e.
         signal_set place _ part.ixl (subst (P0 (Signal place)) (sym (signal_client _ _ _ _)) (keep.ticks (Signal place) (begun known.client part.outbox) (all.signals place known e))) all) all
 
     point_ticked : (place : ℕ) (part : StepSoFar) → EachClient P0 part.ixl → EachClient P0 (known_point_ticking now place part).ixl
     unfolding known_point_ticking
-    point_ticked place part all = one_kept (slice_get part.ixl.known_points place) _ part (λ known e.
+    point_ticked place part all = one_keeps Kept (slice_get part.ixl.known_points place) _ part (λ known e.
         point_set place _ part.ixl (subst (P0 (Point place)) (sym (point_client _ _ _)) (keep.ticks (Point place) (begun known.client part.outbox) (all.points place known e))) all) all
 
     detector_ticked : (place : ℕ) (part : StepSoFar) → EachClient P0 part.ixl → EachClient P0 (detector_ticking now place part).ixl
     unfolding detector_ticking
-    detector_ticked place part all = one_kept (slice_get part.ixl.detectors place) _ part (λ known e.
+    detector_ticked place part all = one_keeps Kept (slice_get part.ixl.detectors place) _ part (λ known e.
         detector_set place _ part.ixl (subst (P0 (Detector place)) (sym (detector_client _ _)) (keep.ticks (Detector place) (begun known.client part.outbox) (all.detectors place known e))) all) all
 
     ticked_kept : (input : Input) (part : StepSoFar) → EachClient P0 part.ixl → EachClient P0 (ticked now input part).ixl
-    unfolding ticked
-    ticked_kept Tick part all = over_kept (detector_ticking now) detector_ticked (length part.ixl.detectors) _
-        (over_kept (known_point_ticking now) point_ticked (length part.ixl.known_points) _ (over_kept (known_signal_ticking now) signal_ticked (length part.ixl.known_signals) part all))
-    ticked_kept (Datagram bytes) part all = all
-    ticked_kept (Commands command) part all = all
+    ticked_kept = ticked_keeps Kept now signal_ticked point_ticked detector_ticked
 
     pub step_kept : (key : Key) (input : Input) (part : StepSoFar) → EachClient P0 part.ixl → EachClient P0 (stepped now table key input part).ixl
     unfolding stepped
-    step_kept key input part all = ticked_kept input _ (ruled_kept _ (over_kept (watching table) watching_kept (count table) _ (given_kept key input (record part { ixl = all_clocked now part.ixl }) (clocked_kept part.ixl all))))
+    step_kept key input part all = ticked_kept input _ (ruled_kept _ (over_keeps Kept (watching table) (watching_turns Kept now table with_route_kept) (count table) _
+        (given_kept key input (record part { ixl = all_clocked now part.ixl }) (clocked_kept part.ixl all))))

@@ -1,33 +1,32 @@
 -- What is kept of every client in a step of an interlocking, with the calls that the step has made of its link so far.
-use Rattle.std.proofs.Common.{◌≡◌, ◌≢◌, ℕ, zero, suc, ◌∙◌, ◌==◌, Bool, true, false, List, [], ◌∷◌, ◌++◌, length, map, Option, Some, None, slice_get, ◌⊎◌, inl, inr, if◌then◌else◌, refl, sym, ap, subst, arith}
+use Rattle.std.proofs.Common.{◌≡◌, ◌≢◌, ℕ, zero, suc, ◌∙◌, ◌==◌, Bool, true, false, List, [], ◌∷◌, ◌++◌, map, Option, Some, None, slice_get, ◌⊎◌, inl, inr, if◌then◌else◌, refl, sym, ap, subst, arith}
 use Rattle.std.specs.Prelude.{◌&&◌, not}
-use Rattle.std.specs.FinSet.{empty}
 use Rattle.std.proofs.lemmas.Bool.{false≢true}
 use Rattle.std.proofs.lemmas.Bool.Decides.{nat_tests}
 use Rattle.std.proofs.lemmas.Option.{none-some, same_Some}
-use Rattle.simulator_run.specs.bit_row.Places.{Places}
 use Rattle.simulator_run.specs.rasta_core.Outbox.{OutboxState}
 use Rattle.simulator_run.specs.rasta_pdu.PduRead.{reading}
 use Rattle.simulator_run.specs.rasta_pdu.declared.key.Key.{Key}
 use Rattle.simulator_run.specs.sci_telegram.declared.message.Aspect.{Aspect}
 use Rattle.simulator_run.specs.sci_telegram.declared.message.Aspect.TheVariants as aspects
 use Rattle.simulator_run.specs.sci_telegram.declared.message.Side.{Side}
-use Rattle.simulator_run.specs.ixl_client.Client.{ClientState, is_available, is_outside, is_ready}
+use Rattle.simulator_run.specs.ixl_client.Client.{ClientState, is_available, is_ready}
 use Rattle.simulator_run.specs.ixl_client.ClientSoFar.{ClientSoFar, LinkCall, begun}
 use Rattle.simulator_run.specs.ixl_client.Step.{clocked, commanding, hearing, ticking}
 use Rattle.simulator_run.specs.ixl_client.declared.command.Command.TheVariants as client_commands
 use Rattle.simulator_run.specs.ixl_rules.Commands.{commanded_by, obeyed, refusal, unmoved_for}
-use Rattle.simulator_run.specs.ixl_rules.Rules.{count, ended, ending_authority, freed_by_cancel, freed_by_passage, freeing_by_cancel, freeing_by_passage, freeing_next, is_move_due, is_over_clear, is_proceed_due, is_stop_due, is_unmoved, is_waiting, moved, moving, moving_one, proceeding, repeated, ruled, withdrawing, withdrawn}
+use Rattle.simulator_run.specs.ixl_rules.Rules.{count, is_move_due, is_over_clear, is_proceed_due, is_stop_due, is_unmoved, is_waiting, moving_one, proceeding, ruled, withdrawing}
 use Rattle.simulator_run.specs.ixl_rules.State.{IxlState, KnownDetectorState, KnownPointState, KnownSignalState, RouteState, changed}
-use Rattle.simulator_run.specs.ixl_rules.Step.{Commands, Datagram, Input, Tick, addressed, all_clocked, clocked_detector, clocked_known_point, clocked_known_signal, detector_hearing, detector_ticking, given, known_point_hearing, known_point_ticking, known_signal_hearing, known_signal_ticking, looking, looking_by, looks, node_hearing, occupied_heard, stepped, ticked, watching}
-use Rattle.simulator_run.specs.ixl_rules.StepSoFar.{Detector, Node, Point, Signal, StepSoFar, along, at_route, detector_after, giving_aspect, giving_move, known_point_after, known_signal_after, noted, over, with_detector, with_one, with_route}
+use Rattle.simulator_run.specs.ixl_rules.Step.{Commands, Datagram, Input, Tick, addressed, all_clocked, clocked_detector, clocked_known_point, clocked_known_signal, detector_hearing, detector_ticking, given, known_point_hearing, known_point_ticking, known_signal_hearing, known_signal_ticking, looking, looks, node_hearing, occupied_heard, stepped, ticked, watching}
+use Rattle.simulator_run.specs.ixl_rules.StepSoFar.{Detector, Node, Point, Signal, StepSoFar, detector_after, giving_aspect, giving_move, noted, with_detector, with_one, with_route}
 use Rattle.simulator_run.specs.ixl_rules.Table.{Need, Row, Table, at, passes}
 use Rattle.simulator_run.specs.ixl_rules.View.{all_clear, all_known, is_at_known_stop, is_held_with_authority, is_known, is_point_available, is_signal_ready}
 use Rattle.simulator_run.specs.ixl_rules.declared.command.Command.{Command}
 use Rattle.simulator_run.specs.ixl_rules.declared.command.Command.TheVariants as commands
 use Rattle.simulator_run.specs.ixl_rules.declared.command.Refusal.{Refusal}
 use Rattle.simulator_recovery.specs.Counts.{EachClient}
-use Rattle.simulator_recovery.proofs.IxlClients.{mapped_at}
+use Rattle.simulator_recovery.proofs.DueShapes.{along_keeps, looking_turns, one_keeps, over_keeps, route_holds, ticked_keeps, turned_keeps, watching_turns, where_both, where_keeps}
+use Rattle.simulator_recovery.proofs.IxlClients.{detector_client, mapped_at, point_client, signal_client}
 
 -- ---- the calls at one controller
 
@@ -99,14 +98,6 @@ pub test_of : {A : Type 0} (list : List A) (place : ℕ) (test : A → Bool) (on
 unfolding at
 test_of list place test one e holds = ap (passes test) (sym e) ∙ holds
 
-pub first_true : (a b : Bool) → (a && b) ≡ true → a ≡ true
-first_true true b e = refl
-first_true false b e = absurd (false≢true e)
-
-pub last_true : (a b : Bool) → (a && b) ≡ true → b ≡ true
-last_true true b e = e
-last_true false b e = absurd (false≢true e)
-
 -- ---- all clients
 
 -- What a step of a client keeps, with the calls made of its link so far: as it was before the step, with its link settled at the
@@ -132,48 +123,6 @@ module _ (now : ℕ) (Gives : ℕ → Aspect → Type 0) (Comes : List ℕ → T
 
   abbrev Held : StepSoFar → Type 0
   Held = All Holds
-
-  signal_client : (aspect : Option Aspect) (number : ℕ) (indicated : Option Aspect) (client : ClientState) → (known_signal_after aspect number indicated client).client ≡ client
-  unfolding known_signal_after
-  signal_client aspect number indicated client = choose (is_outside client.stage)
-    where
-      none : KnownSignalState
-      none = record { client = client; aspect = None; number = 0; indicated = None }
-
-      some : KnownSignalState
-      some = record { client = client; aspect = aspect; number = number; indicated = indicated }
-
-      choose : (b : Bool) → (if b then none else some).client ≡ client
-      choose true = refl
-      choose false = refl
-
-  point_client : (side : Option Side) (places : Places) (client : ClientState) → (known_point_after side places client).client ≡ client
-  unfolding known_point_after
-  point_client side places client = choose (is_outside client.stage)
-    where
-      none : KnownPointState
-      none = record { client = client; side = None; moved = empty }
-
-      some : KnownPointState
-      some = record { client = client; side = side; moved = places }
-
-      choose : (b : Bool) → (if b then none else some).client ≡ client
-      choose true = refl
-      choose false = refl
-
-  detector_client : (occupied : Places) (client : ClientState) → (detector_after occupied client).client ≡ client
-  unfolding detector_after
-  detector_client occupied client = choose (is_outside client.stage)
-    where
-      none : KnownDetectorState
-      none = record { client = client; occupied = empty }
-
-      some : KnownDetectorState
-      some = record { client = client; occupied = occupied }
-
-      choose : (b : Bool) → (if b then none else some).client ≡ client
-      choose true = refl
-      choose false = refl
 
   -- a client is another, by these calls more
   signal_set : (place : ℕ) (new : KnownSignalState) (done : ClientSoFar) (part : StepSoFar) → Holds (Signal place) new.client (at_node (Signal place) part.calls ++ done.calls) → Held part
@@ -224,39 +173,6 @@ module _ (now : ℕ) (Gives : ℕ → Aspect → Type 0) (Comes : List ℕ → T
           (subst (λ (y : KnownDetectorState). Holds (Detector place) y.client (at_node (Detector place) after)) (sym g) (subst (Holds (Detector place) new.client) (sym (at_itself (Detector place) part.calls done.calls)) is))
       choose k known (inr (differ, f)) = subst (Holds (Detector k) known.client) (sym (at_other (Detector k) (Detector place) (other_place k place (λ same. differ (sym same))) part.calls done.calls)) (all.detectors k known f)
 
-  -- ---- the shapes of a step
-
-  one_held : {A : Type 0} (found : Option A) (does : A → StepSoFar → StepSoFar) (part : StepSoFar) → ((one : A) → found ≡ Some one → Held (does one part)) → Held part → Held (with_one found does part)
-  one_held None does part each all = all
-  one_held (Some one) does part each all = each one refl
-
-  route_held : (table : Table) (number : ℕ) (does : Row → RouteState → StepSoFar → StepSoFar) → ((row : Row) (route : RouteState) (part : StepSoFar) → slice_get table.rows number ≡ Some row → Held part → Held (does row route part))
-      → (part : StepSoFar) → Held part → Held (at_route table number does part)
-  unfolding at_route
-  route_held table number does each part all = one_held (slice_get table.rows number) (λ row part. with_one (slice_get part.ixl.routes number) (does row) part) part
-      (λ row e. one_held (slice_get part.ixl.routes number) (does row) part (λ route f. each row route part e all) all) all
-
-  over_held : (does : ℕ → StepSoFar → StepSoFar) → ((number : ℕ) (part : StepSoFar) → Held part → Held (does number part)) → (n : ℕ) (part : StepSoFar) → Held part → Held (over does n part)
-  over_held does each zero part all = all
-  over_held does each (suc n) part all = each n (over does n part) (over_held does each n part all)
-
-  along_held : {A : Type 0} (does : A → StepSoFar → StepSoFar) → ((one : A) (part : StepSoFar) → Held part → Held (does one part)) → (list : List A) (part : StepSoFar) → Held part → Held (along does list part)
-  along_held does each [] part all = all
-  along_held does each (first ∷ others) part all = along_held does each others (does first part) (each first part all)
-
-  repeated_held : (n : ℕ) (does : StepSoFar → StepSoFar) → ((part : StepSoFar) → Held part → Held (does part)) → (part : StepSoFar) → Held part → Held (repeated n does part)
-  repeated_held zero does each part all = all
-  repeated_held (suc n) does each part all = repeated_held n does each (does part) (each part all)
-
-  where_held : (b : Bool) (part one : StepSoFar) → Held one → Held part → Held (if b then one else part)
-  where_held true part one so all = so
-  where_held false part one so all = all
-
-  -- the same, by what the test told
-  where_due : (b : Bool) (part one : StepSoFar) → (b ≡ true → Held one) → Held part → Held (if b then one else part)
-  where_due true part one so all = so refl
-  where_due false part one so all = all
-
   with_route_held : (number : ℕ) (change : RouteState → RouteState) (part : StepSoFar) → Held part → Held (with_route number change part)
   with_route_held number change part all = record { signals = all.signals; points = all.points; detectors = all.detectors }
 
@@ -264,14 +180,14 @@ module _ (now : ℕ) (Gives : ℕ → Aspect → Type 0) (Comes : List ℕ → T
 
   aspect_held : (signal : ℕ) (aspect : Aspect) (part : StepSoFar) → Gives signal aspect → is_signal_ready part.ixl signal ≡ true → Held part → Held (giving_aspect now signal aspect part)
   unfolding giving_aspect
-  aspect_held signal aspect part gives ready all = one_held (slice_get part.ixl.known_signals signal) _ part (λ known e.
+  aspect_held signal aspect part gives ready all = one_keeps Held (slice_get part.ixl.known_signals signal) _ part (λ known e.
       signal_set signal _ (commanding now (client_commands.Indicate aspect) (begun known.client part.outbox)) part
       (subst (λ (c : ClientState). Holds (Signal signal) c (at_node (Signal signal) part.calls ++ (commanding now (client_commands.Indicate aspect) (begun known.client part.outbox)).calls)) (sym (signal_client _ _ _ _))
       (keep.aspects signal aspect known.client part.outbox (at_node (Signal signal) part.calls) gives (test_of part.ixl.known_signals signal (λ k. is_ready k.client.stage) known e ready) (all.signals signal known e))) all) all
 
   move_held : (point : ℕ) (side : Side) (part : StepSoFar) → is_point_available part.ixl point ≡ true → Held part → Held (giving_move now point side part)
   unfolding giving_move
-  move_held point side part available all = one_held (slice_get part.ixl.known_points point) _ part (λ known e.
+  move_held point side part available all = one_keeps Held (slice_get part.ixl.known_points point) _ part (λ known e.
       point_set point _ (commanding now (client_commands.Move side) (begun known.client part.outbox)) part
       (subst (λ (c : ClientState). Holds (Point point) c (at_node (Point point) part.calls ++ (commanding now (client_commands.Move side) (begun known.client part.outbox)).calls)) (sym (point_client _ _ _))
       (keep.moves point side known.client part.outbox (at_node (Point point) part.calls) (test_of part.ixl.known_points point (λ k. is_available k.client.stage) known e available) (all.points point known e))) all) all
@@ -281,24 +197,9 @@ module _ (now : ℕ) (Gives : ℕ → Aspect → Type 0) (Comes : List ℕ → T
   module _ (table : Table) (stop_is : (signal : ℕ) → Gives signal aspects.Stop) (row_is : (number : ℕ) (row : Row) → slice_get table.rows number ≡ Some row → Gives row.entry row.aspect) where
     withdrawing_held : (number : ℕ) (part : StepSoFar) → Held part → Held (withdrawing now table number part)
     unfolding withdrawing
-    withdrawing_held number = route_held table number _ (λ row route part e all. where_held (is_stop_due table part.ixl row route) part _
-        (where_due (is_signal_ready part.ixl row.entry) _ _ (λ ready. aspect_held row.entry aspects.Stop _ (stop_is row.entry) ready (with_route_held number _ part all)) (with_route_held number _ part all)) all)
-
-    ending_held : (number : ℕ) (part : StepSoFar) → Held part → Held (ending_authority now table number part)
-    unfolding ending_authority
-    ending_held number = route_held table number _ (λ row route part e all. where_held _ part _ (with_route_held number _ part all) all)
-
-    next_held : (number : ℕ) (part : StepSoFar) → Held part → Held (freeing_next table number part)
-    unfolding freeing_next
-    next_held number = route_held table number _ (λ row route part e all. where_held _ part _ (with_route_held number _ part all) all)
-
-    passage_held : (number : ℕ) (part : StepSoFar) → Held part → Held (freeing_by_passage table number part)
-    unfolding freeing_by_passage
-    passage_held number = route_held table number _ (λ row route part e. repeated_held (length row.sections) (freeing_next table number) (next_held number) part)
-
-    cancel_held : (number : ℕ) (part : StepSoFar) → Held part → Held (freeing_by_cancel now table number part)
-    unfolding freeing_by_cancel
-    cancel_held number = route_held table number _ (λ row route part e all. where_held _ part _ (with_route_held number _ part all) all)
+    withdrawing_held number = route_holds Held table number _ (λ row route part e here all. where_both Held (is_stop_due table part.ixl row route) part _
+        (where_keeps Held (is_signal_ready part.ixl row.entry) _ _ (λ ready. aspect_held row.entry aspects.Stop _ (stop_is row.entry) ready (with_route_held number _ part all))
+        (with_route_held number _ part all)) all)
 
     is_available_there : (ixl : IxlState) (number : ℕ) (route : RouteState) (need : Need) → is_move_due table ixl number route need ≡ true → is_point_available ixl need.point ≡ true
     is_available_there ixl number route need due = in_middle (is_waiting route.phase) (not route.cancelled) (is_point_available ixl need.point) (not (is_known ixl need.point need.side)) (is_over_clear table ixl need.point)
@@ -323,36 +224,18 @@ module _ (now : ℕ) (Gives : ℕ → Aspect → Type 0) (Comes : List ℕ → T
 
     moving_one_held : (number : ℕ) (need : Need) (part : StepSoFar) → Held part → Held (moving_one now table number need part)
     unfolding moving_one
-    moving_one_held number need = route_held table number _ (λ row route part e all. where_due (is_move_due table part.ixl number route need) part _
+    moving_one_held number need = route_holds Held table number _ (λ row route part e here all. where_keeps Held (is_move_due table part.ixl number route need) part _
         (λ due. move_held need.point need.side part (is_available_there part.ixl number route need due) all) all)
-
-    moving_held : (number : ℕ) (part : StepSoFar) → Held part → Held (moving now table number part)
-    unfolding moving
-    moving_held number = route_held table number _ (λ row route part e. along_held (moving_one now table number) (moving_one_held number) row.needs part)
 
     proceeding_held : (number : ℕ) (part : StepSoFar) → Held part → Held (proceeding now table number part)
     unfolding proceeding
-    proceeding_held number = route_held table number _ (λ row route part e all. where_due (is_proceed_due now table part.ixl row route) part _
+    proceeding_held number = route_holds Held table number _ (λ row route part e here all. where_keeps Held (is_proceed_due now table part.ixl row route) part _
         (λ due. aspect_held row.entry row.aspect _ (row_is number row e) (is_ready_there part.ixl row route due) (with_route_held number _ part all)) all)
 
-    watching_held : (number : ℕ) (part : StepSoFar) → Held part → Held (watching table number part)
-    unfolding watching
-    watching_held number = route_held table number _ (λ row route part e all. where_held _ part _ (with_route_held number _ part all) all)
-
     ruled_held : (part : StepSoFar) → Held part → Held (ruled now table part)
-    ruled_held part all =
-        over_held (proceeding now table) proceeding_held (count table) (moved now table part)
-        (over_held (moving now table) moving_held (count table) (freed_by_cancel now table part)
-        (over_held (freeing_by_cancel now table) cancel_held (count table) (freed_by_passage now table part)
-        (over_held (freeing_by_passage table) passage_held (count table) (ended now table part)
-        (over_held (ending_authority now table) ending_held (count table) (withdrawn now table part)
-        (over_held (withdrawing now table) withdrawing_held (count table) part all)))))
+    ruled_held = turned_keeps Held now table with_route_held withdrawing_held moving_one_held proceeding_held
 
     -- ---- what is heard
-
-    looking_held : (look : ℕ × Bool) (part : StepSoFar) → Held part → Held (looking table look part)
-    unfolding looking_by
-    looking_held look = over_held (looking_by look.0 look.1 table) (λ number. route_held table number _ (λ row route part e all. where_held _ part _ (with_route_held number _ part all) all)) (count table)
 
     weaker_all : (part : StepSoFar) → All Clocked part → Held part
     weaker_all part all = record {
@@ -363,18 +246,18 @@ module _ (now : ℕ) (Gives : ℕ → Aspect → Type 0) (Comes : List ℕ → T
 
     hearing_held : (bytes : List ℕ) (node : Node) (part : StepSoFar) → Comes bytes → All Clocked part → Held (node_hearing now table bytes node part)
     unfolding node_hearing known_signal_hearing known_point_hearing detector_hearing
-    hearing_held bytes (Signal place) part comes all = one_held (slice_get part.ixl.known_signals place) _ part (λ known e.
+    hearing_held bytes (Signal place) part comes all = one_keeps Held (slice_get part.ixl.known_signals place) _ part (λ known e.
         signal_set place _ (hearing now bytes (begun known.client part.outbox)) part
         (subst (λ (c : ClientState). Holds (Signal place) c (at_node (Signal place) part.calls ++ (hearing now bytes (begun known.client part.outbox)).calls)) (sym (signal_client _ _ _ _))
         (keep.hears (Signal place) bytes known.client part.outbox (at_node (Signal place) part.calls) comes (all.signals place known e))) (weaker_all part all)) (weaker_all part all)
-    hearing_held bytes (Point place) part comes all = one_held (slice_get part.ixl.known_points place) _ part (λ known e.
+    hearing_held bytes (Point place) part comes all = one_keeps Held (slice_get part.ixl.known_points place) _ part (λ known e.
         point_set place _ (hearing now bytes (begun known.client part.outbox)) part
         (subst (λ (c : ClientState). Holds (Point place) c (at_node (Point place) part.calls ++ (hearing now bytes (begun known.client part.outbox)).calls)) (sym (point_client _ _ _))
         (keep.hears (Point place) bytes known.client part.outbox (at_node (Point place) part.calls) comes (all.points place known e))) (weaker_all part all)) (weaker_all part all)
-    hearing_held bytes (Detector place) part comes all = one_held (slice_get table.detectors place) _ part (λ sections f. one_held (slice_get part.ixl.detectors place) _ part (λ known e.
+    hearing_held bytes (Detector place) part comes all = one_keeps Held (slice_get table.detectors place) _ part (λ sections f. one_keeps Held (slice_get part.ixl.detectors place) _ part (λ known e.
         let done = hearing now bytes (begun known.client part.outbox)
         in let heard = with_detector place (detector_after (occupied_heard done.heard known.occupied) done.client) (noted (Detector place) done part)
-        in along_held (looking table) looking_held (looks sections known done.heard done.client) heard
+        in along_keeps Held (looking table) (looking_turns Held now table with_route_held) (looks sections known done.heard done.client) heard
         (detector_set place (detector_after (occupied_heard done.heard known.occupied) done.client) done part
         (subst (λ (c : ClientState). Holds (Detector place) c (at_node (Detector place) part.calls ++ done.calls)) (sym (detector_client (occupied_heard done.heard known.occupied) done.client))
         (keep.hears (Detector place) bytes known.client part.outbox (at_node (Detector place) part.calls) comes (all.detectors place known e))) (weaker_all part all)))
@@ -424,32 +307,30 @@ module _ (now : ℕ) (Gives : ℕ → Aspect → Type 0) (Comes : List ℕ → T
 
     signal_ticked : (place : ℕ) (part : StepSoFar) → Held part → Held (known_signal_ticking now place part)
     unfolding known_signal_ticking
-    signal_ticked place part all = one_held (slice_get part.ixl.known_signals place) _ part (λ known e.
+    signal_ticked place part all = one_keeps Held (slice_get part.ixl.known_signals place) _ part (λ known e.
         signal_set place _ (ticking now (begun known.client part.outbox)) part
         (subst (λ (c : ClientState). Holds (Signal place) c (at_node (Signal place) part.calls ++ (ticking now (begun known.client part.outbox)).calls)) (sym (signal_client _ _ _ _))
         (keep.ticks (Signal place) known.client part.outbox (at_node (Signal place) part.calls) (all.signals place known e))) all) all
 
     point_ticked : (place : ℕ) (part : StepSoFar) → Held part → Held (known_point_ticking now place part)
     unfolding known_point_ticking
-    point_ticked place part all = one_held (slice_get part.ixl.known_points place) _ part (λ known e.
+    point_ticked place part all = one_keeps Held (slice_get part.ixl.known_points place) _ part (λ known e.
         point_set place _ (ticking now (begun known.client part.outbox)) part
         (subst (λ (c : ClientState). Holds (Point place) c (at_node (Point place) part.calls ++ (ticking now (begun known.client part.outbox)).calls)) (sym (point_client _ _ _))
         (keep.ticks (Point place) known.client part.outbox (at_node (Point place) part.calls) (all.points place known e))) all) all
 
     detector_ticked : (place : ℕ) (part : StepSoFar) → Held part → Held (detector_ticking now place part)
     unfolding detector_ticking
-    detector_ticked place part all = one_held (slice_get part.ixl.detectors place) _ part (λ known e.
+    detector_ticked place part all = one_keeps Held (slice_get part.ixl.detectors place) _ part (λ known e.
         detector_set place _ (ticking now (begun known.client part.outbox)) part
         (subst (λ (c : ClientState). Holds (Detector place) c (at_node (Detector place) part.calls ++ (ticking now (begun known.client part.outbox)).calls)) (sym (detector_client _ _))
         (keep.ticks (Detector place) known.client part.outbox (at_node (Detector place) part.calls) (all.detectors place known e))) all) all
 
     ticked_held : (input : Input) (part : StepSoFar) → Held part → Held (ticked now input part)
-    unfolding ticked
-    ticked_held Tick part all = over_held (detector_ticking now) detector_ticked (length part.ixl.detectors) _
-        (over_held (known_point_ticking now) point_ticked (length part.ixl.known_points) _ (over_held (known_signal_ticking now) signal_ticked (length part.ixl.known_signals) part all))
-    ticked_held (Datagram bytes) part all = all
-    ticked_held (Commands command) part all = all
+    ticked_held = ticked_keeps Held now signal_ticked point_ticked detector_ticked
 
     pub step_held : (key : Key) (input : Input) (part : StepSoFar) → ((bytes : List ℕ) → input ≡ Datagram bytes → Comes bytes) → part.calls ≡ [] → EachClient Before part.ixl → Held (stepped now table key input part)
     unfolding stepped
-    step_held key input part comes none all = ticked_held input _ (ruled_held _ (over_held (watching table) watching_held (count table) _ (given_held key input (record part { ixl = all_clocked now part.ixl }) comes (clocked_held part none all))))
+    step_held key input part comes none all = ticked_held input _ (ruled_held _
+        (over_keeps Held (watching table) (watching_turns Held now table with_route_held) (count table) _
+        (given_held key input (record part { ixl = all_clocked now part.ixl }) comes (clocked_held part none all))))

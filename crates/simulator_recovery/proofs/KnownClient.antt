@@ -26,8 +26,8 @@ use Rattle.simulator_machine_links.specs.Flows.{taken_after}
 use Rattle.simulator_recovery.specs.Counts.{ClientStandsByCounts}
 use Rattle.simulator_recovery.specs.KnownAgain.{side_told}
 use Rattle.simulator_recovery.proofs.AspectCalls.{noted_at}
+use Rattle.simulator_recovery.proofs.ClientBehind.{all_took_behind}
 use Rattle.simulator_recovery.proofs.ClientLinks.{ClockedStands, clocked_peer, clocked_stands, commanding_peer, commanding_stands, hearing_peer, hearing_stands, ticking_peer, ticking_stands, up_open}
-use Rattle.simulator_recovery.proofs.ClientTalk.{all_took_behind}
 use Rattle.simulator_recovery.proofs.IxlClients.{mapped_at}
 use Rattle.simulator_recovery.proofs.IxlSoFar.{at_itself, at_node, at_other, set_at}
 use Rattle.simulator_recovery.proofs.LinkCounts.{settled_open}

@@ -10,7 +10,7 @@ use Rattle.simulator_run.specs.ixl_client.ClientSoFar.{LinkCall, begun}
 use Rattle.simulator_run.specs.ixl_client.Step.{commanding, hearing, ticking}
 use Rattle.simulator_run.specs.ixl_client.declared.command.Command.TheVariants as client_commands
 use Rattle.simulator_run.specs.ixl_rules.Commands.{commanded_by, obeyed, refusal, unmoved_for}
-use Rattle.simulator_run.specs.ixl_rules.Rules.{count, ended, ending_authority, freed_by_cancel, freed_by_passage, freeing_by_cancel, freeing_by_passage, freeing_next, is_proceed_due, is_stop_due, moved, moving, moving_one, proceeding, ruled, withdrawing, withdrawn}
+use Rattle.simulator_run.specs.ixl_rules.Rules.{count, is_proceed_due, is_stop_due, moved, moving_one, proceeding, ruled, withdrawing}
 use Rattle.simulator_run.specs.ixl_rules.State.{KnownPointState, changed}
 use Rattle.simulator_run.specs.ixl_rules.Step.{Commands, Datagram, Input, Tick, addressed, all_clocked, clocked_known_point, detector_hearing, detector_ticking, given, known_point_hearing, known_point_ticking, known_signal_hearing, known_signal_ticking, looking, looking_by, looks, node_hearing, occupied_heard, side_heard, stepped, ticked, watching}
 use Rattle.simulator_run.specs.ixl_rules.StepSoFar.{Detector, Node, Point, Signal, StepSoFar, all_below, detector_after, giving_aspect, giving_move, known_point_after, noted, over, with_detector, with_one}
@@ -21,7 +21,7 @@ use Rattle.simulator_run.specs.ixl_rules.declared.command.Command.TheVariants as
 use Rattle.simulator_run.specs.ixl_rules.declared.command.Refusal.{Refusal}
 use Rattle.simulator_run.specs.sci_telegram.declared.message.Aspect.TheVariants as aspects
 use Rattle.simulator_recovery.proofs.AspectCalls.{noted_at}
-use Rattle.simulator_recovery.proofs.DueShapes.{along_keeps, one_keeps, over_keeps, repeated_keeps, route_keeps, where_keeps}
+use Rattle.simulator_recovery.proofs.DueShapes.{along_keeps, one_keeps, over_keeps, route_keeps, ticked_keeps, turned_keeps, watching_turns, where_keeps}
 
 -- a point's client hears a datagram, and its side goes on by what it tells
 abbrev pub heard_by : ℕ → List ℕ → KnownPointState → OutboxState → KnownPointState
@@ -125,46 +125,16 @@ module _ (now : ℕ) (table : Table) (Holds : List KnownPointState → List (Nod
   withdrawing_held number part all = route_keeps Held table number _ part (λ row route there here. where_keeps Held (is_stop_due table part.ixl row route) part _
       (λ due. where_keeps Held (is_signal_ready part.ixl row.entry) _ _ (λ ready. aspect_held row.entry aspects.Stop _ all) all) all) all
 
-  ending_held : (number : ℕ) (part : StepSoFar) → Held part → Held (ending_authority now table number part)
-  unfolding ending_authority
-  ending_held number part all = route_keeps Held table number _ part (λ row route there here. where_keeps Held _ part _ (λ due. all) all) all
-
-  next_held : (number : ℕ) (part : StepSoFar) → Held part → Held (freeing_next table number part)
-  unfolding freeing_next
-  next_held number part all = route_keeps Held table number _ part (λ row route there here. where_keeps Held _ part _ (λ due. all) all) all
-
-  passage_held : (number : ℕ) (part : StepSoFar) → Held part → Held (freeing_by_passage table number part)
-  unfolding freeing_by_passage
-  passage_held number part all = route_keeps Held table number _ part (λ row route there here. repeated_keeps Held (length row.sections) (freeing_next table number) (next_held number) part all) all
-
-  cancel_held : (number : ℕ) (part : StepSoFar) → Held part → Held (freeing_by_cancel now table number part)
-  unfolding freeing_by_cancel
-  cancel_held number part all = route_keeps Held table number _ part (λ row route there here. where_keeps Held _ part _ (λ due. all) all) all
-
   moving_one_held : (number : ℕ) (need : Need) (part : StepSoFar) → Held part → Held (moving_one now table number need part)
   unfolding moving_one
   moving_one_held number need part all = route_keeps Held table number _ part (λ row route there here. where_keeps Held _ part _ (λ due. move_held need.point need.side part all) all) all
-
-  moving_held : (number : ℕ) (part : StepSoFar) → Held part → Held (moving now table number part)
-  unfolding moving
-  moving_held number part all = route_keeps Held table number _ part (λ row route there here. along_keeps Held (moving_one now table number) (moving_one_held number) row.needs part all) all
 
   proceeding_held : (number : ℕ) (part : StepSoFar) → Held part → Held (proceeding now table number part)
   unfolding proceeding
   proceeding_held number part all = route_keeps Held table number _ part (λ row route there here. where_keeps Held (is_proceed_due now table part.ixl row route) part _ (λ due. aspect_held row.entry row.aspect _ all) all) all
 
-  watching_held : (number : ℕ) (part : StepSoFar) → Held part → Held (watching table number part)
-  unfolding watching
-  watching_held number part all = route_keeps Held table number _ part (λ row route there here. where_keeps Held _ part _ (λ due. all) all) all
-
   ruled_held : (part : StepSoFar) → Held part → Held (ruled now table part)
-  ruled_held part all =
-      over_keeps Held (proceeding now table) proceeding_held (count table) (moved now table part)
-      (over_keeps Held (moving now table) moving_held (count table) (freed_by_cancel now table part)
-      (over_keeps Held (freeing_by_cancel now table) cancel_held (count table) (freed_by_passage now table part)
-      (over_keeps Held (freeing_by_passage table) passage_held (count table) (ended now table part)
-      (over_keeps Held (ending_authority now table) ending_held (count table) (withdrawn now table part)
-      (over_keeps Held (withdrawing now table) withdrawing_held (count table) part all)))))
+  ruled_held = turned_keeps Held now table (λ number change part all. all) withdrawing_held moving_one_held proceeding_held
 
   -- ---- ticks
 
@@ -181,15 +151,11 @@ module _ (now : ℕ) (table : Table) (Holds : List KnownPointState → List (Nod
   detector_ticked place part all = one_keeps Held (slice_get part.ixl.detectors place) _ part (λ known e. keep.detector place (ticking now (begun known.client part.outbox)).calls part.ixl.known_points part.calls all) all
 
   ticked_held : (input : Input) (part : StepSoFar) → Held part → Held (ticked now input part)
-  unfolding ticked
-  ticked_held Tick part all = over_keeps Held (detector_ticking now) detector_ticked (length part.ixl.detectors) _
-      (over_keeps Held (known_point_ticking now) point_ticked (length part.ixl.known_points) _ (over_keeps Held (known_signal_ticking now) signal_ticked (length part.ixl.known_signals) part all))
-  ticked_held (Datagram bytes) part all = all
-  ticked_held (Commands command) part all = all
+  ticked_held = ticked_keeps Held now signal_ticked point_ticked detector_ticked
 
   -- the rules, and a tick
   pub behind_held : (input : Input) (part : StepSoFar) → Held part → Held (ticked now input (ruled now table (over (watching table) (count table) part)))
-  behind_held input part all = ticked_held input _ (ruled_held _ (over_keeps Held (watching table) watching_held (count table) part all))
+  behind_held input part all = ticked_held input _ (ruled_held _ (over_keeps Held (watching table) (watching_turns Held now table (λ number change part all. all)) (count table) part all))
 
 -- a step, from points at which the clock alone has acted
 pub step_held : (now : ℕ) (table : Table) (Clocked Heard Holds : List KnownPointState → List (Node × LinkCall) → Type 0) → PointsHear now Clocked Heard → PointsKeep now Holds → ((points : List KnownPointState) (calls : List (Node × LinkCall)) → Heard points calls → Holds points calls)

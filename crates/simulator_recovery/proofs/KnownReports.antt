@@ -63,26 +63,22 @@ use Rattle.simulator_recovery.proofs.ClientLinks.{up_open}
 use Rattle.simulator_recovery.proofs.ControllerTells.{Tells}
 use Rattle.simulator_recovery.proofs.ConversationFits.{WrittenIsRead}
 use Rattle.simulator_recovery.proofs.ControllersOnLinks.{Lists, lists_of}
-use Rattle.simulator_recovery.proofs.HandedOver.{client_is, settled_given}
+use Rattle.simulator_recovery.proofs.HandedOver.{client_is}
 use Rattle.simulator_recovery.proofs.InOne.{ConnectionLaws, in_one}
 use Rattle.simulator_recovery.proofs.KnownAlways.{KnownLaws, Knowing, knowing_first, knowing_held, knowing_on}
 use Rattle.simulator_recovery.proofs.KnownClient.{told_both}
 use Rattle.simulator_recovery.proofs.LinkCounts.{settled_open}
-use Rattle.simulator_recovery.proofs.Lists.{at_place, map_length}
+use Rattle.simulator_recovery.proofs.Lists.{at_place, map_length, none_long}
 use Rattle.simulator_recovery.proofs.MatchedEnds.{points_keep, spoken}
 use Rattle.simulator_recovery.proofs.OwnReports.{reports_own}
-use Rattle.simulator_recovery.proofs.SeenSignals.{counted_given, counted_taken}
-use Rattle.simulator_recovery.proofs.Spent.{settled_taken}
+use Rattle.simulator_recovery.proofs.Shown.{counted_given, counted_taken}
+use Rattle.simulator_recovery.proofs.Spent.{settled_given, settled_taken}
 
 pub record ComeLaws : Type 0 where
   pub known : KnownLaws
   pub connection : ConnectionLaws
   pub read_off : (site : Site) (world : WorldState) → Once site → IsStation site → (has : HasLinks site world) → (link : ℕ) → link < links site → (who : Role) (connection : ℕ)
       → (end_at who link has).connection ≡ Some connection → IsReadOff (given_on site world link who connection) connection (end_at who link has) (end_at (partner_of who) link has)
-
-none_long : (list : List (List ℕ)) → length list ≡ 0 → list ≡ []
-none_long [] e = refl
-none_long (first ∷ others) e = absurd (omega (arith, e))
 
 -- ---- what was given and taken at a moment at which a point's link is up, by whatever links
 

@@ -1,5 +1,5 @@
 -- What an interlocking knows of points is what its clients have taken, event by event.
-use Rattle.std.proofs.Common.{◌≡◌, ℕ, ◌<◌, ◌∙◌, true, false, List, [], ◌∷◌, length, map, Some, None, slice_get, refl, sym, ap, subst, arith}
+use Rattle.std.proofs.Common.{◌≡◌, ℕ, ◌<◌, ◌∙◌, true, false, List, [], length, map, Some, None, slice_get, refl, sym, ap, subst, arith}
 use Rattle.std.proofs.lemmas.Bool.{false≢true}
 use Rattle.ixl_table.specs.Table.{IsTableOf}
 use Rattle.simulator_run.specs.layout.Entries.{Site}
@@ -38,7 +38,7 @@ use Rattle.simulator_recovery.proofs.ClientLinks.{ClockedStands, clocked_stands,
 use Rattle.simulator_recovery.proofs.IxlClients.{mapped_at}
 use Rattle.simulator_recovery.proofs.IxlSoFar.{at_node}
 use Rattle.simulator_recovery.proofs.LinkCounts.{settled_open}
-use Rattle.simulator_recovery.proofs.Lists.{at_place}
+use Rattle.simulator_recovery.proofs.Lists.{at_place, none_long}
 use Rattle.simulator_recovery.proofs.KnownClient.{Clocked, ClockedAt, PointLaws, Holds, Knows, after_client, hear, keep, knows_clocked}
 use Rattle.simulator_recovery.proofs.SectionsEvents.{CanStep, event_kept}
 use Rattle.simulator_recovery.proofs.KnownIxl.{step_held}
@@ -68,10 +68,6 @@ module _ (clients : PointLaws) (laws : TalkLaws) (site : Site) (table : Table) (
 
   abbrev took_of : ℕ → List (List ℕ)
   took_of place = took network (point_link site place)
-
-  none_long : (list : List (List ℕ)) → length list ≡ 0 → list ≡ []
-  none_long [] e = refl
-  none_long (first ∷ others) e = absurd (omega (arith, e))
 
   clocked_all : Clocked clients now connection link_of took_of (length site.points) (map (clocked_known_point now) world.station.ixl.known_points) []
   unfolding at_node
@@ -147,4 +143,5 @@ pub knows_on : PointLaws → (laws : TalkLaws) → ((site : Site) (node : NodeId
     → (link : ℕ) → MayCallOn (names_at site link) (Receives bytes (connection_of (copy_of bytes world))) before) → (site : Site) (table : Table) → IsTableOf site table → (happening : Event) (world : WorldState) (network : Links) → CanBe site table happening world network → Talking site world network → AllKnow site world.station.ixl network
     → AllKnow site (happens site table happening world).station.ixl (run_links (events_of site table happening world) network)
 knows_on clients laws may_come site table is_table happening world network can talking all = event_kept laws may_come site table (Talking site) (AllKnow site) (same_known site)
-    (λ input connection one w n step given before. step_knows clients laws site table is_table input connection one w n step given before) (λ begins n. new_known site table begins n) happening world network can talking all
+    (λ input connection one w n step given before. step_knows clients laws site table is_table input connection one w n step given before)
+    (λ begins w one n whole lists before all. new_known site table begins n) happening world network can talking all

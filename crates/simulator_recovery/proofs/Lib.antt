@@ -1,4 +1,5 @@
 mod Lists
+mod Tests
 mod HostCalls
 mod ClientCalls
 mod Steps
@@ -18,6 +19,7 @@ mod ClientConversation
 mod ConversationFits
 mod HostCounts
 mod ClientCounts
+mod ClientItem
 mod HostStands
 mod InOne
 mod WindowRoom
@@ -51,6 +53,7 @@ pub mod StationSaid
 pub mod AlwaysOnLinks
 pub mod AlwaysSaid
 pub mod ClientTalk
+pub mod ClientBehind
 pub mod IxlSoFar
 pub mod StationTalk
 pub mod AlwaysTalked
@@ -133,6 +136,7 @@ pub mod SectionsController
 pub mod SectionsIxl
 pub mod SectionsClient
 pub mod SectionsEvents
+pub mod TalkEvents
 pub mod SectionsStation
 pub mod SectionsInitial
 pub mod SectionsAlways

@@ -1,5 +1,5 @@
 -- What a link counts over its calls: the items that it has taken and given in its connection, and those that wait.
-use Rattle.std.proofs.Common.{◌≡◌, ℕ, ◌∙◌, ◌+◌, ◌-◌, ◌≤◌, ◌<◌, ◌⊎◌, inl, inr, Bool, true, false, not, ◌&&◌, ◌==◌, nat_lt, nat_le, List, [], ◌∷◌, ◌++◌, length, Result, Ok, Err, if◌then◌else◌, refl, sym, ap, subst, arith, leb-false}
+use Rattle.std.proofs.Common.{◌≡◌, ℕ, ◌∙◌, ◌+◌, ◌-◌, ◌≤◌, ◌<◌, ◌⊎◌, inl, inr, Bool, true, false, not, ◌&&◌, ◌==◌, nat_lt, nat_le, List, [], ◌∷◌, length, Result, Ok, Err, if◌then◌else◌, refl, sym, ap, subst, arith, leb-false}
 use Rattle.std.specs.Prelude.{suc, is_ok, nat_eq}
 use Rattle.std.specs.Cmp.Lexicographic.{pointwise}
 use Rattle.std.proofs.lemmas.Bool.{false≢true}
@@ -26,15 +26,13 @@ use Rattle.simulator_run.specs.rasta_pdu.declared.body.Opening.{Opening}
 use Rattle.simulator_run.specs.rasta_pdu.declared.fault.PduFault.{PduFault}
 use Rattle.simulator_run.specs.rasta_pdu.declared.pdu.Pdu.{Pdu}
 use Rattle.simulator_recovery.specs.Counts.{HasCounted}
+use Rattle.simulator_recovery.proofs.Lists.{count_push}
+use Rattle.simulator_recovery.proofs.Tests.{none_more}
 
 -- ---- numbers and lists
 
 stops_twice : (n m : ℕ) → stops_at_greatest (stops_at_greatest n + m) ≡ stops_at_greatest (n + m)
 stops_twice n m = grind arith
-
-pub count_push : {X : Type 0} (list : List X) (one : X) → length (list ++ one ∷ []) ≡ length list + 1
-count_push [] one = omega arith
-count_push (first ∷ list) one = let e = count_push list one in omega (arith, e)
 
 fewer_wait : (confirmed : ℕ) (waiting : List Unconfirmed) → length (still_waiting confirmed waiting) ≤ length waiting
 unfolding still_waiting
@@ -232,9 +230,6 @@ record Comes (taken given : ℕ) (l : LinkState) (r : Receipt) : Type 0 where
 module _ (taken given : ℕ) (p : Pdu) (l : LinkState) (has : HasCounted taken given l) (connected_is : is_open l.phase ≡ true) where
   abbrev Fine : Receipt → Type 0
   Fine r = is_open r.link.phase ≡ true → Comes taken given l r
-
-  none_more : (n : ℕ) → n + 0 ≡ n
-  none_more n = omega arith
 
   fine_silent : (k : LinkState) → k.taken ≡ l.taken → k.given ≡ l.given → length k.waiting ≤ length l.waiting → (is_up l.phase ≡ true → is_up k.phase ≡ true) → (r : Receipt) → r.link ≡ k → r.items ≡ [] → Fine r
   fine_silent k t g w up r e none f = record {

@@ -40,7 +40,7 @@ use Rattle.simulator_recovery.specs.Rounds.{IsWork, all_tried}
 use Rattle.simulator_recovery.proofs.Clocks.{IsCalm}
 use Rattle.simulator_recovery.proofs.EndCalls.{IsCallOn}
 use Rattle.simulator_recovery.proofs.Lists.{each_both}
-use Rattle.simulator_recovery.proofs.Rounds.{AreCalm, TimeLaws, behind_calm, round_state, work_calm}
+use Rattle.simulator_recovery.proofs.Rounds.{AreCalm, TimeLaws, behind_calm, round_state, work_calm, events_are}
 
 -- ---- what happens to a station but time, a loss and a restart are calls at the ends of its links
 
@@ -129,10 +129,9 @@ all_calm_called (first ∷ others) world calm =
     (where_called (refusal_of first world) _ (calm_called world.sited.site world.sited.table first world.run calm.0)) (all_calm_called others (after world first) calm.1)
 
 pub calm_events : (list : List RoundEvent) → AreCalm list → Each IsCalm (map event_of list)
-calm_events [] calm = tt
-calm_events (first ∷ others) calm = (calm.0, calm_events others calm.1)
+calm_events = events_are IsCalm
 
-work_events : (between : List Event) → Each IsWork between → Each IsCalm between
+pub work_events : (between : List Event) → Each IsWork between → Each IsCalm between
 work_events [] work = tt
 work_events (first ∷ others) work = (work_calm first work.0, work_events others work.1)
 

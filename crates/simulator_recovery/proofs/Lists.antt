@@ -1,5 +1,6 @@
 -- A list that grew, and what holds of each that was added.
-use Rattle.std.proofs.Common.{◌≡◌, ℕ, zero, suc, ◌<◌, length, Some, slice_get, arith, List, [], ◌∷◌, ◌++◌, append_assoc, append-nil, map, refl, sym, ap, ◌∙◌}
+use Rattle.std.proofs.Common.{◌≡◌, ℕ, zero, suc, ◌+◌, ◌<◌, length, Some, slice_get, slice_set, arith, List, [], ◌∷◌, ◌++◌, append_assoc, append-nil, map, refl, sym, ap, ◌∙◌}
+use Rattle.std.proofs.lemmas.Option.{none-some, same_Some}
 use Rattle.simulator_run.specs.rasta_core.Each.{Each}
 
 pub each_both : {X : Type 0} (P : X → Type 0) (one other : List X) → Each P one → Each P other → Each P (one ++ other)
@@ -42,3 +43,16 @@ pub at_place : {X : Type 0} (list : List X) (place : ℕ) → place < length lis
 at_place [] place below = absurd (omega (arith, below))
 at_place (first ∷ others) zero below = (first, refl)
 at_place (first ∷ others) (suc place) below = at_place others place (omega (arith, below))
+
+pub none_long : {A : Type 0} (list : List A) → length list ≡ 0 → list ≡ []
+none_long [] e = refl
+none_long (first ∷ others) e = absurd (omega (arith, e))
+
+pub count_push : {X : Type 0} (list : List X) (one : X) → length (list ++ one ∷ []) ≡ length list + 1
+count_push [] one = omega arith
+count_push (first ∷ list) one = let e = count_push list one in omega (arith, e)
+
+pub set_own : {X : Type 0} (list : List X) (place : ℕ) (new y : X) → slice_get (slice_set list place new) place ≡ Some y → y ≡ new
+set_own [] place new y e = absurd (none-some y e)
+set_own (x ∷ list) zero new y e = sym (same_Some new y e)
+set_own (x ∷ list) (suc place) new y e = set_own list place new y e

@@ -60,7 +60,7 @@ module _ (site : Site) where
     ticks = λ node part is. same_peer node part.client.peer (ticking now part).client.peer (ticking_peer now part) is;
   }
 
-  new_peers : (table : Table) (begins : Beginning) → EachClient (SpeaksAt site) (new_ixl site table begins)
+  pub new_peers : (table : Table) (begins : Beginning) → EachClient (SpeaksAt site) (new_ixl site table begins)
   unfolding new_ixl new_client
   new_peers table begins = record {
     signals = λ place known e entry f. let found = mapped_at (new_known_signal_of site begins) site.signals place known e in

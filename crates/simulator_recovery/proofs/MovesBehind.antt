@@ -52,13 +52,13 @@ use Rattle.simulator_recovery.proofs.MovesMoment.{MomentLaws, PointAt, point_at}
 use Rattle.simulator_recovery.proofs.MovesPaid.{IsFull, IsPaid}
 use Rattle.simulator_recovery.proofs.MovesReported.{Comes, ReportLaws, Walked, drives_still, has_told, round_comes, timed_clock}
 use Rattle.simulator_recovery.proofs.MovesRound.{IsLeft, driven_there, left_behind, left_drives, left_paid}
-use Rattle.simulator_recovery.proofs.ProceedsStays.{below_before}
 use Rattle.simulator_recovery.proofs.Ready.{IsUpBehind, Last, ReadyLaws, all_over, count_front, fewer_time, front_of, last_of, links_ready}
 use Rattle.simulator_recovery.proofs.RoomBehind.{HasRoomAt, HasRoomBehind}
 use Rattle.simulator_recovery.proofs.Rounds.{reached_on, rounds_reached, take_their_time}
 use Rattle.simulator_recovery.proofs.Sends.{leaves_fresh}
 use Rattle.simulator_recovery.proofs.StaysOpen.{rounds_stay}
 use Rattle.simulator_recovery.proofs.StopComes.{last_round}
+use Rattle.simulator_recovery.proofs.WindowsAlone.{below_two}
 
 -- ---- the laws
 
@@ -115,7 +115,7 @@ module _ (laws : AnswerLaws) (between : List Event) (flowing : Flowing Played) (
   front_are front rest long a = record {
     works = (each_split (Each IsWork) front rest a.works).0;
     can = fewer_time (suc (length front)) (suc (length (front ++ rest))) (clocks_of flowing.state.run) (let n = length-append front rest in omega (arith, n)) a.can;
-    room = λ before are. below_before link front rest next before (a.room before are);
+    room = λ before are. below_two link front rest next before (a.room before are);
     long = long;
   }
 

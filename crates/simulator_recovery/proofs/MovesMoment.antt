@@ -53,15 +53,15 @@ use Rattle.simulator_recovery.proofs.AlwaysExpected.{ExpectedLaws}
 use Rattle.simulator_recovery.proofs.AtLink.{mapped, of_second}
 use Rattle.simulator_recovery.proofs.ClientLinks.{up_open}
 use Rattle.simulator_recovery.proofs.ConversationFits.{WrittenIsRead}
-use Rattle.simulator_recovery.proofs.HandedOver.{client_is, server_is, settled_given}
+use Rattle.simulator_recovery.proofs.HandedOver.{client_is, server_is}
 use Rattle.simulator_recovery.proofs.InOne.{ConnectionLaws, in_one}
 use Rattle.simulator_recovery.proofs.LinkCounts.{settled_open}
 use Rattle.simulator_recovery.proofs.Lists.{at_place, map_length}
 use Rattle.simulator_recovery.proofs.MovesAlways.{Held, always_owes, owes_each}
 use Rattle.simulator_recovery.proofs.MovesOwed.{OwedLaws}
 use Rattle.simulator_recovery.proofs.PointCounts.{waits, within_ever}
-use Rattle.simulator_recovery.proofs.SeenSignals.{counted_given, counted_taken}
-use Rattle.simulator_recovery.proofs.Spent.{settled_taken}
+use Rattle.simulator_recovery.proofs.Shown.{counted_given, counted_taken}
+use Rattle.simulator_recovery.proofs.Spent.{settled_given, settled_taken}
 
 pub record MomentLaws : Type 0 where
   pub expected : ExpectedLaws

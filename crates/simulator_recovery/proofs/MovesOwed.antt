@@ -45,10 +45,11 @@ use Rattle.simulator_recovery.specs.Moves.{last_side, or_before}
 use Rattle.simulator_recovery.specs.Told.{Any, SaidAll, SaidBy, SomeAsks, item_for}
 use Rattle.simulator_recovery.proofs.ControllerTells.{TellLaws, Tells}
 use Rattle.simulator_recovery.proofs.ControllersOnLinks.{Lists, lists_of}
+use Rattle.simulator_recovery.proofs.DrivenPoints.{answered_drive}
 use Rattle.simulator_recovery.proofs.HostKeeps.{ObjectKeeps}
 use Rattle.simulator_recovery.proofs.LinkCounts.{settled_open}
 use Rattle.simulator_recovery.proofs.PointAnswers.{Counted, enters_none, given_is, stays_outside, taken_is}
-use Rattle.simulator_recovery.proofs.PointCounts.{begins_so}
+use Rattle.simulator_recovery.proofs.PointCounts.{begins_so, one_at_most}
 
 -- ---- what telegrams command
 
@@ -87,12 +88,6 @@ reached_drive position (progress.Driving to from) side since e = choose (is_at t
 reached_drive position progress.Arrived side since e = e
 reached_drive position progress.TimedOut side since e = e
 
-pub paid_drive : (how : Progress) (side : Side) (since : ℕ) → answered how ≡ progress.Driving side since → how ≡ progress.Driving side since
-paid_drive progress.Answered side since e = absurd (cc e)
-paid_drive (progress.Driving to from) side since e = e
-paid_drive progress.Arrived side since e = absurd (cc e)
-paid_drive progress.TimedOut side since e = absurd (cc e)
-
 -- a move that fits
 take_aims : (now : ℕ) (telegram : Telegram) (point : PointState) (last : Option Side) → is_some (move_taken telegram point) ≡ true → Aims (or_before (commanded_by telegram.message) last) (taking now telegram point).progress
 take_aims now telegram point last fits side since e = choose (is_answered point.progress) (commanded_by telegram.message) fits e
@@ -126,7 +121,7 @@ comes_aim now (Loses ∷ others) point last coming fits aims = absurd coming
 pays_aim : (pays : List ObjectCall) (point : PointState) (last : Option Side) → ArePayments pays → Aims last point.progress → Aims last (object_after_all point_behaviour pays point).progress
 unfolding object_after_all
 pays_aim [] point last are aims = aims
-pays_aim (Pays ∷ others) point last are aims = pays_aim others (paying point) last are (λ side since e. aims side since (paid_drive point.progress side since e))
+pays_aim (Pays ∷ others) point last are aims = pays_aim others (paying point) last are (λ side since e. aims side since (answered_drive point.progress side since e))
 pays_aim (Takes at telegram ∷ others) point last are aims = absurd are
 pays_aim (Ticks at ∷ others) point last are aims = absurd are
 pays_aim (Senses at contact ∷ others) point last are aims = absurd are
@@ -231,12 +226,6 @@ begun_whole front stands (one ∷ []) host own_name peer_name finals few at = ch
         in absurd (final_apart stands one host own_name peer_name (finals 0 one (omega arith)) (same_Some _ _ (sym (last_of front (item_of host one) 3 (omega (arith, short, within, all))) ∙ at)))
 begun_whole front stands (one ∷ (other ∷ reports)) host own_name peer_name finals few at = absurd (omega (arith, few))
 
-one_waits : (how : Progress) → unanswered how ≤ 1
-one_waits progress.Answered = omega arith
-one_waits (progress.Driving side since) = omega arith
-one_waits progress.Arrived = omega arith
-one_waits progress.TimedOut = omega arith
-
 -- ---- a point's host, and what its end has given and taken
 
 pub record Owed (host : HostState PointState) (lists : Lists) : Type 0 where
@@ -328,7 +317,7 @@ module _ (laws : OwedLaws) (tell : TellLaws point_behaviour) (version : ℕ) (ow
         ∙ sym (append_assoc given (map (item_of done.host) step.tells.own) (map (item_of done.host) step.tells.reports))
 
     few_reports : length step.tells.reports ≤ 1
-    few_reports = let few = step.few in let one = one_waits (moved_by step.tells).progress in omega (arith, few, one)
+    few_reports = let few = step.few in let one = one_at_most (moved_by step.tells).progress in omega (arith, few, one)
 
     pub whole : 4 ≤ length given + length step.tells.own
     whole =

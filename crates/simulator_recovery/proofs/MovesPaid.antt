@@ -31,8 +31,9 @@ use Rattle.simulator_run.specs.point_ctl.Drive.{PointState, answered, begun, dri
 use Rattle.simulator_run.specs.point_ctl.declared.progress.Progress.{Progress}
 use Rattle.simulator_run.specs.point_ctl.declared.progress.Progress.TheVariants as progress
 use Rattle.simulator_recovery.proofs.ClientLinks.{up_open}
+use Rattle.simulator_recovery.proofs.DrivenPoints.{answered_drive}
 use Rattle.simulator_recovery.proofs.LinkCounts.{tick_was_open}
-use Rattle.simulator_recovery.proofs.MovesOwed.{limited_drive, object_after, paid_drive, reached_drive}
+use Rattle.simulator_recovery.proofs.MovesOwed.{limited_drive, object_after, reached_drive}
 
 -- ---- what is owed
 
@@ -234,7 +235,7 @@ module _ (Was : Side → ℕ → Type 0) (now : ℕ) where
   pays_new : (pays : List ObjectCall) (point : PointState) → ArePayments pays → IsNew Was now point.progress → IsNew Was now (object_after_all point_behaviour pays point).progress
   unfolding object_after_all
   pays_new [] point are before = before
-  pays_new (Pays ∷ others) point are before = pays_new others (drive.paying point) are (λ side since e. before side since (paid_drive point.progress side since e))
+  pays_new (Pays ∷ others) point are before = pays_new others (drive.paying point) are (λ side since e. before side since (answered_drive point.progress side since e))
   pays_new (Takes at telegram ∷ others) point are before = absurd are
   pays_new (Ticks at ∷ others) point are before = absurd are
   pays_new (Senses at contact ∷ others) point are before = absurd are

@@ -39,6 +39,7 @@ use Rattle.simulator_recovery.specs.Rounds.{IsWork, all_tried}
 use Rattle.simulator_recovery.proofs.Clocks.{IsCalm}
 use Rattle.simulator_recovery.proofs.DrivenPoints.{did_both, did_sited}
 use Rattle.simulator_recovery.proofs.LinkCounts.{settled_open}
+use Rattle.simulator_recovery.proofs.Lists.{set_own}
 use Rattle.simulator_recovery.proofs.MovesMoment.{point_controller}
 use Rattle.simulator_recovery.proofs.MovesPaid.{IsFresh, IsFull, IsPaid, step_done, step_fresh}
 use Rattle.simulator_recovery.proofs.Rounds.{calm_keeps, reaches_calm, ticks_calm, tried_keeps, work_calm}
@@ -67,11 +68,6 @@ set_cases (x ∷ list) (suc at) (suc place) new y e = choose (set_cases list at 
     choose : ((at ≡ place) × (y ≡ new)) ⊎ (slice_get list place ≡ Some y) → ((suc at ≡ suc place) × (y ≡ new)) ⊎ (slice_get list place ≡ Some y)
     choose (inl (same, f)) = inl (ap suc same, f)
     choose (inr f) = inr f
-
-set_own : {X : Type 0} (list : List X) (place : ℕ) (new y : X) → slice_get (slice_set list place new) place ≡ Some y → y ≡ new
-set_own [] place new y e = absurd (none-some y e)
-set_own (x ∷ list) zero new y e = sym (same_Some new y e)
-set_own (x ∷ list) (suc place) new y e = set_own list place new y e
 
 new_left : (input : Input) (connection moment : ℕ) (c : ClockedControllerState PointState) → IsLeft (controller_after (step_of point_behaviour input c) connection moment c)
 unfolding controller_after

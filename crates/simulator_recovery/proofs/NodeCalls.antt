@@ -44,12 +44,7 @@ use Rattle.simulator_recovery.proofs.HostCalls as of_hosts
 use Rattle.simulator_recovery.proofs.HostCalls.{datagram_calls, sense_calls, tick_calls}
 use Rattle.simulator_recovery.proofs.Lists.{at_place}
 use Rattle.simulator_recovery.proofs.Steps.{IsSaidAt, IsThere, all_ticks, command_says, datagram_hears, tick_of, tick_ticks, ticks_of}
-
-is_less : (a b : ℕ) → nat_lt a b ≡ true → a < b
-is_less a b e = grind (arith, nat_tests)
-
-is_not : (a b : ℕ) → nat_lt a b ≡ false → b ≤ a
-is_not a b e = grind (arith, nat_tests)
+use Rattle.simulator_recovery.proofs.Tests.{is_less, is_not, same_true}
 
 abbrev no_calls : List Call
 no_calls = []
@@ -201,9 +196,6 @@ server_comes bytes connection at events (made, ((others, (each, are)), same)) = 
 }
 
 -- ---- ticks
-
-same_true : (n : ℕ) → (n == n) ≡ true
-same_true n = grind (arith, nat_tests)
 
 is_other : (a b : ℕ) → (a ≡ b → ⊥) → (a == b) ≡ false
 is_other a b differ = choose (a == b) refl

@@ -1,6 +1,6 @@
 -- No move waits that is due: it is given in the step in which it may be.
 use Rattle.std.proofs.Common.{◌≡◌, ◌≢◌, ◌⊎◌, inl, inr, ℕ, suc, ◌<◌, ◌==◌, Bool, true, false, if◌then◌else◌, List, [], ◌∷◌, length, All, IsTrue, Option, Some, None, slice_get, refl, sym, ap, subst, ◌∙◌, arith}
-use Rattle.std.specs.FinSet.{contains, empty}
+use Rattle.std.specs.FinSet.{contains}
 use Rattle.std.specs.List.{Contains}
 use Rattle.std.proofs.lemmas.Bool.{false≢true}
 use Rattle.std.proofs.lemmas.Bool.Decides.{nat_tests}
@@ -34,7 +34,7 @@ use Rattle.simulator_headline.specs.Reached.{IsReached}
 use Rattle.simulator_recovery.proofs.DueShapes.{along_keeps, at_one, each_over, no_route, one_else, one_keeps, over_keeps, route_keeps, where_keeps}
 use Rattle.simulator_recovery.proofs.DueTicks.{BringsNothing, PointStands, PointWas, available_before, available_inside, clear_before, known_still, ticks_bring_nothing}
 use Rattle.simulator_recovery.proofs.IxlAlways.{always_whole}
-use Rattle.simulator_recovery.proofs.IxlClients.{changed_at, mapped_at}
+use Rattle.simulator_recovery.proofs.IxlClients.{changed_at, mapped_at, point_client}
 use Rattle.simulator_recovery.proofs.NothingDueProceeds.{AspectLeaves, aspect_leaves}
 use Rattle.simulator_recovery.proofs.SignalParts.{is_waiting_there}
 use Rattle.simulator_recovery.proofs.Spent.{within_some}
@@ -74,20 +74,6 @@ moved_client now side part = choose (is_up posted.link.phase)
 
     choose : (b : Bool) → is_available (if b then late else record late { stage = stage.Outside }).stage ≡ false
     choose true = awaits_then side part.client.stage
-    choose false = refl
-
-pub point_client : (side : Option Side) (places : Places) (client : ClientState) → (known_point_after side places client).client ≡ client
-unfolding known_point_after
-point_client side places client = choose (is_outside client.stage)
-  where
-    none : KnownPointState
-    none = record { client = client; side = None; moved = empty }
-
-    some : KnownPointState
-    some = record { client = client; side = side; moved = places }
-
-    choose : (b : Bool) → (if b then none else some).client ≡ client
-    choose true = refl
     choose false = refl
 
 pub moved_point : (now point : ℕ) (side : Side) (part : StepSoFar) → IsAvailable (giving_move now point side part).ixl point → ⊥

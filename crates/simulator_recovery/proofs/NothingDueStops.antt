@@ -25,7 +25,7 @@ use Rattle.simulator_run.specs.State.{WorldState}
 use Rattle.simulator_headline.specs.Reached.{IsReached}
 use Rattle.simulator_recovery.specs.NothingDue.{HasLinksReady, IsDetectorReady, IsPointReady}
 use Rattle.simulator_recovery.proofs.DueCourse.{StopLaw, stopped_leaves}
-use Rattle.simulator_recovery.proofs.DueShapes.{along_keeps, each_over, no_route, no_row, over_keeps, repeated_keeps, route_keeps, where_keeps}
+use Rattle.simulator_recovery.proofs.DueShapes.{each_over, moving_keeps, no_route, no_row, over_keeps, passage_keeps, route_keeps, where_keeps}
 use Rattle.simulator_recovery.proofs.DueTests.{clear_surely, clear_then, known_surely, known_then}
 use Rattle.simulator_recovery.proofs.DueTicks.{BringsNothing, clear_still, known_still, ticks_bring_nothing}
 use Rattle.simulator_recovery.proofs.WaitingItems.{ready_inside}
@@ -115,8 +115,7 @@ module _ (now : ℕ) (table : Table) (k : ℕ) where
       (λ due. otherwise number (one_freed other one.phase) part (λ route e. freed_otherwise table part.ixl other one route one.phase due) is) is) is
 
   passage_held : (number : ℕ) (part : StepSoFar) → Held part → Held (freeing_by_passage table number part)
-  unfolding freeing_by_passage
-  passage_held number part is = route_keeps Held table number _ part (λ other one there here. repeated_keeps Held (length other.sections) (freeing_next table number) (next_held number) part is) is
+  passage_held = passage_keeps Held now table next_held
 
   cancel_held : (number : ℕ) (part : StepSoFar) → Held part → Held (freeing_by_cancel now table number part)
   unfolding freeing_by_cancel
@@ -211,8 +210,7 @@ module _ (now : ℕ) (table : Table) (k : ℕ) where
             in (known.0, same ∙ known.1, known.2)
 
     moving_held : (number : ℕ) (part : StepSoFar) → Held part → Held (moving now table number part)
-    unfolding moving
-    moving_held number part is = route_keeps Held table number _ part (λ other one there here. along_keeps Held (moving_one now table number) (one_held number) other.needs part is) is
+    moving_held = moving_keeps Held now table one_held
 
   -- ---- the last rule
 

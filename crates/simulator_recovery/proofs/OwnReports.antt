@@ -15,7 +15,7 @@ use Rattle.simulator_run.specs.ixl_client.declared.command.Command.TheVariants a
 use Rattle.simulator_run.specs.ixl_rules.StepSoFar.{Node}
 use Rattle.simulator_recovery.specs.ClientSaid.{ClientSaid, asked, checked, commanded, nothing}
 use Rattle.simulator_recovery.specs.Told.{SomeAsks}
-use Rattle.simulator_recovery.proofs.ClientTalk.{is_none}
+use Rattle.simulator_recovery.proofs.ClientItem.{is_none}
 use Rattle.simulator_recovery.proofs.ExpectedItems.{only_at}
 use Rattle.simulator_recovery.proofs.IxlClients.{mapped_at}
 use Rattle.std.specs.Prelude.{IsTrue}

@@ -1,5 +1,5 @@
 -- What is so of each route of the table, by its row, is so behind a step, where each change of a route that a step may make keeps it.
-use Rattle.std.proofs.Common.{◌≡◌, ◌⊎◌, inl, inr, ℕ, ◌&&◌, Bool, true, List, length, Option, Some, None, slice_get, sym, ap, subst, ◌∙◌}
+use Rattle.std.proofs.Common.{◌≡◌, ◌⊎◌, inl, inr, ℕ, ◌&&◌, Bool, true, List, Option, Some, None, slice_get, sym, ap, subst, ◌∙◌}
 use Rattle.std.specs.Prelude.{◌||◌, not}
 use Rattle.std.proofs.lemmas.Option.{same_Some}
 use Rattle.simulator_run.specs.rasta_pdu.PduRead.{reading}
@@ -18,12 +18,12 @@ use Rattle.simulator_run.specs.ixl_rules.declared.command.Command.TheVariants as
 use Rattle.simulator_run.specs.ixl_rules.declared.command.Refusal.{Refusal}
 use Rattle.simulator_run.specs.ixl_rules.declared.phase.Phase.TheVariants as phase
 use Rattle.simulator_recovery.proofs.DueCourse.{stopped_leaves}
-use Rattle.simulator_recovery.proofs.DueShapes.{along_keeps, one_keeps, over_keeps, repeated_keeps, route_keeps, where_keeps}
+use Rattle.simulator_recovery.proofs.DueShapes.{along_keeps, one_keeps, over_keeps, passage_keeps, route_keeps, where_keeps}
 use Rattle.simulator_recovery.proofs.DueTicks.{ticks_bring_nothing}
 use Rattle.simulator_recovery.proofs.IxlClients.{changed_at}
-use Rattle.simulator_recovery.proofs.IxlSoFar.{first_true}
 use Rattle.simulator_recovery.proofs.NothingDueMoves.{move_leaves}
 use Rattle.simulator_recovery.proofs.NothingDueProceeds.{aspect_leaves}
+use Rattle.simulator_recovery.proofs.Tests.{first_true}
 
 -- it is so of each route of the table
 abbrev pub EachRoute : (Row → RouteState → Type 0) → Table → List RouteState → Type 0
@@ -88,8 +88,7 @@ module _ (now : ℕ) (table : Table) (Q : Row → RouteState → Type 0) (keep :
       (λ due. turned number (one_freed row one.phase) part row one there here (keep.frees_one row one) all) all) all
 
   pub passage_held : (number : ℕ) (part : StepSoFar) → Held part → Held (freeing_by_passage table number part)
-  unfolding freeing_by_passage
-  passage_held number part all = route_keeps Held table number _ part (λ row one there here. repeated_keeps Held (length row.sections) (freeing_next table number) (next_held number) part all) all
+  passage_held = passage_keeps Held now table next_held
 
   cancel_held : (number : ℕ) (part : StepSoFar) → Held part → Held (freeing_by_cancel now table number part)
   unfolding freeing_by_cancel

@@ -39,6 +39,7 @@ use Rattle.simulator_run.specs.Nodes.{key_of}
 use Rattle.simulator_run.specs.State.{WorldState}
 use Rattle.simulator_headline.specs.Reached.{IsReached}
 use Rattle.simulator_recovery.proofs.AtLink.{mapped}
+use Rattle.simulator_recovery.proofs.Cancelled.{clocked_routes}
 use Rattle.simulator_recovery.proofs.DueAccepted.{until_freed}
 use Rattle.simulator_recovery.proofs.DueShapes.{along_keeps, one_keeps, over_keeps, route_keeps, where_keeps}
 use Rattle.simulator_recovery.proofs.DueTests.{clear_then}
@@ -151,10 +152,6 @@ known_clocked busy now table ixl section (reporter, reports, (known, there, (rea
 
     inside : is_outside (clocked now was.client).stage ≡ false
     inside = ready_inside (clocked now was.client).stage ready_then
-
-routes_clocked : (now : ℕ) (ixl : IxlState) → (all_clocked now ixl).routes ≡ ixl.routes
-unfolding all_clocked
-routes_clocked now ixl = refl
 
 -- ---- where sections stand in a table
 
@@ -353,7 +350,7 @@ module _ (busy : Bool) (now : ℕ) (table : Table) (stand : StandOnce table) whe
 
   clocked_saw : (part : StepSoFar) → Saw part → Saw (record part { ixl = all_clocked now part.ixl })
   clocked_saw part saw = weaker busy table (IsKnownSo busy table part.ixl) (IsKnownSo busy table (all_clocked now part.ixl)) (all_clocked now part.ixl).routes (known_clocked busy now table part.ixl)
-      (subst (λ (routes : List RouteState). EachRoute (SawWhere busy (IsKnownSo busy table part.ixl)) table routes) (sym (routes_clocked now part.ixl)) saw)
+      (subst (λ (routes : List RouteState). EachRoute (SawWhere busy (IsKnownSo busy table part.ixl)) table routes) (sym (clocked_routes now part.ixl)) saw)
 
   -- ---- the rules and the ticks
 

@@ -44,7 +44,7 @@ use Rattle.simulator_recovery.proofs.Telling.{point_tells, points_tell}
 abbrev pub waits : PointState → ℕ
 waits point = unanswered point.progress
 
-one_at_most : (how : Progress) → unanswered how ≤ 1
+pub one_at_most : (how : Progress) → unanswered how ≤ 1
 one_at_most progress.Answered = omega arith
 one_at_most (progress.Driving side since) = omega arith
 one_at_most progress.Arrived = omega arith

@@ -25,9 +25,10 @@ use Rattle.simulator_run.specs.Nodes.{point_link}
 use Rattle.simulator_machine_links.specs.Flows.{given_after, taken_after}
 use Rattle.simulator_recovery.specs.ClientSaid.{ClientHasSaid, ClientTalks, commanded}
 use Rattle.simulator_recovery.specs.Counts.{ClientStandsByCounts}
+use Rattle.simulator_recovery.proofs.ClientBehind.{all_gave_behind, all_took_behind, available_ready, begins_here, move_leads, so_far_behind}
 use Rattle.simulator_recovery.proofs.ClientCalls.{IsSaid, commanding_calls, hearing_calls, ticking_calls}
 use Rattle.simulator_recovery.proofs.ClientLinks.{ClockedStands, clocked_peer, clocked_stands, up_open}
-use Rattle.simulator_recovery.proofs.ClientTalk.{OfNode, SoFar, all_gave_behind, all_took_behind, available_ready, begins_here, commanding_so_far, hearing_so_far, move_leads, so_far_behind, ticking_so_far}
+use Rattle.simulator_recovery.proofs.ClientTalk.{OfNode, SoFar, commanding_so_far, hearing_so_far, ticking_so_far}
 use Rattle.simulator_recovery.proofs.FewItems.{FewSoFar, GivesFew, clocked_few, commanding_few, hearing_few, ticking_few}
 use Rattle.simulator_recovery.proofs.IxlSoFar.{SoFarKeeps}
 use Rattle.simulator_recovery.proofs.Lists.{map_both, map_length}

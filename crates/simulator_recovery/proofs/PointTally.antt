@@ -15,6 +15,7 @@ use Rattle.simulator_machine_links.specs.Flows.{given_after, taken_after}
 use Rattle.simulator_recovery.proofs.ClientCalls.{IsSaid}
 use Rattle.simulator_recovery.proofs.ClientLinks.{up_open}
 use Rattle.simulator_recovery.proofs.LinkCounts.{close_closes, entered_open, send_was_open, tick_was_open}
+use Rattle.simulator_recovery.proofs.Lists.{count_push}
 
 -- While a link is up, so many items at most wait beyond those that were given more than taken.
 abbrev pub Tally : ℕ → LinkState → (given taken : List (List ℕ)) → Type 0
@@ -33,10 +34,6 @@ said_own (Opens ∷ others) said = absurd said.0
 said_own (Ticks ∷ others) said = absurd said.0
 said_own (Receives bytes ∷ others) said = absurd said.0
 
-count_one : {X : Type 0} (list : List X) (one : X) → length (list ++ one ∷ []) ≡ length list + 1
-count_one [] one = refl
-count_one (first ∷ list) one = let e = count_one list one in omega (arith, e)
-
 module _ (now : ℕ) (spare : ℕ) (l : LinkState) (given taken : List (List ℕ)) (tally : Tally spare l given taken) where
   send_tally : (item : List ℕ) → Tally spare (sending_item now item l).link (if is_ok (answer_to_send now l) then given ++ item ∷ [] else given) taken
   unfolding sending_item answer_to_send giving sending
@@ -53,7 +50,7 @@ module _ (now : ℕ) (spare : ℕ) (l : LinkState) (given taken : List (List ℕ
       opened = send_was_open now item l (up_open _ up)
 
       by_answer : (b : Bool) → is_up (if b then giving item at else silent at).link.phase ≡ true → length taken + length (if b then giving item at else silent at).link.waiting ≤ length (if b then given ++ item ∷ [] else given) + spare
-      by_answer true u = let t = tally u in let w = count_one l.waiting (record { tag = l.sent; item = item }) in let g = count_one given item in omega (arith, t, w, g)
+      by_answer true u = let t = tally u in let w = count_push l.waiting (record { tag = l.sent; item = item }) in let g = count_push given item in omega (arith, t, w, g)
       by_answer false u = tally u
 
   tick_tally : Tally spare (ticking now l).link given taken

@@ -1,5 +1,5 @@
 -- A route that proceeds has given its aspect to its signal in the present connection: what a step of an interlocking does to that.
-use Rattle.std.proofs.Common.{◌≡◌, ◌≢◌, ◌⊎◌, inl, inr, ℕ, zero, suc, ◌<◌, ◌==◌, ◌&&◌, Bool, true, false, not, if◌then◌else◌, List, [], ◌∷◌, map, Option, Some, None, slice_get, refl, sym, ap, subst, ◌∙◌, arith}
+use Rattle.std.proofs.Common.{◌≡◌, ◌≢◌, ◌⊎◌, inl, inr, ℕ, zero, suc, ◌<◌, ◌==◌, ◌&&◌, Bool, true, false, not, if◌then◌else◌, List, map, Option, Some, None, slice_get, refl, sym, ap, subst, ◌∙◌, arith}
 use Rattle.std.specs.Prelude.{◌||◌}
 use Rattle.std.proofs.lemmas.Bool.{false≢true}
 use Rattle.std.proofs.lemmas.Bool.Decides.{nat_tests}
@@ -14,24 +14,26 @@ use Rattle.simulator_run.specs.ixl_client.Client.{ClientState, is_outside, is_re
 use Rattle.simulator_run.specs.ixl_client.ClientSoFar.{begun}
 use Rattle.simulator_run.specs.ixl_client.Step.{clocked, hearing, ticking}
 use Rattle.simulator_run.specs.ixl_rules.Commands.{commanded_by, obeyed, refusal, set_anew}
-use Rattle.simulator_run.specs.ixl_rules.Rules.{come_to, count, ending_authority, is_proceeding, is_stop_due, is_waiting, is_withdrawn, stopped, withdrawing, withdrawn}
+use Rattle.simulator_run.specs.ixl_rules.Rules.{come_to, count, ending_authority, is_proceeding, is_stop_due, is_waiting, stopped, withdrawing, withdrawn}
 use Rattle.simulator_run.specs.ixl_rules.State.{IxlState, KnownSignalState, RouteState, changed}
-use Rattle.simulator_run.specs.ixl_rules.Step.{Commands, Datagram, Input, Tick, addressed, all_clocked, clocked_known_signal, detector_hearing, given, known_point_hearing, known_signal_hearing, looking, looking_by, looks, node_hearing, occupied_heard, route_looks, stepped, watching}
-use Rattle.simulator_run.specs.ixl_rules.StepSoFar.{Detector, Node, Point, Signal, StepSoFar, along, at_route, detector_after, giving_aspect, known_signal_after, noted, over, with_detector, with_one, with_route}
+use Rattle.simulator_run.specs.ixl_rules.Step.{Commands, Datagram, Input, Tick, addressed, all_clocked, clocked_known_signal, detector_hearing, given, known_point_hearing, known_signal_hearing, looking, looks, node_hearing, occupied_heard, stepped, watching}
+use Rattle.simulator_run.specs.ixl_rules.StepSoFar.{Detector, Node, Point, Signal, StepSoFar, at_route, detector_after, giving_aspect, known_signal_after, noted, over, with_detector, with_one, with_route}
 use Rattle.simulator_run.specs.ixl_rules.Table.{Row, Table, at}
-use Rattle.simulator_run.specs.ixl_rules.View.{all_clear, all_known, is_signal_ready, was_authorised}
+use Rattle.simulator_run.specs.ixl_rules.View.{all_clear, all_known, is_signal_ready}
 use Rattle.simulator_run.specs.ixl_rules.declared.command.Command.{Command}
 use Rattle.simulator_run.specs.ixl_rules.declared.command.Command.TheVariants as commands
 use Rattle.simulator_run.specs.ixl_rules.declared.command.Refusal.{Refusal}
 use Rattle.simulator_run.specs.ixl_rules.declared.phase.Phase.TheVariants as phase
 use Rattle.simulator_recovery.proofs.AspectWindows.{had_aspect}
+use Rattle.simulator_recovery.proofs.DueShapes.{along_keeps, one_keeps, over_keeps}
 use Rattle.simulator_recovery.proofs.GivenNoMore.{over_rests}
-use Rattle.simulator_recovery.proofs.IxlClients.{changed_at, mapped_at}
-use Rattle.simulator_recovery.proofs.IxlSoFar.{first_true, set_at, test_of}
+use Rattle.simulator_recovery.proofs.IxlClients.{changed_at, mapped_at, signal_is}
+use Rattle.simulator_recovery.proofs.IxlSoFar.{set_at, test_of}
 use Rattle.simulator_recovery.proofs.ProceedsHearing.{IsOutside, outside_clocked, outside_hears, outside_ticks, outside_unready}
-use Rattle.simulator_recovery.proofs.SignalParts.{AtRoute, IsGiven, IsQuiet, RulesKeep, behind_ending, ending_held, hears, looks_quietly, new_signal, none_passes, over_held, ticked_held}
+use Rattle.simulator_recovery.proofs.SignalParts.{AtRoute, IsGiven, IsQuiet, RulesKeep, behind_ending, ending_held, hears, new_signal, none_passes, over_held, ticked_held, watching_keeps, looking_keeps}
 use Rattle.simulator_recovery.proofs.Spent.{within_some}
 use Rattle.simulator_recovery.proofs.StopsGiven.{StopsStand, changed_here, is_equal, proceeding_set, stand_keep, waiting_set}
+use Rattle.simulator_recovery.proofs.Tests.{first_true}
 
 -- ---- what is kept
 
@@ -54,34 +56,13 @@ out_unready known out = outside_unready known.client.stage out
 -- ---- a signal with another client
 
 pub after_client : (P : ClientState → Type 0) (aspect : Option Aspect) (number : ℕ) (indicated : Option Aspect) (client : ClientState) → P client → P (known_signal_after aspect number indicated client).client
-unfolding known_signal_after
-after_client P aspect number indicated client is = choose (is_outside client.stage)
-  where
-    none : KnownSignalState
-    none = record { client = client; aspect = None; number = 0; indicated = None }
-
-    some : KnownSignalState
-    some = record { client = client; aspect = aspect; number = number; indicated = indicated }
-
-    choose : (b : Bool) → P (if b then none else some).client
-    choose true = is
-    choose false = is
+after_client P aspect number indicated client is = signal_is (λ (known : KnownSignalState). P known.client) aspect number indicated client (λ outside. is) (λ inside. is)
 
 -- what was given is given still, or the client is outside
 aspect_after : (was : Option Aspect) (aspect : Aspect) (number : ℕ) (indicated : Option Aspect) (client : ClientState) → was ≡ Some aspect
     → ((known_signal_after was number indicated client).aspect ≡ Some aspect) ⊎ IsOut (known_signal_after was number indicated client)
-unfolding known_signal_after
-aspect_after was aspect number indicated client is = choose (is_outside client.stage) refl
-  where
-    none : KnownSignalState
-    none = record { client = client; aspect = None; number = 0; indicated = None }
-
-    some : KnownSignalState
-    some = record { client = client; aspect = was; number = number; indicated = indicated }
-
-    choose : (b : Bool) → is_outside client.stage ≡ b → ((if b then none else some).aspect ≡ Some aspect) ⊎ IsOut (if b then none else some)
-    choose true e = inr e
-    choose false e = inl is
+aspect_after was aspect number indicated client is =
+    signal_is (λ (known : KnownSignalState). (known.aspect ≡ Some aspect) ⊎ IsOut known) was number indicated client (λ outside. inr outside) (λ inside. inl is)
 
 or_unready : (known : KnownSignalState) (aspect : Aspect) → (known.aspect ≡ Some aspect) ⊎ IsOut known → (known.aspect ≡ Some aspect) ⊎ IsUnready known
 or_unready known aspect (inl e) = inl e
@@ -250,31 +231,6 @@ module _ (now : ℕ) (table : Table) where
           (heard row.aspect (is.given number row route known route_there proceeds (ap (slice_get signals) same ∙ there)))
       by_signal number row route later route_there proceeds (inr (differ, f)) = or_unready later row.aspect (is.given number row route later route_there proceeds f)
 
--- ---- the shapes of a step
-
-module _ (P : StepSoFar → Type 0) where
-  one_kept : {A : Type 0} (found : Option A) (does : A → StepSoFar → StepSoFar) (part : StepSoFar) → P part → ((one : A) → found ≡ Some one → P (does one part)) → P (with_one found does part)
-  one_kept None does part is each = is
-  one_kept (Some one) does part is each = each one refl
-
-  route_kept : (table : Table) (number : ℕ) (does : Row → RouteState → StepSoFar → StepSoFar) → ((row : Row) (route : RouteState) (part : StepSoFar) → AtRoute table number row route part.ixl.routes → P part → P (does row route part))
-      → (part : StepSoFar) → P part → P (at_route table number does part)
-  unfolding at_route
-  route_kept table number does each part is = one_kept (slice_get table.rows number) (λ row part. with_one (slice_get part.ixl.routes number) (does row) part) part is
-      (λ row e. one_kept (slice_get part.ixl.routes number) (does row) part is (λ route f. each row route part (record { row_there = e; there = f }) is))
-
-  over_kept : (does : ℕ → StepSoFar → StepSoFar) → ((number : ℕ) (part : StepSoFar) → P part → P (does number part)) → (n : ℕ) (part : StepSoFar) → P part → P (over does n part)
-  over_kept does each zero part is = is
-  over_kept does each (suc n) part is = each n (over does n part) (over_kept does each n part is)
-
-  along_kept : {A : Type 0} (does : A → StepSoFar → StepSoFar) → ((one : A) (part : StepSoFar) → P part → P (does one part)) → (list : List A) (part : StepSoFar) → P part → P (along does list part)
-  along_kept does each [] part is = is
-  along_kept does each (first ∷ others) part is = along_kept does each others (does first part) (each first part is)
-
-  where_kept : (b : Bool) (part one : StepSoFar) → P part → P one → P (if b then one else part)
-  where_kept true part one is so = so
-  where_kept false part one is so = is
-
 -- ---- what comes, and the looks
 
 module _ (now : ℕ) (table : Table) where
@@ -291,27 +247,25 @@ module _ (now : ℕ) (table : Table) where
   unready : (part : StepSoFar) → Out part → Unready part
   unready part is = weaker now table part.ixl.routes part.ixl.known_signals is
 
-  quietly : (number : ℕ) (change : RouteState → RouteState) (part : StepSoFar) → ((route : RouteState) → IsQuiet route (change route)) → Unready part → Unready (with_route number change part)
-  quietly number change part quiet is = quiet_given now table IsUnready number change part.ixl.routes part.ixl.known_signals (λ route e. quiet route) is
+  quietly : (number : ℕ) (change : RouteState → RouteState) (part : StepSoFar) → ((route : RouteState) → slice_get part.ixl.routes number ≡ Some route → IsQuiet route (change route))
+      → Unready part → Unready (with_route number change part)
+  quietly number change part quiet is = quiet_given now table IsUnready number change part.ixl.routes part.ixl.known_signals quiet is
 
   watching_kept : (number : ℕ) (part : StepSoFar) → Unready part → Unready (watching table number part)
-  unfolding watching
-  watching_kept number = route_kept Unready table number _ (λ row route part there is. where_kept Unready (is_proceeding route.phase || is_withdrawn route.phase) part _ is (quietly number _ part (λ one. inl (refl, λ cancelled. cancelled)) is))
+  watching_kept = watching_keeps now table Unready quietly
 
   looking_kept : (look : ℕ × Bool) (part : StepSoFar) → Unready part → Unready (looking table look part)
-  unfolding looking_by
-  looking_kept look = over_kept Unready (looking_by look.0 look.1 table) (λ number. route_kept Unready table number _ (λ row route part there is. where_kept Unready (was_authorised route.phase) part _ is
-      (quietly number (route_looks look.0 look.1 row) part (λ one. looks_quietly look.0 look.1 row one) is))) (count table)
+  looking_kept = looking_keeps now table Unready quietly
 
   heard_kept : (bytes : List ℕ) (node : Node) (part : StepSoFar) → OutsSo part.ixl.known_signals → Out part → Unready (node_hearing now table bytes node part)
   unfolding node_hearing known_signal_hearing known_point_hearing detector_hearing
-  heard_kept bytes (Signal place) part outs is = one_kept Unready (slice_get part.ixl.known_signals place) _ part (unready part is) (λ known e.
-      hears_given now table place known bytes part.outbox _ part.ixl.routes part.ixl.known_signals e (outs place known e) is)
-  heard_kept bytes (Point place) part outs is = one_kept Unready (slice_get part.ixl.known_points place) _ part (unready part is) (λ known e. unready part is)
-  heard_kept bytes (Detector place) part outs is = one_kept Unready (slice_get table.detectors place) _ part (unready part is) (λ sections f. one_kept Unready (slice_get part.ixl.detectors place) _ part (unready part is) (λ known e.
+  heard_kept bytes (Signal place) part outs is = one_keeps Unready (slice_get part.ixl.known_signals place) _ part (λ known e.
+      hears_given now table place known bytes part.outbox _ part.ixl.routes part.ixl.known_signals e (outs place known e) is) (unready part is)
+  heard_kept bytes (Point place) part outs is = one_keeps Unready (slice_get part.ixl.known_points place) _ part (λ known e. unready part is) (unready part is)
+  heard_kept bytes (Detector place) part outs is = one_keeps Unready (slice_get table.detectors place) _ part (λ sections f. one_keeps Unready (slice_get part.ixl.detectors place) _ part (λ known e.
       let done = hearing now bytes (begun known.client part.outbox)
-      in along_kept Unready (looking table) looking_kept (looks sections known done.heard done.client)
-      (with_detector place (detector_after (occupied_heard done.heard known.occupied) done.client) (noted (Detector place) done part)) (unready part is)))
+      in along_keeps Unready (looking table) looking_kept (looks sections known done.heard done.client)
+      (with_detector place (detector_after (occupied_heard done.heard known.occupied) done.client) (noted (Detector place) done part)) (unready part is)) (unready part is)) (unready part is)
 
   obeyed_kept : (command : Command) (part : StepSoFar) → refusal now table command part.ixl ≡ None → Out part → Unready (record part { ixl = obeyed command part.ixl })
   unfolding obeyed
@@ -473,7 +427,7 @@ module _ (now : ℕ) (table : Table) where
   unfolding stepped all_clocked
   step_gives key input part outs is =
       ticked_held now table (Given_out now table) keep input _ (behind_ending now table (Given_out now table) keep _ (over_held now table (Given_out now table) keep (ending_authority now table) (ending_held now table (Given_out now table) keep) (count table) _
-      (withdrawn_gives _ (over_kept (Unready now table) (watching table) (watching_kept now table) (count table) _
+      (withdrawn_gives _ (over_keeps (Unready now table) (watching table) (watching_kept now table) (count table) _
       (given_kept now table key input (record part { ixl = all_clocked now part.ixl }) outs (clock_given now table part.ixl.routes part.ixl.known_signals is))))))
     where
       keep : RulesKeep now table (Given_out now table)

@@ -1,5 +1,5 @@
 -- In a good round a signal is given nothing where a route proceeds from it before and behind the round; so its lamp shows the aspect of the route.
-use Rattle.std.proofs.Common.{◌≡◌, ◌≢◌, ◌⊎◌, inl, inr, ℕ, suc, ◌+◌, ◌<◌, ◌≤◌, Bool, true, false, not, if◌then◌else◌, List, [], ◌∷◌, ◌++◌, length, Option, Some, None, slice_get, refl, sym, ap, subst, ◌∙◌, arith}
+use Rattle.std.proofs.Common.{◌≡◌, ◌≢◌, ◌⊎◌, inl, inr, ℕ, suc, ◌+◌, ◌<◌, ◌≤◌, true, false, not, List, [], ◌∷◌, ◌++◌, length, Option, Some, slice_get, refl, sym, ap, subst, ◌∙◌, arith}
 use Rattle.std.proofs.lemmas.Bool.{false≢true}
 use Rattle.std.proofs.lemmas.Option.{same_Some}
 use Rattle.ixl_table.specs.Table.{IsTableOf}
@@ -42,7 +42,7 @@ use Rattle.simulator_recovery.proofs.AspectWindows.{had_aspect}
 use Rattle.simulator_recovery.proofs.ClientLinks.{up_open}
 use Rattle.simulator_recovery.proofs.GivenNoMore.{AreOfRound, IsOfRound, due_of, over_rests}
 use Rattle.simulator_recovery.proofs.HandedOver.{hands_over}
-use Rattle.simulator_recovery.proofs.IxlClients.{changed_at, mapped_at}
+use Rattle.simulator_recovery.proofs.IxlClients.{changed_at, mapped_at, signal_is}
 use Rattle.simulator_recovery.proofs.IxlSoFar.{set_at}
 use Rattle.simulator_recovery.proofs.LinkCounts.{settled_open}
 use Rattle.simulator_recovery.proofs.Lists.{each_both}
@@ -60,18 +60,7 @@ use Rattle.simulator_recovery.proofs.StopsGiven.{StopsStand, proceeding_set, sta
 
 -- a signal whose client is another was given no more
 no_more_after : (before known : KnownSignalState) (indicated : Option Aspect) (client : ClientState) → IsGivenNoMore before known → IsGivenNoMore before (known_signal_after known.aspect known.number indicated client)
-unfolding known_signal_after
-no_more_after before known indicated client is = choose (is_outside client.stage)
-  where
-    none : KnownSignalState
-    none = record { client = client; aspect = None; number = 0; indicated = None }
-
-    some : KnownSignalState
-    some = record { client = client; aspect = known.aspect; number = known.number; indicated = indicated }
-
-    choose : (b : Bool) → IsGivenNoMore before (if b then none else some)
-    choose true = inl refl
-    choose false = is
+no_more_after before known indicated client is = signal_is (IsGivenNoMore before) known.aspect known.number indicated client (λ outside. inl refl) (λ inside. is)
 
 -- A route doesn't wait, and where it proceeds its signal was given no more.
 record GoesOnSo (table : Table) (number : ℕ) (row : Row) (before : KnownSignalState) (routes : List RouteState) (signals : List KnownSignalState) : Type 0 where

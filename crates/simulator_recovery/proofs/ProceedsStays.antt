@@ -6,7 +6,7 @@ use Rattle.simulator_run.specs.layout.Entries.{Site}
 use Rattle.simulator_run.specs.layout.Once.{Once}
 use Rattle.simulator_run.specs.layout.Station.{IsStation}
 use Rattle.simulator_run.specs.rasta_core.Each.{Each}
-use Rattle.simulator_run.specs.rasta_core.Links.{Links, LinksEvent, happened_to, run_links}
+use Rattle.simulator_run.specs.rasta_core.Links.{Links, LinksEvent, run_links}
 use Rattle.simulator_run.specs.sci_telegram.declared.message.Aspect.{Aspect}
 use Rattle.simulator_run.specs.sci_telegram.declared.message.Occupancy.{Occupancy}
 use Rattle.simulator_run.specs.signal_ctl.Signal.{SignalState}
@@ -29,13 +29,9 @@ use Rattle.simulator_recovery.proofs.ProceedsRounds.{ShowsLaws, route_shows}
 use Rattle.simulator_recovery.proofs.Ready.{count_front, fewer_time}
 use Rattle.simulator_recovery.proofs.Rounds.{IsAt, round_reached, rounds_reached, tried_keeps}
 use Rattle.simulator_recovery.proofs.StopComes.{last_round}
+use Rattle.simulator_recovery.proofs.WindowsAlone.{below_two, room_front}
 
 -- ---- fewer calls stay below the limit, too
-
-room_front : (link : ℕ) (one other : List LinksEvent) (before : Links) → HaveRoomOn link (one ++ other) before → HaveRoomOn link one before
-room_front link [] [] before room = room
-room_front link [] (first ∷ other) before room = room.0
-room_front link (first ∷ one) other before room = (room.0, room_front link one other (happened_to first before) room.1)
 
 -- the calls of a round alone come before those of what is tried behind it
 calls_begin : (last : List Event) (flowing : Flowing Played) → calls_of_round last flowing
@@ -52,10 +48,6 @@ below_alone : (link : ℕ) (later_rounds : List (List Event)) (last : List Event
 below_alone link [] last flowing before below =
     (room_front link (calls_of_round [] flowing) _ (run_links (time_of_round flowing) before) (subst (λ (l : List LinksEvent). HaveRoomOn link l (run_links (time_of_round flowing) before)) (calls_begin last flowing) below.0), tt)
 below_alone link (first ∷ later_rounds) last flowing before below = (below.0, below_alone link later_rounds last (all_tried first (round stations flowing)) (links_behind first flowing before) below.1)
-
-pub below_before : (link : ℕ) (one other : List (List Event)) (flowing : Flowing Played) (before : Links) → StayBelowOn link (one ++ other) flowing before → StayBelowOn link one flowing before
-below_before link [] other flowing before below = tt
-below_before link (first ∷ one) other flowing before below = (below.0, below_before link one other (all_tried first (round stations flowing)) (links_behind first flowing before) below.1)
 
 -- ---- requests and occupancies leave the lamps
 
@@ -123,7 +115,7 @@ module _ (laws : ShowsLaws) (between : List Event) (flowing : Flowing Played) (n
   stays_through later_rounds [] works more_works can long below proceeds = tt
   stays_through later_rounds (first ∷ more) works more_works can long below proceeds = (
     shows_behind later_rounds first works more_works.0 (fewer_time (suc (length (later_rounds ++ first ∷ []))) (suc (length (later_rounds ++ first ∷ more))) (clocks_of flowing.state.run) fewer can) long
-        (λ links_before are. below_before row.entry (later_rounds ++ first ∷ []) more (all_tried between (round stations flowing)) links_before
+        (λ links_before are. below_two row.entry (later_rounds ++ first ∷ []) more (all_tried between (round stations flowing)) links_before
         (subst (λ (l : List (List Event)). StayBelowOn row.entry l (all_tried between (round stations flowing)) links_before) (sym joined) (below links_before are))) proceeds.0 proceeds.1,
     subst (ShowsThrough row.entry row.aspect more) next_is (stays_through (later_rounds ++ first ∷ []) more (each_both (Each IsWork) later_rounds (first ∷ []) works (more_works.0, tt)) more_works.1
         (subst (λ (l : List (List Event)). HasTime (suc (length l)) flowing.state.run) (sym joined) can) (let count = count_front later_rounds first in omega (arith, count, long))

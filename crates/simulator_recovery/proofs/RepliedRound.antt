@@ -51,8 +51,9 @@ use Rattle.simulator_recovery.proofs.RepliedGiving.{GivingLaws}
 use Rattle.simulator_recovery.proofs.RepliedReceipt.{IsAtHome, entered_so}
 use Rattle.simulator_recovery.proofs.RepliedSteps.{IsStepped, rests, steps}
 use Rattle.simulator_recovery.proofs.RepliedThrough.{IsInThrough, may_front, run_both, run_timely, through_front}
-use Rattle.simulator_recovery.proofs.RepliedWalk.{counted_taken, Controls, FoundAt, Heard, IsThrough, Leads, Stands, Tallies, WalkLaws, are, controls, finds, heard, leads, on_both, settled_there, stands_then, step_counts, stepped_so, tallies, there, through_first}
+use Rattle.simulator_recovery.proofs.RepliedWalk.{Controls, FoundAt, Heard, IsThrough, Leads, Stands, Tallies, WalkLaws, are, controls, finds, heard, leads, on_both, settled_there, stands_then, step_counts, stepped_so, tallies, there, through_first}
 use Rattle.simulator_recovery.proofs.RepliedWindow.{AreBoth, GaveLast, window_then}
+use Rattle.simulator_recovery.proofs.Shown.{counted_taken}
 use Rattle.simulator_recovery.proofs.SignalReplies.{reports_at_once}
 use Rattle.simulator_recovery.proofs.Spent.{settled_taken}
 

@@ -1,14 +1,14 @@
 -- A signal through a list of events of its station: how many reports it gives by them.
-use Rattle.std.proofs.Common.{◌≡◌, ◌⊎◌, ℕ, ◌+◌, ◌^◌, ◌<◌, ◌≤◌, ◌&&◌, nat_le, Bool, true, false, if◌then◌else◌, List, [], ◌∷◌, ◌++◌, append_assoc, append-nil, length, Option, Some, None, slice_get, refl, sym, ap, subst, ◌∙◌, arith, leb-true, leb-false}
+use Rattle.std.proofs.Common.{◌≡◌, ◌⊎◌, ℕ, ◌+◌, ◌^◌, ◌<◌, ◌≤◌, nat_le, Bool, true, false, List, [], ◌∷◌, ◌++◌, append_assoc, append-nil, length, Option, Some, None, slice_get, refl, sym, ap, subst, ◌∙◌, arith, leb-true, leb-false}
 use Rattle.std.proofs.lemmas.Bool.{false≢true}
 use Rattle.std.proofs.lemmas.Option.{same_Some}
 use Rattle.simulator_run.specs.layout.Entries.{Site}
 use Rattle.simulator_run.specs.layout.Once.{Once}
 use Rattle.simulator_run.specs.layout.Station.{IsStation}
 use Rattle.simulator_run.specs.rasta_core.Calls.{receiving}
-use Rattle.simulator_run.specs.rasta_core.Clock.{deadline, settled}
+use Rattle.simulator_run.specs.rasta_core.Clock.{settled}
 use Rattle.simulator_run.specs.rasta_core.Each.{Each}
-use Rattle.simulator_run.specs.rasta_core.Ends.{EndState, reading_of}
+use Rattle.simulator_run.specs.rasta_core.Ends.{reading_of}
 use Rattle.simulator_run.specs.rasta_core.Events.{Event as LinkEvent, run}
 use Rattle.simulator_run.specs.rasta_core.Invariant.{Timely}
 use Rattle.simulator_run.specs.rasta_core.Links.{Links, LinksEvent, events_on, happened_to, run_links, run_on, seen}
@@ -16,11 +16,10 @@ use Rattle.simulator_run.specs.rasta_core.Names.{AreNames, Names}
 use Rattle.simulator_run.specs.rasta_core.Ordered.{Ordered}
 use Rattle.simulator_run.specs.rasta_core.Parameters.{stops_at_greatest}
 use Rattle.simulator_run.specs.rasta_core.Run.{Ends}
-use Rattle.simulator_run.specs.rasta_core.Safe.{AreCounted, AreFew, IsCounted, IsFew, counts, made_anew}
+use Rattle.simulator_run.specs.rasta_core.Safe.{AreCounted, AreFew, IsCounted, IsFew}
 use Rattle.simulator_run.specs.rasta_core.State.{LinkState, is_open, is_up}
 use Rattle.simulator_run.specs.rasta_core.identity.Role.{Role}
 use Rattle.simulator_run.specs.rasta_core.identity.Role.TheVariants as role
-use Rattle.simulator_run.specs.rasta_core.phase.Phase.TheVariants as phase
 use Rattle.simulator_run.specs.object_host.Host.{HostState}
 use Rattle.simulator_run.specs.object_host.Step.{given as given_in}
 use Rattle.simulator_run.specs.object_host.declared.input.Input.{Input}
@@ -55,7 +54,8 @@ use Rattle.simulator_recovery.proofs.RepliedCounts.{hears, owed}
 use Rattle.simulator_recovery.proofs.RepliedSteps.{IsStepped, calm_steps, rests, steps}
 use Rattle.simulator_recovery.proofs.RepliedThrough.{EndLaws, IsInOf, IsInThrough, run_timely, through_front}
 use Rattle.simulator_recovery.proofs.Rounds.{IsAt, tried_reached}
-use Rattle.simulator_recovery.proofs.Spent.{settled_taken}
+use Rattle.simulator_recovery.proofs.Shown.{counted_given, counted_taken}
+use Rattle.simulator_recovery.proofs.Spent.{settled_given, settled_taken}
 
 pub record WalkLaws : Type 0 where
   pub link : LinkLaws
@@ -72,22 +72,6 @@ pub on_both : (link : ℕ) (one other : List LinksEvent) (before : Links) → ru
 on_both link [] other before = refl
 on_both link (first ∷ one) other before = ap (λ (rest : List LinkEvent). events_on link first before ++ rest) (on_both link one other (happened_to first before))
     ∙ sym (append_assoc (events_on link first before) (run_on link one (happened_to first before)) (run_on link other (run_links one (happened_to first before))))
-
-pub counted_given : (end : EndState) → IsCounted end → is_open end.link.phase ≡ true → end.link.given ≡ length end.given
-counted_given end (counts given taken) opened = given
-counted_given end (made_anew shut given taken) opened = absurd (cc (shut, opened))
-
-pub counted_taken : (end : EndState) → IsCounted end → is_open end.link.phase ≡ true → end.link.taken ≡ length end.taken
-counted_taken end (counts given taken) opened = taken
-counted_taken end (made_anew shut given taken) opened = absurd (cc (shut, opened))
-
-same_given : (now : ℕ) (l : LinkState) → (settled now l).given ≡ l.given
-unfolding settled
-same_given now l = choose (is_open l.phase && nat_le (deadline l) now)
-  where
-    choose : (b : Bool) → (if b then record l { phase = phase.Closed; closed_at = deadline l; clock = now } else record l { clock = now }).given ≡ l.given
-    choose true = refl
-    choose false = refl
 
 module _ (laws : WalkLaws) (sited : SitedTable) (station : IsStation sited.site) (once : Once sited.site) (place : ℕ) (below : place < length sited.site.signals) (connection : ℕ) where
   abbrev pub names : Names
@@ -131,7 +115,7 @@ module _ (laws : WalkLaws) (sited : SitedTable) (station : IsStation sited.site)
     link_is = end.1.link_is;
     clock_is = end.1.clock_is;
     opened = opened;
-    given_is = sym (ap (λ (l : LinkState). l.given) end.1.link_is ∙ same_given (reading_of found.0.clock) found.0.host.link) ∙ counted_given (seen place these).server count.1 s.server.opened;
+    given_is = sym (ap (λ (l : LinkState). l.given) end.1.link_is ∙ settled_given (reading_of found.0.clock) found.0.host.link) ∙ counted_given (seen place these).server count.1 s.server.opened;
     taken_is = taken_is;
     taken_few = few.taken;
     given_counts = by_stage.given;
@@ -263,11 +247,11 @@ module _ (c : ClockedControllerState SignalState) (taken given : ℕ) (has : Has
 
   pub tallies : (input : Input) → is_open (step_of signal_behaviour input c).host.link.phase ≡ true → Tallies input
   tallies inputs.Tick opened_then = let s = step_counts inputs.Tick opened_then in record {
-    given_is = let g = s.given_is in let same = same_given now c.host.link in omega (arith, g, same);
+    given_is = let g = s.given_is in let same = settled_given now c.host.link in omega (arith, g, same);
     taken_is = s.taken_is ∙ has_settled.taken_is ∙ ap stops_at_greatest (none_more taken);
   }
   tallies (inputs.Sense contact) opened_then = let s = step_counts (inputs.Sense contact) opened_then in record {
-    given_is = let g = s.given_is in let same = same_given now c.host.link in omega (arith, g, same);
+    given_is = let g = s.given_is in let same = settled_given now c.host.link in omega (arith, g, same);
     taken_is = s.taken_is ∙ has_settled.taken_is ∙ ap stops_at_greatest (none_more taken);
   }
   tallies (inputs.Datagram bytes) opened_then = let s = step_counts (inputs.Datagram bytes) opened_then in let h = heard bytes opened_then in record {

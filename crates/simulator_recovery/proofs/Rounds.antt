@@ -26,7 +26,7 @@ use Rattle.simulator_run.specs.State.{WorldState}
 use Rattle.simulator_run.specs.Tried.{Played, after, world_where}
 use Rattle.simulator_run_links.specs.HasLinks.{IsStanding}
 use Rattle.simulator_headline.specs.Reached.{IsReached}
-use Rattle.simulator_recovery.specs.LinkRounds.{behind_time}
+use Rattle.simulator_recovery.specs.LinkRounds.{behind_time, event_of}
 use Rattle.simulator_recovery.specs.Rounds.{HasTime, IsWork, all_tried, clocks_of, good_rounds, rounds_later}
 use Rattle.simulator_recovery.proofs.Clocks.{AreStill, CanGoOn, HasAll, IsCalm, WasMade, calm_still, event_made, later, still, still_then, time_clocks, time_may_pass}
 
@@ -43,45 +43,70 @@ tried_keeps P world one before then_so = cases (refusal world.sited.site one wor
 pub tried_happens : (world : Played) (one : Event) → refusal world.sited.site one world.run ≡ None → after world one ≡ record world { run = happens world.sited.site world.sited.table one world.run }
 tried_happens world one none = ap (λ (o : Option Refused). world_where o world (record world { run = happens world.sited.site world.sited.table one world.run })) none
 
--- ---- the events of a round but the first
+-- ---- the events of a round
 
+-- so is each event of a list
+abbrev pub AllAre : (Event → Type 0) → List RoundEvent → Type 0
+AllAre P [] = Unit {0}
+AllAre P (first ∷ others) = P first.event × AllAre P others
+
+pub all_joined : (P : Event → Type 0) (one other : List RoundEvent) → AllAre P one → AllAre P other → AllAre P (one ++ other)
+all_joined P [] other first second = second
+all_joined P (head ∷ one) other first second = (first.0, all_joined P one other first.1 second)
+
+pub events_are : (P : Event → Type 0) (list : List RoundEvent) → AllAre P list → Each P (map event_of list)
+events_are P [] all = tt
+events_are P (first ∷ others) all = (all.0, events_are P others all.1)
+
+-- what holds of deliveries, of ticks and of points that come to lie holds of all that is tried in a round behind its time
+module _ (P : Event → Type 0) (delivers : (node : NodeId) (bytes : List ℕ) → P (event.Deliver node bytes)) (ticks_so : (node : NodeId) → P (event.Tick node))
+    (reaches_so : (point : _) (position : _) → P (event.Reach point position)) where
+  delivery_is : (place : ℕ) (arrival : Option (NodeId × List ℕ)) → AllAre P (delivery place arrival)
+  delivery_is place None = tt
+  delivery_is place (Some arrival) = (delivers arrival.0 arrival.1, tt)
+
+  deliveries_are : (arrival : ℕ → Option (NodeId × List ℕ)) (place more : ℕ) → AllAre P (deliveries arrival place more)
+  unfolding deliveries
+  deliveries_are arrival place zero = tt
+  deliveries_are arrival place (suc more) = all_joined P (delivery place (arrival place)) (deliveries arrival (suc place) more) (delivery_is place (arrival place))
+      (deliveries_are arrival (suc place) more)
+
+  ticks_are : (passed node more : ℕ) → AllAre P (ticks passed node more)
+  unfolding ticks
+  ticks_are passed node zero = tt
+  ticks_are passed node (suc more) = (ticks_so (record { 0 = node }), ticks_are passed (suc node) more)
+
+  reach_is : (passed point : ℕ) (drive : Option FoundDriven) → AllAre P (reach passed point drive)
+  reach_is passed point None = tt
+  reach_is passed point (Some drive) = choose (nat_lt drive.rounds 50)
+    where
+      choose : (b : Bool) → AllAre P (if b then [] else (record { event = event.Reach (record { 0 = point }) (position_of drive.side); passed = passed } ∷ []))
+      choose true = tt
+      choose false = (reaches_so (record { 0 = point }) (position_of drive.side), tt)
+
+  reaches_are : (passed point : ℕ) (drives : List (Option FoundDriven)) → AllAre P (reaches passed point drives)
+  unfolding reaches
+  reaches_are passed point [] = tt
+  reaches_are passed point (drive ∷ drives) = all_joined P (reach passed point drive) (reaches passed (suc point) drives) (reach_is passed point drive) (reaches_are passed (suc point) drives)
+
+  pub behind_time_are : (flowing : Flowing Played) → AllAre P (behind_time flowing)
+  behind_time_are flowing = all_joined P (deliveries _ flowing.passed _) _ (deliveries_are _ flowing.passed _) (all_joined P (ticks _ 0 _) _ (ticks_are _ 0 _) (reaches_are _ 0 flowing.drives))
+
+-- those behind its time are calm
 abbrev pub AreCalm : List RoundEvent → Type 0
-AreCalm [] = Unit {0}
-AreCalm (first ∷ others) = IsCalm first.event × AreCalm others
+AreCalm list = AllAre IsCalm list
 
 pub calm_joined : (one other : List RoundEvent) → AreCalm one → AreCalm other → AreCalm (one ++ other)
-calm_joined [] other first second = second
-calm_joined (head ∷ one) other first second = (first.0, calm_joined one other first.1 second)
-
-delivery_calm : (place : ℕ) (arrival : Option (NodeId × List ℕ)) → AreCalm (delivery place arrival)
-delivery_calm place None = tt
-delivery_calm place (Some arrival) = (tt, tt)
-
-deliveries_calm : (arrival : ℕ → Option (NodeId × List ℕ)) (place more : ℕ) → AreCalm (deliveries arrival place more)
-unfolding deliveries
-deliveries_calm arrival place zero = tt
-deliveries_calm arrival place (suc more) = calm_joined (delivery place (arrival place)) (deliveries arrival (suc place) more) (delivery_calm place (arrival place)) (deliveries_calm arrival (suc place) more)
+calm_joined = all_joined IsCalm
 
 pub ticks_calm : (passed node more : ℕ) → AreCalm (ticks passed node more)
-unfolding ticks
-ticks_calm passed node zero = tt
-ticks_calm passed node (suc more) = (tt, ticks_calm passed (suc node) more)
-
-reach_calm : (passed point : ℕ) (drive : Option FoundDriven) → AreCalm (reach passed point drive)
-reach_calm passed point None = tt
-reach_calm passed point (Some drive) = choose (nat_lt drive.rounds 50)
-  where
-    choose : (b : Bool) → AreCalm (if b then [] else (record { event = event.Reach (record { 0 = point }) (position_of drive.side); passed = passed } ∷ []))
-    choose true = tt
-    choose false = (tt, tt)
+ticks_calm = ticks_are IsCalm (λ node bytes. tt) (λ node. tt) (λ point position. tt)
 
 pub reaches_calm : (passed point : ℕ) (drives : List (Option FoundDriven)) → AreCalm (reaches passed point drives)
-unfolding reaches
-reaches_calm passed point [] = tt
-reaches_calm passed point (drive ∷ drives) = calm_joined (reach passed point drive) (reaches passed (suc point) drives) (reach_calm passed point drive) (reaches_calm passed (suc point) drives)
+reaches_calm = reaches_are IsCalm (λ node bytes. tt) (λ node. tt) (λ point position. tt)
 
 pub behind_calm : (flowing : Flowing Played) → AreCalm (behind_time flowing)
-behind_calm flowing = calm_joined (deliveries _ flowing.passed _) _ (deliveries_calm _ flowing.passed _) (calm_joined (ticks _ 0 _) _ (ticks_calm _ 0 _) (reaches_calm _ 0 flowing.drives))
+behind_calm = behind_time_are IsCalm (λ node bytes. tt) (λ node. tt) (λ point position. tt)
 
 -- what each event keeps, a list of them keeps
 all_keeps : (P : Played → Type 0) → ((world : Played) (one : Event) → P world → P (after world one)) → (list : List RoundEvent) (flowing : Flowing Played) → P flowing.state → P (all_did stations list flowing).state

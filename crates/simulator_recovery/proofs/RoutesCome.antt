@@ -22,7 +22,6 @@ use Rattle.simulator_run.specs.ixl_rules.declared.command.Command.TheVariants as
 use Rattle.simulator_run.specs.simulator_event.declared.event.Event.{Event}
 use Rattle.simulator_run.specs.simulator_event.declared.event.Event.TheVariants as event
 use Rattle.simulator_run.specs.simulator_event.refused.Refused.{Refused}
-use Rattle.simulator_run.specs.declared.round.RoundEvent.{RoundEvent}
 use Rattle.simulator_run.specs.Flow.{Flowing, due, round, round_of_time, stations}
 use Rattle.simulator_run.specs.simulator_event.declared.reply.Answer.TheVariants as answer
 use Rattle.simulator_run.specs.Happens.{answered, happens}
@@ -43,16 +42,18 @@ use Rattle.simulator_recovery.specs.Shows.{ProceedsAt, ProceedsThrough, RoutePro
 use Rattle.simulator_recovery.proofs.Addressed.{at_front}
 use Rattle.simulator_recovery.proofs.AtLink.{Found, found, mapped, of_second}
 use Rattle.simulator_recovery.proofs.DueAccepted.{accepted_clear, accepted_course, accepted_goes_on}
-use Rattle.simulator_recovery.proofs.GivenNoMore.{AreOfRound, IsOfRound, due_of}
+use Rattle.simulator_recovery.proofs.DueRounds.{due_keep}
 use Rattle.simulator_recovery.proofs.LinkRounds.{after_each, round_tried}
 use Rattle.simulator_recovery.proofs.Lists.{at_place, each_both, map_length}
+use Rattle.simulator_recovery.proofs.MovesAnswered.{rounds_both}
 use Rattle.simulator_recovery.proofs.ProceedsRounds.{ShowsLaws}
-use Rattle.simulator_recovery.proofs.ProceedsStays.{below_before, stays_shown}
+use Rattle.simulator_recovery.proofs.ProceedsStays.{stays_shown}
 use Rattle.simulator_recovery.proofs.Ready.{ReadyLaws, fewer_time, links_ready}
-use Rattle.simulator_recovery.proofs.Rounds.{IsAt, ReachLaws, rounds_reached, tried_reached}
+use Rattle.simulator_recovery.proofs.Rounds.{events_are, IsAt, ReachLaws, rounds_reached, tried_reached}
 use Rattle.simulator_recovery.proofs.RoutesGround.{CourseLaws, course_behind, course_ends, course_proceeds, each_of, known_behind, ready_behind}
 use Rattle.simulator_recovery.proofs.RoutesRounds.{UpLaws, up_throughout}
 use Rattle.simulator_recovery.proofs.StopComes.{entry_there}
+use Rattle.simulator_recovery.proofs.WindowsAlone.{below_two}
 
 -- ---- the links of a route
 
@@ -146,22 +147,11 @@ module _ (laws : CourseLaws) (ready_laws : ReadyLaws) (sited : SitedTable) (stat
     events_way (first ∷ others) world at keeps is up clear = events_way others (after world first) (tried_reached reach sited world first at) keeps.1 (tried_way first world at keeps.0 is up.0 clear.0) up.1 clear.1
 
     -- the events of a round cancel nothing
-    round_keeps : (list : List RoundEvent) → AreOfRound list → Each (KeepsSetting sited.site number) (map event_of list)
-    round_keeps [] of = tt
-    round_keeps (first ∷ others) of = (one_keeps first.event of.0, round_keeps others of.1)
-      where
-        one_keeps : (one : Event) → IsOfRound one → KeepsSetting sited.site number one
-        one_keeps (event.Time elapsed clocks) is = tt
-        one_keeps (event.Deliver node bytes) is = tt
-        one_keeps (event.Tick node) is = tt
-        one_keeps (event.Reach point position) is = tt
-        one_keeps (event.Request command) is = absurd is
-        one_keeps (event.Occupy section occupancy) is = absurd is
-        one_keeps (event.Lose bytes) is = absurd is
-        one_keeps (event.Restart node clock first) is = absurd is
+    round_keeps : (flowing : Flowing Played) → Each (KeepsSetting sited.site number) (map event_of (due stations flowing))
+    round_keeps flowing = events_are (KeepsSetting sited.site number) (due stations flowing) (due_keep sited.site number flowing)
 
     all_keep : (between : List Event) (flowing : Flowing Played) → Each (KeepsSetting sited.site number) between → Each (KeepsSetting sited.site number) (events_of_round between flowing)
-    all_keep between flowing keeps = each_both (KeepsSetting sited.site number) (map event_of (due stations flowing)) between (round_keeps (due stations flowing) (due_of flowing)) keeps
+    all_keep between flowing keeps = each_both (KeepsSetting sited.site number) (map event_of (due stations flowing)) between (round_keeps flowing) keeps
 
     each_at : (events : List Event) (world : Played) → IsAt sited world → IsAt sited (after_each events world)
     each_at [] world at = at
@@ -203,7 +193,7 @@ module _ (laws : CourseLaws) (ready_laws : ReadyLaws) (sited : SitedTable) (stat
   )
     where
       round_alone : Way Proceeds proceeds_on (after_each (map event_of (due stations flowing)) flowing.state).run
-      round_alone = events_way Proceeds proceeds_on (map event_of (due stations flowing)) flowing.state at (round_keeps Proceeds proceeds_on (due stations flowing) (due_of flowing)) (way, is)
+      round_alone = events_way Proceeds proceeds_on (map event_of (due stations flowing)) flowing.state at (round_keeps Proceeds proceeds_on flowing) (way, is)
           (front_behind (λ w. AreLinksUp row w.run) (map event_of (due stations flowing)) between flowing.state up.0) (front_behind (HasClearSections row) (map event_of (due stations flowing)) between flowing.state clear.0)
 
       next_way : Way Proceeds proceeds_on (all_tried between (round stations flowing)).state.run
@@ -311,7 +301,7 @@ module _ (laws : ComesLaws) (between : List Event) (flowing : Flowing Played) (n
     can_before = fewer_time (suc (length later_rounds)) (suc (length (later_rounds ++ more))) (clocks_of flowing.state.run) (let n = length-append later_rounds more in omega (arith, n)) can
 
     ready_on : (link : ℕ) → link < links sited.site → StaysBelowLimit sited.site link (later_rounds ++ more) begun → IsReadyOn sited.site link (behind later_rounds).state.run
-    ready_on link there stays = links_ready laws.up.ready between later_rounds flowing link once station is_table reached work works can_before there long (λ before are. below_before link later_rounds more begun before (stays before are))
+    ready_on link there stays = links_ready laws.up.ready between later_rounds flowing link once station is_table reached work works can_before there long (λ before are. below_two link later_rounds more begun before (stays before are))
 
     up_on : (link : ℕ) → link < links sited.site → StaysBelowLimit sited.site link (later_rounds ++ more) begun → IsClientUp link (behind later_rounds).state.run
     up_on link there stays = ready_up sited.site station (behind later_rounds).state.run (whole_behind later_rounds) (laws.up.ready.stand sited.site sited.table (behind later_rounds).state.run station (at_behind later_rounds).reached) link there (ready_on link there stays)
@@ -343,19 +333,14 @@ module _ (laws : ComesLaws) (between : List Event) (flowing : Flowing Played) (n
         → IsOnWay laws.course laws.up.ready sited station once is_table number row row_there (good_rounds more (behind later_rounds)).state.run × AllClear sited.table (good_rounds more (behind later_rounds)).state.run.station.ixl row.sections
     way_behind clear course cleared = goes_behind (λ world. AllClear sited.table world.station.ixl row.sections) (clear_on laws.course laws.up.ready sited station once is_table number row row_there) clear course cleared
 
-  -- rounds, and others behind them
-  joined : (one other : List (List Event)) (start : Flowing Played) → good_rounds (one ++ other) start ≡ good_rounds other (good_rounds one start)
-  joined [] other start = refl
-  joined (first ∷ one) other start = joined one other (all_tried first (round stations start))
-
   throughout_front : (holds : Played → Type 0) (one other : List (List Event)) (start : Flowing Played) → Throughout holds (one ++ other) start → Throughout holds one start × Throughout holds other (good_rounds one start)
   throughout_front holds [] other start each = (tt, each)
   throughout_front holds (first ∷ one) other start each = let more = throughout_front holds one other (all_tried first (round stations start)) each.1 in ((each.0, more.0), more.1)
 
   fewer_below : (one other : List (List Event)) → AreBelowLimit sited.site row (one ++ other) begun → AreBelowLimit sited.site row one begun
   fewer_below one other below = record {
-    signal = λ before are. below_before row.entry one other begun before (below.signal before are);
-    points = λ need within before are. below_before (point_link sited.site need.point) one other begun before (below.points need within before are);
+    signal = λ before are. below_two row.entry one other begun before (below.signal before are);
+    points = λ need within before are. below_two (point_link sited.site need.point) one other begun before (below.points need within before are);
   }
 
   -- what is known behind some of the rounds is known behind all
@@ -375,12 +360,12 @@ module _ (laws : ComesLaws) (between : List Event) (flowing : Flowing Played) (n
         (fewer_below (later_rounds ++ front) rest below) keeps few (throughout_front (HasClearSections row) front rest (behind later_rounds) clear).0 course cleared).0
 
     rest_up : Throughout (λ w. AreLinksUp row w.run) rest (good_rounds front (behind later_rounds))
-    rest_up = subst (Throughout (λ w. AreLinksUp row w.run) rest) (joined later_rounds front begun) (all_up (later_rounds ++ front) rest some_works rest_works can some_long below rest_keeps few)
+    rest_up = subst (Throughout (λ w. AreLinksUp row w.run) rest) (rounds_both later_rounds front begun) (all_up (later_rounds ++ front) rest some_works rest_works can some_long below rest_keeps few)
 
     pub stays_known : Known (good_rounds front (behind later_rounds)).state.run.station.ixl need.point need.side → Known (good_rounds (front ++ rest) (behind later_rounds)).state.run.station.ixl need.point need.side
-    stays_known known = subst (λ (f : Flowing Played). Known f.state.run.station.ixl need.point need.side) (sym (joined front rest (behind later_rounds)))
+    stays_known known = subst (λ (f : Flowing Played). Known f.state.run.station.ixl need.point need.side) (sym (rounds_both front rest (behind later_rounds)))
         (rounds_way laws.course laws.up.ready sited station once is_table number row row_there (λ world. Known world.station.ixl need.point need.side) (known_on laws.course laws.up.ready sited station once is_table number row row_there need within) rest
-        (good_rounds front (behind later_rounds)) (subst (λ (f : Flowing Played). IsAt sited f.state) (joined later_rounds front begun) (at_behind (later_rounds ++ front))) rest_keeps (front_way, known) rest_up
+        (good_rounds front (behind later_rounds)) (subst (λ (f : Flowing Played). IsAt sited f.state) (rounds_both later_rounds front begun) (at_behind (later_rounds ++ front))) rest_keeps (front_way, known) rest_up
         (throughout_front (HasClearSections row) front rest (behind later_rounds) clear).1).1
 
   -- so is what is known within them
@@ -401,10 +386,10 @@ module _ (laws : ComesLaws) (between : List Event) (flowing : Flowing Played) (n
       → AreKnownWithin row more (behind later_rounds) → Each (Each IsWork) more → HasTime (suc (length ((later_rounds ++ more) ++ still))) flowing.state.run → AreBelowLimit sited.site row ((later_rounds ++ more) ++ still) begun → Each (Each (KeepsSetting sited.site number)) more
       → Throughout (HasClearSections row) (more ++ still) (behind later_rounds) → AllKnown (behind (later_rounds ++ more)).state.run.station.ixl row.needs
   all_within later_rounds more still works long course cleared found more_works can below keeps clear = each_of (λ (need : Need). Known (behind (later_rounds ++ more)).state.run.station.ixl need.point need.side) row.needs (λ need within.
-      subst (λ (f : Flowing Played). Known f.state.run.station.ixl need.point need.side) (sym (joined later_rounds more begun)) (by_need need within (found need within) more_works can below keeps clear))
+      subst (λ (f : Flowing Played). Known f.state.run.station.ixl need.point need.side) (sym (rounds_both later_rounds more begun)) (by_need need within (found need within) more_works can below keeps clear))
     where
       in_range : (need : Need) → Contains row.needs need → need.point < length sited.site.points
-      in_range need within = let w = found need within in known_in_range (later_rounds ++ w.front) need.point need.side (subst (λ (f : Flowing Played). Known f.state.run.station.ixl need.point need.side) (sym (joined later_rounds w.front begun)) w.known)
+      in_range need within = let w = found need within in known_in_range (later_rounds ++ w.front) need.point need.side (subst (λ (f : Flowing Played). Known f.state.run.station.ixl need.point need.side) (sym (rounds_both later_rounds w.front begun)) w.known)
 
       by_need : (need : Need) → Contains row.needs need → IsKnownWithin need more (behind later_rounds) → Each (Each IsWork) more → HasTime (suc (length ((later_rounds ++ more) ++ still))) flowing.state.run → AreBelowLimit sited.site row ((later_rounds ++ more) ++ still) begun
           → Each (Each (KeepsSetting sited.site number)) more → Throughout (HasClearSections row) (more ++ still) (behind later_rounds) → Known (good_rounds more (behind later_rounds)).state.run.station.ixl need.point need.side
@@ -422,7 +407,7 @@ module _ (laws : ComesLaws) (between : List Event) (flowing : Flowing Played) (n
 
     -- behind the first rounds, and behind more
     first_way : IsOnWay laws.course laws.up.ready sited station once is_table number row row_there (behind (later_rounds ++ more)).state.run × AllClear sited.table (behind (later_rounds ++ more)).state.run.station.ixl row.sections
-    first_way = subst (λ (f : Flowing Played). IsOnWay laws.course laws.up.ready sited station once is_table number row row_there f.state.run × AllClear sited.table f.state.run.station.ixl row.sections) (sym (joined later_rounds more begun))
+    first_way = subst (λ (f : Flowing Played). IsOnWay laws.course laws.up.ready sited station once is_table number row row_there f.state.run × AllClear sited.table f.state.run.station.ixl row.sections) (sym (rounds_both later_rounds more begun))
         (way_behind later_rounds more works more_works (fewer_time (suc (length (later_rounds ++ more))) (suc (length ((later_rounds ++ more) ++ still))) (clocks_of flowing.state.run) (let n = length-append (later_rounds ++ more) still in omega (arith, n)) can) long
         (fewer_below (later_rounds ++ more) still below) keeps few (throughout_front (HasClearSections row) more still (behind later_rounds) clear).0 course cleared)
 
@@ -440,7 +425,7 @@ module _ (laws : ComesLaws) (between : List Event) (flowing : Flowing Played) (n
     long_enough = let n = length-append later_rounds more in omega (arith, long, n)
 
     still_clear : Throughout (HasClearSections row) still (behind (later_rounds ++ more))
-    still_clear = subst (Throughout (HasClearSections row) still) (sym (joined later_rounds more begun)) (throughout_front (HasClearSections row) more still (behind later_rounds) clear).1
+    still_clear = subst (Throughout (HasClearSections row) still) (sym (rounds_both later_rounds more begun)) (throughout_front (HasClearSections row) more still (behind later_rounds) clear).1
 
     proceeds_still : ProceedsThrough number row still (behind (later_rounds ++ more))
     proceeds_still = proceeds_through laws.course laws.up.ready sited station once is_table number row row_there still (behind (later_rounds ++ more)) (at_behind (later_rounds ++ more)) still_keeps first_way.0 (has_aspect, known)

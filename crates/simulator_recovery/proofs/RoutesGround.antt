@@ -24,6 +24,7 @@ use Rattle.simulator_headline.specs.Reached.{IsReached}
 use Rattle.simulator_recovery.specs.Counts.{ClientStandsAt, EachClient}
 use Rattle.simulator_recovery.specs.NothingDue.{HasAspect, HasPointsUp, IsClearFor, IsInside, IsUpheld, KeepsSetting, Waits}
 use Rattle.simulator_recovery.specs.RoutesCome.{AreLinksUp, IsOnCourse}
+use Rattle.simulator_recovery.proofs.ClientBehind.{available_ready}
 use Rattle.simulator_recovery.proofs.DueEvents.{event_then}
 use Rattle.simulator_recovery.proofs.DueHeld.{held_known}
 use Rattle.simulator_recovery.proofs.DueProceeding.{clear_goes_on}
@@ -33,7 +34,6 @@ use Rattle.simulator_recovery.proofs.DueTests.{known_then}
 use Rattle.simulator_recovery.proofs.DueCourse.{LeavesSetting, StopLaw, at_changed, leaves_of, not_anew, seen_held, until_moved, waits_held, waits_keep}
 use Rattle.simulator_recovery.proofs.DueShapes.{over_keeps, route_keeps, where_keeps}
 use Rattle.simulator_recovery.proofs.DueTicks.{clients_stand, clients_stepped, known_still, ticks_bring_nothing}
-use Rattle.simulator_recovery.proofs.ClientTalk.{available_ready}
 use Rattle.simulator_recovery.proofs.LinkCounts.{settled_open}
 use Rattle.simulator_recovery.proofs.ClientLinks.{up_open}
 use Rattle.simulator_recovery.proofs.NothingDueProceeds.{AspectLeaves, ProceedLaw, aspect_leaves}

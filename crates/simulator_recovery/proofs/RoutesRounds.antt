@@ -27,13 +27,13 @@ use Rattle.simulator_recovery.proofs.ClientLinks.{up_open}
 use Rattle.simulator_recovery.proofs.ComeUp.{Begun, begun_so, behind_rounds, links_after, rounds_open}
 use Rattle.simulator_recovery.proofs.LinkRounds.{Followed, HasThese, LinkLaws, after_each, all_followed, are_links, links_both, round_tried, then_followed}
 use Rattle.simulator_recovery.proofs.Lists.{each_both}
-use Rattle.simulator_recovery.proofs.ProceedsStays.{below_before}
 use Rattle.simulator_recovery.proofs.Ready.{IsUpBehind, ReadyLaws, all_over, count_front, fewer_time, front_of, links_ready, ups}
 use Rattle.simulator_recovery.proofs.Rounds.{IsAt, rounds_reached, tried_reached}
 use Rattle.simulator_recovery.proofs.RoutesConnection.{HeldLaws}
 use Rattle.simulator_recovery.proofs.RoutesLinks.{InOneAt, ready_some, up_between}
 use Rattle.simulator_recovery.proofs.StaysOpen.{rounds_stay}
 use Rattle.simulator_recovery.proofs.StopComes.{last_round}
+use Rattle.simulator_recovery.proofs.WindowsAlone.{below_two}
 
 pub record UpLaws : Type 0 where
   pub ready : ReadyLaws
@@ -202,14 +202,14 @@ module _ (laws : UpLaws) (between : List Event) (flowing : Flowing Played) (link
 
       is_ready : IsReadyOn sited.site link (good_rounds later_rounds begun).state.run
       is_ready = links_ready laws.ready between later_rounds flowing link once station is_table reached work works
-          (fewer_time (suc (length later_rounds)) (suc (length rounds)) (clocks_of flowing.state.run) (let c = count in omega (arith, c)) can) there long (λ before are. below_before link later_rounds (last ∷ []) begun before (below before are))
+          (fewer_time (suc (length later_rounds)) (suc (length rounds)) (clocks_of flowing.state.run) (let c = count in omega (arith, c)) can) there long (λ before are. below_two link later_rounds (last ∷ []) begun before (below before are))
 
   pub up_throughout : (later_rounds more : List (List Event)) → Each (Each IsWork) later_rounds → Each (Each IsWork) more → HasTime (suc (length (later_rounds ++ more))) flowing.state.run → ready_rounds ≤ suc (length later_rounds)
       → StaysBelowLimit sited.site link (later_rounds ++ more) begun → Throughout (λ world. IsClientUp link world.run) more (good_rounds later_rounds begun)
   up_throughout later_rounds [] works more_works can long below = tt
   up_throughout later_rounds (first ∷ more) works more_works can long below = (
     one_more later_rounds first works more_works.0 (fewer_time (suc (length (later_rounds ++ first ∷ []))) (suc (length (later_rounds ++ first ∷ more))) (clocks_of flowing.state.run) fewer can) long
-        (λ before are. below_before link (later_rounds ++ first ∷ []) more begun before (subst (λ (l : List (List Event)). StayBelowOn link l begun before) (sym joined) (below before are))),
+        (λ before are. below_two link (later_rounds ++ first ∷ []) more begun before (subst (λ (l : List (List Event)). StayBelowOn link l begun before) (sym joined) (below before are))),
     subst (Throughout (λ world. IsClientUp link world.run) more) next_is (up_throughout (later_rounds ++ first ∷ []) more (each_both (Each IsWork) later_rounds (first ∷ []) works (more_works.0, tt)) more_works.1
         (subst (λ (l : List (List Event)). HasTime (suc (length l)) flowing.state.run) (sym joined) can) (let count = count_front later_rounds first in omega (arith, count, long))
         (subst (λ (l : List (List Event)). StaysBelowLimit sited.site link l begun) (sym joined) below)),

@@ -31,6 +31,7 @@ use Rattle.simulator_recovery.proofs.HostKeeps.{ObjectKeeps}
 use Rattle.simulator_recovery.proofs.IxlSoFar.{same_place}
 use Rattle.simulator_recovery.proofs.Lists.{map_both}
 use Rattle.simulator_recovery.proofs.SectionsTold.{TellsOnly, all_both, behind_both, only_both, only_none, only_other, only_this}
+use Rattle.simulator_recovery.proofs.Tests.{same_number}
 
 -- ---- what contacts do
 
@@ -206,9 +207,6 @@ module _ (d : DetectorSays) where
   only_first : (place : ℕ) (occupied : Bool) (report : Report) (others : List Report) → TellsOnly place occupied (told_by peer (reading (item report))) → TellsOnly place occupied (told others) → TellsOnly place occupied (told (report ∷ others))
   unfolding told_by_all
   only_first place occupied report others one rest = only_both place occupied (told_by peer (reading (item report))) (told others) one rest
-
-  same_number : (a b : ℕ) → (a == b) ≡ true → a ≡ b
-  same_number a b f = grind (arith, nat_tests, f)
 
   -- a section's status tells of it what it is
   status_only : (list : List Section) → HasNames names list → (k place : ℕ) (s x : Section) → slice_get list k ≡ Some s → slice_get list place ≡ Some x → TellsOnly place (is_occupied x.occupancy) (told_by peer (reading (item (status_of s))))

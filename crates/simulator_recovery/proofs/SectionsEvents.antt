@@ -28,10 +28,11 @@ use Rattle.simulator_run.specs.Nodes as nodes
 use Rattle.simulator_run.specs.Nodes.{detector_link, links, node_at, point_link}
 use Rattle.simulator_run.specs.Refusals.{refusal}
 use Rattle.simulator_run.specs.State.{ClockedControllerState, WorldState}
-use Rattle.simulator_run_links.specs.Events.{anew_events, contact_events, delivery_events, events_of, host_events, interlocking_events, restart_events, tick_events, time_events}
+use Rattle.simulator_run_links.specs.Events.{anew_events, contact_events, delivery_events, events_of, host_events, interlocking_events, numbers_below, restart_events, tick_events, time_events}
 use Rattle.simulator_run_links.specs.Nodes.{MayComeWith}
+use Rattle.simulator_run_links.specs.Whole.{IsWhole}
 use Rattle.simulator_recovery.proofs.AlwaysOnLinks.{CanBe}
-use Rattle.simulator_recovery.proofs.StationTalk.{SameLists, TalkLaws, anew_same, host_same}
+use Rattle.simulator_recovery.proofs.StationTalk.{SameLists, TalkLaws, anew_same, host_same, all_anew_same}
 
 -- a step of the interlocking that can be
 pub record CanStep (site : Site) (table : Table) (input : ixl.Input) (connection : ℕ) (happening : Event) (world : WorldState) (network : Links) : Type 0 where
@@ -44,7 +45,7 @@ module _ (laws : TalkLaws) (may_come : (site : Site) (node : NodeId) (bytes : Li
     (same : (known : IxlState) (old new : Links) → SameLists old new → P known old → P known new)
     (steps : (input : ixl.Input) (connection : ℕ) (happening : Event) (world : WorldState) (network : Links) → CanStep site table input connection happening world network → Given world network → P world.station.ixl network
     → P (interlocking_step site table input world.station).ixl (run_links (interlocking_events site table input connection world.station) network))
-    (made : (begins : Beginning) (network : Links) → P (new_ixl site table begins) network) where
+    (made : (begins : Beginning) (world : WorldState) (old new : Links) → IsWhole site world → SameLists old new → Given world old → P world.station.ixl old → P (new_ixl site table begins) new) where
   none_comes : (input : ixl.Input) (network : Links) → ((bytes : List ℕ) → input ≡ ixl.Datagram bytes → ⊥) → MayComeWith site input 0 network
   none_comes input network none bytes e = absurd (none bytes e)
 
@@ -89,21 +90,22 @@ module _ (laws : TalkLaws) (may_come : (site : Site) (node : NodeId) (bytes : Li
   sense_kept occupancy None world network is = is
   sense_kept occupancy (Some reporter) world network is = host_kept detection_behaviour (inputs.Sense (sense.Section reporter.1 occupancy)) 0 (detector_link site reporter.0) (slice_get world.detectors reporter.0) world.station.ixl network is
 
-  restart_kept : (begins : Beginning) (at : Option nodes.Node) (world : WorldState) (network : Links) → P world.station.ixl network
+  restart_kept : (begins : Beginning) (at : Option nodes.Node) (world : WorldState) (network : Links) → IsWhole site world → Given world network → P world.station.ixl network
       → P (made_anew site table begins at world).station.ixl (run_links (restart_events site begins.clock begins.first at) network)
-  restart_kept begins None world network is = is
-  restart_kept begins (Some nodes.Interlocking) world network is = made begins _
-  restart_kept begins (Some (nodes.Signal place)) world network is = by_found (slice_get site.signals place)
+  restart_kept begins None world network whole given is = is
+  restart_kept begins (Some nodes.Interlocking) world network whole given is = made begins world network _ whole
+      (all_anew_same role.Client begins.clock (λ link. begins.first) (numbers_below (links site)) network) given is
+  restart_kept begins (Some (nodes.Signal place)) world network whole given is = by_found (slice_get site.signals place)
     where
       by_found : (found : Option _) → P (signal_anew site begins place found world).station.ixl (run_links (anew_events begins.clock begins.first place found) network)
       by_found None = is
       by_found (Some entry) = same world.station.ixl network _ (anew_same place role.Server begins.clock begins.first network) is
-  restart_kept begins (Some (nodes.Point place)) world network is = by_found (slice_get site.points place)
+  restart_kept begins (Some (nodes.Point place)) world network whole given is = by_found (slice_get site.points place)
     where
       by_found : (found : Option _) → P (point_anew site begins place found world).station.ixl (run_links (anew_events begins.clock begins.first (point_link site place) found) network)
       by_found None = is
       by_found (Some entry) = same world.station.ixl network _ (anew_same (point_link site place) role.Server begins.clock begins.first network) is
-  restart_kept begins (Some (nodes.Detector place)) world network is = by_found (slice_get site.detectors place)
+  restart_kept begins (Some (nodes.Detector place)) world network whole given is = by_found (slice_get site.detectors place)
     where
       by_found : (found : Option _) → P (detector_anew site begins place found world).station.ixl (run_links (anew_events begins.clock begins.first (detector_link site place) found) network)
       by_found None = is
@@ -125,4 +127,4 @@ module _ (laws : TalkLaws) (may_come : (site : Site) (node : NodeId) (bytes : Li
   event_kept (event.Lose bytes) world network can given is = same world.station.ixl network _ (record { given = λ link. refl; taken = λ link. refl }) is
   event_kept (event.Reach point position) world network can given is =
       host_kept point_behaviour (inputs.Sense (sense.Position position)) 0 (point_link site point.0) (slice_get world.points point.0) world.station.ixl network is
-  event_kept (event.Restart node clock first) world network can given is = restart_kept (record { clock = clock; first = first }) (node_at site node.0) world network is
+  event_kept (event.Restart node clock first) world network can given is = restart_kept (record { clock = clock; first = first }) (node_at site node.0) world network can.whole given is

@@ -29,13 +29,13 @@ use Rattle.simulator_recovery.specs.SectionsReported.{SpeaksAloneIn}
 use Rattle.simulator_recovery.proofs.AlwaysOnLinks.{HasHeld}
 use Rattle.simulator_recovery.proofs.ClientLinks.{up_open}
 use Rattle.simulator_recovery.proofs.ComeUp.{begun_so, behind_rounds, rounds_open}
-use Rattle.simulator_recovery.proofs.HandedOver.{client_is, server_is, settled_given}
+use Rattle.simulator_recovery.proofs.HandedOver.{client_is, server_is}
 use Rattle.simulator_recovery.proofs.InOne.{in_one}
 use Rattle.simulator_recovery.proofs.Ready.{IsUpBehind, count_front, fewer_time, two_taken_behind}
 use Rattle.simulator_recovery.proofs.Rounds.{rounds_reached}
 use Rattle.simulator_recovery.proofs.SectionsAlways.{Reporting, SectionLaws, reporting_first, reporting_held, reporting_on, timely_of}
-use Rattle.simulator_recovery.proofs.SeenSignals.{counted_given, counted_taken}
-use Rattle.simulator_recovery.proofs.Spent.{settled_taken}
+use Rattle.simulator_recovery.proofs.Shown.{counted_given, counted_taken}
+use Rattle.simulator_recovery.proofs.Spent.{settled_given, settled_taken}
 use Rattle.simulator_recovery.proofs.StaysOpen.{rounds_stay}
 use Rattle.simulator_recovery.proofs.WindowsAlone.{Good, below_two, find, given_at, good_two, ready_at, sent_is, sent_on}
 use Rattle.simulator_recovery.proofs.WindowsConfirmed.{up_behind}

@@ -7,7 +7,7 @@ use Rattle.simulator_run.specs.layout.Entries.{Site}
 use Rattle.simulator_run.specs.layout.Once.{Once}
 use Rattle.simulator_run.specs.layout.Station.{IsStation}
 use Rattle.simulator_run.specs.rasta_core.Each.{Each}
-use Rattle.simulator_run.specs.rasta_core.Links.{Links, LinksEvent, happened_to, run_links}
+use Rattle.simulator_run.specs.rasta_core.Links.{Links, LinksEvent, run_links}
 use Rattle.simulator_run.specs.ixl_rules.Table.{SitedTable, Table}
 use Rattle.simulator_run.specs.simulator_event.declared.event.Event.{Event}
 use Rattle.simulator_run.specs.simulator_event.declared.event.Event.TheVariants as event
@@ -25,13 +25,13 @@ use Rattle.simulator_recovery.specs.SectionsReported.{IsKnownAsInTheField, IsKno
 use Rattle.simulator_recovery.proofs.LinkRounds.{after_both, after_each, events_both, round_tried}
 use Rattle.simulator_recovery.proofs.Lists.{each_both}
 use Rattle.simulator_recovery.proofs.Ready.{Last, count_front, last_of}
-use Rattle.simulator_recovery.proofs.Rounds.{IsAt, rounds_reached}
+use Rattle.simulator_recovery.proofs.Rounds.{behind_time_are, events_are, IsAt, rounds_reached}
 use Rattle.simulator_recovery.proofs.SectionsInRound.{IsCalmHere, LeadsBy, paid_behind, stays_none}
 use Rattle.simulator_recovery.proofs.SectionsInSpeech.{speaks_soon}
-use Rattle.simulator_recovery.proofs.SectionsRounds.{SectionRoundLaws, WindowLaws, behind_time_is, told_are_known, tried_as}
+use Rattle.simulator_recovery.proofs.SectionsRounds.{SectionRoundLaws, WindowLaws, told_are_known, tried_as}
 use Rattle.simulator_recovery.proofs.SectionsSensed.{known_in_field}
 use Rattle.simulator_recovery.proofs.StopComes.{last_round}
-use Rattle.simulator_recovery.proofs.WindowsAlone.{Good, good_two, ready_at}
+use Rattle.simulator_recovery.proofs.WindowsAlone.{Good, good_two, ready_at, room_front}
 use Rattle.simulator_recovery.proofs.WindowsConfirmed.{Alone, AtOnce, confirms_at_once}
 use Rattle.simulator_recovery.proofs.WindowsSpoken.{Speak, SpeakLaws, count_two, each_two}
 
@@ -48,11 +48,6 @@ each_end P (x ∷ a) b [] d e few each = absurd (omega (arith, few))
 each_end P (x ∷ a) b (y ∷ c) d e few each = each_end P a b c d (ap rest_of e) (omega (arith, few)) each
 
 -- ---- a round behind which nothing comes
-
-room_front : (link : ℕ) (one other : List LinksEvent) (before : Links) → HaveRoomOn link (one ++ other) before → HaveRoomOn link one before
-room_front link [] [] before room = room
-room_front link [] (first ∷ other) before room = room.0
-room_front link (first ∷ one) other before room = (room.0, room_front link one other (happened_to first before) room.1)
 
 room_alone : (link : ℕ) (last : List Event) (flowing : Flowing Played) (before : Links) → HaveRoomOn link (calls_of_round last flowing) before → HaveRoomOn link (calls_of_round [] flowing) before
 room_alone link last flowing before room = subst (λ (calls : List LinksEvent). HaveRoomOn link calls before) (sym (events_both (map event_of (behind_time flowing)) [] timed ∙ append-nil _))
@@ -82,8 +77,11 @@ pub record HoldsOfRounds (P : Event → Type 0) : Type 0 where
 round_leads : (sited : SitedTable) (P : Event → Type 0) → HoldsOfRounds P → (flowing : Flowing Played) → flowing.state.sited ≡ sited → (last : List Event) → Each P last
     → LeadsBy sited.site sited.table P flowing.state.run (all_tried last (round stations flowing)).state.run
 round_leads sited P holds flowing same last each = subst (λ (w : Played). LeadsBy sited.site sited.table P flowing.state.run w.run) (sym (round_tried last flowing))
-    (tries_lead sited P (round_of_time flowing.state.sited.site ∷ (map event_of (behind_time flowing) ++ last)) flowing.state same
-    (holds.times flowing.state.sited.site, each_both P (map event_of (behind_time flowing)) last (behind_time_is P holds.comes holds.ticks holds.reaches flowing) each))
+    (tries_lead sited P (round_of_time flowing.state.sited.site ∷ (map event_of (behind_time flowing) ++ last)) flowing.state same (
+      holds.times flowing.state.sited.site,
+      each_both P (map event_of (behind_time flowing)) last
+          (events_are P (behind_time flowing) (behind_time_are P holds.comes holds.ticks holds.reaches flowing)) each,
+    ))
 
 -- ---- good rounds
 

@@ -57,7 +57,7 @@ use Rattle.simulator_recovery.proofs.AtLink.{mapped, of_third}
 use Rattle.simulator_recovery.proofs.ClientLinks.{up_open}
 use Rattle.simulator_recovery.proofs.ControllerTells.{given_is}
 use Rattle.simulator_recovery.proofs.ControllersOnLinks.{Lists, lists_at, lists_of}
-use Rattle.simulator_recovery.proofs.HandedOver.{client_is, server_is, settled_given}
+use Rattle.simulator_recovery.proofs.HandedOver.{client_is, server_is}
 use Rattle.simulator_recovery.proofs.InOne.{in_one}
 use Rattle.simulator_recovery.proofs.LinkCounts.{settled_open}
 use Rattle.simulator_recovery.proofs.Lists.{at_place, map_length}
@@ -70,8 +70,8 @@ use Rattle.simulator_recovery.proofs.SectionsInitial.{cut_so}
 use Rattle.simulator_recovery.proofs.SectionsKept.{AllowsAll, Brings, StepKept, event_so}
 use Rattle.simulator_recovery.proofs.SectionsNames.{says}
 use Rattle.simulator_recovery.proofs.SectionsTold.{TellsOnly, in_both, only_both, only_none}
-use Rattle.simulator_recovery.proofs.SeenSignals.{counted_given, counted_taken}
-use Rattle.simulator_recovery.proofs.Spent.{settled_taken}
+use Rattle.simulator_recovery.proofs.Shown.{counted_given, counted_taken}
+use Rattle.simulator_recovery.proofs.Spent.{settled_given, settled_taken}
 use Rattle.simulator_recovery.proofs.StationTells.{TellsDetector, keeps as tells_keep}
 use Rattle.simulator_recovery.proofs.Telling.{detectors_tell}
 

@@ -1,5 +1,5 @@
 -- What is told of a section by one good round is known behind the next.
-use Rattle.std.proofs.Common.{◌≡◌, ℕ, zero, suc, ◌-◌, ◌<◌, ◌≤◌, ◌∙◌, Bool, true, false, nat_lt, if◌then◌else◌, List, [], ◌∷◌, ◌++◌, length, map, Option, Some, None, slice_get, slice_index_or, refl, sym, ap, subst, arith}
+use Rattle.std.proofs.Common.{◌≡◌, ℕ, suc, ◌-◌, ◌<◌, ◌≤◌, ◌∙◌, Bool, true, false, nat_lt, List, [], ◌∷◌, ◌++◌, length, map, Option, Some, None, slice_get, slice_index_or, refl, sym, ap, subst, arith}
 use Rattle.std.proofs.lemmas.Bool.Decides.{nat_tests}
 use Rattle.std.proofs.lemmas.Option.{same_Some, slice_get_within}
 use Rattle.ixl_table.specs.Table.{IsReportedIn, IsTableOf, as_section}
@@ -9,7 +9,6 @@ use Rattle.simulator_run.specs.layout.Station.{IsStation}
 use Rattle.simulator_run.specs.layout.declared.ids.SectionId.{SectionId}
 use Rattle.simulator_run.specs.rasta_core.Each.{Each}
 use Rattle.simulator_run.specs.rasta_core.Ends.{reading_of}
-use Rattle.simulator_run.specs.rasta_core.Links.{Links}
 use Rattle.simulator_run.specs.rasta_core.Parameters.{window_size}
 use Rattle.simulator_run.specs.rasta_core.State.{LinkState, is_up}
 use Rattle.simulator_run.specs.object_host.Host.{is_completed}
@@ -18,15 +17,11 @@ use Rattle.simulator_run.specs.tds_ctl.declared.section.Section.{Section}
 use Rattle.simulator_run.specs.ixl_rules.Due.{At}
 use Rattle.simulator_run.specs.ixl_rules.Table.{SitedTable, Table}
 use Rattle.simulator_run.specs.simulator_event.declared.event.Event.{Event}
-use Rattle.simulator_run.specs.simulator_event.declared.event.Event.TheVariants as event
-use Rattle.simulator_run.specs.simulator_event.declared.event.NodeId.{NodeId}
 use Rattle.simulator_run.specs.simulator_event.refused.Refused.{Refused}
-use Rattle.simulator_run.specs.declared.round.FoundDriven.{FoundDriven}
-use Rattle.simulator_run.specs.declared.round.RoundEvent.{RoundEvent}
-use Rattle.simulator_run.specs.Flow.{Flowing, deliveries, delivery, position_of, reach, reaches, round, round_of_time, stations, ticks}
+use Rattle.simulator_run.specs.Flow.{Flowing, round, round_of_time, stations}
 use Rattle.simulator_run.specs.Happens.{happens}
 use Rattle.simulator_run.specs.Links.{ServerEnd, end_of_server}
-use Rattle.simulator_run.specs.Nodes.{Detector, Node, controller_at, detector_link, links, nodes, point_link}
+use Rattle.simulator_run.specs.Nodes.{Detector, Node, controller_at, detector_link, links, point_link}
 use Rattle.simulator_run.specs.Refusals.{refusal}
 use Rattle.simulator_run.specs.Run.{CanHappen, after_all}
 use Rattle.simulator_run.specs.State.{ClockedControllerState, WorldState}
@@ -35,16 +30,16 @@ use Rattle.simulator_run_links.specs.HasLinks.{IsStanding}
 use Rattle.simulator_run_links.specs.Whole.{IsWhole}
 use Rattle.simulator_headline.specs.Reached.{IsReached}
 use Rattle.simulator_recovery.specs.HandedOver.{HasHandedOver}
-use Rattle.simulator_recovery.specs.LinkRounds.{StayBelowOn, StaysBelowLimit, behind_time, event_of, links_behind}
+use Rattle.simulator_recovery.specs.LinkRounds.{StaysBelowLimit, behind_time, event_of}
 use Rattle.simulator_recovery.specs.Ready.{HostIsAt, IsAtStage, IsReadyOn, ready_rounds}
 use Rattle.simulator_recovery.specs.Rounds.{HasTime, IsWork, all_tried, clocks_of, good_rounds}
 use Rattle.simulator_recovery.specs.Matched.{name_of, section_names}
 use Rattle.simulator_recovery.specs.SectionsReported.{HasRoomToReport, IsKnownAsItIs, LeavesSection, OwesNone}
 use Rattle.simulator_recovery.proofs.HandedOver.{hands_over}
 use Rattle.simulator_recovery.proofs.LinkRounds.{after_each, round_tried}
-use Rattle.simulator_recovery.proofs.Lists.{at_place, each_both, each_mapped, map_length}
+use Rattle.simulator_recovery.proofs.Lists.{at_place, each_both, map_length}
 use Rattle.simulator_recovery.proofs.Ready.{ReadyLaws, count_front, each_front, fewer_time, links_ready}
-use Rattle.simulator_recovery.proofs.Rounds.{IsAt, rounds_reached}
+use Rattle.simulator_recovery.proofs.Rounds.{behind_time_are, events_are, IsAt, rounds_reached}
 use Rattle.simulator_recovery.proofs.SectionsAlways.{SectionLaws}
 use Rattle.simulator_recovery.proofs.SectionsOver.{comes_over}
 use Rattle.simulator_recovery.proofs.SectionsController.{IsToldAlways}
@@ -54,48 +49,7 @@ use Rattle.simulator_recovery.proofs.ClientLinks.{up_open}
 use Rattle.simulator_recovery.proofs.LinkCounts.{settled_open}
 use Rattle.simulator_recovery.proofs.MatchedEnds.{all_matched}
 use Rattle.simulator_recovery.proofs.StopComes.{last_round}
-
--- ---- the events of a round
-
--- what holds of deliveries, of ticks and of points that come to lie holds of all that is tried in a round behind its time
-module _ (P : Event → Type 0) (delivers : (node : NodeId) (bytes : List ℕ) → P (event.Deliver node bytes)) (ticks_so : (node : NodeId) → P (event.Tick node)) (reaches_so : (point : _) (position : _) → P (event.Reach point position)) where
-  abbrev EachIs : List RoundEvent → Type 0
-  EachIs list = Each (λ (one : RoundEvent). P one.event) list
-
-  joined : (one other : List RoundEvent) → EachIs one → EachIs other → EachIs (one ++ other)
-  joined one other first second = each_both (λ (e : RoundEvent). P e.event) one other first second
-
-  delivery_is : (place : ℕ) (arrival : Option (NodeId × List ℕ)) → EachIs (delivery place arrival)
-  delivery_is place None = tt
-  delivery_is place (Some arrival) = (delivers arrival.0 arrival.1, tt)
-
-  deliveries_are : (arrival : ℕ → Option (NodeId × List ℕ)) (place more : ℕ) → EachIs (deliveries arrival place more)
-  unfolding deliveries
-  deliveries_are arrival place zero = tt
-  deliveries_are arrival place (suc more) = joined (delivery place (arrival place)) (deliveries arrival (suc place) more) (delivery_is place (arrival place)) (deliveries_are arrival (suc place) more)
-
-  ticks_are : (passed node more : ℕ) → EachIs (ticks passed node more)
-  unfolding ticks
-  ticks_are passed node zero = tt
-  ticks_are passed node (suc more) = (ticks_so (record { 0 = node }), ticks_are passed (suc node) more)
-
-  reach_is : (passed point : ℕ) (drive : Option FoundDriven) → EachIs (reach passed point drive)
-  reach_is passed point None = tt
-  reach_is passed point (Some drive) = choose (nat_lt drive.rounds 50)
-    where
-      choose : (b : Bool) → EachIs (if b then [] else (record { event = event.Reach (record { 0 = point }) (position_of drive.side); passed = passed } ∷ []))
-      choose true = tt
-      choose false = (reaches_so (record { 0 = point }) (position_of drive.side), tt)
-
-  reaches_are : (passed point : ℕ) (drives : List (Option FoundDriven)) → EachIs (reaches passed point drives)
-  unfolding reaches
-  reaches_are passed point [] = tt
-  reaches_are passed point (drive ∷ drives) = joined (reach passed point drive) (reaches passed (suc point) drives) (reach_is passed point drive) (reaches_are passed (suc point) drives)
-
-  pub behind_time_is : (flowing : Flowing Played) → Each P (map event_of (behind_time flowing))
-  behind_time_is flowing = each_mapped P event_of (behind_time flowing)
-      (joined (deliveries (stations.arrival flowing.state) flowing.passed (length flowing.state.run.sent - flowing.passed)) _ (deliveries_are (stations.arrival flowing.state) flowing.passed (length flowing.state.run.sent - flowing.passed))
-      (joined (ticks (length flowing.state.run.sent) 0 (nodes flowing.state.sited.site)) _ (ticks_are (length flowing.state.run.sent) 0 (nodes flowing.state.sited.site)) (reaches_are (length flowing.state.run.sent) 0 flowing.drives)))
+use Rattle.simulator_recovery.proofs.WindowsAlone.{below_two}
 
 -- ---- what is tried, as events that can happen
 
@@ -167,8 +121,12 @@ told_are_known laws between later_rounds last flowing section reporter once stat
     tries = round_of_time old.state.sited.site ∷ (map event_of (behind_time old) ++ last)
 
     tried : TriedAs sited (LeavesSection sited.site sited.table section) tries old.state
-    tried = tried_as sited (LeavesSection sited.site sited.table section) tries old.state at_old.same
-        (tt, each_both (LeavesSection sited.site sited.table section) (map event_of (behind_time old)) last (behind_time_is (LeavesSection sited.site sited.table section) (λ node bytes. tt) (λ node. tt) (λ point position. tt) old) leaves)
+    tried = tried_as sited (LeavesSection sited.site sited.table section) tries old.state at_old.same (
+      tt,
+      each_both (LeavesSection sited.site sited.table section) (map event_of (behind_time old)) last
+          (events_are (LeavesSection sited.site sited.table section) (behind_time old)
+          (behind_time_are (LeavesSection sited.site sited.table section) (λ node bytes. tt) (λ node. tt) (λ point position. tt) old)) leaves,
+    )
 
     new_is : new.state.run ≡ after_all sited.site sited.table tried.events old.state.run
     new_is = ap (λ (f : Flowing Played). f.state.run) (last_round (between ∷ later_rounds) last flowing) ∙ (ap (λ (w : Played). w.run) (round_tried last old) ∙ tried.leads)
@@ -206,11 +164,6 @@ detector_there site place inside = rw (e, f, g) (ap (λ (n : ℕ). Some (Detecto
 pub record WindowLaws : Type 0 where
   pub told : IsToldAlways
   pub stands : Stands
-
--- fewer rounds stay below the limit as well
-fewer_below : (link : ℕ) (rounds : List (List Event)) (last : List Event) (flowing : Flowing Played) (before : Links) → StayBelowOn link (rounds ++ last ∷ []) flowing before → StayBelowOn link rounds flowing before
-fewer_below link [] last flowing before below = tt
-fewer_below link (first ∷ rounds) last flowing before below = (below.0, fewer_below link rounds last (all_tried first (round stations flowing)) (links_behind first flowing before) below.1)
 
 -- a detector that is ready and has room owes no report
 pub owes_none : WindowLaws → (site : Site) (table : Table) (world : WorldState) (section : ℕ) (reporter : ℕ × ℕ) → IsStation site → Once site → IsTableOf site table → IsReached site table world → slice_get table.reporters section ≡ Some reporter
@@ -288,7 +241,7 @@ told_with_room laws windows between later_rounds last flowing section reporter o
 
     -- the rounds but for the last stay below the limit, too
     below_front : StaysBelowLimit sited.site link later_rounds next
-    below_front before are = fewer_below link later_rounds last next before (below before are)
+    below_front before are = below_two link later_rounds (last ∷ []) next before (below before are)
 
     ready : IsReadyOn sited.site link old.state.run
     ready = links_ready laws.ready between later_rounds flowing link once station is_table reached work (each_front (Each IsWork) later_rounds last works).0

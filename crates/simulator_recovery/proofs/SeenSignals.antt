@@ -17,12 +17,12 @@ use Rattle.simulator_run.specs.layout.Entries.{Site}
 use Rattle.simulator_run.specs.layout.Once.{Once}
 use Rattle.simulator_run.specs.layout.Station.{IsStation}
 use Rattle.simulator_run.specs.rasta_core.Clock.{deadline, settled}
-use Rattle.simulator_run.specs.rasta_core.Ends.{EndState, reading_of}
+use Rattle.simulator_run.specs.rasta_core.Ends.{reading_of}
 use Rattle.simulator_run.specs.rasta_core.Links.{seen}
 use Rattle.simulator_run.specs.rasta_core.Names.{Names}
 use Rattle.simulator_run.specs.rasta_core.Ordered.{Ordered}
 use Rattle.simulator_run.specs.rasta_core.Run.{Ends}
-use Rattle.simulator_run.specs.rasta_core.Safe.{AreCounted, AreSafe, IsCounted, counts, made_anew}
+use Rattle.simulator_run.specs.rasta_core.Safe.{AreCounted, AreSafe}
 use Rattle.simulator_run.specs.rasta_core.State.{LinkState, is_open, is_up}
 use Rattle.simulator_run.specs.sci_telegram.declared.message.Aspect.{Aspect}
 use Rattle.simulator_run.specs.sci_telegram.declared.message.Aspect.TheVariants as aspects
@@ -51,11 +51,12 @@ use Rattle.simulator_recovery.specs.Shows.{IsGivenLast}
 use Rattle.simulator_recovery.proofs.Addressed.{at_front}
 use Rattle.simulator_recovery.proofs.AtLink.{mapped}
 use Rattle.simulator_recovery.proofs.ClientLinks.{up_open}
-use Rattle.simulator_recovery.proofs.HandedOver.{client_is, server_is, settled_given}
+use Rattle.simulator_recovery.proofs.HandedOver.{client_is, server_is}
 use Rattle.simulator_recovery.proofs.InOne.{ConnectionLaws, in_one}
 use Rattle.simulator_recovery.proofs.LinkCounts.{settled_open}
-use Rattle.simulator_recovery.proofs.Lists.{at_place, map_length}
-use Rattle.simulator_recovery.proofs.Spent.{settled_taken}
+use Rattle.simulator_recovery.proofs.Lists.{at_place, map_length, none_long}
+use Rattle.simulator_recovery.proofs.Shown.{counted_given, counted_taken}
+use Rattle.simulator_recovery.proofs.Spent.{settled_given, settled_taken}
 
 -- the laws that this stands on
 pub record SignalLaws : Type 0 where
@@ -109,14 +110,6 @@ pub record SignalAt (world : WorldState) (known : KnownSignalState) (server : Se
   pub commanded : aspects_given signal ≡ aspects_of commands
   pub told : aspects_given signal ≡ aspects_in given
   pub done : signal.done ≡ aspects_in taken
-
-pub counted_given : (end : EndState) → IsCounted end → is_open end.link.phase ≡ true → end.link.given ≡ length end.given
-counted_given end (counts given taken) opened = given
-counted_given end (made_anew shut given taken) opened = absurd (cc (shut, opened))
-
-pub counted_taken : (end : EndState) → IsCounted end → is_open end.link.phase ≡ true → end.link.taken ≡ length end.taken
-counted_taken end (counts given taken) opened = taken
-counted_taken end (made_anew shut given taken) opened = absurd (cc (shut, opened))
 
 module _ (laws : SignalLaws) (site : Site) (table : Table) (world : WorldState) (machine : Machine) (represented : Represents site table world machine) (place : ℕ) (below : place < links site)
     (up : IsUpOn place world) (known : KnownSignalState) (there : slice_get world.station.ixl.known_signals place ≡ Some known) (controller : ClockedControllerState SignalState) (stands : slice_get world.signals place ≡ Some controller) where
@@ -207,10 +200,6 @@ same_seen : (aspect : Aspect) → aspect_commanded aspect ≡ aspect_seen aspect
 same_seen aspects.Stop = refl
 same_seen aspects.Proceed = refl
 same_seen aspects.Slow = refl
-
-none_long : {A : Type 0} (list : List A) → length list ≡ 0 → list ≡ []
-none_long [] e = refl
-none_long (first ∷ others) e = absurd (omega (arith, e))
 
 module _ {old new : WorldState} {before after : KnownSignalState} {was_server server : ServerEnd} {was signal : Signal} (s : SignalAt old before was_server was) (t : SignalAt new after server signal)
     (over : before.client.link.given ≤ server.link.taken) where

@@ -1,5 +1,5 @@
 -- A lamp is at stop and a point undriven in a connection in which no item was taken, and in none.
-use Rattle.std.proofs.Common.{◌≡◌, ℕ, Bool, true, false, List, [], ◌∷◌, length, Option, Some, None, refl, sym, ap, ◌∙◌, arith, if◌then◌else◌}
+use Rattle.std.proofs.Common.{◌≡◌, ℕ, Bool, true, false, List, [], length, Option, Some, None, refl, sym, ap, ◌∙◌, arith, if◌then◌else◌}
 use Rattle.std.specs.Prelude.{is_some}
 use Rattle.simulator_run.specs.sci_telegram.declared.message.Aspect.{Aspect}
 use Rattle.simulator_run.specs.sci_telegram.declared.message.Aspect.TheVariants.{Stop}
@@ -29,6 +29,7 @@ use Rattle.object_host_theorem.specs.World.{World}
 use Rattle.simulator_run.specs.State.{ClockedControllerState}
 use Rattle.simulator_run_links.specs.Nodes.{IsEndOfServer}
 use Rattle.simulator_recovery.specs.Silence.{IsSpent}
+use Rattle.simulator_recovery.proofs.Lists.{none_long}
 use Rattle.simulator_recovery.proofs.Spent.{settled_taken}
 
 -- the laws of a link that this stands on
@@ -36,10 +37,6 @@ pub record CountLaws : Type 0 where
   pub counted : (names : Names) (ends : Ends) → Ordered names ends → AreCounted ends
   pub same : (names : Names) (ends : Ends) → Timely names ends → IsIn role.Server ends → ends.server.connection ≡ ends.client.connection
   pub some : (names : Names) (ends : Ends) (who : Role) → Timely names ends → IsIn who ends → (connection : ℕ) × ((end_of who ends).connection ≡ Some connection)
-
-none_long : {A : Type 0} (list : List A) → length list ≡ 0 → list ≡ []
-none_long [] e = refl
-none_long (first ∷ others) e = absurd (omega (arith, e))
 
 taken_by_count : (end : EndState) → IsCounted end → is_open end.link.phase ≡ true → end.link.taken ≡ 0 → end.taken ≡ []
 taken_by_count end (counts given taken) opened none = none_long end.taken (sym taken ∙ none)
@@ -91,3 +88,11 @@ is_undriven driven world reported told_is none = cases (drives (reading_of world
         in let once = moves_once world.object.progress moving.1
         in let untold : length world.told ≡ 0 = ap length (told_is ∙ ap commands_of (none moving.0))
         in absurd (omega (arith, each, once, untold))
+
+pub counted_given : (end : EndState) → IsCounted end → is_open end.link.phase ≡ true → end.link.given ≡ length end.given
+counted_given end (counts given taken) opened = given
+counted_given end (made_anew shut given taken) opened = absurd (cc (shut, opened))
+
+pub counted_taken : (end : EndState) → IsCounted end → is_open end.link.phase ≡ true → end.link.taken ≡ length end.taken
+counted_taken end (counts given taken) opened = taken
+counted_taken end (made_anew shut given taken) opened = absurd (cc (shut, opened))

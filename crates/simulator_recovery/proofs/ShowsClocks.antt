@@ -25,8 +25,8 @@ use Rattle.simulator_run.specs.State.{ClockedControllerState, WorldState}
 use Rattle.simulator_headline.specs.Reached.{IsReached}
 use Rattle.simulator_recovery.specs.Rounds.{clock_of, clocks_of}
 use Rattle.simulator_recovery.proofs.Clocks.{calm_still, each_joined}
-use Rattle.simulator_recovery.proofs.IxlSoFar.{first_true, last_true}
 use Rattle.simulator_recovery.proofs.Lists.{each_both}
+use Rattle.simulator_recovery.proofs.Tests.{first_true, last_true}
 
 abbrev pub IsWithin : ℕ → Type 0
 IsWithin clock = clock ≤ clock_limit

@@ -22,7 +22,8 @@ use Rattle.simulator_run.specs.ixl_client.declared.stage.Stage.TheVariants as st
 use Rattle.simulator_run.specs.ixl_rules.StepSoFar.{Signal}
 use Rattle.simulator_machine_links.specs.Flows.{given_after, taken_after}
 use Rattle.simulator_recovery.specs.ClientSaid.{commanded}
-use Rattle.simulator_recovery.proofs.ClientTalk.{Fate, Goes, Posted, Tracks, accepted, answers, asks, called, changes, closes, completes, fate, goes, posts, refused, starts, tells}
+use Rattle.simulator_recovery.proofs.ClientItem.{answers, changes, completes, Goes, starts, tells}
+use Rattle.simulator_recovery.proofs.ClientTalk.{Fate, Posted, Tracks, accepted, asks, called, closes, fate, goes, posts, refused}
 use Rattle.simulator_recovery.proofs.StationTalk.{fallen_link}
 
 -- A client awaits a report behind these calls only where it did before them, and has given the same.
@@ -38,7 +39,7 @@ pub record GivesOne (now connection : ℕ) (item : List ℕ) (given : List (List
 
 never : (peer : PeerState) (old new : Stage) → Goes peer old new → new ≡ stage.AwaitsReport → ⊥
 never peer old new (starts e f) is = false≢true (ap is_ready (sym f ∙ is))
-never peer old new (tells left e f) is = false≢true (ap is_ready (sym f ∙ is))
+never peer old new (tells left some e f) is = false≢true (ap is_ready (sym f ∙ is))
 never peer old new (completes e f) is = false≢true (ap is_available (sym is ∙ f))
 never peer old new (changes turn e f) is = false≢true (ap is_available (sym is ∙ f))
 never peer old new (answers e f) is = false≢true (ap is_available (sym is ∙ f))

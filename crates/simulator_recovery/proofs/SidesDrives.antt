@@ -38,7 +38,7 @@ use Rattle.simulator_recovery.proofs.Addressed.{partners_length}
 use Rattle.simulator_recovery.proofs.ClientLinks.{up_open}
 use Rattle.simulator_recovery.proofs.DueRoutes.{RequestLaw}
 use Rattle.simulator_recovery.proofs.LinkCounts.{settled_open}
-use Rattle.simulator_recovery.proofs.Lists.{at_place, map_length}
+use Rattle.simulator_recovery.proofs.Lists.{at_place, map_length, none_long}
 use Rattle.simulator_recovery.proofs.MovesMoment.{MomentLaws, PointAt, point_at, said_read}
 use Rattle.simulator_recovery.proofs.MovesOwed.{commands_both, last_both}
 use Rattle.simulator_recovery.proofs.NothingDueMoves.{MoveLaw}
@@ -52,10 +52,6 @@ pub record DriveLaws : Type 0 where
   pub moment : MomentLaws
   pub read_off : (site : Site) (world : WorldState) → Once site → IsStation site → (has : HasLinks site world) → (link : ℕ) → link < links site → (who : Role) (connection : ℕ)
       → (end_at who link has).connection ≡ Some connection → IsReadOff (given_on site world link who connection) connection (end_at who link has) (end_at (partner_of who) link has)
-
-none_more : (list : List (List ℕ)) → length list ≡ 0 → list ≡ []
-none_more [] e = refl
-none_more (first ∷ others) e = absurd (omega (arith, e))
 
 module _ (laws : DriveLaws) (site : Site) (table : Table) (world : WorldState) (place : ℕ) (station : IsStation site) (once : Once site) (is_table : IsTableOf site table) (reached : IsReached site table world) (few : place < length site.points)
     (ready : IsReadyOn site (point_link site place) world) (to : Side) (since : ℕ) (drives : DrivesSince place to since world) where
@@ -124,7 +120,7 @@ module _ (laws : DriveLaws) (site : Site) (table : Table) (world : WorldState) (
       let begins = ap length p.begins
       in let parts = length-append took p.rest
       in let all = it_awaits.all
-      in p.begins ∙ ap (λ (rest : List (List ℕ)). took ++ rest) (none_more p.rest (omega (arith, begins, parts, all))) ∙ append-nil took
+      in p.begins ∙ ap (λ (rest : List (List ℕ)). took ++ rest) (none_long p.rest (omega (arith, begins, parts, all))) ∙ append-nil took
 
   module _ (side : Side) (held : IsHeldAt table world.station.ixl place side) where
     h : HaveMovesWhereHeld site table world

@@ -49,9 +49,9 @@ use Rattle.simulator_recovery.proofs.DueGiven.{agreed, waits_there}
 use Rattle.simulator_recovery.proofs.DueHeld.{Holder, at_moves, heard_in, holder, in_order_of, routes_apart}
 use Rattle.simulator_recovery.proofs.DueRoutes.{PointsApart, RequestLaw}
 use Rattle.simulator_recovery.proofs.DueShapes.{along_within, over_keeps, route_keeps, where_keeps}
-use Rattle.simulator_recovery.proofs.IxlClients.{mapped_at}
+use Rattle.simulator_recovery.proofs.IxlClients.{mapped_at, point_client}
 use Rattle.simulator_recovery.proofs.IxlSoFar.{at_node}
-use Rattle.simulator_recovery.proofs.NothingDueMoves.{MoveLaw, move_leaves, point_client}
+use Rattle.simulator_recovery.proofs.NothingDueMoves.{MoveLaw, move_leaves}
 use Rattle.simulator_recovery.proofs.NothingDueStops.{HoldsEach, holds_each}
 use Rattle.simulator_recovery.proofs.Rounds.{ReachLaws}
 use Rattle.simulator_recovery.proofs.SectionsEvents.{event_kept}
@@ -233,7 +233,8 @@ module _ (laws : SidesLaws) (site : Site) (table : Table) (station : IsStation s
     };
     go = event_kept laws.talked.talk laws.talked.may_come site table Known (MovesGoWhereHeld site table) same_go
         (λ input connection one old links_of now_can known go. step_goes laws.talked.talk laws.move laws.request site table is_table input connection old links_of now_can.can.named now_can.can.whole now_can.can.timely now_can.can.are now_can.comes
-        now_can.may known.talking.stands.clients known.talking.matching.clients known.talking.talk known.reached go) new_go happening world network can going.known going.go;
+        now_can.may known.talking.stands.clients known.talking.matching.clients known.talking.talk known.reached go)
+        (λ begins old one new whole lists known go. new_go begins new) happening world network can going.known going.go;
   }
 
   first_going : (outset : Outset) → IsOutsetOf site outset → Going (world_at site table outset) (begun_links (names_at site) starts_at_zero)

@@ -1,5 +1,5 @@
 -- What a point's client has given by each part of a step, where it awaits a report: what it had, or a move to a side last.
-use Rattle.std.proofs.Common.{◌≡◌, ◌≢◌, ◌⊎◌, inl, inr, ℕ, ◌∙◌, Bool, false, List, [], ◌∷◌, ◌++◌, length, map, Option, Some, None, slice_get, refl, sym, ap, subst}
+use Rattle.std.proofs.Common.{◌≡◌, ◌≢◌, ◌⊎◌, inl, inr, ℕ, ◌∙◌, false, List, [], ◌∷◌, ◌++◌, map, Option, Some, None, slice_get, refl, sym, ap, subst}
 use Rattle.simulator_run.specs.layout.Entries.{Site}
 use Rattle.simulator_run.specs.rasta_core.State.{LinkState}
 use Rattle.simulator_run.specs.rasta_core.Steps.{all_made}
@@ -14,9 +14,9 @@ use Rattle.simulator_run.specs.ixl_client.Step.{commanding, hearing, ticking}
 use Rattle.simulator_run.specs.ixl_client.declared.command.Command.TheVariants.{Indicate, Move}
 use Rattle.simulator_run.specs.ixl_client.declared.stage.Stage.TheVariants as stage
 use Rattle.simulator_run.specs.ixl_rules.Commands.{commanded_by, obeyed, refusal, unmoved_for}
-use Rattle.simulator_run.specs.ixl_rules.Rules.{count, ended, ending_authority, freed_by_cancel, freed_by_passage, freeing_by_cancel, freeing_by_passage, freeing_next, is_proceed_due, is_stop_due, moved, proceeding, ruled, withdrawing, withdrawn}
+use Rattle.simulator_run.specs.ixl_rules.Rules.{count, freed_by_cancel, is_proceed_due, is_stop_due, moved, proceeding, ruled, withdrawing}
 use Rattle.simulator_run.specs.ixl_rules.State.{KnownPointState, changed}
-use Rattle.simulator_run.specs.ixl_rules.Step.{Commands, Datagram, Input, Tick, addressed, detector_hearing, detector_ticking, given, known_point_hearing, known_point_ticking, known_signal_hearing, known_signal_ticking, looking, looking_by, looks, node_hearing, occupied_heard, ticked, watching}
+use Rattle.simulator_run.specs.ixl_rules.Step.{Commands, Datagram, Input, Tick, addressed, detector_hearing, detector_ticking, given, known_point_hearing, known_point_ticking, known_signal_hearing, known_signal_ticking, looking, looks, node_hearing, occupied_heard, ticked, watching}
 use Rattle.simulator_run.specs.ixl_rules.StepSoFar.{Detector, Node, Point, Signal, StepSoFar, detector_after, giving_aspect, giving_move, noted, over, with_detector, with_one}
 use Rattle.simulator_run.specs.ixl_rules.Table.{Table}
 use Rattle.simulator_run.specs.ixl_rules.View.{is_signal_ready}
@@ -26,13 +26,12 @@ use Rattle.simulator_run.specs.ixl_rules.declared.command.Refusal.{Refusal}
 use Rattle.simulator_machine_links.specs.Flows.{given_after}
 use Rattle.simulator_recovery.specs.ClientSaid.{commanded}
 use Rattle.simulator_recovery.specs.SidesOfMoves.{IsLast}
+use Rattle.simulator_recovery.proofs.ClientBehind.{all_gave_behind, all_made_behind}
 use Rattle.simulator_recovery.proofs.ClientLinks.{commanding_peer, hearing_peer, ticking_peer}
-use Rattle.simulator_recovery.proofs.ClientTalk.{all_gave_behind, all_made_behind}
-use Rattle.simulator_recovery.proofs.DueShapes.{along_keeps, one_keeps, over_keeps, repeated_keeps, route_keeps, where_keeps}
-use Rattle.simulator_recovery.proofs.IxlClients.{mapped_at}
+use Rattle.simulator_recovery.proofs.DueShapes.{along_keeps, looking_turns, one_keeps, over_keeps, route_keeps, ticked_keeps, until_freed, where_keeps}
+use Rattle.simulator_recovery.proofs.IxlClients.{mapped_at, point_client}
 use Rattle.simulator_recovery.proofs.IxlSoFar.{at_itself, at_node, at_other, is_node, other_place, set_at}
 use Rattle.simulator_recovery.proofs.Lists.{map_both}
-use Rattle.simulator_recovery.proofs.NothingDueMoves.{point_client}
 use Rattle.simulator_recovery.proofs.SidesClient.{GivesNothing, GivesOne, gives_move, hears_nothing, ticks_nothing}
 
 module _ (site : Site) (now connection point : ℕ) (side : Side) (olds : List KnownPointState) (link : LinkState) (gave : List (List ℕ)) where
@@ -122,10 +121,6 @@ module _ (site : Site) (now connection point : ℕ) (side : Side) (olds : List K
 
   -- ---- the input
 
-  looking_on : (table : Table) (look : ℕ × Bool) (part : StepSoFar) → On part → On (looking table look part)
-  unfolding looking_by
-  looking_on table look part is = over_keeps On (looking_by look.0 look.1 table) (λ number q all. route_keeps On table number _ q (λ row one there at. where_keeps On _ q _ (λ due. all) all) all) (count table) part is
-
   hearing_on : (table : Table) (bytes : List ℕ) (node : Node) (part : StepSoFar) → On part → On (node_hearing now table bytes node part)
   unfolding node_hearing known_signal_hearing known_point_hearing detector_hearing
   hearing_on table bytes (Signal place) part is = one_keeps On (slice_get part.ixl.known_signals place) _ part (λ known e. elsewhere (Signal place) (hearing now bytes (begun known.client part.outbox)) part refl is) is
@@ -136,7 +131,7 @@ module _ (site : Site) (now connection point : ℕ) (side : Side) (olds : List K
       (there_too place part known e is same) (hearing_peer now bytes (begun known.client part.outbox)) (hears_nothing site now connection known.client part.outbox (so_far (at_node (Point point) part.calls)) bytes))) is) is
   hearing_on table bytes (Detector place) part is = one_keeps On (slice_get table.detectors place) _ part (λ sections f. one_keeps On (slice_get part.ixl.detectors place) _ part (λ known e.
       let done = hearing now bytes (begun known.client part.outbox)
-      in along_keeps On (looking table) (looking_on table) (looks sections known done.heard done.client)
+      in along_keeps On (looking table) (looking_turns On now table (λ number change part is. is)) (looks sections known done.heard done.client)
       (with_detector place (detector_after (occupied_heard done.heard known.occupied) done.client) (noted (Detector place) done part)) (elsewhere (Detector place) done part refl is)) is) is
 
   obeyed_on : (command : Command) (part : StepSoFar) → On part → On (record part { ixl = obeyed command part.ixl })
@@ -168,35 +163,8 @@ module _ (site : Site) (now connection point : ℕ) (side : Side) (olds : List K
   withdrawing_on table number part is = route_keeps On table number _ part (λ row one there at. where_keeps On (is_stop_due table part.ixl row one) part _
       (λ due. where_keeps On (is_signal_ready part.ixl row.entry) _ _ (λ ready. aspect_on row.entry aspects.Stop _ is) is) is) is
 
-  ending_on : (table : Table) (number : ℕ) (part : StepSoFar) → On part → On (ending_authority now table number part)
-  unfolding ending_authority
-  ending_on table number part is = route_keeps On table number _ part (λ row one there at. where_keeps On _ part _ (λ due. is) is) is
-
-  next_on : (table : Table) (number : ℕ) (part : StepSoFar) → On part → On (freeing_next table number part)
-  unfolding freeing_next
-  next_on table number part is = route_keeps On table number _ part (λ row one there at. where_keeps On _ part _ (λ due. is) is) is
-
-  passage_on : (table : Table) (number : ℕ) (part : StepSoFar) → On part → On (freeing_by_passage table number part)
-  unfolding freeing_by_passage
-  passage_on table number part is = route_keeps On table number _ part (λ row one there at. repeated_keeps On (length row.sections) (freeing_next table number) (next_on table number) part is) is
-
-  cancel_on : (table : Table) (number : ℕ) (part : StepSoFar) → On part → On (freeing_by_cancel now table number part)
-  unfolding freeing_by_cancel
-  cancel_on table number part is = route_keeps On table number _ part (λ row one there at. where_keeps On _ part _ (λ due. is) is) is
-
-  watching_on : (table : Table) (number : ℕ) (part : StepSoFar) → On part → On (watching table number part)
-  unfolding watching
-  watching_on table number part is = route_keeps On table number _ part (λ row one there at. where_keeps On _ part _ (λ due. is) is) is
-
   pub until_moves_on : (table : Table) (part : StepSoFar) → On part → On (freed_by_cancel now table (over (watching table) (count table) part))
-  until_moves_on table part is =
-      over_keeps On (freeing_by_cancel now table) (cancel_on table) (count table) (freed_by_passage now table seen)
-      (over_keeps On (freeing_by_passage table) (passage_on table) (count table) (ended now table seen)
-      (over_keeps On (ending_authority now table) (ending_on table) (count table) (withdrawn now table seen)
-      (over_keeps On (withdrawing now table) (withdrawing_on table) (count table) seen (over_keeps On (watching table) (watching_on table) (count table) part is))))
-    where
-      seen : StepSoFar
-      seen = over (watching table) (count table) part
+  until_moves_on table = until_freed On now table (λ number change part is. is) (withdrawing_on table)
 
   proceeding_on : (table : Table) (number : ℕ) (part : StepSoFar) → On part → On (proceeding now table number part)
   unfolding proceeding
@@ -221,11 +189,7 @@ module _ (site : Site) (now connection point : ℕ) (side : Side) (olds : List K
   detector_ticks_on place part is = one_keeps On (slice_get part.ixl.detectors place) _ part (λ known e. elsewhere (Detector place) (ticking now (begun known.client part.outbox)) part refl is) is
 
   ticked_on : (input : Input) (part : StepSoFar) → On part → On (ticked now input part)
-  unfolding ticked
-  ticked_on Tick part is = over_keeps On (detector_ticking now) detector_ticks_on (length part.ixl.detectors) _
-      (over_keeps On (known_point_ticking now) point_ticks_on (length part.ixl.known_points) _ (over_keeps On (known_signal_ticking now) signal_ticks_on (length part.ixl.known_signals) part is))
-  ticked_on (Datagram bytes) part is = is
-  ticked_on (Commands command) part is = is
+  ticked_on = ticked_keeps On now signal_ticks_on point_ticks_on detector_ticks_on
 
   pub behind_moves_on : (table : Table) (input : Input) (part : StepSoFar) → On (moved now table part) → On (ticked now input (ruled now table part))
   behind_moves_on table input part is = ticked_on input (ruled now table part) (over_keeps On (proceeding now table) (proceeding_on table) (count table) (moved now table part) is)

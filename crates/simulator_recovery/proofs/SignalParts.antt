@@ -26,8 +26,9 @@ use Rattle.simulator_run.specs.ixl_rules.declared.command.Command.TheVariants as
 use Rattle.simulator_run.specs.ixl_rules.declared.command.Refusal.{Refusal}
 use Rattle.simulator_run.specs.ixl_rules.declared.phase.Phase.{Phase}
 use Rattle.simulator_run.specs.ixl_rules.declared.phase.Phase.TheVariants as phase
-use Rattle.simulator_recovery.proofs.DueShapes.{along_keeps, one_keeps, over_keeps, repeated_keeps, where_keeps}
-use Rattle.simulator_recovery.proofs.IxlSoFar.{first_true, last_true, test_of}
+use Rattle.simulator_recovery.proofs.DueShapes.{along_keeps, either_keeps, moving_keeps, one_keeps, over_keeps, passage_keeps, route_holds, there_keeps, ticked_keeps, where_keeps}
+use Rattle.simulator_recovery.proofs.IxlSoFar.{test_of}
+use Rattle.simulator_recovery.proofs.Tests.{first_true, last_true}
 
 -- ---- what a part of a step does
 
@@ -163,31 +164,52 @@ was_freed now table ixl row route due = by_phase route.phase due refl
     by_phase phase.Withdrawn e is = absurd (false≢true e)
     by_phase (phase.Ended clock done) e is = inr (tt, ap is_proceeding is, ap is_set is, λ set. absurd (false≢true set))
 
+-- what is so is kept by what is done at a route of the table
+pub at_keeps : (P : StepSoFar → Type 0) (table : Table) (number : ℕ) (does : Row → RouteState → StepSoFar → StepSoFar)
+    → ((row : Row) (route : RouteState) (part : StepSoFar) → AtRoute table number row route part.ixl.routes → P part → P (does row route part)) → (part : StepSoFar) → P part
+    → P (at_route table number does part)
+at_keeps P table number does each = route_holds P table number does (λ row route part there here. each row route part (record { row_there = there; there = here }))
+
+-- ---- the rules and the looks that change a route quietly
+
+module _ (now : ℕ) (table : Table) (P : StepSoFar → Type 0)
+    (quietly : (number : ℕ) (change : RouteState → RouteState) (part : StepSoFar) → ((route : RouteState) → slice_get part.ixl.routes number ≡ Some route → IsQuiet route (change route))
+    → P part → P (with_route number change part)) where
+  pub ending_keeps : (number : ℕ) (part : StepSoFar) → P part → P (ending_authority now table number part)
+  unfolding ending_authority
+  ending_keeps number = at_keeps P table number _ (λ row route part at all. where_keeps P (is_withdrawn route.phase && is_at_known_stop now part.ixl row.entry) part _
+      (λ due. quietly number _ part (λ one e. was_withdrawn now one (ap (λ (r : RouteState). is_withdrawn r.phase) (same_Some one route (sym e ∙ at.there))
+      ∙ first_true (is_withdrawn route.phase) (is_at_known_stop now part.ixl row.entry) due)) all) all)
+
+  pub next_keeps : (number : ℕ) (part : StepSoFar) → P part → P (freeing_next table number part)
+  unfolding freeing_next
+  next_keeps number = at_keeps P table number _ (λ row route part at all. where_keeps P (frees_next table part.ixl row route route.phase) part _
+      (λ due. quietly number (one_freed row route.phase) part (λ one e. freed_quietly row route.phase one (ap (λ (r : RouteState). r.phase) (same_Some one route (sym e ∙ at.there)))) all) all)
+
+  pub cancel_keeps : (number : ℕ) (part : StepSoFar) → P part → P (freeing_by_cancel now table number part)
+  unfolding freeing_by_cancel
+  cancel_keeps number = at_keeps P table number _ (λ row route part at all. where_keeps P (route.cancelled && frees_cancelled now table part.ixl row route route.phase) part _
+      (λ due. quietly number freed part (λ one e. was_freed now table part.ixl row one
+      (ap (λ (r : RouteState). frees_cancelled now table part.ixl row r r.phase) (same_Some one route (sym e ∙ at.there)) ∙ last_true route.cancelled (frees_cancelled now table part.ixl row route route.phase) due)) all) all)
+
+  pub watching_keeps : (number : ℕ) (part : StepSoFar) → P part → P (watching table number part)
+  unfolding watching
+  watching_keeps number = at_keeps P table number _ (λ row route part at all. where_keeps P (is_proceeding route.phase || is_withdrawn route.phase) part _
+      (λ due. quietly number _ part (λ one e. inl (refl, λ cancelled. cancelled)) all) all)
+
+  pub looking_keeps : (look : ℕ × Bool) (part : StepSoFar) → P part → P (looking table look part)
+  unfolding looking_by
+  looking_keeps look = over_keeps P (looking_by look.0 look.1 table) (λ number. at_keeps P table number _ (λ row route part at all. where_keeps P (was_authorised route.phase) part _ (λ due.
+      quietly number (route_looks look.0 look.1 row) part (λ one e. looks_quietly look.0 look.1 row one) all) all)) (count table)
+
 -- ---- a step
 
 module _ (now : ℕ) (table : Table) (P : List RouteState → List KnownSignalState → Type 0) (keep : RulesKeep now table P) where
   abbrev pub Held : StepSoFar → Type 0
   Held part = P part.ixl.routes part.ixl.known_signals
 
-  -- ---- its shapes
-
-  -- where there is one
-  there_held : {A : Type 0} (found : Option A) (does : A → StepSoFar → StepSoFar) (part : StepSoFar) → (found ≡ None → ⊥) → ((one : A) → found ≡ Some one → Held (does one part)) → Held (with_one found does part)
-  there_held None does part there each = absurd (there refl)
-  there_held (Some one) does part there each = each one refl
-
-  route_held : (number : ℕ) (does : Row → RouteState → StepSoFar → StepSoFar) → ((row : Row) (route : RouteState) (part : StepSoFar) → AtRoute table number row route part.ixl.routes → Held part → Held (does row route part))
-      → (part : StepSoFar) → Held part → Held (at_route table number does part)
-  unfolding at_route
-  route_held number does each part all = one_keeps Held (slice_get table.rows number) (λ row part. with_one (slice_get part.ixl.routes number) (does row) part) part
-      (λ row e. one_keeps Held (slice_get part.ixl.routes number) (does row) part (λ route f. each row route part (record { row_there = e; there = f }) all) all) all
-
   pub over_held : (does : ℕ → StepSoFar → StepSoFar) → ((number : ℕ) (part : StepSoFar) → Held part → Held (does number part)) → (n : ℕ) (part : StepSoFar) → Held part → Held (over does n part)
   over_held = over_keeps Held
-
-  pub where_either : (b : Bool) (one other : StepSoFar) → (b ≡ true → Held one) → (b ≡ false → Held other) → Held (if b then one else other)
-  where_either true one other so not = so refl
-  where_either false one other so not = not refl
 
   quietly : (number : ℕ) (change : RouteState → RouteState) (part : StepSoFar) → ((route : RouteState) → slice_get part.ixl.routes number ≡ Some route → IsQuiet route (change route)) → Held part → Held (with_route number change part)
   quietly number change part quiet all = keep.quiet number change part.ixl.routes part.ixl.known_signals quiet all
@@ -197,7 +219,8 @@ module _ (now : ℕ) (table : Table) (P : List RouteState → List KnownSignalSt
       → ((known : KnownSignalState) (items : ℕ) (client : ClientState) → slice_get part.ixl.known_signals signal ≡ Some known → IsGiven now aspect known.client client
       → P part.ixl.routes (changed (λ old. new_signal aspect items client known) signal part.ixl.known_signals)) → Held (giving_aspect now signal aspect part)
   unfolding giving_aspect
-  aspect_held signal aspect part ready each = there_held (slice_get part.ixl.known_signals signal) _ part (none_passes part.ixl.known_signals signal (λ known. is_ready known.client.stage) ready)
+  aspect_held signal aspect part ready each = there_keeps Held (slice_get part.ixl.known_signals signal) _ part
+      (none_passes part.ixl.known_signals signal (λ known. is_ready known.client.stage) ready)
       (λ known e. each known _ _ e (record { ready = test_of part.ixl.known_signals signal (λ known. is_ready known.client.stage) known e ready; outbox = part.outbox; is = refl }))
 
   -- a move changes no route and no signal
@@ -208,33 +231,28 @@ module _ (now : ℕ) (table : Table) (P : List RouteState → List KnownSignalSt
   -- ---- the rules behind the first
 
   pub ending_held : (number : ℕ) (part : StepSoFar) → Held part → Held (ending_authority now table number part)
-  unfolding ending_authority
-  ending_held number = route_held number _ (λ row route part at all. where_keeps Held (is_withdrawn route.phase && is_at_known_stop now part.ixl row.entry) part _ (λ due. quietly number _ part (λ one e. was_withdrawn now one (ap (λ (r : RouteState). is_withdrawn r.phase) (same_Some one route (sym e ∙ at.there)) ∙ first_true (is_withdrawn route.phase) (is_at_known_stop now part.ixl row.entry) due)) all) all)
+  ending_held = ending_keeps now table Held quietly
 
   pub next_held : (number : ℕ) (part : StepSoFar) → Held part → Held (freeing_next table number part)
-  unfolding freeing_next
-  next_held number = route_held number _ (λ row route part at all. where_keeps Held (frees_next table part.ixl row route route.phase) part _ (λ due. quietly number (one_freed row route.phase) part (λ one e. freed_quietly row route.phase one (ap (λ (r : RouteState). r.phase) (same_Some one route (sym e ∙ at.there)))) all) all)
+  next_held = next_keeps now table Held quietly
 
   pub passage_held : (number : ℕ) (part : StepSoFar) → Held part → Held (freeing_by_passage table number part)
-  unfolding freeing_by_passage
-  passage_held number = route_held number _ (λ row route part at. repeated_keeps Held (length row.sections) (freeing_next table number) (next_held number) part)
+  passage_held = passage_keeps Held now table next_held
 
   pub cancel_held : (number : ℕ) (part : StepSoFar) → Held part → Held (freeing_by_cancel now table number part)
-  unfolding freeing_by_cancel
-  cancel_held number = route_held number _ (λ row route part at all. where_keeps Held (route.cancelled && frees_cancelled now table part.ixl row route route.phase) part _ (λ due. quietly number freed part (λ one e. was_freed now table part.ixl row one
-      (ap (λ (r : RouteState). frees_cancelled now table part.ixl row r r.phase) (same_Some one route (sym e ∙ at.there)) ∙ last_true route.cancelled (frees_cancelled now table part.ixl row route route.phase) due)) all) all)
+  cancel_held = cancel_keeps now table Held quietly
 
   pub moving_one_held : (number : ℕ) (need : Need) (part : StepSoFar) → Held part → Held (moving_one now table number need part)
   unfolding moving_one
-  moving_one_held number need = route_held number _ (λ row route part at all. where_keeps Held (is_move_due table part.ixl number route need) part _ (λ due. move_held need.point need.side part all) all)
+  moving_one_held number need = at_keeps Held table number _ (λ row route part at all. where_keeps Held (is_move_due table part.ixl number route need) part _
+      (λ due. move_held need.point need.side part all) all)
 
   pub moving_held : (number : ℕ) (part : StepSoFar) → Held part → Held (moving now table number part)
-  unfolding moving
-  moving_held number = route_held number _ (λ row route part at. along_keeps Held (moving_one now table number) (moving_one_held number) row.needs part)
+  moving_held = moving_keeps Held now table moving_one_held
 
   pub proceeding_held : (number : ℕ) (part : StepSoFar) → Held part → Held (proceeding now table number part)
   unfolding proceeding
-  proceeding_held number = route_held number _ (λ row route part at all. where_keeps Held (is_proceed_due now table part.ixl row route) part _ (λ due.
+  proceeding_held number = at_keeps Held table number _ (λ row route part at all. where_keeps Held (is_proceed_due now table part.ixl row route) part _ (λ due.
       aspect_held row.entry row.aspect (with_route number (authorised table part.ixl row) part) (is_ready_there now table part.ixl row route due) (λ known items client e so.
       keep.proceeds number row route known items client (authorised table part.ixl row) part.ixl.routes part.ixl.known_signals at (is_waiting_there now table part.ixl row route due) (not_cancelled_there now table part.ixl row route due) (λ one. refl) e so all)) all)
 
@@ -264,11 +282,7 @@ module _ (now : ℕ) (table : Table) (P : List RouteState → List KnownSignalSt
   detector_ticked place part all = one_keeps Held (slice_get part.ixl.detectors place) _ part (λ known e. all) all
 
   pub ticked_held : (input : Input) (part : StepSoFar) → Held part → Held (ticked now input part)
-  unfolding ticked
-  ticked_held Tick part all = over_held (detector_ticking now) detector_ticked (length part.ixl.detectors) _
-      (over_held (known_point_ticking now) point_ticked (length part.ixl.known_points) _ (over_held (known_signal_ticking now) signal_ticked (length part.ixl.known_signals) part all))
-  ticked_held (Datagram bytes) part all = all
-  ticked_held (Commands command) part all = all
+  ticked_held = ticked_keeps Held now signal_ticked point_ticked detector_ticked
 
 -- ---- and all parts of it
 
@@ -278,15 +292,14 @@ module _ (now : ℕ) (table : Table) (Obeys : Command → Type 0) (P : List Rout
 
   pub withdrawing_held : (number : ℕ) (part : StepSoFar) → Holds part → Holds (withdrawing now table number part)
   unfolding withdrawing
-  withdrawing_held number = route_held now table P keep.rules number _ (λ row route part at all. where_keeps Holds (is_stop_due table part.ixl row route) part _ (λ due.
+  withdrawing_held number = at_keeps Holds table number _ (λ row route part at all. where_keeps Holds (is_stop_due table part.ixl row route) part _ (λ due.
       let given : is_proceeding route.phase ≡ true = first_true (is_proceeding route.phase) _ due
-      in where_either now table P keep.rules (is_signal_ready part.ixl row.entry) _ _
+      in either_keeps Holds (is_signal_ready part.ixl row.entry) _ _
       (λ ready. aspect_held now table P keep.rules row.entry aspects.Stop (with_route number (come_to phase.Withdrawn) part) ready (λ known items client e so. keep.withdraws number row route known items client part.ixl.routes part.ixl.known_signals at given e so all))
       (λ not_ready. keep.falls number row route part.ixl.routes part.ixl.known_signals at given not_ready all)) all)
 
   pub watching_held : (number : ℕ) (part : StepSoFar) → Holds part → Holds (watching table number part)
-  unfolding watching
-  watching_held number = route_held now table P keep.rules number _ (λ row route part at all. where_keeps Holds (is_proceeding route.phase || is_withdrawn route.phase) part _ (λ due. quietly now table P keep.rules number _ part (λ one e. inl (refl, λ cancelled. cancelled)) all) all)
+  watching_held = watching_keeps now table Holds (quietly now table P keep.rules)
 
   -- behind the first rule, and behind the second
   pub behind_withdrawal : (part : StepSoFar) → Holds (withdrawn now table part) → Holds (ruled now table part)
@@ -299,9 +312,7 @@ module _ (now : ℕ) (table : Table) (Obeys : Command → Type 0) (P : List Rout
   -- ---- what is heard
 
   looking_held : (look : ℕ × Bool) (part : StepSoFar) → Holds part → Holds (looking table look part)
-  unfolding looking_by
-  looking_held look = over_held now table P keep.rules (looking_by look.0 look.1 table) (λ number. route_held now table P keep.rules number _ (λ row route part at all. where_keeps Holds (was_authorised route.phase) part _ (λ due.
-      quietly now table P keep.rules number (route_looks look.0 look.1 row) part (λ one e. looks_quietly look.0 look.1 row one) all) all)) (count table)
+  looking_held = looking_keeps now table Holds (quietly now table P keep.rules)
 
   hearing_held : (bytes : List ℕ) (node : Node) (part : StepSoFar) → Holds part → Holds (node_hearing now table bytes node part)
   unfolding node_hearing known_signal_hearing known_point_hearing detector_hearing

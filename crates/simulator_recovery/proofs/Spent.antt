@@ -253,3 +253,11 @@ module _ (laws : SilenceLaws) (site : Site) (table : Table) (station : IsStation
       in let last = from_first (Point place) made (point_link site place) within (λ world network is. point_hears made world network is place below) outset lies events can takes
       in spent (Point place) made (point_link site place) within (λ world network is. point_hears made world network is place below) (after_all site table events (world_at site table outset)) last.0 last.1 late point
       (laws.end_of_point site (after_all site table events (world_at site table outset)) last.0 last.1.linked.whole last.1.linked.are place point there).1
+
+pub settled_given : (now : ℕ) (l : LinkState) → (settled now l).given ≡ l.given
+unfolding settled
+settled_given now l = choose (is_open l.phase && nat_le (deadline l) now)
+  where
+    choose : (b : Bool) → (if b then record l { phase = phase.Closed; closed_at = deadline l; clock = now } else record l { clock = now }).given ≡ l.given
+    choose true = refl
+    choose false = refl

@@ -1,5 +1,5 @@
--- What the clients of a station have given is what their stages tell, event by event.
-use Rattle.std.proofs.Common.{◌≡◌, ◌≢◌, ℕ, zero, suc, ◌∙◌, ◌<◌, ◌+◌, ◌==◌, Bool, true, false, not, ◌&&◌, List, [], ◌∷◌, ◌++◌, length, map, Option, Some, None, slice_get, slice_set, Result, Ok, Err, ◌⊎◌, if◌then◌else◌, refl, sym, ap, subst, arith}
+-- What the clients of a station have given is what their stages tell, step by step.
+use Rattle.std.proofs.Common.{◌≡◌, ◌≢◌, ℕ, zero, suc, ◌∙◌, ◌<◌, ◌+◌, ◌==◌, Bool, true, false, not, ◌&&◌, List, [], ◌∷◌, ◌++◌, length, map, Option, Some, None, slice_get, Result, Ok, Err, ◌⊎◌, if◌then◌else◌, refl, sym, ap, subst, arith}
 use Rattle.std.specs.Prelude.{◌||◌, nat_lt}
 use Rattle.std.specs.List.{list_any}
 use Rattle.std.proofs.lemmas.Bool.{false≢true}
@@ -11,14 +11,12 @@ use Rattle.simulator_run.specs.control_table.Table.{is_slow}
 use Rattle.simulator_run.specs.layout.Entries.{RouteEntry, Site}
 use Rattle.simulator_run.specs.sci_telegram.declared.message.Aspect.{Aspect}
 use Rattle.simulator_run.specs.sci_telegram.declared.message.Aspect.TheVariants as aspects
-use Rattle.simulator_run.specs.sci_telegram.declared.message.Occupancy.{Occupancy}
-use Rattle.simulator_run.specs.rasta_core.Calls.{created, hearing_bytes, receiving}
+use Rattle.simulator_run.specs.rasta_core.Calls.{hearing_bytes, receiving}
 use Rattle.simulator_run.specs.rasta_core.Clock.{deadline, open_state, settled, state_at}
 use Rattle.simulator_run.specs.rasta_core.EachLink.{AreTimely}
-use Rattle.simulator_run.specs.rasta_core.Ends.{Call, EndState, end_later, end_restarted, reading_of}
-use Rattle.simulator_run.specs.rasta_core.Ends as ends
+use Rattle.simulator_run.specs.rasta_core.Ends.{Call, EndState, end_restarted, reading_of}
 use Rattle.simulator_run.specs.rasta_core.Events.{run}
-use Rattle.simulator_run.specs.rasta_core.Links.{AreLinks, CallsOn, Links, MayCallOn, MayRunLinks, RestartsOn, begun as begun_links, happened_to, run_links, seen}
+use Rattle.simulator_run.specs.rasta_core.Links.{AreLinks, CallsOn, Links, MayRunLinks, RestartsOn, happened_to, run_links, seen}
 use Rattle.simulator_run.specs.rasta_core.Names.{Names}
 use Rattle.simulator_run.specs.rasta_core.Nodes.{NodeCall, at_link, calls_of, restarts_of}
 use Rattle.simulator_run.specs.rasta_core.PdusHandedOut.{Step}
@@ -28,8 +26,6 @@ use Rattle.simulator_run.specs.rasta_core.State.{LinkState, is_client, is_open, 
 use Rattle.simulator_run.specs.rasta_core.Steps.{calls_at}
 use Rattle.simulator_run.specs.rasta_core.identity.Role.{Role}
 use Rattle.simulator_run.specs.rasta_core.identity.Role.TheVariants as role
-use Rattle.simulator_run.specs.rasta_core.phase.Phase.{Phase}
-use Rattle.simulator_run.specs.rasta_core.phase.Phase.TheVariants as phases
 use Rattle.simulator_run.specs.rasta_core.phase.State.TheVariants as states
 use Rattle.simulator_run.specs.rasta_core.verdict.Verdict.TheVariants as verdict
 use Rattle.simulator_run.specs.rasta_pdu.PduRead.{reading}
@@ -39,9 +35,7 @@ use Rattle.simulator_run.specs.rasta_pdu.declared.fault.PduFault.{PduFault}
 use Rattle.simulator_run.specs.rasta_pdu.declared.pdu.Pdu.{Pdu}
 use Rattle.simulator_run.specs.object_host.Behaviour.{Behaviour}
 use Rattle.simulator_run.specs.object_host.declared.input.Input.{Input as HostInput}
-use Rattle.simulator_run.specs.object_host.declared.input.Input.TheVariants as inputs
-use Rattle.simulator_run.specs.object_host.declared.sense.Sense.TheVariants as sense
-use Rattle.simulator_run.specs.ixl_client.Client.{ClientState, PeerState, is_outside, new_client}
+use Rattle.simulator_run.specs.ixl_client.Client.{ClientState, PeerState, is_outside}
 use Rattle.simulator_run.specs.ixl_client.ClientSoFar.{LinkCall, as_call, begun}
 use Rattle.simulator_run.specs.ixl_client.Step.{clocked, commanding, fallen, hearing, ticking}
 use Rattle.simulator_run.specs.ixl_client.declared.command.Command.TheVariants as client_commands
@@ -51,41 +45,29 @@ use Rattle.simulator_run.specs.ixl_rules.State.{IxlState, KnownDetectorState, Kn
 use Rattle.simulator_run.specs.ixl_rules.Step as ixl
 use Rattle.simulator_run.specs.ixl_rules.StepSoFar.{Detector, Node, Point, Signal, StepSoFar, begun_with, empty_outbox}
 use Rattle.simulator_run.specs.ixl_rules.Table.{Row, Table}
-use Rattle.simulator_run.specs.point_ctl.Controlled.{point_behaviour}
-use Rattle.simulator_run.specs.signal_ctl.Signal.{signal_behaviour}
-use Rattle.simulator_run.specs.tds_ctl.Controlled.{detection_behaviour}
-use Rattle.simulator_run.specs.simulator_event.declared.event.Event.{Event}
-use Rattle.simulator_run.specs.simulator_event.declared.event.Event.TheVariants as event
-use Rattle.simulator_run.specs.simulator_event.declared.event.NodeId.{NodeId}
 use Rattle.simulator_run.specs.Controllers.{step_of}
-use Rattle.simulator_run.specs.First.{Beginning, Outset, at_zero, new_detector_of, new_ixl, new_known_point_of, new_known_signal_of, world_at}
-use Rattle.simulator_run.specs.Happens.{coming, delivered_to, detector_anew, detector_stepped, happens, interlocking_stepped, made_anew, passed, point_anew, point_stepped, sensed_by, signal_anew, signal_stepped, ticked_at}
 use Rattle.simulator_run.specs.Interlocking.{interlocking_step}
-use Rattle.simulator_run.specs.Links.{AreLinksOf, client_links, names_at, starts_at_zero}
-use Rattle.simulator_run.specs.Network.{connection_of, copy_of}
-use Rattle.simulator_run.specs.Nodes as nodes
-use Rattle.simulator_run.specs.Nodes.{detector_link, key_of, links, node_at, partners, point_link}
-use Rattle.simulator_run.specs.Refusals.{refusal}
+use Rattle.simulator_run.specs.Links.{AreLinksOf, client_links, names_at}
+use Rattle.simulator_run.specs.Nodes.{detector_link, key_of, links, partners, point_link}
 use Rattle.simulator_run.specs.State.{ClockedControllerState, WorldState}
 use Rattle.simulator_machine_links.specs.Flows.{ClientIsAfter, given_after, taken_after}
 use Rattle.simulator_run_links.specs.Calls.{AreOfNodes, IsNodeOf, link_at, node_call}
-use Rattle.simulator_run_links.specs.Events.{anew_events, contact_events, delivery_events, events_of, host_events, interlocking_events, numbers_below, restart_events, tick_events, time_events}
+use Rattle.simulator_run_links.specs.Events.{host_events, interlocking_events}
 use Rattle.simulator_run_links.specs.Nodes.{MayComeWith}
 use Rattle.simulator_run_links.specs.Whole.{IsWhole}
-use Rattle.simulator_recovery.specs.ClientSaid.{ClientHasSaid, ClientSaid, ClientTalks, nothing}
+use Rattle.simulator_recovery.specs.ClientSaid.{ClientHasSaid, ClientTalks}
 use Rattle.simulator_recovery.specs.Conversation.{ClientHasActedOn}
 use Rattle.simulator_recovery.specs.Counts.{ClientStandsAt, ClientStandsByCounts, EachClient}
 use Rattle.simulator_recovery.specs.Matched.{IsSpoken, SpeaksAt}
-use Rattle.simulator_recovery.proofs.AlwaysOnLinks.{CanBe}
 use Rattle.simulator_recovery.proofs.Addressed.{at_front, partners_length}
 use Rattle.simulator_recovery.proofs.AtLink.{mapped, of_second, of_third}
+use Rattle.simulator_recovery.proofs.ClientBehind.{aspect_leads, available_ready, begins_here, move_leads, so_far_behind}
 use Rattle.simulator_recovery.proofs.ClientLinks.{ClockedStands, clocked_peer, clocked_stands, not_false, outside_is, up_open}
-use Rattle.simulator_recovery.proofs.ClientTalk.{OfNode, SoFar, aspect_leads, available_ready, begins_here, commanding_so_far, hearing_so_far, move_leads, so_far_behind, ticking_so_far}
-use Rattle.simulator_recovery.proofs.ComesWith.{none_comes, one_comes}
-use Rattle.simulator_recovery.proofs.IxlClients.{mapped_at}
+use Rattle.simulator_recovery.proofs.ClientTalk.{OfNode, SoFar, commanding_so_far, hearing_so_far, ticking_so_far}
 use Rattle.simulator_recovery.proofs.IxlSoFar.{All, SoFarKeeps, at_node, is_node, step_held}
 use Rattle.simulator_recovery.proofs.LinkCounts.{AfterReceipt, comes_in, entered_closed, receipt_counts, settled_again, settled_open, stays_in}
 use Rattle.simulator_recovery.proofs.Lists.{at_place, map_length}
+use Rattle.simulator_recovery.proofs.Tests.{same_number}
 
 -- ---- a client that is outside enters nothing by what comes
 
@@ -145,9 +127,6 @@ took network link = (network.ends link).client.taken
 pub record SameLists (old new : Links) : Type 0 where
   pub given : (link : ℕ) → gave new link ≡ gave old link
   pub taken : (link : ℕ) → took new link ≡ took old link
-
-same_number : (a b : ℕ) → (a == b) ≡ true → a ≡ b
-same_number a b e = grind (arith, nat_tests)
 
 not_same : (a b : ℕ) → (a == b) ≡ false → a ≢ b
 not_same a b e same = absurd (false≢true (sym e ∙ grind (arith, nat_tests, same)))
@@ -302,10 +281,6 @@ pub clocked_link : (now : ℕ) (client : ClientState) → (clocked now client).l
 unfolding clocked
 clocked_link now client = fallen_link (record client { link = settled now client.link })
 
-none_long : (list : List (List ℕ)) → length list ≡ 0 → list ≡ []
-none_long [] e = refl
-none_long (first ∷ others) e = absurd (omega (arith, e))
-
 pub clocked_talks : (site : Site) (node : Node) (now : ℕ) (client : ClientState) (given taken : List (List ℕ)) → ClientTalks site node client given taken → ClientTalks site node (clocked now client) given taken
 unfolding clocked fallen
 clocked_talks site node now client given taken talks = choose (is_up (settled now client.link).phase) refl
@@ -357,7 +332,7 @@ pub record TalkOf (site : Site) (known : IxlState) (network : Links) : Type 0 wh
   pub points : (place : ℕ) (one : KnownPointState) → slice_get known.known_points place ≡ Some one → ClientTalks site (Point place) one.client (gave network (point_link site place)) (took network (point_link site place))
   pub detectors : (place : ℕ) (one : KnownDetectorState) → slice_get known.detectors place ≡ Some one → ClientTalks site (Detector place) one.client (gave network (detector_link site place)) (took network (detector_link site place))
 
-with_lists : (site : Site) (node : Node) (client : ClientState) {g t h u : List (List ℕ)} → h ≡ g → u ≡ t → ClientTalks site node client g t → ClientTalks site node client h u
+pub with_lists : (site : Site) (node : Node) (client : ClientState) {g t h u : List (List ℕ)} → h ≡ g → u ≡ t → ClientTalks site node client g t → ClientTalks site node client h u
 with_lists site node client {g} {t} {h} {u} e f talks = subst (λ (a : List (List ℕ)). ClientTalks site node client a u) (sym e) (subst (ClientTalks site node client g) (sym f) talks)
 
 pub same_talk : (site : Site) (known : IxlState) (old new : Links) → SameLists old new → TalkOf site known old → TalkOf site known new
@@ -561,148 +536,3 @@ pub record Talking (site : Site) (world : WorldState) (network : Links) : Type 0
   pub stands : EachClient (ClientStandsAt site) world.station.ixl
   pub speaks : EachClient (SpeaksAt site) world.station.ixl
   pub talk : TalkOf site world.station.ixl network
-
--- a client of a controller that was just made, where another was before
-anew_talks : (site : Site) (node : Node) (old new : ClientState) (given taken : List (List ℕ)) → new.peer ≡ old.peer → new.stage ≡ stage.Outside → new.link.phase ≡ phases.Closed → ClientTalks site node old given taken → ClientTalks site node new given taken
-anew_talks site node old new given taken same out shut talks = record {
-  outside = ap is_outside out ∙ sym (ap (λ (p : Phase). not (is_up p)) shut);
-  acted = λ opened. absurd (false≢true (sym (ap is_open shut) ∙ opened));
-  said = λ opened. absurd (false≢true (sym (ap is_open shut) ∙ opened));
-  ever = subst (λ (p : PeerState). ClientSaid site node p (length taken) given) (sym same) talks.ever;
-}
-
-module _ (laws : TalkLaws) (may_come : (site : Site) (node : NodeId) (bytes : List ℕ) (world : WorldState) (before : Links) → AreLinksOf site world before → refusal site (event.Deliver node bytes) world ≡ None
-    → (link : ℕ) → MayCallOn (names_at site link) (ends.Receives bytes (connection_of (copy_of bytes world))) before) (site : Site) (table : Table) (is_table : IsTableOf site table) where
-  -- the interlocking's clients in a new interlocking
-  restarted_talks : (begins : Beginning) (world : WorldState) (network new : Links) → IsWhole site world → SameLists network new → Talking site world network → EachClient (SpeaksAt site) (new_ixl site table begins) → TalkOf site (new_ixl site table begins) new
-  unfolding new_ixl new_client created
-  restarted_talks begins world network new whole same before speaks = record {
-    signals = λ place one e.
-        let made = mapped_at (new_known_signal_of site begins) site.signals place one e
-        in let many = whole.clients.known_signals
-        in let w = slice_get_within site.signals place made.0 made.1
-        in let old = at_place world.station.ixl.known_signals place (omega (arith, w, many))
-        in with_lists site (Signal place) one.client (same.given place) (same.taken place)
-        (anew_talks site (Signal place) old.0.client one.client _ _ (speaks.signals place one e made.0 made.1 ∙ sym (before.speaks.signals place old.0 old.1 made.0 made.1))
-        (ap (λ (k : KnownSignalState). k.client.stage) made.2) (ap (λ (k : KnownSignalState). k.client.link.phase) made.2) (before.talk.signals place old.0 old.1));
-    points = λ place one e.
-        let made = mapped_at (new_known_point_of site begins) site.points place one e
-        in let many = whole.clients.known_points
-        in let w = slice_get_within site.points place made.0 made.1
-        in let old = at_place world.station.ixl.known_points place (omega (arith, w, many))
-        in with_lists site (Point place) one.client (same.given (point_link site place)) (same.taken (point_link site place))
-        (anew_talks site (Point place) old.0.client one.client _ _ (speaks.points place one e made.0 made.1 ∙ sym (before.speaks.points place old.0 old.1 made.0 made.1))
-        (ap (λ (k : KnownPointState). k.client.stage) made.2) (ap (λ (k : KnownPointState). k.client.link.phase) made.2) (before.talk.points place old.0 old.1));
-    detectors = λ place one e.
-        let made = mapped_at (new_detector_of site begins) site.detectors place one e
-        in let many = whole.clients.detectors
-        in let w = slice_get_within site.detectors place made.0 made.1
-        in let old = at_place world.station.ixl.detectors place (omega (arith, w, many))
-        in with_lists site (Detector place) one.client (same.given (detector_link site place)) (same.taken (detector_link site place))
-        (anew_talks site (Detector place) old.0.client one.client _ _ (speaks.detectors place one e made.0 made.1 ∙ sym (before.speaks.detectors place old.0 old.1 made.0 made.1))
-        (ap (λ (k : KnownDetectorState). k.client.stage) made.2) (ap (λ (k : KnownDetectorState). k.client.link.phase) made.2) (before.talk.detectors place old.0 old.1));
-  }
-
-  module _ (happening : Event) (world : WorldState) (network : Links) (can : CanBe site table happening world network) (before : Talking site world network) where
-    steps : (input : ixl.Input) (connection : ℕ) → MayComeWith site input connection network → MayRunLinks (links site) (names_at site) (interlocking_events site table input connection world.station) network
-        → TalkOf site (interlocking_step site table input world.station).ixl (run_links (interlocking_events site table input connection world.station) network)
-    steps input connection comes may = step_talks laws site table is_table input connection world network can.named can.whole can.timely can.are comes may before.stands before.speaks before.talk
-
-    stays : (new : Links) → SameLists network new → TalkOf site world.station.ixl new
-    stays new same = same_talk site world.station.ixl network new same before.talk
-
-  host_talks : {Object : Type 0} (does : Behaviour Object) (input : HostInput) (connection link : ℕ) (found : Option (ClockedControllerState Object)) (known : IxlState) (network : Links) → TalkOf site known network
-      → TalkOf site known (run_links (host_events does input connection link found) network)
-  host_talks does input connection link found known network talk = same_talk site known network _ (host_same laws does input connection link found network) talk
-
-  abbrev After : Event → WorldState → Links → Type 0
-  After happening world network = TalkOf site (happens site table happening world).station.ixl (run_links (events_of site table happening world) network)
-
-  tick_talks : (node : NodeId) (at : Option nodes.Node) → (world : WorldState) (network : Links) (can : CanBe site table (event.Tick node) world network) → node_at site node.0 ≡ at → Talking site world network
-      → TalkOf site (ticked_at site table at world).station.ixl (run_links (tick_events site table at world) network)
-  unfolding signal_stepped point_stepped detector_stepped interlocking_stepped events_of happens
-  tick_talks node None world network can e before = before.talk
-  tick_talks node (Some nodes.Interlocking) world network can e before = steps (event.Tick node) world network can before ixl.Tick 0 (none_comes site network ixl.Tick (λ bytes f. absurd (cc f)))
-      (subst (λ (n : Option nodes.Node). MayRunLinks (links site) (names_at site) (tick_events site table n world) network) e can.follows.may)
-  tick_talks node (Some (nodes.Signal place)) world network can e before = host_talks signal_behaviour inputs.Tick 0 place (slice_get world.signals place) world.station.ixl network before.talk
-  tick_talks node (Some (nodes.Point place)) world network can e before = host_talks point_behaviour inputs.Tick 0 (point_link site place) (slice_get world.points place) world.station.ixl network before.talk
-  tick_talks node (Some (nodes.Detector place)) world network can e before = host_talks detection_behaviour inputs.Tick 0 (detector_link site place) (slice_get world.detectors place) world.station.ixl network before.talk
-
-  come_talks : (node : NodeId) (bytes : List ℕ) (at : Option nodes.Node) → (world : WorldState) (network : Links) (can : CanBe site table (event.Deliver node bytes) world network) → node_at site node.0 ≡ at → Talking site world network
-      → TalkOf site (delivered_to site table bytes (connection_of (copy_of bytes world)) at world).station.ixl (run_links (delivery_events site table bytes (connection_of (copy_of bytes world)) at world) network)
-  unfolding signal_stepped point_stepped detector_stepped interlocking_stepped events_of happens
-  come_talks node bytes None world network can e before = before.talk
-  come_talks node bytes (Some nodes.Interlocking) world network can e before = steps (event.Deliver node bytes) world network can before (ixl.Datagram bytes) (connection_of (copy_of bytes world))
-      (one_comes site network bytes (connection_of (copy_of bytes world)) (may_come site node bytes world network can.are can.may))
-      (subst (λ (n : Option nodes.Node). MayRunLinks (links site) (names_at site) (delivery_events site table bytes (connection_of (copy_of bytes world)) n world) network) e can.follows.may)
-  come_talks node bytes (Some (nodes.Signal place)) world network can e before = host_talks signal_behaviour (coming bytes) (connection_of (copy_of bytes world)) place (slice_get world.signals place) world.station.ixl network before.talk
-  come_talks node bytes (Some (nodes.Point place)) world network can e before = host_talks point_behaviour (coming bytes) (connection_of (copy_of bytes world)) (point_link site place) (slice_get world.points place) world.station.ixl network before.talk
-  come_talks node bytes (Some (nodes.Detector place)) world network can e before = host_talks detection_behaviour (coming bytes) (connection_of (copy_of bytes world)) (detector_link site place) (slice_get world.detectors place) world.station.ixl network before.talk
-
-  sense_talks : (occupancy : Occupancy) (reporter : Option (ℕ × ℕ)) (world : WorldState) (network : Links) → TalkOf site world.station.ixl network
-      → TalkOf site (sensed_by site occupancy reporter world).station.ixl (run_links (contact_events site reporter (λ place. inputs.Sense (sense.Section place occupancy)) world.detectors) network)
-  unfolding detector_stepped
-  sense_talks occupancy None world network talk = talk
-  sense_talks occupancy (Some reporter) world network talk = host_talks detection_behaviour (inputs.Sense (sense.Section reporter.1 occupancy)) 0 (detector_link site reporter.0) (slice_get world.detectors reporter.0) world.station.ixl network talk
-
-  anew_one : {Entry : Type 0} (clock first link : ℕ) (found : Option Entry) (network : Links) → SameLists network (run_links (anew_events clock first link found) network)
-  anew_one clock first link None network = record { given = λ other. refl; taken = λ other. refl }
-  anew_one clock first link (Some entry) network = anew_same link role.Server clock first network
-
-  restart_talks : (begins : Beginning) (at : Option nodes.Node) (world : WorldState) (network : Links) → IsWhole site world → Talking site world network → EachClient (SpeaksAt site) (made_anew site table begins at world).station.ixl
-      → TalkOf site (made_anew site table begins at world).station.ixl (run_links (restart_events site begins.clock begins.first at) network)
-  restart_talks begins None world network whole before speaks = before.talk
-  restart_talks begins (Some nodes.Interlocking) world network whole before speaks =
-      restarted_talks begins world network _ whole (all_anew_same role.Client begins.clock (λ link. begins.first) (numbers_below (links site)) network) before speaks
-  restart_talks begins (Some (nodes.Signal place)) world network whole before speaks = by_found (slice_get site.signals place)
-    where
-      by_found : (found : Option _) → TalkOf site (signal_anew site begins place found world).station.ixl (run_links (anew_events begins.clock begins.first place found) network)
-      by_found None = before.talk
-      by_found (Some entry) = same_talk site world.station.ixl network _ (anew_same place role.Server begins.clock begins.first network) before.talk
-  restart_talks begins (Some (nodes.Point place)) world network whole before speaks = by_found (slice_get site.points place)
-    where
-      by_found : (found : Option _) → TalkOf site (point_anew site begins place found world).station.ixl (run_links (anew_events begins.clock begins.first (point_link site place) found) network)
-      by_found None = before.talk
-      by_found (Some entry) = same_talk site world.station.ixl network _ (anew_same (point_link site place) role.Server begins.clock begins.first network) before.talk
-  restart_talks begins (Some (nodes.Detector place)) world network whole before speaks = by_found (slice_get site.detectors place)
-    where
-      by_found : (found : Option _) → TalkOf site (detector_anew site begins place found world).station.ixl (run_links (anew_events begins.clock begins.first (detector_link site place) found) network)
-      by_found None = before.talk
-      by_found (Some entry) = same_talk site world.station.ixl network _ (anew_same (detector_link site place) role.Server begins.clock begins.first network) before.talk
-
-  time_same : (elapsed : ℕ) (clocks : List ℕ) (network : Links) → SameLists network (run_links (time_events elapsed clocks) network)
-  unfolding end_later
-  time_same elapsed clocks network = record { given = λ link. refl; taken = λ link. refl }
-
-  pub event_talks : (happening : Event) (world : WorldState) (network : Links) → CanBe site table happening world network → Talking site world network → EachClient (SpeaksAt site) (happens site table happening world).station.ixl
-      → After happening world network
-  unfolding happens events_of passed point_stepped interlocking_stepped
-  event_talks (event.Request command) world network can before speaks = steps (event.Request command) world network can before (ixl.Commands command) 0 (none_comes site network (ixl.Commands command) (λ bytes f. absurd (cc f))) can.follows.may
-  event_talks (event.Occupy section occupancy) world network can before speaks = sense_talks occupancy (slice_get table.reporters section.0) (record world { occupancies = slice_set world.occupancies section.0 occupancy }) network before.talk
-  event_talks (event.Tick node) world network can before speaks = tick_talks node (node_at site node.0) world network can refl before
-  event_talks (event.Time elapsed clocks) world network can before speaks = same_talk site world.station.ixl network _ (time_same elapsed clocks network) before.talk
-  event_talks (event.Deliver node bytes) world network can before speaks = come_talks node bytes (node_at site node.0) world network can refl before
-  event_talks (event.Lose bytes) world network can before speaks = same_talk site world.station.ixl network _ (record { given = λ link. refl; taken = λ link. refl }) before.talk
-  event_talks (event.Reach point position) world network can before speaks =
-      host_talks point_behaviour (inputs.Sense (sense.Position position)) 0 (point_link site point.0) (slice_get world.points point.0) world.station.ixl network before.talk
-  event_talks (event.Restart node clock first) world network can before speaks = restart_talks (record { clock = clock; first = first }) (node_at site node.0) world network can.whole before speaks
-
-  -- nothing was given at the beginning
-  pub first_talks : (outset : Outset) → TalkOf site (world_at site table outset).station.ixl (begun_links (names_at site) starts_at_zero)
-  unfolding world_at new_ixl new_client created
-  first_talks outset = record {
-    signals = λ place one e. let made = mapped_at (new_known_signal_of site at_zero) site.signals place one e in
-        new_talks (Signal place) one.client (ap (λ (k : KnownSignalState). k.client.stage) made.2) (ap (λ (k : KnownSignalState). k.client.link.phase) made.2);
-    points = λ place one e. let made = mapped_at (new_known_point_of site at_zero) site.points place one e in
-        new_talks (Point place) one.client (ap (λ (k : KnownPointState). k.client.stage) made.2) (ap (λ (k : KnownPointState). k.client.link.phase) made.2);
-    detectors = λ place one e. let made = mapped_at (new_detector_of site at_zero) site.detectors place one e in
-        new_talks (Detector place) one.client (ap (λ (k : KnownDetectorState). k.client.stage) made.2) (ap (λ (k : KnownDetectorState). k.client.link.phase) made.2);
-  }
-    where
-      new_talks : (node : Node) (client : ClientState) → client.stage ≡ stage.Outside → client.link.phase ≡ phases.Closed → ClientTalks site node client [] []
-      new_talks node client out shut = record {
-        outside = ap is_outside out ∙ sym (ap (λ (p : Phase). not (is_up p)) shut);
-        acted = λ opened. absurd (false≢true (sym (ap is_open shut) ∙ opened));
-        said = λ opened. absurd (false≢true (sym (ap is_open shut) ∙ opened));
-        ever = nothing refl;
-      }

@@ -36,7 +36,7 @@ use Rattle.simulator_recovery.specs.Lamps.{IsStopTaken, IsWithdrawnFrom}
 use Rattle.simulator_recovery.proofs.AlwaysStopped.{new_stands}
 use Rattle.simulator_recovery.proofs.ClientLinks.{up_open}
 use Rattle.simulator_recovery.proofs.IxlAlways.{always}
-use Rattle.simulator_recovery.proofs.IxlClients.{changed_at, mapped_at}
+use Rattle.simulator_recovery.proofs.IxlClients.{changed_at, mapped_at, signal_is}
 use Rattle.simulator_recovery.proofs.IxlSoFar.{set_at}
 use Rattle.simulator_recovery.proofs.LinkCounts.{entered_open, tick_was_open}
 use Rattle.simulator_recovery.proofs.SignalParts.{AtRoute, IsOver, IsQuiet, RulesKeep, behind_ending, both_rules, new_signal, ticked_held, watched_held}
@@ -99,17 +99,13 @@ IsAwaited known = is_up known.client.link.phase ≡ true → has_taken_stop know
 
 ticks_await : (now : ℕ) (known : KnownSignalState) (outbox : OutboxState) → (is_ready known.client.stage ≡ false → known.aspect ≡ None) → IsAwaited known
     → IsAwaited (known_signal_after known.aspect known.number known.indicated (ticking now (begun known.client outbox)).client)
-unfolding known_signal_after
-ticks_await now known outbox ready awaited = choose (is_outside after.stage) refl
+ticks_await now known outbox ready awaited = signal_is IsAwaited known.aspect known.number known.indicated after
+    (λ e up. absurd (false≢true (sym (awaited (client_ticks now known.client outbox up).up) ∙ ap (λ (a : Option Aspect). has_taken_stop a known.number (confirmed_items known.client.link))
+    (ready (unready e up)))))
+    (λ e up. ap (has_taken_stop known.aspect known.number) (client_ticks now known.client outbox up).confirmed ∙ awaited (client_ticks now known.client outbox up).up)
   where
     after : ClientState
     after = (ticking now (begun known.client outbox)).client
-
-    none : KnownSignalState
-    none = record { client = after; aspect = None; number = 0; indicated = None }
-
-    some : KnownSignalState
-    some = record { client = after; aspect = known.aspect; number = known.number; indicated = known.indicated }
 
     unready : is_outside after.stage ≡ true → is_up after.link.phase ≡ true → is_ready known.client.stage ≡ false
     unready out up = by_stage after.stage out (client_ticks now known.client outbox up).same
@@ -121,10 +117,6 @@ ticks_await now known outbox ready awaited = choose (is_outside after.stage) ref
         by_stage (stage.AwaitsStatus left) e same = absurd (false≢true e)
         by_stage stage.Completed e same = absurd (false≢true e)
         by_stage stage.AwaitsReport e same = absurd (false≢true e)
-
-    choose : (b : Bool) → is_outside after.stage ≡ b → IsAwaited (if b then none else some)
-    choose true e = λ up. absurd (false≢true (sym (awaited (client_ticks now known.client outbox up).up) ∙ ap (λ (a : Option Aspect). has_taken_stop a known.number (confirmed_items known.client.link)) (ready (unready e up))))
-    choose false e = λ up. ap (has_taken_stop known.aspect known.number) (client_ticks now known.client outbox up).confirmed ∙ awaited (client_ticks now known.client outbox up).up
 
 -- Set routes stand apart, and each withdrawn one awaits its stop where the link is up.
 record Awaits (table : Table) (routes : List RouteState) (signals : List KnownSignalState) : Type 0 where

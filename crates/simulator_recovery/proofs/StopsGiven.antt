@@ -32,7 +32,7 @@ use Rattle.simulator_run.specs.ixl_rules.declared.phase.Phase.TheVariants as pha
 use Rattle.simulator_recovery.specs.Conversation.{ClientHasActedOn, KeepsCount}
 use Rattle.simulator_recovery.specs.Lamps.{IsStopLast}
 use Rattle.simulator_recovery.proofs.ClientCounts.{commanding_counts, hearing_counts, ticking_counts}
-use Rattle.simulator_recovery.proofs.IxlClients.{changed_at, mapped_at}
+use Rattle.simulator_recovery.proofs.IxlClients.{changed_at, mapped_at, signal_is}
 use Rattle.simulator_recovery.proofs.IxlSoFar.{set_at}
 use Rattle.simulator_recovery.proofs.SignalParts.{AtRoute, GoesOn, IsGiven, IsQuiet, PartsKeep, hears, new_signal, ticks}
 
@@ -87,36 +87,14 @@ clocked_stage now client = choose (is_up (settled now client.link).phase)
 
 -- stop was given last, or nothing
 stop_after : (aspect : Option Aspect) (number : ℕ) (indicated : Option Aspect) (client : ClientState) → (aspect ≡ None) ⊎ (aspect ≡ Some aspects.Stop) → IsStopLast (known_signal_after aspect number indicated client)
-unfolding known_signal_after
-stop_after aspect number indicated client stops = choose (is_outside client.stage) stops
-  where
-    none : KnownSignalState
-    none = record { client = client; aspect = None; number = 0; indicated = None }
-
-    some : KnownSignalState
-    some = record { client = client; aspect = aspect; number = number; indicated = indicated }
-
-    choose : (b : Bool) → (aspect ≡ None) ⊎ (aspect ≡ Some aspects.Stop) → IsStopLast (if b then none else some)
-    choose true s = inl refl
-    choose false s = s
+stop_after aspect number indicated client stops = signal_is IsStopLast aspect number indicated client (λ outside. inl refl) (λ inside. stops)
 
 -- a signal whose client isn't ready was given no aspect
 abbrev IsGivenWhenReady : KnownSignalState → Type 0
 IsGivenWhenReady known = is_ready known.client.stage ≡ false → known.aspect ≡ None
 
 ready_after : (aspect : Option Aspect) (number : ℕ) (indicated : Option Aspect) (client : ClientState) → (is_outside client.stage ≡ false → is_ready client.stage ≡ false → aspect ≡ None) → IsGivenWhenReady (known_signal_after aspect number indicated client)
-unfolding known_signal_after
-ready_after aspect number indicated client so = choose (is_outside client.stage) refl
-  where
-    none : KnownSignalState
-    none = record { client = client; aspect = None; number = 0; indicated = None }
-
-    some : KnownSignalState
-    some = record { client = client; aspect = aspect; number = number; indicated = indicated }
-
-    choose : (b : Bool) → is_outside client.stage ≡ b → IsGivenWhenReady (if b then none else some)
-    choose true e = λ unready. refl
-    choose false e = λ unready. so e unready
+ready_after aspect number indicated client so = signal_is IsGivenWhenReady aspect number indicated client (λ outside unready. refl) so
 
 still_ready : (known : KnownSignalState) (client : ClientState) → Stays known.client.stage client.stage → IsGivenWhenReady known → is_outside client.stage ≡ false → is_ready client.stage ≡ false → known.aspect ≡ None
 still_ready known client stays was inside unready = choose (is_ready known.client.stage) refl

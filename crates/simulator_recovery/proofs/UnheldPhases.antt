@@ -29,13 +29,13 @@ use Rattle.simulator_run.specs.Nodes.{key_of}
 use Rattle.simulator_run.specs.State.{WorldState}
 use Rattle.simulator_recovery.specs.NothingDue.{IsInside}
 use Rattle.simulator_recovery.proofs.DueCourse.{at_changed, stopped_leaves}
-use Rattle.simulator_recovery.proofs.DueShapes.{along_keeps, one_keeps, over_keeps, repeated_keeps, route_keeps, where_keeps}
+use Rattle.simulator_recovery.proofs.DueShapes.{along_keeps, moving_keeps, one_keeps, over_keeps, passage_keeps, route_keeps, where_keeps}
 use Rattle.simulator_recovery.proofs.DueTests.{known_then}
 use Rattle.simulator_recovery.proofs.DueTicks.{BringsNothing, known_still, ticks_bring_nothing}
-use Rattle.simulator_recovery.proofs.IxlSoFar.{first_true}
 use Rattle.simulator_recovery.proofs.NothingDueMoves.{move_leaves}
 use Rattle.simulator_recovery.proofs.NothingDueProceeds.{AspectLeaves, aspect_leaves}
 use Rattle.simulator_recovery.proofs.StopsGiven.{changed_elsewhere, differs, is_equal}
+use Rattle.simulator_recovery.proofs.Tests.{first_true}
 
 -- In this phase a route holds no point with authority that awaits so many sections.
 abbrev pub HoldsNone : ℕ → Phase → Type 0
@@ -107,9 +107,7 @@ module _ (now : ℕ) (table : Table) (k until : ℕ) where
       (λ due. turned number (one_freed row route.phase) part route here (λ holds. freed_more row route route.phase part.ixl route holds due) is) is) is
 
   passage_none : (number : ℕ) (part : StepSoFar) → HeldNone part → HeldNone (freeing_by_passage table number part)
-  unfolding freeing_by_passage
-  passage_none number part is = route_keeps HeldNone table number _ part (λ row route there here. repeated_keeps HeldNone (length row.sections) (freeing_next table number)
-      (next_none number) part is) is
+  passage_none = passage_keeps HeldNone now table next_none
 
   cancel_none : (number : ℕ) (part : StepSoFar) → HeldNone part → HeldNone (freeing_by_cancel now table number part)
   unfolding freeing_by_cancel
@@ -122,8 +120,7 @@ module _ (now : ℕ) (table : Table) (k until : ℕ) where
       (λ due. subst (λ (routes : List RouteState). At routes k Holds) (sym (move_leaves now need.point need.side part).routes) is) is) is
 
   moving_none : (number : ℕ) (part : StepSoFar) → HeldNone part → HeldNone (moving now table number part)
-  unfolding moving
-  moving_none number part is = route_keeps HeldNone table number _ part (λ row route there here. along_keeps HeldNone (moving_one now table number) (moving_one_none number) row.needs part is) is
+  moving_none = moving_keeps HeldNone now table moving_one_none
 
   until_moved : (part : StepSoFar) → HeldNone part → HeldNone (moved now table part)
   until_moved part is =

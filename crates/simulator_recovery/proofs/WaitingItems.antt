@@ -22,10 +22,12 @@ use Rattle.simulator_run.specs.ixl_client.declared.command.Command.TheVariants a
 use Rattle.simulator_run.specs.ixl_client.declared.stage.Stage.{Stage}
 use Rattle.simulator_run.specs.ixl_client.declared.stage.Stage.TheVariants as stage
 use Rattle.simulator_recovery.proofs.AspectCalls.{DoneBy, IsCommanded, hears, ticks}
+use Rattle.simulator_recovery.proofs.ClientItem.{answers, changes, completes, Goes, starts, tells}
 use Rattle.simulator_recovery.proofs.ClientLinks.{up_open}
-use Rattle.simulator_recovery.proofs.ClientTalk.{Fate, Goes, answers, asks, changes, closes, completes, fate, goes, starts, tells}
+use Rattle.simulator_recovery.proofs.ClientTalk.{Fate, asks, closes, fate, goes}
 use Rattle.simulator_recovery.proofs.FewItems.{FewSoFar, GivesFew, LeavesWindow, clocked_few, commanding_few, hearing_few, not_full, ticking_few}
-use Rattle.simulator_recovery.proofs.LinkCounts.{close_closes, count_push, entered_open, receipt_window, send_phase, send_was_open, settled_open, tick_was_open}
+use Rattle.simulator_recovery.proofs.LinkCounts.{close_closes, entered_open, receipt_window, send_phase, send_was_open, settled_open, tick_was_open}
+use Rattle.simulator_recovery.proofs.Lists.{count_push}
 
 -- A link has given the same, and no more items wait.
 pub record NoMore (old new : LinkState) : Type 0 where
@@ -87,7 +89,7 @@ Stays part after = (is_open after.client.link.phase ≡ false) ⊎ ((is_ready af
 
 goes_ready : (peer : _) (old new : Stage) → Goes peer old new → is_ready old ≡ true → is_ready new ≡ true
 goes_ready peer old new (starts e f) ready = absurd (false≢true (sym (ap is_ready e) ∙ ready))
-goes_ready peer old new (tells left e f) ready = absurd (false≢true (sym (ap is_ready e) ∙ ready))
+goes_ready peer old new (tells left some e f) ready = absurd (false≢true (sym (ap is_ready e) ∙ ready))
 goes_ready peer old new (completes e f) ready = absurd (false≢true (sym (ap is_ready e) ∙ ready))
 goes_ready peer old new (changes turn e f) ready = ap is_ready f
 goes_ready peer old new (answers e f) ready = ap is_ready f

@@ -1,14 +1,12 @@
 -- A link with room for some items accepts them all, and what a whole initialisation says fits in a window.
 use Rattle.std.proofs.Common.{◌≡◌, ℕ, zero, suc, ◌+◌, ◌<◌, ◌≤◌, Bool, true, false, nat_lt, nat_le, List, [], ◌∷◌, ◌++◌, length, map, Option, Some, None, refl, sym, ap, subst, ◌∙◌, if◌then◌else◌, arith}
 use Rattle.std.specs.Prelude.{◌&&◌, is_ok}
-use Rattle.std.proofs.lemmas.Bool.{false≢true}
 use Rattle.std.proofs.lemmas.Bool.Decides.{nat_tests}
 use Rattle.simulator_run.specs.rasta_core.Calls.{acceptance, answer_to_send, sending_item}
 use Rattle.simulator_run.specs.rasta_core.Clock.{deadline, settled}
 use Rattle.simulator_run.specs.rasta_core.Parameters.{connection_limit, window_size}
 use Rattle.simulator_run.specs.rasta_core.PdusHandedOut.{entered, giving, limited, sending, silent, telling}
-use Rattle.simulator_run.specs.rasta_core.State.{LinkState, is_open, is_up}
-use Rattle.simulator_run.specs.rasta_core.phase.Phase.{Phase}
+use Rattle.simulator_run.specs.rasta_core.State.{LinkState, is_open}
 use Rattle.simulator_run.specs.rasta_core.reason.Reason.TheVariants as reason
 use Rattle.simulator_run.specs.rasta_core.phase.Phase.TheVariants as phases
 use Rattle.simulator_run.specs.sci_telegram.declared.message.Initialisation.TheVariants.{InitialisationCompleted, StartInitialisation}
@@ -19,17 +17,8 @@ use Rattle.simulator_run.specs.object_host.Step.{initial_status, initialising, m
 use Rattle.simulator_run.specs.object_host.Told.{initialisation, item_of}
 use Rattle.simulator_run.specs.object_host.declared.report.Report.{Report}
 use Rattle.simulator_recovery.specs.Conversation.{Accepts, HasRoomFor}
-
-up_open : (phase : Phase) → is_up phase ≡ true → is_open phase ≡ true
-up_open phases.Closed up = absurd (false≢true up)
-up_open phases.Start up = absurd (false≢true up)
-up_open phases.Up up = refl
-up_open phases.RetransmissionRequested up = refl
-up_open phases.RetransmissionRunning up = refl
-
-count_push : {X : Type 0} (list : List X) (one : X) → length (list ++ one ∷ []) ≡ length list + 1
-count_push [] one = omega arith
-count_push (first ∷ list) one = let e = count_push list one in omega (arith, e)
+use Rattle.simulator_recovery.proofs.ClientLinks.{up_open}
+use Rattle.simulator_recovery.proofs.Lists.{count_push}
 
 module _ (now : ℕ) where
   settled_is : (link : LinkState) → is_open link.phase ≡ true → now < deadline link → settled now link ≡ record link { clock = now }

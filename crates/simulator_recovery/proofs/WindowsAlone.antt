@@ -5,7 +5,7 @@ use Rattle.ixl_table.specs.Table.{IsTableOf}
 use Rattle.simulator_run.specs.layout.Once.{Once}
 use Rattle.simulator_run.specs.layout.Station.{IsStation}
 use Rattle.simulator_run.specs.rasta_core.Each.{Each}
-use Rattle.simulator_run.specs.rasta_core.Links.{Links}
+use Rattle.simulator_run.specs.rasta_core.Links.{happened_to, Links, LinksEvent}
 use Rattle.simulator_run.specs.rasta_core.State.{LinkState}
 use Rattle.simulator_run.specs.simulator_event.declared.event.Event.{Event}
 use Rattle.simulator_run.specs.Flow.{Flowing, round, stations}
@@ -15,7 +15,7 @@ use Rattle.simulator_run.specs.State.{WorldState}
 use Rattle.simulator_run.specs.Tried.{Played}
 use Rattle.simulator_headline.specs.Reached.{IsReached}
 use Rattle.simulator_recovery.specs.HandedOver.{HasSpokenAlone}
-use Rattle.simulator_recovery.specs.LinkRounds.{IsUpOn, StayBelowOn, StaysBelowLimit, links_behind}
+use Rattle.simulator_recovery.specs.LinkRounds.{HaveRoomOn, IsUpOn, links_behind, StayBelowOn, StaysBelowLimit}
 use Rattle.simulator_recovery.specs.Ready.{IsReadyOn, ready_rounds}
 use Rattle.simulator_recovery.specs.Rounds.{HasTime, IsWork, all_tried, clocks_of, good_rounds}
 use Rattle.simulator_recovery.specs.SectionsReported.{SpeaksAloneIn}
@@ -141,3 +141,8 @@ speaks_alone laws between later_rounds one more flowing place once station is_ta
     in let sent = s.sent
     in find laws between flowing place once station is_table reached work inside (length later_rounds) later_rounds one more (omega arith) long
     (record { works = works; can = can; below = below; long = omega (arith, long, c, d) }) (omega (arith, a, b, sent))
+
+pub room_front : (link : ℕ) (one other : List LinksEvent) (before : Links) → HaveRoomOn link (one ++ other) before → HaveRoomOn link one before
+room_front link [] [] before room = room
+room_front link [] (first ∷ other) before room = room.0
+room_front link (first ∷ one) other before room = (room.0, room_front link one other (happened_to first before) room.1)

@@ -28,9 +28,10 @@ use Rattle.simulator_recovery.specs.LinkRounds.{IsUpOn, StaysBelowLimit, link_ro
 use Rattle.simulator_recovery.specs.Rounds.{HasTime, IsWork, all_tried, clocks_of, good_rounds}
 use Rattle.simulator_recovery.proofs.ComeUp.{Begun, begun_so, behind_rounds, lists_length, lists_on, rounds_open, up_on}
 use Rattle.simulator_recovery.proofs.ConfirmedLinks.{settled_confirmed}
-use Rattle.simulator_recovery.proofs.HandedOver.{client_is, server_is, settled_given}
+use Rattle.simulator_recovery.proofs.HandedOver.{client_is, server_is}
 use Rattle.simulator_recovery.proofs.LinkRounds.{are_links}
 use Rattle.simulator_recovery.proofs.Ready.{IsUpBehind, ReadyLaws, below_front, count_front, each_front, fewer_time, front_of, hand_over, lists_front, rounds_both, ups, work_front}
+use Rattle.simulator_recovery.proofs.Spent.{settled_given}
 use Rattle.simulator_recovery.proofs.StaysOpen.{rounds_stay}
 
 settled_sent : (now : ℕ) (l : LinkState) → (settled now l).sent ≡ l.sent

@@ -32,7 +32,7 @@ use Rattle.simulator_run.specs.State.{WorldState}
 use Rattle.simulator_headline.specs.Reached.{IsReached}
 use Rattle.simulator_recovery.proofs.Clocks.{calm_still}
 use Rattle.simulator_recovery.proofs.DueCourse.{stopped_leaves}
-use Rattle.simulator_recovery.proofs.DueShapes.{along_keeps, one_keeps, over_keeps, repeated_keeps, route_keeps, where_keeps}
+use Rattle.simulator_recovery.proofs.DueShapes.{along_keeps, one_keeps, over_keeps, passage_keeps, route_keeps, where_keeps}
 use Rattle.simulator_recovery.proofs.DueTicks.{ticks_bring_nothing}
 use Rattle.simulator_recovery.proofs.IxlClients.{changed_at, mapped_at}
 use Rattle.simulator_recovery.proofs.NothingDueMoves.{move_leaves}
@@ -123,8 +123,7 @@ module _ (now : ℕ) (table : Table) (k : ℕ) where
       (λ due. turned number (one_freed row one.phase) part one here (one_freed_by now row one one.phase refl) is) is) is
 
   passage_held : (number : ℕ) (part : StepSoFar) → Held part → Held (freeing_by_passage table number part)
-  unfolding freeing_by_passage
-  passage_held number part is = route_keeps Held table number _ part (λ row one there here. repeated_keeps Held (length row.sections) (freeing_next table number) (next_held number) part is) is
+  passage_held = passage_keeps Held now table next_held
 
   cancel_held : (number : ℕ) (part : StepSoFar) → Held part → Held (freeing_by_cancel now table number part)
   unfolding freeing_by_cancel

@@ -25,11 +25,11 @@ use Rattle.simulator_recovery.proofs.Cancelled.{OfRoute}
 use Rattle.simulator_recovery.proofs.ComeUp.{begun_so}
 use Rattle.simulator_recovery.proofs.ConfirmedStops.{confirmed_ends}
 use Rattle.simulator_recovery.proofs.GivenNoMore.{Rests, round_keeps, round_stays, stepped_rests}
-use Rattle.simulator_recovery.proofs.ProceedsStays.{below_before}
 use Rattle.simulator_recovery.proofs.Ready.{fewer_time}
 use Rattle.simulator_recovery.proofs.Rounds.{IsAt, rounds_reached}
 use Rattle.simulator_recovery.proofs.SeenSignals.{SignalLaws}
 use Rattle.simulator_recovery.proofs.StopComes.{last_round}
+use Rattle.simulator_recovery.proofs.WindowsAlone.{below_two}
 use Rattle.simulator_recovery.proofs.WithdrawnRounds.{IsIdle, idle_keeps, withdrawn_is}
 use Rattle.simulator_recovery.proofs.WithdrawnSteps.{stepped_route}
 use Rattle.simulator_recovery.proofs.WithdrawnTold.{ToldLaws, and_count, and_is, and_more, and_work, told_within, up_of}
@@ -71,7 +71,7 @@ module _ (laws : ToldLaws) (signals : SignalLaws) (between : List Event) (later_
 
   below_down : (before : Links) (m i : ℕ) → i ≤ m → Below m before → Below i before
   below_down before zero i less so = subst (λ (k : ℕ). Below k before) (the_least i less) so
-  below_down before (suc m) i less so = choose (nat_le i m) refl (λ fewer. below_down before m i fewer (below_before signal (and_more later_rounds m) ([] ∷ []) next before so))
+  below_down before (suc m) i less so = choose (nat_le i m) refl (λ fewer. below_down before m i fewer (below_two signal (and_more later_rounds m) ([] ∷ []) next before so))
     where
       choose : (b : Bool) → nat_le i m ≡ b → (i ≤ m → Below i before) → Below i before
       choose true e on = on (leb-true _ _ e)

@@ -20,7 +20,6 @@ use Rattle.simulator_run.specs.ixl_rules.declared.command.Command.{Command}
 use Rattle.simulator_run.specs.ixl_rules.declared.phase.Phase.{Phase}
 use Rattle.simulator_run.specs.ixl_rules.declared.phase.Phase.TheVariants as phase
 use Rattle.simulator_run.specs.simulator_event.declared.event.Event.{Event}
-use Rattle.simulator_run.specs.declared.round.RoundEvent.{RoundEvent}
 use Rattle.simulator_run.specs.Flow.{Flowing, round, stations}
 use Rattle.simulator_run.specs.Happens.{happens, interlocking_stepped}
 use Rattle.simulator_run.specs.Nodes.{links}
@@ -45,20 +44,20 @@ use Rattle.simulator_recovery.proofs.Cancelled.{OfRoute, RouteKeeps}
 use Rattle.simulator_recovery.proofs.ComeUp.{come_up}
 use Rattle.simulator_recovery.proofs.ConfirmedStops.{still_up}
 use Rattle.simulator_recovery.proofs.DueCourse.{LeavesSetting, StopLaw, step_waits}
-use Rattle.simulator_recovery.proofs.GivenNoMore.{AreOfRound, IsOfRound, due_of, over_rests, stepped_rests}
+use Rattle.simulator_recovery.proofs.GivenNoMore.{IsOfRound, due_of, over_rests, stepped_rests}
 use Rattle.simulator_recovery.proofs.LinkRounds.{after_each, round_tried}
 use Rattle.simulator_recovery.proofs.Lists.{each_both}
 use Rattle.simulator_recovery.proofs.ProceedsAlways.{IxlGoes, anew, event_goes, stays, steps}
 use Rattle.simulator_recovery.proofs.NothingDueMoves.{MoveLaw}
 use Rattle.simulator_recovery.proofs.NothingDueStops.{all_rest, holds_each}
-use Rattle.simulator_recovery.proofs.ProceedsStays.{below_before}
 use Rattle.simulator_recovery.proofs.Ready.{count_front, fewer_time, links_ready}
-use Rattle.simulator_recovery.proofs.Rounds.{IsAt, rounds_reached, tried_keeps, tried_reached}
+use Rattle.simulator_recovery.proofs.Rounds.{events_are, IsAt, rounds_reached, tried_keeps, tried_reached}
 use Rattle.simulator_recovery.proofs.RoutesReady.{KeepsReady, step_ready}
 use Rattle.simulator_recovery.proofs.RoutesRounds.{UpLaws, up_throughout}
 use Rattle.simulator_recovery.proofs.SeenSignals.{known_there, seen_then}
 use Rattle.simulator_recovery.proofs.SignalParts.{IsOver, IsQuiet}
 use Rattle.simulator_recovery.proofs.StopComes.{last_round}
+use Rattle.simulator_recovery.proofs.WindowsAlone.{below_two}
 use Rattle.simulator_recovery.proofs.WithdrawnSteps.{HasFallen, proceeding_is, step_falls, step_grows, stepped_route}
 use Rattle.simulator_recovery.proofs.WithdrawnWaiting.{known_up}
 
@@ -71,12 +70,8 @@ pub record WithdrawnLaws : Type 0 where
 
 -- ---- the events of a round
 
-rounds_events : (list : List RoundEvent) → AreOfRound list → Each IsOfRound (map event_of list)
-rounds_events [] of = tt
-rounds_events (first ∷ others) of = (of.0, rounds_events others of.1)
-
 all_of_round : (flowing : Flowing Played) → Each IsOfRound (events_of_round [] flowing)
-all_of_round flowing = (tt, each_both IsOfRound (map event_of (behind_time flowing)) [] (rounds_events (behind_time flowing) (due_of flowing).1) tt)
+all_of_round flowing = (tt, each_both IsOfRound (map event_of (behind_time flowing)) [] (events_are IsOfRound (behind_time flowing) (due_of flowing).1) tt)
 
 -- an input that is no command leaves each route its setting
 leaves_setting : (number : ℕ) (input : Input) → ((command : Command) → input ≡ Commands command → ⊥) → LeavesSetting number input
@@ -335,10 +330,11 @@ module _ (laws : WithdrawnLaws) (between : List Event) (later_rounds : List (Lis
   can_so n less = fewer_time n (suc (2 + suc (length later_rounds))) (clocks_of flowing.state.run) less can
 
   below_one : StaysBelowLimit sited.site signal (later_rounds ++ [] ∷ []) next
-  below_one before are = below_before signal (later_rounds ++ [] ∷ []) ([] ∷ [] ∷ []) next before (subst (λ (l : List (List Event)). StayBelowOn signal l next before) (sym (append_assoc later_rounds ([] ∷ []) ([] ∷ [] ∷ []))) (below before are))
+  below_one before are = below_two signal (later_rounds ++ [] ∷ []) ([] ∷ [] ∷ []) next before
+      (subst (λ (l : List (List Event)). StayBelowOn signal l next before) (sym (append_assoc later_rounds ([] ∷ []) ([] ∷ [] ∷ []))) (below before are))
 
   below_none : StaysBelowLimit sited.site signal later_rounds next
-  below_none before are = below_before signal later_rounds ([] ∷ []) next before (below_one before are)
+  below_none before are = below_two signal later_rounds ([] ∷ []) next before (below_one before are)
 
   link_there : signal < links sited.site
   link_there = omega (arith, few)

@@ -42,19 +42,18 @@ use Rattle.simulator_recovery.specs.Withdrawn.{SetsNot}
 use Rattle.simulator_recovery.proofs.AlwaysFew.{reached_rests}
 use Rattle.simulator_recovery.proofs.AlwaysStopped.{standing_then}
 use Rattle.simulator_recovery.proofs.AspectCalls.{hears as hears_so}
-use Rattle.simulator_recovery.proofs.AspectWindows.{client_after}
 use Rattle.simulator_recovery.proofs.AuthorityCancels.{CountsSo, Goes, IsPast, Turned, clocked_there, command_counts, rule_past}
 use Rattle.simulator_recovery.proofs.Cancelled.{NoCommand as NoOne, OfRoute, RouteKeeps, none_comes, route_keep}
 use Rattle.simulator_recovery.proofs.ClientLinks.{ClockedStands, clocked_stands, commanding_stands, hearing_stands, ticking_stands, up_open}
 use Rattle.simulator_recovery.proofs.DueCourse.{LeavesSetting, proceeds_held, proceeds_keep, seen_held, ticked_held as route_ticked, until_moved}
 use Rattle.simulator_recovery.proofs.DueTicks.{inside_ticks}
-use Rattle.simulator_recovery.proofs.IxlClients.{changed_at}
+use Rattle.simulator_recovery.proofs.IxlClients.{changed_at, signal_client}
 use Rattle.simulator_recovery.proofs.IxlSoFar.{set_at}
-use Rattle.simulator_recovery.proofs.DueShapes.{along_keeps, one_keeps, over_keeps, route_keeps, where_keeps}
+use Rattle.simulator_recovery.proofs.DueShapes.{along_keeps, either_keeps, one_keeps, over_keeps, route_keeps, where_keeps}
 use Rattle.simulator_recovery.proofs.FewItems.{GivesFew}
 use Rattle.simulator_recovery.proofs.GivenNoMore.{NoCommand, Rests, rests_keep}
 use Rattle.simulator_recovery.proofs.RoutesReady.{clocked_up}
-use Rattle.simulator_recovery.proofs.SignalParts.{IsGiven, PartsKeep, RulesKeep, aspect_held, behind_ending, behind_withdrawal, ending_held, new_signal, over_held, step_held, ticked_held, watched_held, where_either}
+use Rattle.simulator_recovery.proofs.SignalParts.{IsGiven, PartsKeep, RulesKeep, aspect_held, behind_ending, behind_withdrawal, ending_held, new_signal, over_held, step_held, ticked_held, watched_held}
 use Rattle.simulator_recovery.proofs.StationTalk.{clocked_link}
 use Rattle.simulator_recovery.proofs.StopsGiven.{AnyCommand, StopsStand, changed_elsewhere, changed_here, differs, is_equal, stand_keep}
 use Rattle.simulator_recovery.proofs.WaitingItems.{clock_went, done_went, ready_inside, ticked_none}
@@ -133,7 +132,7 @@ module _ (now : ℕ) (table : Table) (signal items : ℕ) where
     where
       heard : (known : KnownSignalState) → slice_get part.ixl.known_signals place ≡ Some known → place ≡ signal → (indicated : Option Aspect)
           → Counted items (known_signal_after known.aspect known.number indicated (hearing now bytes (begun known.client part.outbox)).client)
-      heard known e same indicated = subst (ClientCounts items) (sym (client_after known.aspect known.number indicated (hearing now bytes (begun known.client part.outbox)).client))
+      heard known e same indicated = subst (ClientCounts items) (sym (signal_client known.aspect known.number indicated (hearing now bytes (begun known.client part.outbox)).client))
           (let so : ReadySo now items known = subst (ReadySo now items) (same_Some is.0 known (sym is.1 ∙ (ap (slice_get part.ixl.known_signals) (sym same) ∙ e))) is.2
           in (hearing_stands now bytes (begun known.client part.outbox) so.stands, heard_so now items bytes known part.outbox so))
   hearing_counts bytes (Point place) part is = one_keeps Counts (slice_get part.ixl.known_points place) _ part (λ known e. counts part is) (counts part is)
@@ -192,7 +191,7 @@ module _ (now : ℕ) (table : Table) (signal items : ℕ) where
 
   -- an aspect
   given_grows : (aspect : Aspect) (number : ℕ) (known : KnownSignalState) (client : ClientState) → IsGiven now aspect known.client client → Grows items known.client → Grows items (new_signal aspect number client known).client
-  given_grows aspect number known client is grows = subst (Grows items) (sym (client_after (Some aspect) number known.indicated client ∙ is.is))
+  given_grows aspect number known client is grows = subst (Grows items) (sym (signal_client (Some aspect) number known.indicated client ∙ is.is))
       (commanding_stands now (client_commands.Indicate aspect) (begun known.client is.outbox) grows.0, more)
     where
       done : ClientSoFar
@@ -210,7 +209,8 @@ module _ (now : ℕ) (table : Table) (signal items : ℕ) where
 
   -- a tick
   ticks_grow : (known : KnownSignalState) (outbox : OutboxState) → Grows items known.client → Grows items (known_signal_after known.aspect known.number known.indicated (ticking now (begun known.client outbox)).client).client
-  ticks_grow known outbox grows = subst (Grows items) (sym (client_after known.aspect known.number known.indicated (ticking now (begun known.client outbox)).client)) (ticking_stands now (begun known.client outbox) grows.0, more)
+  ticks_grow known outbox grows = subst (Grows items) (sym (signal_client known.aspect known.number known.indicated (ticking now (begun known.client outbox)).client))
+      (ticking_stands now (begun known.client outbox) grows.0, more)
     where
       more : is_ready (ticking now (begun known.client outbox)).client.stage ≡ true → items ≤ (ticking now (begun known.client outbox)).client.link.given
       more ready =
@@ -232,7 +232,7 @@ module _ (now : ℕ) (table : Table) (signal items : ℕ) where
   GrowsIn part = GrowsAmong part.ixl.routes part.ixl.known_signals
 
   stop_grows : (row : Row) (part : StepSoFar) → GrowsIn part → GrowsIn (stopped now row part)
-  stop_grows row part all = where_either now table GrowsAmong rules (is_signal_ready part.ixl row.entry) (giving_aspect now row.entry aspects.Stop part) part
+  stop_grows row part all = either_keeps GrowsIn (is_signal_ready part.ixl row.entry) (giving_aspect now row.entry aspects.Stop part) part
       (λ ready. aspect_held now table GrowsAmong rules row.entry aspects.Stop part ready (λ known many client e so.
       set_grows row.entry (new_signal aspects.Stop many client known) part.ixl.routes part.ixl.known_signals (λ same. given_grows aspects.Stop many known client so (all known (ap (slice_get part.ixl.known_signals) (sym same) ∙ e))) all))
       (λ not_ready. all)
@@ -264,7 +264,7 @@ module _ (site : Site) (table : Table) (signal : ℕ) (input : Input) (world : W
 
   client_is : late.client ≡ clocked Now known.client
   unfolding late
-  client_is = client_after known.aspect known.number known.indicated (clocked Now known.client)
+  client_is = signal_client known.aspect known.number known.indicated (clocked Now known.client)
 
   up_late : is_up (clocked Now known.client).link.phase ≡ true
   up_late = ap (λ (l : LinkState). is_up l.phase) (clocked_link Now known.client) ∙ up

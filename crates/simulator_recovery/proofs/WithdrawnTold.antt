@@ -24,10 +24,11 @@ use Rattle.simulator_recovery.specs.LinkRounds.{IsUpOn, StaysBelowLimit}
 use Rattle.simulator_recovery.specs.Rounds.{HasTime, IsWork, all_tried, good_rounds}
 use Rattle.simulator_recovery.proofs.ComeUp.{Begun, behind_rounds, lists_length, lists_on, rounds_open, up_on}
 use Rattle.simulator_recovery.proofs.ConfirmedLinks.{settled_confirmed}
-use Rattle.simulator_recovery.proofs.HandedOver.{client_is, settled_given}
+use Rattle.simulator_recovery.proofs.HandedOver.{client_is}
 use Rattle.simulator_recovery.proofs.LinkRounds.{are_links}
 use Rattle.simulator_recovery.proofs.Lists.{each_both}
 use Rattle.simulator_recovery.proofs.Ready.{IsUpBehind, ReadyLaws, below_front, count_front, each_front, lists_front, rounds_both, ups, work_front}
+use Rattle.simulator_recovery.proofs.Spent.{settled_given}
 use Rattle.simulator_recovery.proofs.StaysOpen.{rounds_stay}
 use Rattle.simulator_recovery.proofs.WindowsSpoken.{below_two, count_two, each_two, lists_two, rounds_two, work_two}
 

@@ -13,7 +13,7 @@ use Rattle.simulator_recovery.proofs.AnsweredSteps.{Unmoved}
 use Rattle.simulator_recovery.proofs.HeldRounds.{fewer, point_below}
 use Rattle.simulator_recovery.proofs.MovesAnswered.{rounds_both}
 use Rattle.simulator_recovery.proofs.MovesLists.{each_split}
-use Rattle.simulator_recovery.proofs.ProceedsStays.{below_before}
+use Rattle.simulator_recovery.proofs.WindowsAlone.{below_two}
 use Rattle.simulator_recovery.proofs.answered.no_move_is_unanswered.Goals as goal
 
 pub returns : goal.returns
@@ -30,7 +30,7 @@ returns c = λ between later more last flowing place once station is_table reach
     in let was_reached = c.good_rounds_are_events.ensures (between ∷ rounds) flowing reached
     in let is_reached = c.good_rounds_are_events.ensures (between ∷ (rounds ++ last)) flowing reached
     in let was_ready = c.links_are_ready.ensures between rounds flowing link once station is_table reached work (each_split (Each IsWork) rounds last works).0 (fewer rounds last flowing.state.run can) (point_below sited.site place few) long_so
-    (λ before are. below_before link rounds last (all_tried between (round stations flowing)) before (below before are))
+    (λ before are. below_two link rounds last (all_tried between (round stations flowing)) before (below before are))
     in let ready = c.links_are_ready.ensures between (rounds ++ last) flowing link once station is_table reached work works can (point_below sited.site place few) now_long below
     in let since = c.moves_that_are_out_are_new.ensures between rounds last flowing place once station is_table reached work works can few notes answered_so many below awaits
     in let none_then = subst (λ (f : Flowing Played). NoneWaitsFor sited.table f.state.run.station.ixl place) (sym (rounds_both (between ∷ later) more flowing))

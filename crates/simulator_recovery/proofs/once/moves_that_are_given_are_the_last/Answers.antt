@@ -14,7 +14,7 @@ use Rattle.simulator_recovery.specs.Ready.{ready_rounds}
 use Rattle.simulator_recovery.specs.Rounds.{HasTime, IsWork, all_tried, good_rounds}
 use Rattle.simulator_recovery.proofs.HeldRounds.{fewer}
 use Rattle.simulator_recovery.proofs.MovesLists.{each_split}
-use Rattle.simulator_recovery.proofs.ProceedsStays.{below_before}
+use Rattle.simulator_recovery.proofs.WindowsAlone.{below_two}
 use Rattle.simulator_recovery.proofs.once.moves_that_are_given_are_the_last.Goals as goal
 
 pub returns : goal.returns
@@ -27,7 +27,7 @@ returns c = λ between later more still last flowing place once station is_table
     in let all_rounds = rounds ++ still
     in let mid_works = (each_split (Each IsWork) all_rounds last works).0
     in let mid_can = fewer all_rounds last flowing.state.run can
-    in let mid_below : StaysBelowLimit site link all_rounds next = λ before are. below_before link all_rounds last next before (below before are)
+    in let mid_below : StaysBelowLimit site link all_rounds next = λ before are. below_two link all_rounds last next before (below before are)
     in let ready : ready_rounds ≤ suc (length rounds) = let n = length-append later more in omega (arith, long, n)
     in let answered : answered_rounds ≤ suc (length (all_rounds ++ last)) = let n = length-append rounds still in let m = length-append all_rounds last in omega (arith, ready, n, m, as_many)
     in let on = c.links_of_points_count_on.ensures between rounds still flowing place once station is_table reached work mid_works mid_can few ready mid_below

@@ -14,7 +14,7 @@ use Rattle.simulator_recovery.proofs.MovesAnswered.{rounds_both}
 use Rattle.simulator_recovery.proofs.MovesLists.{each_split}
 use Rattle.simulator_recovery.proofs.OnceMoved.{gave_two, once_first, once_later, stays_once}
 use Rattle.simulator_recovery.proofs.OnceMovedSteps.{IsMovedOnce}
-use Rattle.simulator_recovery.proofs.ProceedsStays.{below_before}
+use Rattle.simulator_recovery.proofs.WindowsAlone.{below_two}
 use Rattle.simulator_recovery.proofs.once.points_are_moved_once.Goals as goal
 
 pub returns : goal.returns
@@ -28,7 +28,7 @@ returns c = λ between later more flowing place once station is_table reached wo
     in let is_reached = c.good_rounds_are_events.ensures (between ∷ (later ++ more)) flowing reached
     in let was_ready = c.links_are_ready.ensures between later flowing link once station is_table reached work (each_split (Each IsWork) later more works).0
     (fewer later more flowing.state.run can) (point_below sited.site place few) long
-    (λ before are. below_before link later more (all_tried between (round stations flowing)) before (below before are))
+    (λ before are. below_two link later more (all_tried between (round stations flowing)) before (below before are))
     in let ready = c.links_are_ready.ensures between (later ++ more) flowing link once station is_table reached work works can (point_below sited.site place few) now_long below
     in let laws : UnansweredLaws = record {
       stand = c.stations_stand_by_their_counts.ensures;

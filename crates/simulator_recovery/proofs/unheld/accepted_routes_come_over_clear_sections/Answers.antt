@@ -14,7 +14,7 @@ use Rattle.simulator_recovery.specs.UnheldPoints.{HoldsWithAuthority}
 use Rattle.simulator_recovery.proofs.HeldNeeds.{needs_there}
 use Rattle.simulator_recovery.proofs.HeldRounds.{accepted_there, base_at, below_front, fewer, point_below, request_works, set_course}
 use Rattle.simulator_recovery.proofs.MovesLists.{each_split}
-use Rattle.simulator_recovery.proofs.ProceedsStays.{below_before}
+use Rattle.simulator_recovery.proofs.WindowsAlone.{below_two}
 use Rattle.simulator_recovery.proofs.Rounds.{TimeLaws, reached_on}
 use Rattle.simulator_recovery.proofs.UnheldAccepted.{HoldersKnow, clear_or, long_still, ready_point, start_or}
 use Rattle.simulator_recovery.proofs.unheld.accepted_routes_come_over_clear_sections.Goals as goal
@@ -50,7 +50,7 @@ returns c = λ between early later before more still flowing route row once stat
     ((below_front site row all more next (below_front site row (all ++ more) still next below)).points need within)
     in let ready = c.links_are_ready.ensures between early flowing (point_link site need.point) once station is_table reached work parts.0 (fewer early (later ++ asked) flowing.state.run some)
     (point_below site need.point few) long
-    (λ before are. below_before (point_link site need.point) early (later ++ asked) next before (beneath before are))
+    (λ before are. below_two (point_link site need.point) early (later ++ asked) next before (beneath before are))
     in let know : HoldersKnow table start.state.run need = λ number other own own_there own_within same same_side holds.
     subst (λ (rounds : List (List Event)). Known (good_rounds (between ∷ rounds) flowing).state.run.station.ixl own.point own.side) (sym joined)
     (c.points_held_with_authority_stay_known.ensures between early (later ++ asked) flowing number other own once station is_table reached work parts.0

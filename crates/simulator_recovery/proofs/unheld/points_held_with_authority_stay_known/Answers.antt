@@ -9,9 +9,9 @@ use Rattle.simulator_recovery.specs.UnheldPoints.{HoldsWithAuthority}
 use Rattle.simulator_recovery.proofs.HeldNeeds.{needs_there}
 use Rattle.simulator_recovery.proofs.HeldRounds.{fewer, point_below}
 use Rattle.simulator_recovery.proofs.MovesAnswered.{rounds_both}
-use Rattle.simulator_recovery.proofs.ProceedsStays.{below_before}
 use Rattle.simulator_recovery.proofs.Rounds.{rounds_reached}
 use Rattle.simulator_recovery.proofs.UnheldRounds.{HeldLaws, stays_known}
+use Rattle.simulator_recovery.proofs.WindowsAlone.{below_two}
 use Rattle.simulator_recovery.proofs.unheld.points_held_with_authority_stay_known.Goals as goal
 
 pub returns : goal.returns
@@ -28,7 +28,7 @@ returns c = λ between later more flowing number row need once station is_table 
     in let few = needs_there site flowing.state.sited.table station is_table number row row_there need within
     in let there = point_below site need.point few
     in let ready = c.links_are_ready.ensures between later flowing (point_link site need.point) once station is_table reached work works (fewer later more flowing.state.run can) there long
-    (λ before are. below_before (point_link site need.point) later more next before (below before are))
+    (λ before are. below_two (point_link site need.point) later more next before (below before are))
     in let ups = c.links_stay_up.ensures between later more flowing (point_link site need.point) once station is_table reached work works more_works can there long below
     in subst (λ (f : Flowing Played). Known f.state.run.station.ixl need.point need.side) (sym (rounds_both later more next))
     (stays_known laws (λ s t world table_there is other other_row route point side another. c.points_of_proceeding_routes_are_known.ensures s t world other other_row route point side another table_there is)
