@@ -251,6 +251,7 @@ pub mod AnsweredMoves
 pub mod OnceParts
 pub mod AnsweredSteps
 pub mod AnsweredRounds
+pub mod AwaitsHeld
 pub mod OnceMovedSteps
 pub mod OnceMoved
 pub mod OnceCounted

@@ -168,7 +168,7 @@ module _ (now : ℕ) (table : Table) (k : ℕ) where
         nothing = record { routes = refl; signals = refl; detectors = refl; points = λ other differ. refl }
 
     -- a point that is held with authority isn't moved
-    held_stays : (number : ℕ) (need : Need) (part : StepSoFar) → IsHeldWithAuthority table part.ixl need.point → moving_one now table number need part ≡ part
+    pub held_stays : (number : ℕ) (need : Need) (part : StepSoFar) → IsHeldWithAuthority table part.ixl need.point → moving_one now table number need part ≡ part
     unfolding moving_one
     held_stays number need part held = by_row (slice_get table.rows number) refl (slice_get part.ixl.routes number) refl
       where

@@ -57,7 +57,7 @@ module _ (now point : ℕ) (P : KnownPointState → Type 0) (clients : ClientsKe
   abbrev Here : StepSoFar → Type 0
   Here = On point P
 
-  clocked_on : (part : StepSoFar) → Here part → Here (record part { ixl = all_clocked now part.ixl })
+  pub clocked_on : (part : StepSoFar) → Here part → Here (record part { ixl = all_clocked now part.ixl })
   unfolding all_clocked
   clocked_on part is known e =
       let found = mapped_at (clocked_known_point now) part.ixl.known_points point known e

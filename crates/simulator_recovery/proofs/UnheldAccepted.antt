@@ -1,5 +1,5 @@
 -- A point over a clear section is known, or may come, where no route that held it behind its aspect is left from before the links were ready.
-use Rattle.std.proofs.Common.{◌≡◌, ◌⊎◌, inl, inr, ℕ, suc, ◌≤◌, ◌<◌, false, true, List, ◌++◌, Some, slice_get, refl, sym, ap, subst, ◌∙◌, length, arith}
+use Rattle.std.proofs.Common.{◌≡◌, ◌⊎◌, inl, inr, ℕ, suc, ◌≤◌, ◌<◌, false, List, ◌++◌, Some, slice_get, refl, sym, ap, subst, ◌∙◌, length, arith}
 use Rattle.std.specs.FinSet.{contains}
 use Rattle.std.specs.List.{Contains}
 use Rattle.std.proofs.lemmas.Bool.{false≢true}
@@ -8,10 +8,8 @@ use Rattle.std.proofs.lemmas.Option.{same_Some, slice_get_within}
 use Rattle.ixl_table.specs.Table.{IsTableOf}
 use Rattle.simulator_run.specs.layout.Entries.{Site}
 use Rattle.simulator_run.specs.sci_telegram.declared.message.Side.{Side}
-use Rattle.simulator_run.specs.ixl_client.Client.{ClientState, is_available, is_ready}
-use Rattle.simulator_run.specs.ixl_client.declared.stage.Stage.{Stage}
-use Rattle.simulator_run.specs.ixl_client.declared.stage.Stage.TheVariants as stage
-use Rattle.simulator_run.specs.ixl_rules.Due.{At, IsAvailable, IsClear, IsHeldAt, IsRouteOf, Known}
+use Rattle.simulator_run.specs.ixl_client.Client.{ClientState, is_ready}
+use Rattle.simulator_run.specs.ixl_rules.Due.{At, IsClear, IsHeldAt, IsRouteOf, Known}
 use Rattle.simulator_run.specs.ixl_rules.State.{RouteState}
 use Rattle.simulator_run.specs.ixl_rules.Table.{Need, Row, Table}
 use Rattle.simulator_run.specs.ixl_rules.View.{is_set, was_authorised}
@@ -25,7 +23,6 @@ use Rattle.simulator_headline.specs.Reached.{IsReached}
 use Rattle.simulator_recovery.specs.HeldPoints.{IsFreeFor, IsHeldBehindAspect, IsKnownOrOnItsWay, MayCome}
 use Rattle.simulator_recovery.specs.NothingDue.{IsPointReady}
 use Rattle.simulator_recovery.specs.Ready.{IsReadyOn, ready_rounds}
-use Rattle.simulator_recovery.specs.SidesOfMoves.{AwaitsMove}
 use Rattle.simulator_recovery.specs.UnheldPoints.{HoldsWithAuthority, IsHeldBehindEnd, ProceedsOrHoldsNone}
 use Rattle.simulator_recovery.proofs.DueHeld.{agree, in_order_of}
 use Rattle.simulator_recovery.proofs.DueRoutes.{RequestLaw, always_apart}
@@ -40,54 +37,38 @@ ready_point site world whole point few ready =
     let it = point_there site world whole point few
     in (it.0, it.1, ap (λ (c : ClientState). is_ready c.stage) (same_Some it.0.client ready.client (sym it.2 ∙ ready.there)) ∙ ready.client_ready)
 
--- where no move of the point is out, a withdrawn route that requires it knows it at its side
+-- a withdrawn route that requires the point knows it at its side
 abbrev pub WithdrawnKnow : Table → WorldState → ℕ → Type 0
 WithdrawnKnow table world point = (number : ℕ) (row : Row) (route : RouteState) (own : Need) → IsRouteOf table world.station.ixl number row route → route.phase ≡ phase.Withdrawn
     → Contains row.needs own
-    → own.point ≡ point → IsAvailable world.station.ixl point → Known world.station.ixl own.point own.side
-
-available_or : (table : Table) (world : WorldState) (point : ℕ) → IsPointReady world.station.ixl point → IsAvailable world.station.ixl point ⊎ AwaitsMove point world
-available_or table world point (known, there, ready) = by_stage known.client.stage refl ready
-  where
-    by_stage : (s : Stage) → known.client.stage ≡ s → is_ready s ≡ true → IsAvailable world.station.ixl point ⊎ AwaitsMove point world
-    by_stage stage.Completed e is = inl (known, there, ap is_available e)
-    by_stage stage.AwaitsReport e is = inr (known, there, e)
-    by_stage stage.Outside e is = absurd (false≢true is)
-    by_stage stage.AwaitsAnswer e is = absurd (false≢true is)
-    by_stage stage.AwaitsStart e is = absurd (false≢true is)
-    by_stage (stage.AwaitsStatus left) e is = absurd (false≢true is)
+    → own.point ≡ point → Known world.station.ixl own.point own.side
 
 -- no route whose authority has ended holds the point: so each proceeds, or holds none, or knows it at its side
-proceeds_or_none : (table : Table) (world : WorldState) (point : ℕ) → (IsHeldBehindEnd table world point → ⊥) → IsPointReady world.station.ixl point → WithdrawnKnow table world point
+proceeds_or_none : (table : Table) (world : WorldState) (point : ℕ) → (IsHeldBehindEnd table world point → ⊥) → WithdrawnKnow table world point
     → length world.station.ixl.routes ≡ length table.rows
     → (number : ℕ) (row : Row) (need : Need) → slice_get table.rows number ≡ Some row → Contains row.needs need → need.point ≡ point
     → At world.station.ixl.routes number (ProceedsOrHoldsNone need) ⊎ Known world.station.ixl need.point need.side
-proceeds_or_none table world point none ready know many number row need row_there within same = by_phase it.0.phase refl
+proceeds_or_none table world point none know many number row need row_there within same = by_phase it.0.phase refl
   where
     it : (route : RouteState) × (slice_get world.station.ixl.routes number ≡ Some route)
     it = let inside = slice_get_within table.rows number row row_there in at_place world.station.ixl.routes number (omega (arith, many, inside))
-
-    withdrawn : it.0.phase ≡ phase.Withdrawn → IsAvailable world.station.ixl point ⊎ AwaitsMove point world
-        → At world.station.ixl.routes number (ProceedsOrHoldsNone need) ⊎ Known world.station.ixl need.point need.side
-    withdrawn e (inl available) = inr (know number row it.0 need (row_there, it.1) e within same available)
-    withdrawn e (inr awaits) = inl (it.0, it.1, inr (λ holds. none (number, row, it.0, need.side, (row_there, it.1), inr (e, awaits), (ap is_set e, (need, within, same, refl, holds.1)))))
 
     by_phase : (p : Phase) → it.0.phase ≡ p → At world.station.ixl.routes number (ProceedsOrHoldsNone need) ⊎ Known world.station.ixl need.point need.side
     by_phase phase.Free e = inl (it.0, it.1, inr (λ holds. false≢true (ap was_authorised (sym e) ∙ holds.0)))
     by_phase phase.Waiting e = inl (it.0, it.1, inr (λ holds. false≢true (ap was_authorised (sym e) ∙ holds.0)))
     by_phase phase.Proceeding e = inl (it.0, it.1, inl e)
-    by_phase phase.Withdrawn e = withdrawn e (available_or table world point ready)
+    by_phase phase.Withdrawn e = inr (know number row it.0 need (row_there, it.1) e within same)
     by_phase (phase.Ended clock done) e =
-        inl (it.0, it.1, inr (λ holds. none (number, row, it.0, need.side, (row_there, it.1), inl (clock, done, e), (ap is_set e, (need, within, same, refl, holds.1)))))
+        inl (it.0, it.1, inr (λ holds. none (number, row, it.0, need.side, (row_there, it.1), (clock, done, e), (ap is_set e, (need, within, same, refl, holds.1)))))
 
 -- where the point is known instead, it is known where the route requires it
 pub start_or : (table : Table) (world : WorldState) (need : Need) → (IsHeldBehindEnd table world need.point → ⊥) ⊎ Known world.station.ixl need.point need.side
-    → IsPointReady world.station.ixl need.point → WithdrawnKnow table world need.point
+    → WithdrawnKnow table world need.point
     → length world.station.ixl.routes ≡ length table.rows → (number : ℕ) (row : Row) (own : Need) → slice_get table.rows number ≡ Some row → Contains row.needs own → own.point ≡ need.point
     → own.side ≡ need.side
     → At world.station.ixl.routes number (ProceedsOrHoldsNone own) ⊎ Known world.station.ixl own.point own.side
-start_or table world need (inl none) ready know many number row own row_there within same_point same_side = proceeds_or_none table world need.point none ready know many number row own row_there within same_point
-start_or table world need (inr known) ready know many number row own row_there within same_point same_side = inr (subst (λ (p : ℕ). Known world.station.ixl p own.side) (sym same_point)
+start_or table world need (inl none) know many number row own row_there within same_point same_side = proceeds_or_none table world need.point none know many number row own row_there within same_point
+start_or table world need (inr known) know many number row own row_there within same_point same_side = inr (subst (λ (p : ℕ). Known world.station.ixl p own.side) (sym same_point)
     (subst (λ (s : Side). Known world.station.ixl need.point s) (sym same_side) known))
 
 -- The point is known at its side by each route that holds it there with authority.

@@ -119,7 +119,7 @@ module _ (now : ℕ) (table : Table) (k until : ℕ) where
   moving_one_none number need part is = route_keeps HeldNone table number _ part (λ row route there here. where_keeps HeldNone (is_move_due table part.ixl number route need) part _
       (λ due. subst (λ (routes : List RouteState). At routes k Holds) (sym (move_leaves now need.point need.side part).routes) is) is) is
 
-  moving_none : (number : ℕ) (part : StepSoFar) → HeldNone part → HeldNone (moving now table number part)
+  pub moving_none : (number : ℕ) (part : StepSoFar) → HeldNone part → HeldNone (moving now table number part)
   moving_none = moving_keeps HeldNone now table moving_one_none
 
   until_moved : (part : StepSoFar) → HeldNone part → HeldNone (moved now table part)
@@ -194,7 +194,7 @@ module _ (now : ℕ) (table : Table) (k until : ℕ) where
     abbrev pub NoneOrKnown : StepSoFar → Type 0
     NoneOrKnown part = HeldNone part ⊎ Known part.ixl need.point need.side
 
-    proceeding_or : (number : ℕ) (part : StepSoFar) → NoneOrKnown part → NoneOrKnown (proceeding now table number part)
+    pub proceeding_or : (number : ℕ) (part : StepSoFar) → NoneOrKnown part → NoneOrKnown (proceeding now table number part)
     unfolding proceeding
     proceeding_or number part is = route_keeps NoneOrKnown table number _ part (λ other one there here. where_keeps NoneOrKnown (is_proceed_due now table part.ixl other one) part _
         (λ due. given_so other one there due) is) is
@@ -234,9 +234,20 @@ module _ (site : Site) (table : Table) (k : ℕ) (row : Row) (row_there : slice_
   abbrev pub NoneOrSided : IxlState → Type 0
   NoneOrSided ixl = HoldsNoneAt ixl ⊎ (IsInside ixl need.point → Known ixl need.point need.side)
 
+  -- where it was so behind the rules, ticks keep it
+  pub ticked_or : (now : ℕ) (input : Input) (part : StepSoFar) → NoneOrKnown now table k need.until row row_there need within part → NoneOrSided (ticked now input part).ixl
+  ticked_or now input part is = choose is
+    where
+      brings : BringsNothing part.ixl (ticked now input part).ixl
+      brings = ticks_bring_nothing now input part
+
+      choose : NoneOrKnown now table k need.until row row_there need within part → NoneOrSided (ticked now input part).ixl
+      choose (inl none) = inl (subst (λ (routes : List RouteState). At routes k (λ route. HoldsNone need.until route.phase)) (sym brings.routes) none)
+      choose (inr known) = inr (λ inside. known_still table part.ixl (ticked now input part).ixl brings need.point need.side inside.0 inside.1 inside.2 known)
+
   pub step_or : (input : Input) (world : WorldState) → HoldsNoneAt world.station.ixl → NoneOrSided (interlocking_stepped site table input world).station.ixl
   unfolding interlocking_stepped stepped
-  step_or input world is = by_ruled (ruled_or now table k need.until row row_there need within seen (seen_none now table k need.until (key_of site) input begins is))
+  step_or input world is = ticked_or now input (ruled now table seen) (ruled_or now table k need.until row row_there need within seen (seen_none now table k need.until (key_of site) input begins is))
     where
       now : ℕ
       now = reading_of world.station.clock
@@ -246,10 +257,3 @@ module _ (site : Site) (table : Table) (k : ℕ) (row : Row) (row_there : slice_
 
       seen : StepSoFar
       seen = over (watching table) (count table) (given now table (key_of site) input (record begins { ixl = all_clocked now begins.ixl }))
-
-      brings : BringsNothing (ruled now table seen).ixl (ticked now input (ruled now table seen)).ixl
-      brings = ticks_bring_nothing now input (ruled now table seen)
-
-      by_ruled : NoneOrKnown now table k need.until row row_there need within (ruled now table seen) → NoneOrSided (ticked now input (ruled now table seen)).ixl
-      by_ruled (inl none) = inl (subst (λ (routes : List RouteState). At routes k (λ route. HoldsNone need.until route.phase)) (sym brings.routes) none)
-      by_ruled (inr known) = inr (λ inside. known_still table (ruled now table seen).ixl (ticked now input (ruled now table seen)).ixl brings need.point need.side inside.0 inside.1 inside.2 known)

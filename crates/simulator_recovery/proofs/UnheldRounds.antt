@@ -57,7 +57,7 @@ pub record HeldLaws : Type 0 where
 
 -- ---- a route that holds none, or holds the point
 
-none_held : (until : ℕ) (p : Phase) → HoldsNone until p → was_authorised p ≡ true → freed_sections p < until → ⊥
+pub none_held : (until : ℕ) (p : Phase) → HoldsNone until p → was_authorised p ≡ true → freed_sections p < until → ⊥
 none_held until phase.Free none authority awaits = false≢true authority
 none_held until phase.Waiting none authority awaits = false≢true authority
 none_held until phase.Proceeding none authority awaits = none
@@ -65,7 +65,7 @@ none_held until phase.Withdrawn none authority awaits = none
 none_held until (phase.Ended clock done) none authority awaits = omega (arith, none, awaits)
 
 -- of a point that waits for one section at least
-none_or : (until : ℕ) → 0 < until → (p : Phase) → HoldsNone until p ⊎ ((was_authorised p ≡ true) × (is_set p ≡ true) × (freed_sections p < until))
+pub none_or : (until : ℕ) → 0 < until → (p : Phase) → HoldsNone until p ⊎ ((was_authorised p ≡ true) × (is_set p ≡ true) × (freed_sections p < until))
 none_or until some phase.Free = inl tt
 none_or until some phase.Waiting = inl tt
 none_or until some phase.Proceeding = inr (refl, refl, some)

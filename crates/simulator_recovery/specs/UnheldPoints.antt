@@ -11,7 +11,6 @@ use Rattle.simulator_run.specs.ixl_rules.declared.phase.Phase.TheVariants as pha
 use Rattle.simulator_run.specs.State.{WorldState}
 use Rattle.simulator_recovery.specs.HeldPoints.{IsKnownOrOnItsWay}
 use Rattle.simulator_recovery.specs.NothingDue.{Proceeds}
-use Rattle.simulator_recovery.specs.SidesOfMoves.{AwaitsMove}
 
 -- A route holds a point that it requires with authority: it was given authority in its setting, and not all sections are freed for which the
 -- point waits.
@@ -26,10 +25,10 @@ ProceedsOrHoldsNone need route = Proceeds route ⊎ (HoldsWithAuthority need rou
 abbrev pub HasEnded : RouteState → Type 0
 HasEnded route = (clock : ℕ) × (done : ℕ) × (route.phase ≡ phase.Ended clock done)
 
--- A route holds a point, and its authority has ended, or it is withdrawn while a move of the point is out.
+-- A route holds a point, and its authority has ended.
 abbrev pub IsHeldBehindEnd : Table → WorldState → ℕ → Type 0
 IsHeldBehindEnd table world point = (number : ℕ) × (row : Row) × (route : RouteState) × (side : Side)
-    × IsRouteOf table world.station.ixl number row route × (HasEnded route ⊎ ((route.phase ≡ phase.Withdrawn) × AwaitsMove point world)) × HoldsPoint row route.phase point side
+    × IsRouteOf table world.station.ixl number row route × HasEnded route × HoldsPoint row route.phase point side
 
 -- Each point that this route requires is known at its side, or no such route holds it.
 abbrev pub AreKnownOrUnheld : Table → Row → WorldState → Type 0

@@ -23,6 +23,7 @@ ghost use Rattle.simulator_recovery.specs.NothingDue.{IsPointReady, Proceeds};
 ghost use Rattle.simulator_recovery.specs.Ready.{ready_rounds};
 ghost use Rattle.simulator_recovery.specs.Rounds.{HasTime, IsWork, all_tried, good_rounds};
 ghost use Rattle.simulator_recovery.specs.SidesOfMoves.{AwaitsMove};
+ghost use Rattle.simulator_recovery.specs.UnheldPoints.{HoldsWithAuthority};
 
 use crate::{
     good_rounds_are_events, links_are_ready, moves_are_answered,
@@ -32,6 +33,7 @@ use object_host_theorem::{point_makes_a_step, step_takes_and_gives};
 use simulator_machine_links::{a_client_of_many_makes_a_step, a_node_of_one_link_makes_a_step};
 use simulator_run::a_station_begins_its_links;
 use simulator_run::ixl_rules::control_table::sci_telegram::written_is_read;
+use simulator_run::ixl_rules::move_is_given_where_due;
 use simulator_run::ixl_rules::rasta_core::{
     a_node_makes_a_step, items_are_counted, links_keep_order, links_keep_time, one_connection,
     order_is_safe,
@@ -142,4 +144,14 @@ pub fn points_of_proceeding_routes_await_nothing()
         → IsRouteOf table world.station.ixl number row route → Proceeds route → Contains row.needs need → IsPointReady world.station.ixl need.point → AwaitsMove need.point world → ⊥ }
 {
     points_of_proceeding_routes_are_known();
+}
+
+/// Nor is one out to a point that a route holds with authority, whether the route proceeds, was withdrawn, or its authority has ended: after every
+/// list of events, on any network, in whichever state the point's link is. For a route is given authority where its points are known, and a point
+/// of which a move is out isn't; and a point that is held with authority isn't moved.
+pub fn points_held_with_authority_await_nothing()
+    ensures { (site : Site) (table : Table) (world : WorldState) (number : ℕ) (row : Row) (route : RouteState) (need : Need) → IsTableOf site table → IsReached site table world
+        → IsRouteOf table world.station.ixl number row route → HoldsWithAuthority need route → Contains row.needs need → AwaitsMove need.point world → ⊥ }
+{
+    move_is_given_where_due();
 }

@@ -6,7 +6,7 @@ ghost use Rattle.ixl_table.specs.Table.{IsTableOf};
 ghost use Rattle.simulator_run.specs.layout.Entries.{Site};
 ghost use Rattle.simulator_run.specs.layout.Once.{Once};
 ghost use Rattle.simulator_run.specs.layout.Station.{IsStation};
-ghost use Rattle.simulator_run.specs.ixl_rules.Due.{IsAvailable, IsRouteOf, Known};
+ghost use Rattle.simulator_run.specs.ixl_rules.Due.{IsRouteOf, Known};
 ghost use Rattle.simulator_run.specs.ixl_rules.State.{RouteState};
 ghost use Rattle.simulator_run.specs.ixl_rules.Table.{Need, Row, Table};
 ghost use Rattle.simulator_run.specs.Nodes.{point_link};
@@ -14,6 +14,7 @@ ghost use Rattle.simulator_run.specs.State.{WorldState};
 ghost use Rattle.simulator_headline.specs.Reached.{IsReached};
 ghost use Rattle.simulator_recovery.specs.FieldPoints.{HasAuthority};
 ghost use Rattle.simulator_recovery.specs.LinkRounds.{IsUpOn};
+ghost use Rattle.simulator_recovery.specs.NothingDue.{IsPointReady};
 
 use object_host_theorem::{point_makes_a_step, step_takes_and_gives};
 use simulator_headline::{every_world_is_reached_by_moves, items_are_read_off_the_datagrams};
@@ -22,6 +23,7 @@ use simulator_machine_interlocking::tables_are_sound;
 use simulator_machine_links::{a_client_of_many_makes_a_step, a_node_of_one_link_makes_a_step};
 use simulator_run::a_station_begins_its_links;
 use simulator_run::ixl_rules::control_table::sci_telegram::written_is_read;
+use simulator_run::ixl_rules::move_is_given_where_due;
 use simulator_run::ixl_rules::rasta_core::{
     a_node_makes_a_step, links_keep_order, links_keep_time, one_connection, order_is_safe,
 };
@@ -35,11 +37,12 @@ use simulator_run_links::{
 };
 
 /// A point that a route with authority requires is known at its side, whether the route proceeds or was withdrawn: after every list of events, on
-/// any network, where the point's link is up at both ends and no move is out. So it is also where the link came up anew under the route. For the
-/// point lies at its side, and isn't moved; and a controller that took no move in its connection has reported where its point lies.
+/// any network, where the point's link is up at both ends and ready at the interlocking. So it is also where the link came up anew under the route.
+/// For the point lies at its side, and isn't moved; and a controller that took no move in its connection has reported where its point lies.
 pub fn points_of_routes_with_authority_are_known()
     ensures { (site : Site) (table : Table) (world : WorldState) (number : ℕ) (row : Row) (route : RouteState) (need : Need) → Once site → IsStation site → IsTableOf site table → IsReached site table world
-        → IsRouteOf table world.station.ixl number row route → HasAuthority route → Contains row.needs need → IsUpOn (point_link site need.point) world → IsAvailable world.station.ixl need.point
+        → IsRouteOf table world.station.ixl number row route → HasAuthority route → Contains row.needs need → IsUpOn (point_link site need.point) world
+        → IsPointReady world.station.ixl need.point
         → Known world.station.ixl need.point need.side }
 {
     a_client_of_many_makes_a_step();
@@ -55,6 +58,7 @@ pub fn points_of_routes_with_authority_are_known()
     layouts_name_their_links();
     links_keep_order();
     links_keep_time();
+    move_is_given_where_due();
     one_connection();
     order_is_safe();
     point_makes_a_step();

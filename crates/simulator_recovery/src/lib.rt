@@ -40,6 +40,7 @@ mod withdrawn;
 
 pub use answered::moves_that_are_out_are_new;
 pub use answered::no_move_is_unanswered;
+pub use answered::points_held_with_authority_await_nothing;
 pub use answered::points_of_proceeding_routes_await_nothing;
 pub use authority::authority_ends_behind_a_cancel;
 pub use authority::authority_ends_where_stop_is_given;

@@ -81,8 +81,7 @@ pub fn points_held_with_authority_stay_known()
 /// Accepted routes come over clear sections: where the request of a route is accepted behind a good round from the 1566th on, and each point that
 /// it requires is known at its side behind the request, or its move is out, or its own section is clear, the route comes within 52 rounds, as in
 /// `accepted_routes_come_in_time`, whichever other routes hold its points. What is asked of them is asked of an earlier moment alone: behind some
-/// good round from the 1565th on each of these points is known at its side, or no route holds it whose authority has ended, or that is withdrawn
-/// while a move of the point is out.
+/// good round from the 1565th on each of these points is known at its side, or no route holds it whose authority has ended.
 /// The premises are else those of `accepted_routes_come_in_time`.
 pub fn accepted_routes_come_over_clear_sections()
     ensures { (between : List Event) (early later : List (List Event)) (before : List Event) (more still : List (List Event)) (flowing : Flowing Played) (route : RouteId) (row : Row)

@@ -1,9 +1,10 @@
 use Rattle.simulator_run.specs.rasta_core.identity.Role.TheVariants as role
+use Rattle.simulator_recovery.proofs.AwaitsHeld.{ready_available}
 use Rattle.simulator_recovery.proofs.FieldPointsKnown.{authority_known}
 use Rattle.simulator_recovery.proofs.field_points.points_of_routes_with_authority_are_known.Goals as goal
 
 pub returns : goal.returns
-returns c = authority_known (record {
+returns c = λ site table world number row route need once station is_table reached is authority within up ready. authority_known (record {
   machine = record {
     moves = c.every_world_is_reached_by_moves.ensures.first;
     begins = c.invariant_is_kept.ensures.first;
@@ -73,4 +74,5 @@ returns c = authority_known (record {
   owed = record { makes = c.point_makes_a_step.ensures; acts = c.step_tells_what_was_taken.ensures };
   connection = record { up = c.one_connection.ensures.up; some = c.one_connection.ensures.some };
   read_off = c.items_are_read_off_the_datagrams.ensures;
-})
+}) site table world number row route need once station is_table reached is authority within up
+    (ready_available c.move_is_given_where_due.ensures site table world number row route need is_table reached is authority within ready)

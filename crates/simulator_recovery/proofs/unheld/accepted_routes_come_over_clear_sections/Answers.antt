@@ -1,13 +1,14 @@
 use Rattle.std.proofs.Common.{◌≡◌, append_assoc, inr, subst, sym}
 use Rattle.std.specs.Prelude.{ℕ, suc, List, [], ◌∷◌, ◌++◌, length}
 use Rattle.simulator_run.specs.rasta_core.Each.{Each}
-use Rattle.simulator_run.specs.ixl_rules.Due.{At, IsAvailable, Known}
+use Rattle.simulator_run.specs.ixl_rules.Due.{At, Known}
 use Rattle.simulator_run.specs.simulator_event.declared.event.Event.{Event}
 use Rattle.simulator_run.specs.Flow.{round, stations}
 use Rattle.simulator_run.specs.Nodes.{point_link}
 use Rattle.simulator_run.specs.State.{WorldState}
 use Rattle.simulator_run_links.specs.Whole.{IsWhole}
 use Rattle.simulator_recovery.specs.LinkRounds.{IsUpOn, StaysBelowLimit}
+use Rattle.simulator_recovery.specs.NothingDue.{IsPointReady}
 use Rattle.simulator_recovery.specs.RoutesCome.{IsOnCourse, and_request}
 use Rattle.simulator_recovery.specs.Rounds.{HasTime, IsWork, all_tried, good_rounds}
 use Rattle.simulator_recovery.specs.UnheldPoints.{HoldsWithAuthority}
@@ -58,11 +59,11 @@ returns c = λ between early later before more still flowing route row once stat
     (subst (λ (point : ℕ). StaysBelowLimit site (point_link site point) (early ++ (later ++ asked)) next) (sym same)
     (subst (λ (rounds : List (List Event)). StaysBelowLimit site (point_link site need.point) rounds next) joined
     ((below_front site row all more next (below_front site row (all ++ more) still next below)).points need within)))
-    (start_or table first.state.run need (left need within) (ready_point site first.state.run whole need.point few ready)
-    (λ place other_row_there route_there held_by is withdrawn contains same_point available. c.points_of_routes_with_authority_are_known.ensures site table first.state.run place other_row_there
+    (start_or table first.state.run need (left need within)
+    (λ place other_row_there route_there held_by is withdrawn contains same_point. c.points_of_routes_with_authority_are_known.ensures site table first.state.run place other_row_there
     route_there held_by once station is_table
     first_reached is (inr withdrawn) contains (subst (λ (point : ℕ). IsUpOn (point_link site point) first.state.run) (sym same_point) ready.up)
-    (subst (IsAvailable first.state.run.station.ixl) (sym same_point) available)) kept number other own own_there own_within same same_side)
+    (subst (IsPointReady first.state.run.station.ixl) (sym same_point) (ready_point site first.state.run whole need.point few ready))) kept number other own own_there own_within same same_side)
     (subst (λ (rounds : List (List Event)). At (good_rounds (between ∷ rounds) flowing).state.run.station.ixl.routes number (HoldsWithAuthority own)) joined holds))
     in clear_or c.request_is_accepted_where_admissible.ensures.accepted site table start.state.run is_table at.reached need
     (c.set_routes_hold_their_points.ensures site table start.state.run route.0 row need is_table row_there within (set_course start.state.run.station.ixl route.0 row course)) know (clear need within))
