@@ -33,6 +33,7 @@ use Rattle.simulator_recovery.proofs.MovesMoment.{PointAt}
 use Rattle.simulator_recovery.proofs.MovesPaid.{IsPaid}
 use Rattle.simulator_recovery.proofs.RoomBehind.{HasRoomAt, HasRoomBehind}
 use Rattle.simulator_recovery.proofs.StopComes.{last_round}
+use Rattle.simulator_recovery.proofs.UnderHosts.{host_rounds}
 
 module _ (laws : AnswerLaws) (stay : StayLaws) (between : List Event) (flowing : Flowing Played) (place : ℕ) (once : Once flowing.state.sited.site) (station : IsStation flowing.state.sited.site)
     (is_table : IsTableOf flowing.state.sited.site flowing.state.sited.table) (reached : IsReached flowing.state.sited.site flowing.state.sited.table flowing.state.run)
@@ -62,14 +63,14 @@ module _ (laws : AnswerLaws) (stay : StayLaws) (between : List Event) (flowing :
   abbrev point_of : (rounds : List (List Event)) (a : OfRounds rounds) → PointAt site (world_at rounds) place (up_of rounds a)
   point_of rounds a = point laws between flowing place once station is_table reached work few rounds a
 
-  abbrev front_of : (front rest : List (List Event)) → ready_rounds ≤ suc (length front) → OfRounds (front ++ rest) → OfRounds front
+  abbrev front_of : (front rest : List (List Event)) → host_rounds ≤ suc (length front) → OfRounds (front ++ rest) → OfRounds front
   front_of front rest long a = front_are laws between flowing place once station is_table reached work few front rest long a
 
   -- so many items were taken of a controller
   abbrev Heard : ℕ → (rounds : List (List Event)) → OfRounds rounds → Type 0
   Heard count rounds a = count ≤ (up_of rounds a).client.taken
 
-  longer : (front : List (List Event)) (last : List Event) → ready_rounds ≤ suc (length front) → ready_rounds ≤ suc (length (front ++ last ∷ []))
+  longer : (front : List (List Event)) (last : List Event) → host_rounds ≤ suc (length front) → host_rounds ≤ suc (length (front ++ last ∷ []))
   longer front last long = let n = length-append front (last ∷ []) in omega (arith, long, n)
 
   heard_same : (count : ℕ) (one other : List (List Event)) → one ≡ other → (a : OfRounds one) (b : OfRounds other) → Heard count one a → Heard count other b
@@ -80,7 +81,7 @@ module _ (laws : AnswerLaws) (stay : StayLaws) (between : List Event) (flowing :
 
   -- ---- from one round to the next
 
-  module _ (front : List (List Event)) (last : List Event) (long : ready_rounds ≤ suc (length front)) (f : OfRounds front) (a : OfRounds (front ++ last ∷ [])) where
+  module _ (front : List (List Event)) (last : List Event) (long : host_rounds ≤ suc (length front)) (f : OfRounds front) (a : OfRounds (front ++ last ∷ [])) where
     pass : Passing link (world_at front) (world_at (front ++ last ∷ []))
     pass = passes laws between flowing place once station is_table reached work few front last long a
 
@@ -100,7 +101,7 @@ module _ (laws : AnswerLaws) (stay : StayLaws) (between : List Event) (flowing :
         in omega (arith, over, was, is)
 
   -- what was taken stays so
-  heard_on : (count : ℕ) (rest front : List (List Event)) → ready_rounds ≤ suc (length front) → (f : OfRounds front) (a : OfRounds (front ++ rest)) → Heard count front f
+  heard_on : (count : ℕ) (rest front : List (List Event)) → host_rounds ≤ suc (length front) → (f : OfRounds front) (a : OfRounds (front ++ rest)) → Heard count front f
       → Heard count (front ++ rest) a
   heard_on count [] front long f a heard = heard_same count front (front ++ []) (sym (append-nil front)) f a heard
   heard_on count (one ∷ rest) front long f a heard =
@@ -113,13 +114,13 @@ module _ (laws : AnswerLaws) (stay : StayLaws) (between : List Event) (flowing :
 
   -- ---- a round in which what was given comes over, and those behind it
 
-  module _ (rounds : List (List Event)) (first : List Event) (rest : List (List Event)) (long : ready_rounds ≤ suc (length rounds)) (f : OfRounds rounds)
+  module _ (rounds : List (List Event)) (first : List Event) (rest : List (List Event)) (long : host_rounds ≤ suc (length rounds)) (f : OfRounds rounds)
       (all : OfRounds ((rounds ++ first ∷ []) ++ rest)) (many : length rest ≡ suc drive_rounds)
       (room : HasRoomBehind place (first ∷ rest) (then_at rounds)) where
     abbrev on : List (List Event)
     on = rounds ++ first ∷ []
 
-    long_on : ready_rounds ≤ suc (length on)
+    long_on : host_rounds ≤ suc (length on)
     long_on = longer rounds first long
 
     a : OfRounds on
@@ -142,7 +143,7 @@ module _ (laws : AnswerLaws) (stay : StayLaws) (between : List Event) (flowing :
         → 2 + given ≤ (up_of (on ++ front) b).server.link.given → Heard (2 + given) (on ++ rest) all
     heard_behind front last others parts b sent =
         let joined = ap (λ (list : List (List Event)). on ++ list) parts ∙ sym (append_assoc on front (last ∷ others)) ∙ sym (append_assoc (on ++ front) (last ∷ []) others)
-        in let long_then : ready_rounds ≤ suc (length (on ++ front)) = (let n = length-append on front in let l = long_on in omega (arith, l, n))
+        in let long_then : host_rounds ≤ suc (length (on ++ front)) = (let n = length-append on front in let l = long_on in omega (arith, l, n))
         in let whole = subst OfRounds joined all
         in let c = front_of ((on ++ front) ++ last ∷ []) others (longer (on ++ front) last long_then) whole
         in let over = comes_over (on ++ front) last long_then b c
@@ -232,14 +233,14 @@ answered laws stay between later_rounds (first ∷ rest) flowing place once stat
   behind = up_at laws between flowing place once station is_table reached work few (later_rounds ++ first ∷ rest) all;
   answered = heard_same laws stay between flowing place once station is_table reached work few notes _ ((later_rounds ++ first ∷ []) ++ rest) (later_rounds ++ first ∷ rest)
       (append_assoc later_rounds (first ∷ []) rest) joined all
-      (answered_then laws stay between flowing place once station is_table reached work few notes later_rounds first rest long f joined (omega (arith, many)) room);
+      (answered_then laws stay between flowing place once station is_table reached work few notes later_rounds first rest (omega (arith, long)) f joined (omega (arith, many)) room);
 }
   where
     all : Are laws between flowing place once station is_table reached work few (later_rounds ++ first ∷ rest)
     all = record { works = works; can = can; room = below; long = let n = length-append later_rounds (first ∷ rest) in omega (arith, long, n) }
 
     f : Are laws between flowing place once station is_table reached work few later_rounds
-    f = front_are laws between flowing place once station is_table reached work few later_rounds (first ∷ rest) long all
+    f = front_are laws between flowing place once station is_table reached work few later_rounds (first ∷ rest) (omega (arith, long)) all
 
     joined : Are laws between flowing place once station is_table reached work few ((later_rounds ++ first ∷ []) ++ rest)
     joined = subst (Are laws between flowing place once station is_table reached work few) (sym (append_assoc later_rounds (first ∷ []) rest)) all

@@ -42,7 +42,6 @@ use Rattle.simulator_headline.specs.Reached.{IsReached, IsTakenOf}
 use Rattle.simulator_recovery.specs.ClientSaid.{ClientHasSaid, commanded}
 use Rattle.simulator_recovery.specs.LinkRounds.{IsUpOn}
 use Rattle.simulator_recovery.specs.Moves.{last_side, reports_in}
-use Rattle.simulator_recovery.specs.Ready.{ready_rounds}
 use Rattle.simulator_recovery.specs.Rounds.{IsWork, all_tried, good_rounds}
 use Rattle.simulator_recovery.specs.SidesOfMoves.{AwaitsMove, HaveMovesWhereHeld, IsLast}
 use Rattle.simulator_recovery.specs.Told.{Any, item_for}
@@ -63,6 +62,7 @@ use Rattle.simulator_recovery.proofs.MovesOwed.{commands_both, last_both}
 use Rattle.simulator_recovery.proofs.NothingDueMoves.{MoveLaw}
 use Rattle.simulator_recovery.proofs.Rounds.{IsAt, rounds_reached}
 use Rattle.simulator_recovery.proofs.SidesMoves.{moves_go}
+use Rattle.simulator_recovery.proofs.UnderHosts.{host_rounds}
 
 -- ---- lists
 
@@ -123,7 +123,7 @@ module _ (laws : AnswerLaws) (between : List Event) (flowing : Flowing Played) (
   abbrev point_of : (rounds : List (List Event)) (a : OfRounds rounds) → PointAt site (world_at rounds) place (up_of rounds a)
   point_of rounds a = point laws between flowing place once station is_table reached work few rounds a
 
-  abbrev fronts : (front rest : List (List Event)) → ready_rounds ≤ suc (length front) → OfRounds (front ++ rest) → OfRounds front
+  abbrev fronts : (front rest : List (List Event)) → host_rounds ≤ suc (length front) → OfRounds (front ++ rest) → OfRounds front
   fronts front rest long a = front_are laws between flowing place once station is_table reached work few front rest long a
 
   below_links : link < links site
@@ -234,7 +234,7 @@ module _ (laws : AnswerLaws) (between : List Event) (flowing : Flowing Played) (
 
   -- ---- from one round to the next
 
-  module _ (front : List (List Event)) (last : List Event) (long : ready_rounds ≤ suc (length front)) (f : OfRounds front) (a : OfRounds (front ++ last ∷ [])) where
+  module _ (front : List (List Event)) (last : List Event) (long : host_rounds ≤ suc (length front)) (f : OfRounds front) (a : OfRounds (front ++ last ∷ [])) where
     pass : Passing link (world_at front) (world_at (front ++ last ∷ []))
     pass = passes laws between flowing place once station is_table reached work few front last long a
 

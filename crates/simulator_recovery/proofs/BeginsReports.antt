@@ -34,6 +34,7 @@ use Rattle.simulator_recovery.proofs.Ready.{Last, last_of}
 use Rattle.simulator_recovery.proofs.RoomBehind.{HasRoomBehind}
 use Rattle.simulator_recovery.proofs.Rounds.{IsAt, ReachLaws, rounds_reached}
 use Rattle.simulator_recovery.proofs.StopComes.{last_round}
+use Rattle.simulator_recovery.proofs.UnderHosts.{host_rounds}
 
 -- a drive that began at most 510 ms ago isn't at its limit 510 ms later
 far : (n since : ℕ) → n ≤ 9000000000000000 → n ≤ since + 510 → n + 510 < drive_end since
@@ -113,7 +114,7 @@ module _ (laws : AnswerLaws) (between : List Event) (flowing : Flowing Played) (
 
   -- ---- its report
 
-  module _ (stay : StayLaws) (rounds more : List (List Event)) (long : ready_rounds ≤ suc (length rounds)) (all : OfRounds (rounds ++ more)) (many : length more ≡ suc drive_rounds)
+  module _ (stay : StayLaws) (rounds more : List (List Event)) (long : host_rounds ≤ suc (length rounds)) (all : OfRounds (rounds ++ more)) (many : length more ≡ suc drive_rounds)
       (room : HasRoomBehind place more (then_at rounds))
       (driving : DrivesSince place side since (then_at rounds).state.run) where
     abbrev told : ReportLaws
@@ -131,7 +132,7 @@ module _ (laws : AnswerLaws) (between : List Event) (flowing : Flowing Played) (
     abbrev before : List (List ℕ)
     before = reports_in flowing.state.sited.site place start.one.connection from.state.run
 
-    long_on : (list : List (List Event)) → ready_rounds ≤ suc (length (rounds ++ list))
+    long_on : (list : List (List Event)) → host_rounds ≤ suc (length (rounds ++ list))
     long_on list = let n = length-append rounds list in omega (arith, long, n)
 
     module _ (l : Last 50 more) where
@@ -223,7 +224,7 @@ pub stays_far : (laws : AnswerLaws) → (between : List Event) (later_rounds : L
     → DrivesSince place side since (good_rounds (between ∷ later_rounds) flowing).state.run
     → IsDriving place side since drive_time (good_rounds (between ∷ later_rounds) flowing).state.run
 stays_far laws between later_rounds flowing place side since once station is_table reached work works can few notes long below driving =
-    far_driving laws between flowing place side since once station is_table reached work few notes later_rounds (record { works = works; can = can; room = below; long = long }) driving
+    far_driving laws between flowing place side since once station is_table reached work few notes later_rounds (record { works = works; can = can; room = below; long = omega (arith, long) }) driving
 
 pub come_back : (laws : AnswerLaws) → StayLaws → (between : List Event) (later_rounds more : List (List Event)) (flowing : Flowing Played) (place : ℕ) (side : Side) (since : ℕ)
     → Once flowing.state.sited.site → IsStation flowing.state.sited.site
@@ -236,5 +237,5 @@ pub come_back : (laws : AnswerLaws) → StayLaws → (between : List Event) (lat
     → DrivesSince place side since (good_rounds (between ∷ later_rounds) flowing).state.run
     → ReportComesBehind flowing.state.sited.site place side more (good_rounds (between ∷ later_rounds) flowing)
 come_back laws stay between later_rounds more flowing place side since once station is_table reached work works can few notes long many below room driving =
-    comes_back laws between flowing place side since once station is_table reached work few notes stay later_rounds more long
+    comes_back laws between flowing place side since once station is_table reached work few notes stay later_rounds more (omega (arith, long))
     (record { works = works; can = can; room = below; long = let n = length-append later_rounds more in omega (arith, long, n) }) many room driving

@@ -31,7 +31,6 @@ use Rattle.simulator_headline.specs.InFlight.{given_on}
 use Rattle.simulator_headline.specs.Reached.{IsReached, IsTakenOf}
 use Rattle.simulator_recovery.specs.LinkRounds.{IsUpOn, all_events_tried, behind_time, calls_of_round, event_of, links_behind, time_of_round}
 use Rattle.simulator_recovery.specs.Moves.{reports_in}
-use Rattle.simulator_recovery.specs.Ready.{ready_rounds}
 use Rattle.simulator_recovery.specs.Rounds.{IsWork, all_tried, good_rounds}
 use Rattle.simulator_recovery.proofs.Addressed.{partners_length}
 use Rattle.simulator_recovery.proofs.BeginsStep.{Stands, report_of}
@@ -52,6 +51,7 @@ use Rattle.simulator_recovery.proofs.Rounds.{IsAt, rounds_reached}
 use Rattle.simulator_recovery.proofs.Shown.{counted_taken}
 use Rattle.simulator_recovery.proofs.Spent.{settled_taken}
 use Rattle.simulator_recovery.proofs.StopComes.{last_round}
+use Rattle.simulator_recovery.proofs.UnderHosts.{host_rounds}
 
 -- a drive that begins isn't at its limit
 begins_early : (n : ℕ) → n ≤ 9100000000000000 → nat_le (drive_end n) n ≡ false
@@ -92,7 +92,7 @@ module _ (laws : AnswerLaws) (stay : StayLaws) (between : List Event) (flowing :
   abbrev pub took_at : (rounds : List (List Event)) → OfRounds rounds → List (List ℕ)
   took_at rounds a = ((links_in (point_of rounds a).has).ends link).server.taken
 
-  module _ (front : List (List Event)) (last : List Event) (long : ready_rounds ≤ suc (length front)) (f : OfRounds front) (a : OfRounds (front ++ last ∷ []))
+  module _ (front : List (List Event)) (last : List Event) (long : host_rounds ≤ suc (length front)) (f : OfRounds front) (a : OfRounds (front ++ last ∷ []))
       (idle : (point_of front f).controller.host.object.progress ≡ progress.Answered) where
     abbrev rounds : List (List Event)
     rounds = front ++ last ∷ []

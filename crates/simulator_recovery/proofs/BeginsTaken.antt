@@ -48,11 +48,12 @@ use Rattle.simulator_recovery.proofs.MovesPaid.{IsPaid}
 use Rattle.simulator_recovery.proofs.MovesReported.{ReportLaws}
 use Rattle.simulator_recovery.proofs.MovesRound.{found_there}
 use Rattle.simulator_recovery.proofs.NothingDueMoves.{MoveLaw}
-use Rattle.simulator_recovery.proofs.Ready.{Last, last_of}
-use Rattle.simulator_recovery.proofs.RoomBehind.{HasRoomAt, HasRoomBehind}
-use Rattle.simulator_recovery.proofs.Rounds.{rounds_reached}
+use Rattle.simulator_recovery.proofs.Ready.{Last, count_front, last_of}
+use Rattle.simulator_recovery.proofs.RoomBehind.{FewWaitLaw, HasRoomAt, HasRoomBehind, has_room, room_behind}
+use Rattle.simulator_recovery.proofs.Rounds.{ReachLaws, rounds_reached}
 use Rattle.simulator_recovery.proofs.SidesDrives.{same_side}
 use Rattle.simulator_recovery.proofs.StopComes.{last_round}
+use Rattle.simulator_recovery.proofs.UnderHosts.{host_rounds}
 
 decide : (n m : ℕ) → (n ≤ m) ⊎ (m < n)
 decide n m = choose (nat_le n m) refl
@@ -117,11 +118,11 @@ module _ (laws : AnswerLaws) (stay : StayLaws) (move : MoveLaw) (request : Reque
 
   -- ---- what the reports of later rounds come to
 
-  module _ (rounds : List (List Event)) (a : OfRounds rounds) (long : ready_rounds ≤ suc (length rounds)) where
+  module _ (rounds : List (List Event)) (a : OfRounds rounds) (long : host_rounds ≤ suc (length rounds)) where
     abbrev from : Flowing Played
     from = then_at rounds
 
-    long_on : (list : List (List Event)) → ready_rounds ≤ suc (length (rounds ++ list))
+    long_on : (list : List (List Event)) → host_rounds ≤ suc (length (rounds ++ list))
     long_on list = let n = length-append rounds list in omega (arith, long, n)
 
     -- A report that stands behind all that the interlocking had taken comes in the next round.
@@ -204,15 +205,18 @@ module _ (laws : AnswerLaws) (stay : StayLaws) (move : MoveLaw) (request : Reque
 
   -- ---- a move that is out
 
-  module _ (front : List (List Event)) (last : List Event) (more : List (List Event)) (long : ready_rounds ≤ suc (length front)) (all : OfRounds ((front ++ last ∷ []) ++ more))
+  module _ (front : List (List Event)) (last : List Event) (more : List (List Event)) (long : host_rounds ≤ suc (length front)) (all : OfRounds ((front ++ last ∷ []) ++ more))
       (many : length more ≡ move_rounds)
       (room_before : HasRoomAt place (then_at front).state) (room : HasRoomBehind place (last ∷ more) (then_at front)) (awaits : AwaitsMove place (world_at (front ++ last ∷ [])))
       (held : IsHeldAt flowing.state.sited.table (world_at (front ++ last ∷ [])).station.ixl place side) where
     abbrev rounds : List (List Event)
     rounds = front ++ last ∷ []
 
-    long_rounds : ready_rounds ≤ suc (length rounds)
+    long_rounds : host_rounds ≤ suc (length rounds)
     long_rounds = let n = length-append front (last ∷ []) in omega (arith, long, n)
+
+    ready_now : ready_rounds ≤ suc (length rounds)
+    ready_now = let n = length-append front (last ∷ []) in omega (arith, long, n)
 
     a : OfRounds rounds
     a = front_are laws between flowing place once station is_table reached work few rounds more long_rounds all
@@ -235,8 +239,8 @@ module _ (laws : AnswerLaws) (stay : StayLaws) (move : MoveLaw) (request : Reque
     room_now : HasRoomAt place (then_at rounds).state
     room_now = subst (λ (g : Flowing Played). HasRoomAt place g.state) (sym last_is) room.0
 
-    room_behind : HasRoomBehind place more (then_at rounds)
-    room_behind = subst (HasRoomBehind place more) (sym last_is) room.1
+    room_then : HasRoomBehind place more (then_at rounds)
+    room_then = subst (HasRoomBehind place more) (sym last_is) room.1
 
     -- counts
     one_more_heard : length (heard rounds a) ≡ 1 + length (gave rounds a)
@@ -267,7 +271,7 @@ module _ (laws : AnswerLaws) (stay : StayLaws) (move : MoveLaw) (request : Reque
         to_side = same_side (record { move = move; request = request; reach = laws.ready.up.link.times.reach; moment = laws.moment; read_off = laws.read_off }) site flowing.state.sited.table
             (world_at rounds) place station once is_table
             (reached_at laws between flowing place once station is_table reached work few rounds a) few
-            (ready_at laws between flowing place once station is_table reached work few rounds a) to since (p.controller, p.there, e) side held
+            (ready_at laws between flowing place once station is_table reached work few rounds a ready_now) to since (p.controller, p.there, e) side held
 
         driving : DrivesSince place side since (world_at rounds)
         driving = (p.controller, p.there, e ∙ ap (λ (s : Side). progress.Driving s since) to_side)
@@ -298,7 +302,7 @@ module _ (laws : AnswerLaws) (stay : StayLaws) (move : MoveLaw) (request : Reque
                 (let n = length-append rounds l.front in omega (arith, long_rounds, n)) whole
 
             room_front_now : HasRoomBehind place l.front (then_at rounds)
-            room_front_now = room_front place l.front (l.last ∷ []) (then_at rounds) (subst (λ (r : List (List Event)). HasRoomBehind place r (then_at rounds)) l.are room_behind)
+            room_front_now = room_front place l.front (l.last ∷ []) (then_at rounds) (subst (λ (r : List (List Event)). HasRoomBehind place r (then_at rounds)) l.are room_then)
 
             here : rounds ++ [] ≡ rounds
             here = append-nil rounds
@@ -329,7 +333,7 @@ module _ (laws : AnswerLaws) (stay : StayLaws) (move : MoveLaw) (request : Reque
       whole : OfRounds (new_rounds ++ others)
       whole = subst OfRounds (ap (λ (r : List (List Event)). rounds ++ r) more_is ∙ sym (append_assoc rounds (first ∷ []) others)) all
 
-      long_new : ready_rounds ≤ suc (length new_rounds)
+      long_new : host_rounds ≤ suc (length new_rounds)
       long_new = let n = length-append rounds (first ∷ []) in omega (arith, long_rounds, n)
 
       b : OfRounds new_rounds
@@ -385,7 +389,7 @@ module _ (laws : AnswerLaws) (stay : StayLaws) (move : MoveLaw) (request : Reque
 
       room_new : HasRoomAt place (then_at new_rounds).state × HasRoomBehind place others (then_at new_rounds)
       room_new =
-          let r = subst (λ (l : List (List Event)). HasRoomBehind place l (then_at rounds)) more_is room_behind
+          let r = subst (λ (l : List (List Event)). HasRoomBehind place l (then_at rounds)) more_is room_then
           in subst (λ (g : Flowing Played). HasRoomAt place g.state × HasRoomBehind place others g) (sym (last_round rounds first next)) (r.0, r.1)
 
       -- it isn't answered, nor waits, without having been taken
@@ -642,23 +646,34 @@ module _ (laws : AnswerLaws) (stay : StayLaws) (move : MoveLaw) (request : Reque
         by_progress progress.Arrived e paid = absurd (subst IsPaid e paid)
         by_progress progress.TimedOut e paid = absurd (subst IsPaid e paid)
 
-pub moves_reported : (laws : AnswerLaws) → StayLaws → MoveLaw → RequestLaw → (between one : List Event) (later more : List (List Event)) (flowing : Flowing Played) (place : ℕ) (side : Side)
-    → Once flowing.state.sited.site → IsStation flowing.state.sited.site
-    → IsTableOf flowing.state.sited.site flowing.state.sited.table → IsReached flowing.state.sited.site flowing.state.sited.table flowing.state.run → Each IsWork between
-    → Each (Each IsWork) ((later ++ one ∷ []) ++ more)
-    → HasTime (suc (length ((later ++ one ∷ []) ++ more))) flowing.state.run → place < length flowing.state.sited.site.points → length flowing.state.sited.site.points ≤ length flowing.drives
-    → ready_rounds ≤ suc (length later)
-    → length more ≡ move_rounds → StaysBelowLimit flowing.state.sited.site (point_link flowing.state.sited.site place) ((later ++ one ∷ []) ++ more) (all_tried between (round stations flowing))
-    → HasRoomAt place (good_rounds (between ∷ later) flowing).state → HasRoomBehind place (one ∷ more) (good_rounds (between ∷ later) flowing)
-    → AwaitsMove place (good_rounds (between ∷ (later ++ one ∷ [])) flowing).state.run
-    → IsHeldAt flowing.state.sited.table (good_rounds (between ∷ (later ++ one ∷ [])) flowing).state.run.station.ixl place side
-    → TakesReportBehind flowing.state.sited.site place side more (good_rounds (between ∷ (later ++ one ∷ [])) flowing)
-moves_reported laws stay move request between one later more flowing place side once station is_table reached work works can few notes long many below room_before room awaits held =
-    report_taken laws stay move request between flowing place side once station is_table reached work few notes later one more long
-    (record {
-      works = works;
-      can = can;
-      room = below;
-      long = let n = length-append (later ++ one ∷ []) more in let m = length-append later (one ∷ []) in omega
-          (arith, long, n, m);
-    }) many room_before room awaits held
+-- ---- behind each round from the one on from which links are ready
+
+module _ (laws : AnswerLaws) (stay : StayLaws) (move : MoveLaw) (request : RequestLaw) (wait : FewWaitLaw) (between : List Event) (more : List (List Event))
+    (flowing : Flowing Played) (place : ℕ) (side : Side) (once : Once flowing.state.sited.site) (station : IsStation flowing.state.sited.site)
+    (is_table : IsTableOf flowing.state.sited.site flowing.state.sited.table) (reached : IsReached flowing.state.sited.site flowing.state.sited.table flowing.state.run)
+    (work : Each IsWork between) (few : place < length flowing.state.sited.site.points)
+    (notes : length flowing.state.sited.site.points ≤ length flowing.drives) (many : length more ≡ move_rounds) where
+  abbrev reach : ReachLaws
+  reach = laws.ready.up.link.times.reach
+
+  abbrev Reports : List (List Event) → Type 0
+  Reports later = Each (Each IsWork) (later ++ more) → HasTime (suc (length (later ++ more))) flowing.state.run → ready_rounds ≤ suc (length later)
+      → StaysBelowLimit flowing.state.sited.site (point_link flowing.state.sited.site place) (later ++ more) (all_tried between (round stations flowing))
+      → AwaitsMove place (good_rounds (between ∷ later) flowing).state.run
+      → IsHeldAt flowing.state.sited.table (good_rounds (between ∷ later) flowing).state.run.station.ixl place side
+      → TakesReportBehind flowing.state.sited.site place side more (good_rounds (between ∷ later) flowing)
+
+  of_last : (front : List (List Event)) (last : List Event) → Reports (front ++ last ∷ [])
+  of_last front last works can long below awaits held =
+      let count = count_front front last
+      in let all = length-append (front ++ last ∷ []) more
+      in report_taken laws stay move request between flowing place side once station is_table reached work few notes front last more (omega (arith, long, count))
+      (record { works = works; can = can; room = below; long = omega (arith, long, all) }) many
+      (has_room reach wait flowing once station is_table reached place (between ∷ front))
+      (room_behind reach wait flowing once station is_table reached place (between ∷ front) (last ∷ more)) awaits held
+
+  pub moves_reported : (later : List (List Event)) → Reports later
+  moves_reported later works can long = by_last (last_of (length later - 1) later (omega (arith, long))) works can long
+    where
+      by_last : Last (length later - 1) later → Reports later
+      by_last l = subst Reports (sym l.are) (of_last l.front l.last)

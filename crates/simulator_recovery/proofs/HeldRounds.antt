@@ -50,12 +50,6 @@ use Rattle.simulator_recovery.proofs.WindowsAlone.{below_two}
 pub with_one : (rounds : List (List Event)) (last : List Event) → ready_rounds ≤ suc (suc (length rounds)) → ready_rounds ≤ suc (length (rounds ++ last ∷ []))
 with_one rounds last long = let n = count_front rounds last in omega (arith, long, n)
 
-pub longer : (rounds : List (List Event)) (last : List Event) → ready_rounds ≤ suc (length rounds) → ready_rounds ≤ suc (length (rounds ++ last ∷ []))
-longer rounds last long = let n = count_front rounds last in omega (arith, long, n)
-
-pub one_later : (rounds : List (List Event)) → ready_rounds ≤ suc (length rounds) → ready_rounds ≤ suc (suc (length rounds))
-one_later rounds long = omega (arith, long)
-
 pub fewer : (front rest : List (List Event)) (world : WorldState) → HasTime (suc (length (front ++ rest))) world → HasTime (suc (length front)) world
 fewer front rest world can = fewer_time (suc (length front)) (suc (length (front ++ rest))) (clocks_of world) (let n = length-append front rest in omega (arith, n)) can
 

@@ -255,6 +255,7 @@ pub mod AwaitsHeld
 pub mod OnceMovedSteps
 pub mod OnceMoved
 pub mod OnceCounted
+pub mod UnderHosts
 pub mod FieldPointsMachine
 pub mod FieldPointsSeen
 pub mod FieldPointsStep

@@ -60,6 +60,14 @@ said_one client how_far given gives inside gave = let some = by_stage how_far in
     by_stage stage.Completed inside gave = omega (arith, gave)
     by_stage stage.AwaitsReport inside gave = omega (arith, gave)
 
+-- a host that has acted on two items has completed the initialisation
+pub two_acted : (s : HostStage) (taken : ℕ) → HostHasActedOn s taken → 2 ≤ taken → s ≡ host_stages.Completed
+two_acted host_stages.Outside taken acted two = absurd (omega (arith, acted, two))
+two_acted host_stages.AwaitsCheck taken acted two = absurd (omega (arith, acted, two))
+two_acted host_stages.AwaitsRequest taken acted two = absurd (omega (arith, acted, two))
+two_acted host_stages.Completed taken acted two = refl
+two_acted host_stages.Refused taken acted two = absurd (omega (arith, acted, two))
+
 module _ (objects : ℕ) (few : objects ≤ 16) where
   -- a client inside has said the check of the version
   one_said : (client server : LinkState) → Moment objects client server → 1 ≤ client.given
@@ -90,16 +98,8 @@ module _ (objects : ℕ) (few : objects ≤ 16) where
       by_stage stage.Completed acted gave taken = gave
       by_stage stage.AwaitsReport acted gave taken = gave
 
-  -- a host that has acted on two items has completed the initialisation
   completed : (client server : LinkState) → (m : Moment objects client server) → 2 ≤ server.taken → server.taken < 2 ^ 31 → m.host_at ≡ host_stages.Completed
-  completed client server m some small = by_stage m.host_at m.host_acted (reached m.host_taken 2 server.taken m.host_takes some small)
-    where
-      by_stage : (s : HostStage) → HostHasActedOn s m.host_taken → 2 ≤ m.host_taken → s ≡ host_stages.Completed
-      by_stage host_stages.Outside acted taken = absurd (omega (arith, acted, taken))
-      by_stage host_stages.AwaitsCheck acted taken = absurd (omega (arith, acted, taken))
-      by_stage host_stages.AwaitsRequest acted taken = absurd (omega (arith, acted, taken))
-      by_stage host_stages.Completed acted taken = refl
-      by_stage host_stages.Refused acted taken = absurd (omega (arith, acted, taken))
+  completed client server m some small = two_acted m.host_at m.host_taken m.host_acted (reached m.host_taken 2 server.taken m.host_takes some small)
 
   -- and has said all of it
   all_said : (client server : LinkState) → (m : Moment objects client server) → m.host_at ≡ host_stages.Completed → 3 + objects ≤ server.given

@@ -48,7 +48,7 @@ use Rattle.simulator_recovery.proofs.LinkCounts.{settled_open}
 use Rattle.simulator_recovery.proofs.LinkRounds.{HasThese, all_followed, are_links, links_both, may_both, tried_followed}
 use Rattle.simulator_recovery.proofs.Lists.{at_place}
 use Rattle.simulator_recovery.proofs.MovesLists.{below_limit, each_split, given_both, longer_front, point_clock}
-use Rattle.simulator_recovery.proofs.MovesMoment.{MomentLaws, PointAt, point_at}
+use Rattle.simulator_recovery.proofs.MovesMoment.{MomentLaws, PointAt, point_where_completed}
 use Rattle.simulator_recovery.proofs.MovesPaid.{IsFull, IsPaid}
 use Rattle.simulator_recovery.proofs.MovesReported.{Comes, ReportLaws, Walked, drives_still, has_told, round_comes, timed_clock}
 use Rattle.simulator_recovery.proofs.MovesRound.{IsLeft, driven_there, left_behind, left_drives, left_paid}
@@ -58,6 +58,7 @@ use Rattle.simulator_recovery.proofs.Rounds.{reached_on, rounds_reached, take_th
 use Rattle.simulator_recovery.proofs.Sends.{leaves_fresh}
 use Rattle.simulator_recovery.proofs.StaysOpen.{rounds_stay}
 use Rattle.simulator_recovery.proofs.StopComes.{last_round}
+use Rattle.simulator_recovery.proofs.UnderHosts.{HasCompleted, host_rounds, hosts_completed}
 use Rattle.simulator_recovery.proofs.WindowsAlone.{below_two}
 
 -- ---- the laws
@@ -109,9 +110,9 @@ module _ (laws : AnswerLaws) (between : List Event) (flowing : Flowing Played) (
     pub works : Each (Each IsWork) rounds
     pub can : HasTime (suc (length rounds)) flowing.state.run
     pub room : StaysBelowLimit site link rounds next
-    pub long : ready_rounds ≤ suc (length rounds)
+    pub long : host_rounds ≤ suc (length rounds)
 
-  pub front_are : (front rest : List (List Event)) → ready_rounds ≤ suc (length front) → Are (front ++ rest) → Are front
+  pub front_are : (front rest : List (List Event)) → host_rounds ≤ suc (length front) → Are (front ++ rest) → Are front
   front_are front rest long a = record {
     works = (each_split (Each IsWork) front rest a.works).0;
     can = fewer_time (suc (length front)) (suc (length (front ++ rest))) (clocks_of flowing.state.run) (let n = length-append front rest in omega (arith, n)) a.can;
@@ -120,8 +121,11 @@ module _ (laws : AnswerLaws) (between : List Event) (flowing : Flowing Played) (
   }
 
   module _ (rounds : List (List Event)) (a : Are rounds) where
-    pub ready_at : IsReadyOn site link (world_at rounds)
-    ready_at = let l = a.long in links_ready laws.ready between rounds flowing link once station is_table reached work a.works a.can below (omega (arith, l)) a.room
+    pub ready_at : ready_rounds ≤ suc (length rounds) → IsReadyOn site link (world_at rounds)
+    ready_at long = links_ready laws.ready between rounds flowing link once station is_table reached work a.works a.can below (omega (arith, long)) a.room
+
+    pub completed_at : HasCompleted site link (world_at rounds)
+    completed_at = let l = a.long in hosts_completed laws.ready between rounds flowing link once station is_table reached work a.works a.can below (omega (arith, l)) a.room
 
     pub reached_at : IsReached site flowing.state.sited.table (world_at rounds)
     reached_at = reached_on laws.ready.up.link.times.reach (between ∷ rounds) flowing reached
@@ -130,10 +134,10 @@ module _ (laws : AnswerLaws) (between : List Event) (flowing : Flowing Played) (
     sited_at = (rounds_reached laws.ready.up.link.times.reach flowing.state.sited (between ∷ rounds) flowing (record { same = refl; reached = reached })).same
 
     abbrev pub up_at : IsUpOn link (world_at rounds)
-    up_at = ready_at.up
+    up_at = completed_at.up
 
     pub point : PointAt site (world_at rounds) place up_at
-    point = point_at laws.moment site flowing.state.sited.table station once is_table (world_at rounds) reached_at place few ready_at
+    point = point_where_completed laws.moment site flowing.state.sited.table station once is_table (world_at rounds) reached_at place few completed_at
 
     pub clock_at : (c : ClockedControllerState PointState) → slice_get (world_at rounds).points place ≡ Some c → c.clock ≤ 9000000000000000
     clock_at c e = point_clock (λ clock. clock ≤ 9000000000000000) (world_at rounds) place c e
@@ -141,7 +145,7 @@ module _ (laws : AnswerLaws) (between : List Event) (flowing : Flowing Played) (
         (below_limit (suc (length rounds)) (clocks_of flowing.state.run) a.can))
 
   -- from one round to the next
-  pub passes : (front : List (List Event)) (last : List Event) → ready_rounds ≤ suc (length front) → Are (front ++ last ∷ []) → Passing link (world_at front) (world_at (front ++ last ∷ []))
+  pub passes : (front : List (List Event)) (last : List Event) → host_rounds ≤ suc (length front) → Are (front ++ last ∷ []) → Passing link (world_at front) (world_at (front ++ last ∷ []))
   passes front last long a = record {
     over = hands_over laws.ready between front last flowing link once station is_table reached work a.works a.can below (omega (arith, long)) a.room;
     connection = over.connection;
@@ -224,7 +228,7 @@ module _ (laws : AnswerLaws) (between : List Event) (flowing : Flowing Played) (
 
   -- ---- reports come over
 
-  pub reports_come : (front : List (List Event)) (last : List Event) → ready_rounds ≤ suc (length front) → Are front → Are (front ++ last ∷ []) → ReportsCome site place (world_at front) (world_at (front ++ last ∷ []))
+  pub reports_come : (front : List (List Event)) (last : List Event) → host_rounds ≤ suc (length front) → Are front → Are (front ++ last ∷ []) → ReportsCome site place (world_at front) (world_at (front ++ last ∷ []))
   reports_come front last long f a = record {
     connection = pass.connection;
     was_in = pass.was_in;
@@ -339,7 +343,7 @@ module _ (laws : AnswerLaws) (between : List Event) (flowing : Flowing Played) (
       pub given : reported_at rounds ≡ before ++ item_of c.host (own_report (message.Point (PointPosition (position_of side)))) ∷ []
 
     -- a round
-    module _ (front : List (List Event)) (last : List Event) (long : ready_rounds ≤ suc (length front)) (f : Are front) (a : Are (front ++ last ∷ [])) (ms : ℕ) (before : List (List ℕ)) (was : DrivesAt front f (10 + ms) before)
+    module _ (front : List (List Event)) (last : List Event) (long : host_rounds ≤ suc (length front)) (f : Are front) (a : Are (front ++ last ∷ [])) (ms : ℕ) (before : List (List ℕ)) (was : DrivesAt front f (10 + ms) before)
         (room : HasRoomAt place (then_at (front ++ last ∷ [])).state) where
       abbrev rounds : List (List Event)
       rounds = front ++ last ∷ []
@@ -462,7 +466,7 @@ module _ (laws : AnswerLaws) (between : List Event) (flowing : Flowing Played) (
       pub reported : ReportedAt (front ++ done) before
 
     -- until then it is driven
-    pub drive_goes_on : (rest front : List (List Event)) → ready_rounds ≤ suc (length front) → (f : Are front) → Are (front ++ rest) → (before : List (List ℕ)) → DrivesAt front f (10 * length rest) before → HasRoomBehind place rest (then_at front)
+    pub drive_goes_on : (rest front : List (List Event)) → host_rounds ≤ suc (length front) → (f : Are front) → Are (front ++ rest) → (before : List (List ℕ)) → DrivesAt front f (10 * length rest) before → HasRoomBehind place rest (then_at front)
         → ReportedBy front rest before ⊎ IsDrivenBehind place side rest (then_at front)
     drive_goes_on [] front long f a before was room = inr tt
     drive_goes_on (one ∷ rest) front long f a before was room = choose
@@ -472,7 +476,7 @@ module _ (laws : AnswerLaws) (between : List Event) (flowing : Flowing Played) (
         on : List (List Event)
         on = front ++ one ∷ []
 
-        longer : ready_rounds ≤ suc (length on)
+        longer : host_rounds ≤ suc (length on)
         longer = let n = count_front front one in omega (arith, long, n)
 
         whole : Are (on ++ rest)

@@ -62,6 +62,7 @@ use Rattle.simulator_recovery.proofs.MovesOwed.{OwedLaws}
 use Rattle.simulator_recovery.proofs.PointCounts.{waits, within_ever}
 use Rattle.simulator_recovery.proofs.Shown.{counted_given, counted_taken}
 use Rattle.simulator_recovery.proofs.Spent.{settled_given, settled_taken}
+use Rattle.simulator_recovery.proofs.UnderHosts.{HasCompleted}
 
 pub record MomentLaws : Type 0 where
   pub expected : ExpectedLaws
@@ -123,7 +124,7 @@ module _ (written : WrittenIsRead) (site : Site) (place : ℕ) (peer : PeerState
 
 -- ---- a point at one moment
 
--- A point's link that is ready at both ends, and what both have given and taken there.
+-- A point's link that is up at both ends, where the controller has completed the initialisation, and what both have given and taken there.
 pub record PointAt (site : Site) (world : WorldState) (place : ℕ) (up : IsUpOn (point_link site place) world) : Type 0 where
   pub known : KnownPointState
   pub known_there : slice_get world.station.ixl.known_points place ≡ Some known
@@ -162,7 +163,7 @@ point_controller site place below = rw (beyond, before) (ap (λ (n : ℕ). Some 
     before = grind (arith, nat_tests, below)
 
 module _ (laws : MomentLaws) (site : Site) (table : Table) (station : IsStation site) (once : Once site) (is_table : IsTableOf site table) (world : WorldState) (reached : IsReached site table world) (place : ℕ) (few : place < length site.points)
-    (ready : IsReadyOn site (point_link site place) world) where
+    (ready : HasCompleted site (point_link site place) world) where
   abbrev at : ℕ
   at = point_link site place
 
@@ -276,8 +277,8 @@ module _ (laws : MomentLaws) (site : Site) (table : Table) (station : IsStation 
       in let t = server_taken
       in omega (arith, most, least, moves, g, t)
 
-  pub point_at : PointAt site world place up
-  point_at = record {
+  pub point_where_completed : PointAt site world place up
+  point_where_completed = record {
     known = known.0;
     known_there = known.1;
     client_same = client_same;
@@ -302,3 +303,9 @@ module _ (laws : MomentLaws) (site : Site) (table : Table) (station : IsStation 
     owes = owes;
     balance = balance;
   }
+
+-- so it is of one that is ready at both ends
+pub point_at : (laws : MomentLaws) (site : Site) (table : Table) (station : IsStation site) (once : Once site) (is_table : IsTableOf site table) (world : WorldState)
+    (reached : IsReached site table world) (place : ℕ) (few : place < length site.points) (ready : IsReadyOn site (point_link site place) world) → PointAt site world place ready.up
+point_at laws site table station once is_table world reached place few ready =
+    point_where_completed laws site table station once is_table world reached place few (record { up = ready.up; host_ready = ready.host_ready })

@@ -16,11 +16,11 @@ use Rattle.simulator_run.specs.Tried.{Played}
 use Rattle.simulator_headline.specs.Reached.{IsReached}
 use Rattle.simulator_recovery.specs.LinkRounds.{IsUpOn}
 use Rattle.simulator_recovery.specs.OnceMoved.{HasGivenOn}
-use Rattle.simulator_recovery.specs.Ready.{ready_rounds}
 use Rattle.simulator_recovery.specs.Rounds.{IsWork, all_tried, good_rounds}
 use Rattle.simulator_recovery.proofs.BeginsMoment.{gave_at, gave_on, same_connection}
 use Rattle.simulator_recovery.proofs.MovesBehind.{AnswerLaws, Are, front_are, point, up_at}
 use Rattle.simulator_recovery.proofs.MovesMoment.{PointAt}
+use Rattle.simulator_recovery.proofs.UnderHosts.{host_rounds}
 
 -- from one moment to a second, and to a third
 then_on : (link : ℕ) (one two three : WorldState) → HasGivenOn link one two → HasGivenOn link two three → HasGivenOn link one three
@@ -74,7 +74,7 @@ module _ (laws : AnswerLaws) (between : List Event) (flowing : Flowing Played) (
   }
 
   -- a round more
-  one_round : (front : List (List Event)) (last : List Event) → ready_rounds ≤ suc (length front) → OfRounds front → OfRounds (front ++ last ∷ [])
+  one_round : (front : List (List Event)) (last : List Event) → host_rounds ≤ suc (length front) → OfRounds front → OfRounds (front ++ last ∷ [])
       → HasGivenOn link (world_at front) (world_at (front ++ last ∷ []))
   one_round front last long f a = record {
     connection = (point_of front f).one.connection;
@@ -98,12 +98,12 @@ module _ (laws : AnswerLaws) (between : List Event) (flowing : Flowing Played) (
       more : (more : List (List ℕ)) × (gave rounds a ≡ gave front f ++ more)
       more = gave_on laws between flowing place once station is_table reached work few front last long f a
 
-  pub counts_on : (more front : List (List Event)) → ready_rounds ≤ suc (length front) → OfRounds (front ++ more) → HasGivenOn link (world_at front) (world_at (front ++ more))
+  pub counts_on : (more front : List (List Event)) → host_rounds ≤ suc (length front) → OfRounds (front ++ more) → HasGivenOn link (world_at front) (world_at (front ++ more))
   counts_on [] front long a = subst (λ (rounds : List (List Event)). HasGivenOn link (world_at front) (world_at rounds)) (sym (append-nil front))
       (stays front (front_are laws between flowing place once station is_table reached work few front [] long a))
   counts_on (first ∷ more) front long a =
       let joined = append_assoc front (first ∷ []) more
-      in let longer : ready_rounds ≤ suc (length (front ++ first ∷ [])) = let n = length-append front (first ∷ []) in omega (arith, long, n)
+      in let longer : host_rounds ≤ suc (length (front ++ first ∷ [])) = let n = length-append front (first ∷ []) in omega (arith, long, n)
       in let then_are = subst OfRounds (sym joined) a
       in let one = one_round front first long (front_are laws between flowing place once station is_table reached work few front (first ∷ more) long a)
       (front_are laws between flowing place once station is_table reached work few (front ++ first ∷ []) more longer then_are)

@@ -269,7 +269,8 @@ module _ (laws : SectionLaws) (site : Site) (table : Table) (station : IsStation
         same = ap (λ (s : ServerEnd). length s.link.waiting) c.is
 
         choose : (b : Bool) → nat_lt (length c.controller.host.link.waiting) window_size ≡ b → OwesNone table world section ⊎ (window_size ≤ length ready.up.server.link.waiting)
-        choose true e = inl (owes_none windows site table world section reporter station once is_table reached reported ready (reporter, reported, (c.controller, c.is_there, ltb-true _ _ e)))
+        choose true e = inl (owes_none windows site table world section reporter station once is_table reached reported
+            (record { up = ready.up; host_ready = ready.host_ready }) (reporter, reported, (c.controller, c.is_there, ltb-true _ _ e)))
         choose false e = inr (let full = ltb-false _ _ e in omega (arith, full, same))
 
     -- with a full window it has given so many items

@@ -49,6 +49,7 @@ use Rattle.simulator_recovery.proofs.ClientLinks.{up_open}
 use Rattle.simulator_recovery.proofs.LinkCounts.{settled_open}
 use Rattle.simulator_recovery.proofs.MatchedEnds.{all_matched}
 use Rattle.simulator_recovery.proofs.StopComes.{last_round}
+use Rattle.simulator_recovery.proofs.UnderHosts.{HasCompleted, hosts_completed}
 use Rattle.simulator_recovery.proofs.WindowsAlone.{below_two}
 
 -- ---- what is tried, as events that can happen
@@ -165,9 +166,9 @@ pub record WindowLaws : Type 0 where
   pub told : IsToldAlways
   pub stands : Stands
 
--- a detector that is ready and has room owes no report
+-- a detector that has completed its initialisation and has room owes no report
 pub owes_none : WindowLaws → (site : Site) (table : Table) (world : WorldState) (section : ℕ) (reporter : ℕ × ℕ) → IsStation site → Once site → IsTableOf site table → IsReached site table world → slice_get table.reporters section ≡ Some reporter
-    → IsReadyOn site (detector_link site reporter.0) world → HasRoomToReport table world section → OwesNone table world section
+    → HasCompleted site (detector_link site reporter.0) world → HasRoomToReport table world section → OwesNone table world section
 owes_none laws site table world section reporter station once is_table reached reported ready (r, r_there, room) = by_room (subst (λ (p : ℕ × ℕ). At world.detectors p.0 (λ controller. length controller.host.link.waiting < window_size)) (same_Some r reporter (sym r_there ∙ reported)) room)
   where
     there : IsReportedIn site.detectors section reporter
@@ -210,13 +211,13 @@ owes_none laws site table world section reporter station once is_table reached r
 
 pub told_with_room : SectionRoundLaws → WindowLaws → (between : List Event) (later_rounds : List (List Event)) (last : List Event) (flowing : Flowing Played) (section : ℕ) (reporter : ℕ × ℕ) → Once flowing.state.sited.site → IsStation flowing.state.sited.site
     → IsTableOf flowing.state.sited.site flowing.state.sited.table → IsReached flowing.state.sited.site flowing.state.sited.table flowing.state.run → Each IsWork between → Each (Each IsWork) (later_rounds ++ last ∷ [])
-    → HasTime (suc (length (later_rounds ++ last ∷ []))) flowing.state.run → slice_get flowing.state.sited.table.reporters section ≡ Some reporter → ready_rounds ≤ suc (length later_rounds)
+    → HasTime (suc (length (later_rounds ++ last ∷ []))) flowing.state.run → slice_get flowing.state.sited.table.reporters section ≡ Some reporter → ready_rounds ≤ suc (suc (length later_rounds))
     → StaysBelowLimit flowing.state.sited.site (detector_link flowing.state.sited.site reporter.0) (later_rounds ++ last ∷ []) (all_tried between (round stations flowing))
     → HasRoomToReport flowing.state.sited.table (good_rounds (between ∷ later_rounds) flowing).state.run section → Each (LeavesSection flowing.state.sited.site flowing.state.sited.table section) last
     → IsKnownAsItIs flowing.state.sited.table (good_rounds (between ∷ (later_rounds ++ last ∷ [])) flowing).state.run section
 told_with_room laws windows between later_rounds last flowing section reporter once station is_table reached work works can reported long below room leaves =
-    told_are_known laws between later_rounds last flowing section reporter once station is_table reached work works can reported (omega (arith, long)) below
-    (owes_none windows sited.site sited.table old.state.run section reporter station once is_table at_old.reached reported ready room) leaves
+    told_are_known laws between later_rounds last flowing section reporter once station is_table reached work works can reported long below
+    (owes_none windows sited.site sited.table old.state.run section reporter station once is_table at_old.reached reported completed room) leaves
   where
     sited : SitedTable
     sited = flowing.state.sited
@@ -243,6 +244,7 @@ told_with_room laws windows between later_rounds last flowing section reporter o
     below_front : StaysBelowLimit sited.site link later_rounds next
     below_front before are = below_two link later_rounds (last ∷ []) next before (below before are)
 
-    ready : IsReadyOn sited.site link old.state.run
-    ready = links_ready laws.ready between later_rounds flowing link once station is_table reached work (each_front (Each IsWork) later_rounds last works).0
-        (fewer_time (suc (length later_rounds)) (suc (length (later_rounds ++ last ∷ []))) (clocks_of flowing.state.run) (let count = count_front later_rounds last in omega (arith, count)) can) below_links long below_front
+    completed : HasCompleted sited.site link old.state.run
+    completed = hosts_completed laws.ready between later_rounds flowing link once station is_table reached work (each_front (Each IsWork) later_rounds last works).0
+        (fewer_time (suc (length later_rounds)) (suc (length (later_rounds ++ last ∷ []))) (clocks_of flowing.state.run) (let count = count_front later_rounds last in omega (arith, count)) can)
+        below_links (omega (arith, long)) below_front

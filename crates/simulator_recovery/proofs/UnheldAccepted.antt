@@ -1,5 +1,5 @@
 -- A point over a clear section is known, or may come, where no route that held it behind its aspect is left from before the links were ready.
-use Rattle.std.proofs.Common.{◌≡◌, ◌⊎◌, inl, inr, ℕ, suc, ◌≤◌, ◌<◌, false, List, ◌++◌, Some, slice_get, refl, sym, ap, subst, ◌∙◌, length, arith}
+use Rattle.std.proofs.Common.{◌≡◌, ◌⊎◌, inl, inr, ℕ, suc, ◌≤◌, ◌<◌, false, List, [], ◌∷◌, ◌++◌, Some, slice_get, refl, sym, ap, subst, ◌∙◌, length, arith}
 use Rattle.std.specs.FinSet.{contains}
 use Rattle.std.specs.List.{Contains}
 use Rattle.std.proofs.lemmas.Bool.{false≢true}
@@ -28,6 +28,7 @@ use Rattle.simulator_recovery.proofs.DueHeld.{agree, in_order_of}
 use Rattle.simulator_recovery.proofs.DueRoutes.{RequestLaw, always_apart}
 use Rattle.simulator_recovery.proofs.DueTests.{known_or_not}
 use Rattle.simulator_recovery.proofs.Lists.{at_place}
+use Rattle.simulator_recovery.proofs.Ready.{count_front}
 use Rattle.simulator_recovery.proofs.RoutesCome.{point_there}
 
 -- a point's link that is ready is so at the interlocking
@@ -113,6 +114,15 @@ module _ (request : RequestLaw) (site : Site) (table : Table) (world : WorldStat
           → IsKnownOrOnItsWay need world ⊎ IsFreeFor table world.station.ixl number need.point
       choose (inl known) = inl (inl known)
       choose (inr unheld) = inr (record { may = record { clear = yet.0; unheld = unheld }; unmoved = yet.1 })
+
+-- where a beginning of some rounds is long enough, these are so but for the last
+pub long_before : (early since later_rounds : List (List Event)) (last : List Event) → later_rounds ++ last ∷ [] ≡ early ++ since → ready_rounds ≤ suc (length early)
+    → ready_rounds ≤ suc (suc (length later_rounds))
+long_before early since later_rounds last joined long =
+    let all = length-append early since
+    in let same = ap length joined
+    in let count = count_front later_rounds last
+    in omega (arith, long, all, same, count)
 
 -- rounds that are long enough are so with more behind them
 pub long_still : (early later_rounds : List (List Event)) → ready_rounds ≤ suc (length early) → ready_rounds ≤ suc (length (early ++ later_rounds))

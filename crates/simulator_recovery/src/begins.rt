@@ -1,6 +1,6 @@
 //! What becomes of a move that is out: it is driven for, or answered, where set routes want it.
 
-ghost use Rattle.std.specs.Prelude.{◌≡◌, ◌≤◌, ◌<◌, ℕ, suc, List, [], ◌∷◌, ◌++◌, length};
+ghost use Rattle.std.specs.Prelude.{◌≡◌, ◌≤◌, ◌<◌, ℕ, suc, List, ◌∷◌, ◌++◌, length};
 ghost use Rattle.ixl_table.specs.Table.{IsTableOf};
 ghost use Rattle.simulator_run.specs.layout.Once.{Once};
 ghost use Rattle.simulator_run.specs.layout.Station.{IsStation};
@@ -147,21 +147,21 @@ pub fn reports_of_drives_come_back()
     servers_enter_once();
 }
 
-/// Moves that are out are reported where routes want them: where behind a good round from the 1566th on the interlocking awaits the report of a
+/// Moves that are out are reported where routes want them: where behind a good round from the 1565th on the interlocking awaits the report of a
 /// point's move, and set routes hold the point at a side, then within the next 52 good rounds, 520 ms, the interlocking's end takes, as
 /// the next item behind all that it had taken, the report that the point lies at this side. So it is whether the move or its report is on
 /// its way, or the point is driven for it; and one that lies at the side already is reported so. The premises are else those of
 /// `moves_are_answered`.
 pub fn moves_that_are_out_are_reported()
-    ensures { (between one : List Event) (later more : List (List Event)) (flowing : Flowing Played) (place : ℕ) (side : Side)
+    ensures { (between : List Event) (later more : List (List Event)) (flowing : Flowing Played) (place : ℕ) (side : Side)
         → Once flowing.state.sited.site → IsStation flowing.state.sited.site
         → IsTableOf flowing.state.sited.site flowing.state.sited.table → IsReached flowing.state.sited.site flowing.state.sited.table flowing.state.run
-        → Each IsWork between → Each (Each IsWork) ((later ++ one ∷ []) ++ more) → HasTime (suc (length ((later ++ one ∷ []) ++ more))) flowing.state.run → place < length flowing.state.sited.site.points
+        → Each IsWork between → Each (Each IsWork) (later ++ more) → HasTime (suc (length (later ++ more))) flowing.state.run → place < length flowing.state.sited.site.points
         → length flowing.state.sited.site.points ≤ length flowing.drives → ready_rounds ≤ suc (length later) → length more ≡ move_rounds
-        → StaysBelowLimit flowing.state.sited.site (point_link flowing.state.sited.site place) ((later ++ one ∷ []) ++ more) (all_tried between (round stations flowing))
-        → AwaitsMove place (good_rounds (between ∷ (later ++ one ∷ [])) flowing).state.run
-        → IsHeldAt flowing.state.sited.table (good_rounds (between ∷ (later ++ one ∷ [])) flowing).state.run.station.ixl place side
-        → TakesReportBehind flowing.state.sited.site place side more (good_rounds (between ∷ (later ++ one ∷ [])) flowing) }
+        → StaysBelowLimit flowing.state.sited.site (point_link flowing.state.sited.site place) (later ++ more) (all_tried between (round stations flowing))
+        → AwaitsMove place (good_rounds (between ∷ later) flowing).state.run
+        → IsHeldAt flowing.state.sited.table (good_rounds (between ∷ later) flowing).state.run.station.ixl place side
+        → TakesReportBehind flowing.state.sited.site place side more (good_rounds (between ∷ later) flowing) }
 {
     a_client_of_many_makes_a_step();
     a_node_makes_a_step();

@@ -123,20 +123,20 @@ pub fn reports_make_points_of_routes_known()
     stop_is_given_where_due();
 }
 
-/// Driven points of a route come to be known: where behind a good round from the 1566th on a set route requires a point, and its controller drives it
+/// Driven points of a route come to be known: where behind a good round from the 1565th on a set route requires a point, and its controller drives it
 /// for a move, then within the next 52 rounds, 520 ms, the point is known at the side at which the route requires it, as long as the route
 /// stays set. The premises are else those of `moves_that_are_out_are_reported`, and of `links_are_ready`, of the route's links.
 pub fn driven_points_of_a_route_are_known()
-    ensures { (between one : List Event) (later more : List (List Event)) (flowing : Flowing Played) (number : ℕ) (row : Row) (need : Need) (to : Side) (since : ℕ)
+    ensures { (between : List Event) (later more : List (List Event)) (flowing : Flowing Played) (number : ℕ) (row : Row) (need : Need) (to : Side) (since : ℕ)
         → Once flowing.state.sited.site → IsStation flowing.state.sited.site
         → IsTableOf flowing.state.sited.site flowing.state.sited.table → IsReached flowing.state.sited.site flowing.state.sited.table flowing.state.run
-        → Each IsWork between → Each (Each IsWork) ((later ++ one ∷ []) ++ more) → HasTime (suc (length ((later ++ one ∷ []) ++ more))) flowing.state.run
+        → Each IsWork between → Each (Each IsWork) (later ++ more) → HasTime (suc (length (later ++ more))) flowing.state.run
         → length flowing.state.sited.site.points ≤ length flowing.drives → ready_rounds ≤ suc (length later) → length more ≡ move_rounds
         → slice_get flowing.state.sited.table.rows number ≡ Some row → Contains row.needs need
-        → AreBelowLimit flowing.state.sited.site row ((later ++ one ∷ []) ++ more) (all_tried between (round stations flowing))
-        → DrivesSince need.point to since (good_rounds (between ∷ (later ++ one ∷ [])) flowing).state.run
-        → StaysSet number row more (good_rounds (between ∷ (later ++ one ∷ [])) flowing)
-        → IsKnownWithin need more (good_rounds (between ∷ (later ++ one ∷ [])) flowing) }
+        → AreBelowLimit flowing.state.sited.site row (later ++ more) (all_tried between (round stations flowing))
+        → DrivesSince need.point to since (good_rounds (between ∷ later) flowing).state.run
+        → StaysSet number row more (good_rounds (between ∷ later) flowing)
+        → IsKnownWithin need more (good_rounds (between ∷ later) flowing) }
 {
     driven_points_go_where_routes_want();
     links_are_ready();
@@ -146,22 +146,22 @@ pub fn driven_points_of_a_route_are_known()
     set_routes_hold_their_points();
 }
 
-/// Set routes come in time: a route is set behind a good round from the 1566th on (`StaysSet`), and each point that it requires is known at its side,
+/// Set routes come in time: a route is set behind a good round from the 1565th on (`StaysSet`), and each point that it requires is known at its side,
 /// or its move is out, or it may come for the route (`IsFreeFor`): its own section is clear, no route holds it that is withdrawn or whose
 /// authority has ended, and it got no move in this connection since the route was set. Then its points are known at their sides within 52
 /// rounds, 520 ms, and it has its aspect behind these. So its lamp shows the aspect behind the 53rd round, and goes on to. The premises are
 /// else those of `routes_come` and `moves_that_are_out_are_reported`.
 pub fn set_routes_come_in_time()
-    ensures { (between one : List Event) (later more still : List (List Event)) (flowing : Flowing Played) (number : ℕ) (row : Row)
+    ensures { (between : List Event) (later more still : List (List Event)) (flowing : Flowing Played) (number : ℕ) (row : Row)
         → Once flowing.state.sited.site → IsStation flowing.state.sited.site
         → IsTableOf flowing.state.sited.site flowing.state.sited.table → IsReached flowing.state.sited.site flowing.state.sited.table flowing.state.run
-        → Each IsWork between → Each (Each IsWork) (later ++ one ∷ []) → Each (Each IsWork) more → Each (Each IsWork) still
-        → HasTime (suc (length (((later ++ one ∷ []) ++ more) ++ still))) flowing.state.run → length flowing.state.sited.site.points ≤ length flowing.drives
+        → Each IsWork between → Each (Each IsWork) later → Each (Each IsWork) more → Each (Each IsWork) still
+        → HasTime (suc (length ((later ++ more) ++ still))) flowing.state.run → length flowing.state.sited.site.points ≤ length flowing.drives
         → ready_rounds ≤ suc (length later) → length more ≡ move_rounds → slice_get flowing.state.sited.table.rows number ≡ Some row
-        → AreBelowLimit flowing.state.sited.site row (((later ++ one ∷ []) ++ more) ++ still) (all_tried between (round stations flowing))
-        → StaysSet number row (more ++ still) (good_rounds (between ∷ (later ++ one ∷ [])) flowing)
-        → MayYetHaveItsPoints flowing.state.sited.table number row (good_rounds (between ∷ (later ++ one ∷ [])) flowing).state.run
-        → ComesBy number row more still (good_rounds (between ∷ (later ++ one ∷ [])) flowing) }
+        → AreBelowLimit flowing.state.sited.site row ((later ++ more) ++ still) (all_tried between (round stations flowing))
+        → StaysSet number row (more ++ still) (good_rounds (between ∷ later) flowing)
+        → MayYetHaveItsPoints flowing.state.sited.table number row (good_rounds (between ∷ later) flowing).state.run
+        → ComesBy number row more still (good_rounds (between ∷ later) flowing) }
 {
     links_are_ready();
     moves_that_are_out_are_reported();
@@ -174,7 +174,7 @@ pub fn set_routes_come_in_time()
     stations_have_links();
 }
 
-/// Accepted routes come in time: where the request of a route is accepted behind a good round from the 1566th on, and each point that it requires
+/// Accepted routes come in time: where the request of a route is accepted behind a good round from the 1565th on, and each point that it requires
 /// is known at its side behind the request, or its move is out, or may come (`MayCome`: its own section is clear, and no route holds it that is
 /// withdrawn or whose authority has ended), its points are known at their sides within 52 rounds, 520 ms, and it has its aspect behind
 /// these. So its lamp shows the aspect behind the 53rd round, 530 ms after the request, and goes on to. That is so while its sections stay
@@ -185,7 +185,7 @@ pub fn accepted_routes_come_in_time()
         → IsStation flowing.state.sited.site → IsTableOf flowing.state.sited.site flowing.state.sited.table → IsReached flowing.state.sited.site flowing.state.sited.table flowing.state.run
         → Each IsWork between → Each (Each IsWork) later → Each IsWork before → Each (Each IsWork) more → Each (Each IsWork) still
         → HasTime (suc (length (((later ++ and_request route before ∷ []) ++ more) ++ still))) flowing.state.run → length flowing.state.sited.site.points ≤ length flowing.drives
-        → ready_rounds ≤ suc (length later) → length more ≡ move_rounds → slice_get flowing.state.sited.table.rows route.0 ≡ Some row
+        → ready_rounds ≤ suc (suc (length later)) → length more ≡ move_rounds → slice_get flowing.state.sited.table.rows route.0 ≡ Some row
         → AreBelowLimit flowing.state.sited.site row (((later ++ and_request route before ∷ []) ++ more) ++ still) (all_tried between (round stations flowing))
         → AcceptsRequest route (as_request_comes (between ∷ later) before flowing).state
         → StaysClear route.0 row (more ++ still) (good_rounds (between ∷ (later ++ and_request route before ∷ [])) flowing)

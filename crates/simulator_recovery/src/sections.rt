@@ -342,13 +342,13 @@ pub fn quiet_links_confirm_at_once()
 }
 
 /// So a section is known two rounds behind what its contact told as long as its detector's window has room: behind each good round from the
-/// 1566th on the interlocking knows a section as it is of whose occupancy nothing was told since the round before, and behind that round
+/// 1565th on the interlocking knows a section as it is of whose occupancy nothing was told since the round before, and behind that round
 /// the window of the detector's link wasn't full, whatever else comes. The premises are those of `links_are_ready`, of this link.
 pub fn sections_are_reported_with_room()
     ensures { (between : List Event) (later : List (List Event)) (last : List Event) (flowing : Flowing Played) (section : ℕ) (reporter : ℕ × ℕ) → Once flowing.state.sited.site → IsStation flowing.state.sited.site
         → IsTableOf flowing.state.sited.site flowing.state.sited.table → IsReached flowing.state.sited.site flowing.state.sited.table flowing.state.run
         → Each IsWork between → Each (Each IsWork) (later ++ last ∷ []) → HasTime (suc (length (later ++ last ∷ []))) flowing.state.run
-        → slice_get flowing.state.sited.table.reporters section ≡ Some reporter → ready_rounds ≤ suc (length later)
+        → slice_get flowing.state.sited.table.reporters section ≡ Some reporter → ready_rounds ≤ suc (suc (length later))
         → StaysBelowLimit flowing.state.sited.site (detector_link flowing.state.sited.site reporter.0) (later ++ last ∷ []) (all_tried between (round stations flowing))
         → HasRoomToReport flowing.state.sited.table (good_rounds (between ∷ later) flowing).state.run section
         → Each (LeavesSection flowing.state.sited.site flowing.state.sited.table section) last

@@ -78,24 +78,26 @@ pub fn points_held_with_authority_stay_known()
     stations_have_links();
 }
 
-/// Accepted routes come over clear sections: where the request of a route is accepted behind a good round from the 1566th on, and each point that
+/// Accepted routes come over clear sections: where the request of a route is accepted behind a good round from the 1565th on, and each point that
 /// it requires is known at its side behind the request, or its move is out, or its own section is clear, the route comes within 52 rounds, as in
-/// `accepted_routes_come_in_time`, whichever other routes hold its points. What is asked of them is asked of an earlier moment alone: behind some
-/// good round from the 1565th on each of these points is known at its side, or no route holds it whose authority has ended.
-/// The premises are else those of `accepted_routes_come_in_time`.
+/// `accepted_routes_come_in_time`, whichever other routes hold its points. What is asked of them is asked of one moment alone: behind some
+/// good round from the 1565th on, the one of the request or an earlier one, each of these points is known at its side, or no route holds it
+/// whose authority has ended. The premises are else those of `accepted_routes_come_in_time`.
 pub fn accepted_routes_come_over_clear_sections()
-    ensures { (between : List Event) (early later : List (List Event)) (before : List Event) (more still : List (List Event)) (flowing : Flowing Played) (route : RouteId) (row : Row)
+    ensures { (between : List Event) (early since later : List (List Event)) (before : List Event) (more still : List (List Event)) (flowing : Flowing Played)
+        (route : RouteId) (row : Row)
         → Once flowing.state.sited.site
         → IsStation flowing.state.sited.site → IsTableOf flowing.state.sited.site flowing.state.sited.table → IsReached flowing.state.sited.site flowing.state.sited.table flowing.state.run
-        → Each IsWork between → Each (Each IsWork) (early ++ later) → Each IsWork before → Each (Each IsWork) more → Each (Each IsWork) still
-        → HasTime (suc (length ((((early ++ later) ++ and_request route before ∷ []) ++ more) ++ still))) flowing.state.run → length flowing.state.sited.site.points ≤ length flowing.drives
-        → ready_rounds ≤ suc (length early) → length more ≡ move_rounds → slice_get flowing.state.sited.table.rows route.0 ≡ Some row
-        → AreBelowLimit flowing.state.sited.site row ((((early ++ later) ++ and_request route before ∷ []) ++ more) ++ still) (all_tried between (round stations flowing))
+        → Each IsWork between → Each (Each IsWork) later → Each IsWork before → Each (Each IsWork) more → Each (Each IsWork) still
+        → HasTime (suc (length (((later ++ and_request route before ∷ []) ++ more) ++ still))) flowing.state.run
+        → length flowing.state.sited.site.points ≤ length flowing.drives → later ++ and_request route before ∷ [] ≡ early ++ since → ready_rounds ≤ suc (length early)
+        → length more ≡ move_rounds → slice_get flowing.state.sited.table.rows route.0 ≡ Some row
+        → AreBelowLimit flowing.state.sited.site row (((later ++ and_request route before ∷ []) ++ more) ++ still) (all_tried between (round stations flowing))
         → AreKnownOrUnheld flowing.state.sited.table row (good_rounds (between ∷ early) flowing).state.run
-        → AcceptsRequest route (as_request_comes (between ∷ (early ++ later)) before flowing).state
-        → StaysClear route.0 row (more ++ still) (good_rounds (between ∷ ((early ++ later) ++ and_request route before ∷ [])) flowing)
-        → HasClearPoints flowing.state.sited.table row (good_rounds (between ∷ ((early ++ later) ++ and_request route before ∷ [])) flowing).state.run
-        → ComesBy route.0 row more still (good_rounds (between ∷ ((early ++ later) ++ and_request route before ∷ [])) flowing) }
+        → AcceptsRequest route (as_request_comes (between ∷ later) before flowing).state
+        → StaysClear route.0 row (more ++ still) (good_rounds (between ∷ (later ++ and_request route before ∷ [])) flowing)
+        → HasClearPoints flowing.state.sited.table row (good_rounds (between ∷ (later ++ and_request route before ∷ [])) flowing).state.run
+        → ComesBy route.0 row more still (good_rounds (between ∷ (later ++ and_request route before ∷ [])) flowing) }
 {
     accepted_routes_come_in_time();
     accepted_settings_are_on_course();
@@ -109,21 +111,21 @@ pub fn accepted_routes_come_over_clear_sections()
     stations_have_links();
 }
 
-/// So it is of each set route: behind a good round from the 1566th on it is set, and each point that it requires is known at its side, or its move is
+/// So it is of each set route: behind a good round from the 1565th on it is set, and each point that it requires is known at its side, or its move is
 /// out, or its own section is clear and it got no move in this connection since the route was set. The premises are else those of
 /// `set_routes_come_in_time`.
 pub fn set_routes_come_over_clear_sections()
-    ensures { (between one : List Event) (early later more still : List (List Event)) (flowing : Flowing Played) (number : ℕ) (row : Row)
+    ensures { (between : List Event) (early later more still : List (List Event)) (flowing : Flowing Played) (number : ℕ) (row : Row)
         → Once flowing.state.sited.site → IsStation flowing.state.sited.site
         → IsTableOf flowing.state.sited.site flowing.state.sited.table → IsReached flowing.state.sited.site flowing.state.sited.table flowing.state.run
-        → Each IsWork between → Each (Each IsWork) ((early ++ later) ++ one ∷ []) → Each (Each IsWork) more → Each (Each IsWork) still
-        → HasTime (suc (length ((((early ++ later) ++ one ∷ []) ++ more) ++ still))) flowing.state.run → length flowing.state.sited.site.points ≤ length flowing.drives
+        → Each IsWork between → Each (Each IsWork) (early ++ later) → Each (Each IsWork) more → Each (Each IsWork) still
+        → HasTime (suc (length (((early ++ later) ++ more) ++ still))) flowing.state.run → length flowing.state.sited.site.points ≤ length flowing.drives
         → ready_rounds ≤ suc (length early) → length more ≡ move_rounds → slice_get flowing.state.sited.table.rows number ≡ Some row
-        → AreBelowLimit flowing.state.sited.site row ((((early ++ later) ++ one ∷ []) ++ more) ++ still) (all_tried between (round stations flowing))
+        → AreBelowLimit flowing.state.sited.site row (((early ++ later) ++ more) ++ still) (all_tried between (round stations flowing))
         → AreKnownOrUnheld flowing.state.sited.table row (good_rounds (between ∷ early) flowing).state.run
-        → StaysSet number row (more ++ still) (good_rounds (between ∷ ((early ++ later) ++ one ∷ [])) flowing)
-        → HasClearPointsYet flowing.state.sited.table number row (good_rounds (between ∷ ((early ++ later) ++ one ∷ [])) flowing).state.run
-        → ComesBy number row more still (good_rounds (between ∷ ((early ++ later) ++ one ∷ [])) flowing) }
+        → StaysSet number row (more ++ still) (good_rounds (between ∷ (early ++ later)) flowing)
+        → HasClearPointsYet flowing.state.sited.table number row (good_rounds (between ∷ (early ++ later)) flowing).state.run
+        → ComesBy number row more still (good_rounds (between ∷ (early ++ later)) flowing) }
 {
     every_world_is_safe();
     links_are_ready();

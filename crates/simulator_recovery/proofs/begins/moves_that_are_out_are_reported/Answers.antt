@@ -1,11 +1,9 @@
-use Rattle.std.proofs.Common.{◌∷◌}
 use Rattle.simulator_run.specs.rasta_core.identity.Role.TheVariants as role
 use Rattle.simulator_recovery.proofs.BeginsTaken.{moves_reported}
-use Rattle.simulator_recovery.proofs.RoomBehind.{has_room, room_behind}
 use Rattle.simulator_recovery.proofs.begins.moves_that_are_out_are_reported.Goals as goal
 
 pub returns : goal.returns
-returns c = λ between one later more flowing place side once station is_table reached work works can few notes long many below awaits held. moves_reported (record {
+returns c = λ between later more flowing place side once station is_table reached work works can few notes long many. moves_reported (record {
   ready = record {
     up = record {
       link = record {
@@ -102,7 +100,5 @@ returns c = λ between one later more flowing place side once station is_table r
   counted = c.one_connection.ensures.counted;
   once = c.servers_enter_once.ensures;
   stays = c.outside_until_it_enters.ensures.stays;
-}) c.move_is_given_where_due.ensures c.request_is_accepted_where_admissible.ensures.accepted between one later more flowing place side once station is_table reached work works can few notes long many below
-    (has_room (record { on = c.reached_worlds_are_safe.ensures.on }) c.points_controllers_never_fill_their_windows.ensures flowing once station is_table reached place (between ∷ later))
-    (room_behind (record { on = c.reached_worlds_are_safe.ensures.on }) c.points_controllers_never_fill_their_windows.ensures flowing once station is_table reached place (between ∷ later) (one ∷ more))
-    awaits held
+}) c.move_is_given_where_due.ensures c.request_is_accepted_where_admissible.ensures.accepted c.points_controllers_never_fill_their_windows.ensures
+    between more flowing place side once station is_table reached work few notes many later works can long

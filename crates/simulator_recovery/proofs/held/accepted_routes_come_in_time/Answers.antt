@@ -5,7 +5,7 @@ use Rattle.simulator_run.specs.Nodes.{point_link}
 use Rattle.simulator_recovery.specs.RoutesCome.{and_request}
 use Rattle.simulator_recovery.specs.Rounds.{all_tried, good_rounds}
 use Rattle.simulator_recovery.proofs.HeldNeeds.{needs_there}
-use Rattle.simulator_recovery.proofs.HeldRounds.{accepted_known, accepted_set, accepted_there, base_at, below_front, coming_or, fewer, longer, point_below, request_works, set_course}
+use Rattle.simulator_recovery.proofs.HeldRounds.{accepted_known, accepted_set, accepted_there, base_at, below_front, coming_or, fewer, point_below, request_works, set_course, with_one}
 use Rattle.simulator_recovery.proofs.Rounds.{TimeLaws}
 use Rattle.simulator_recovery.proofs.held.accepted_routes_come_in_time.Goals as goal
 
@@ -25,12 +25,13 @@ returns c = λ between later before more still flowing route row once station is
     (c.accepted_settings_move_their_points.ensures.clear site table accepted.world route row row_there accepted.accepted) stays
     in let some = fewer rounds more flowing.state.run (fewer (rounds ++ more) still flowing.state.run can)
     in let some_below = below_front site row rounds more next (below_front site row (rounds ++ more) still next below)
-    in c.set_routes_come_in_time.ensures between (and_request route before) later more still flowing route.0 row once station is_table reached work rounds_works more_works still_works
-    can notes long many row_there below set
+    in let soon = with_one later (and_request route before) long
+    in c.set_routes_come_in_time.ensures between rounds more still flowing route.0 row once station is_table reached work rounds_works more_works still_works
+    can notes soon many row_there below set
     (λ need within. let few = needs_there site table station is_table route.0 row row_there need within
     in inl (coming_or laws site table station once start.state.run at.reached need few
     (c.links_are_ready.ensures between rounds flowing (point_link site need.point) once station is_table reached work rounds_works some
-    (point_below site need.point few) (longer later (and_request route before) long) (some_below.points need within))
+    (point_below site need.point few) soon (some_below.points need within))
     (λ one other route point side another. c.points_of_proceeding_routes_are_known.ensures site table start.state.run one other route point side another is_table at.reached)
     (c.set_routes_hold_their_points.ensures site table start.state.run route.0 row need is_table row_there within (set_course start.state.run.station.ixl route.0 row set.course))
     (accepted_known site table route start.state.run accepted need

@@ -97,5 +97,5 @@ returns c = λ between later more flowing place once station is_table reached wo
     counted = c.items_are_counted.ensures.counted;
   };
   read_off = c.items_are_read_off_the_datagrams.ensures;
-}) between flowing place once station is_table reached work few more later long
+}) between flowing place once station is_table reached work few more later (omega (arith, long))
     (record { works = works; can = can; room = below; long = let n = length-append later more in omega (arith, long, n) })
