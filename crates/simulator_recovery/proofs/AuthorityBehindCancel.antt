@@ -26,6 +26,7 @@ use Rattle.simulator_recovery.specs.LinkRounds.{StaysBelowLimit}
 use Rattle.simulator_recovery.specs.NothingDue.{Proceeds}
 use Rattle.simulator_recovery.specs.Ready.{ready_rounds}
 use Rattle.simulator_recovery.specs.Rounds.{HasTime, IsWork, all_tried, good_rounds}
+use Rattle.simulator_recovery.specs.Withdrawn.{IsNotSetAnew}
 use Rattle.simulator_recovery.proofs.AlwaysFew.{reached_rests}
 use Rattle.simulator_recovery.proofs.AlwaysStopped.{standing_then}
 use Rattle.simulator_recovery.proofs.AuthorityCancels.{IsPast, cancel_happened}
@@ -36,10 +37,10 @@ use Rattle.simulator_recovery.proofs.Rounds.{IsAt, rounds_reached}
 use Rattle.simulator_recovery.proofs.SeenSignals.{known_there, seen_then}
 use Rattle.simulator_recovery.proofs.StopComes.{StopLaws, accepted_there, cancel_happens, entry_there, none_behind_cancel}
 
-module _ (laws : EndingLaws) (between : List Event) (later_rounds : List (List Event)) (before : List Event) (flowing : Flowing Played) (route : RouteId) (row : Row) (once : Once flowing.state.sited.site) (station : IsStation flowing.state.sited.site)
+module _ (laws : EndingLaws) (between : List Event) (later_rounds : List (List Event)) (before one two : List Event) (flowing : Flowing Played) (route : RouteId) (row : Row) (once : Once flowing.state.sited.site) (station : IsStation flowing.state.sited.site)
     (is_table : IsTableOf flowing.state.sited.site flowing.state.sited.table) (reached : IsReached flowing.state.sited.site flowing.state.sited.table flowing.state.run) (work : Each IsWork between) (works : Each (Each IsWork) later_rounds)
-    (before_works : Each IsWork before) (can : HasTime (suc (2 + suc (length later_rounds))) flowing.state.run) (there : slice_get flowing.state.sited.table.rows route.0 ≡ Some row) (long : ready_rounds ≤ suc (suc (length later_rounds)))
-    (below : StaysBelowLimit flowing.state.sited.site row.entry (later_rounds ++ and_cancel route before ∷ [] ∷ [] ∷ []) (all_tried between (round stations flowing)))
+    (before_works : Each IsWork before) (work_one : Each IsWork one) (work_two : Each IsWork two) (can : HasTime (suc (2 + suc (length later_rounds))) flowing.state.run) (there : slice_get flowing.state.sited.table.rows route.0 ≡ Some row) (long : ready_rounds ≤ suc (suc (length later_rounds)))
+    (below : StaysBelowLimit flowing.state.sited.site row.entry (later_rounds ++ and_cancel route before ∷ one ∷ two ∷ []) (all_tried between (round stations flowing)))
     (proceeds : At (as_cancel_comes (between ∷ later_rounds) before flowing).state.run.station.ixl.routes route.0 Proceeds) (accepted : AcceptsCancel route (as_cancel_comes (between ∷ later_rounds) before flowing).state) where
   abbrev sited : SitedTable
   sited = flowing.state.sited
@@ -84,7 +85,7 @@ module _ (laws : EndingLaws) (between : List Event) (later_rounds : List (List E
   counts = ((laws.authority.confirm.ready.stand sited.site sited.table comes station happened.0.reached).clients.signals row.entry was.0 was.1).stands
 
   small : was.0.client.link.given < 2 ^ 31
-  small = few_given laws between later_rounds last flowing row.entry once station is_table reached work all_works can few long below none before (Request (Cancel route) ∷ []) refl was.0 was.1
+  small = few_given laws between later_rounds last one two flowing row.entry once station is_table reached work all_works work_one work_two can few long below none before (Request (Cancel route) ∷ []) refl was.0 was.1
 
   past : IsPast was.0.client.link.given is.0
   past = cancel_happened sited.site sited.table comes route row proceeds.0 was.0 there (standing_then sited.site sited.table comes happened.0.reached) (accepted_there (between ∷ later_rounds) before flowing route happened.0 accepted)
@@ -99,14 +100,15 @@ module _ (laws : EndingLaws) (between : List Event) (later_rounds : List (List E
       by_past : IsPast was.0.client.link.given is.0 → old.client.link.given < new.client.link.given
       by_past (inl unaspected) = absurd (cc (sym unaspected ∙ e))
       by_past (inr given) =
-          let least = gave_before laws between later_rounds last flowing row.entry once station is_table reached work all_works can few long below none before (Request (Cancel route) ∷ []) refl was.0 was.1 old old_there
+          let least = gave_before laws between later_rounds last one two flowing row.entry once station is_table reached work all_works work_one work_two can few long below none before (Request (Cancel route) ∷ []) refl was.0 was.1 old old_there
           in let same = ap (λ (s : KnownSignalState). s.client.link.given) (same_Some is.0 new (sym is.1 ∙ new_there))
           in let n = number
           in omega (arith, given, least, same, n)
 
-  pub authority_ends_behind_cancel : IsWithdrawnFrom flowing.state.sited.table (good_rounds (between ∷ (later_rounds ++ and_cancel route before ∷ [] ∷ [] ∷ [])) flowing).state.run.station.ixl row.entry → ⊥
-  authority_ends_behind_cancel withdrawn = by_aspect is.0.aspect refl
+  pub authority_ends_behind_cancel : (withdrawn : IsWithdrawnFrom flowing.state.sited.table (good_rounds (between ∷ (later_rounds ++ and_cancel route before ∷ one ∷ two ∷ [])) flowing).state.run.station.ixl row.entry)
+      → IsNotSetAnew withdrawn.number (one ∷ two ∷ []) (good_rounds (between ∷ (later_rounds ++ and_cancel route before ∷ [])) flowing) → ⊥
+  authority_ends_behind_cancel withdrawn apart = by_aspect is.0.aspect refl
     where
       by_aspect : (aspect : Option Aspect) → is.0.aspect ≡ aspect → ⊥
-      by_aspect None e = none_given_ends laws between later_rounds last flowing row.entry once station is_table reached work all_works can few long below none is.0 is.1 e withdrawn
-      by_aspect (Some aspect) e = authority_ends laws between later_rounds last flowing row.entry once station is_table reached work all_works can few long below none (more aspect e) withdrawn
+      by_aspect None e = none_given_ends laws between later_rounds last one two flowing row.entry once station is_table reached work all_works work_one work_two can few long below none is.0 is.1 e withdrawn apart
+      by_aspect (Some aspect) e = authority_ends laws between later_rounds last one two flowing row.entry once station is_table reached work all_works work_one work_two can few long below none (more aspect e) withdrawn apart

@@ -1,5 +1,5 @@
--- Two good rounds behind its cancel a route is free, unless a train came or its approach counts.
-use Rattle.std.proofs.Common.{◌≡◌, inl, inr, ℕ, suc, ◌+◌, ◌≤◌, Bool, true, false, List, [], ◌∷◌, ◌++◌, append_assoc, length, Option, Some, None, slice_get, refl, sym, ap, subst, ◌∙◌}
+-- Two good rounds behind its cancel, or more, a route is free, unless a train came or its approach counts.
+use Rattle.std.proofs.Common.{◌≡◌, inl, inr, ℕ, suc, ◌≤◌, Bool, true, false, List, [], ◌∷◌, ◌++◌, append_assoc, length, Option, Some, None, slice_get, refl, sym, ap, subst, ◌∙◌}
 use Rattle.std.proofs.lemmas.Bool.{false≢true}
 use Rattle.std.proofs.lemmas.Option.{same_Some}
 use Rattle.ixl_table.specs.Table.{IsTableOf}
@@ -13,11 +13,10 @@ use Rattle.simulator_run.specs.ixl_rules.Commands.{commanded_by, refusal}
 use Rattle.simulator_run.specs.ixl_rules.Due.{AllClear, At}
 use Rattle.simulator_run.specs.ixl_rules.Rules.{count, is_proceeding, is_waiting}
 use Rattle.simulator_run.specs.ixl_rules.State.{IxlState, RouteState}
-use Rattle.simulator_run.specs.ixl_rules.Step.{Commands, Input, all_clocked, given, stepped, ticked, watching}
+use Rattle.simulator_run.specs.ixl_rules.Step.{Commands, all_clocked, given, stepped, ticked, watching}
 use Rattle.simulator_run.specs.ixl_rules.StepSoFar.{StepSoFar, begun_with, empty_outbox, over}
 use Rattle.simulator_run.specs.ixl_rules.Table.{Row, SitedTable, Table}
 use Rattle.simulator_run.specs.ixl_rules.View.{is_set}
-use Rattle.simulator_run.specs.ixl_rules.declared.command.Command.{Command}
 use Rattle.simulator_run.specs.ixl_rules.declared.command.Command.TheVariants as commands
 use Rattle.simulator_run.specs.ixl_rules.declared.command.Refusal.{Refusal}
 use Rattle.simulator_run.specs.ixl_rules.declared.phase.Phase.{Phase}
@@ -27,26 +26,27 @@ use Rattle.simulator_run.specs.simulator_event.declared.event.Event.TheVariants 
 use Rattle.simulator_run.specs.simulator_event.declared.reply.Answer.TheVariants as answer
 use Rattle.simulator_run.specs.Flow.{Flowing, round, stations}
 use Rattle.simulator_run.specs.Happens.{answered, happens, interlocking_stepped}
-use Rattle.simulator_run.specs.Nodes.{key_of}
 use Rattle.simulator_run.specs.State.{WorldState}
 use Rattle.simulator_run.specs.Tried.{Played}
 use Rattle.simulator_headline.specs.Reached.{IsReached}
-use Rattle.simulator_recovery.specs.Authority.{IsUnseen}
-use Rattle.simulator_recovery.specs.Lamps.{AcceptsCancel, NoneProceeds, and_cancel, as_cancel_comes}
+use Rattle.simulator_recovery.specs.Authority.{IsUnseen, authority_rounds}
+use Rattle.simulator_recovery.specs.Lamps.{AcceptsCancel, and_cancel, as_cancel_comes}
 use Rattle.simulator_recovery.specs.LinkRounds.{StaysBelowLimit}
 use Rattle.simulator_recovery.specs.NothingDue.{Proceeds}
 use Rattle.simulator_recovery.specs.Ready.{ready_rounds}
 use Rattle.simulator_recovery.specs.Rounds.{HasTime, IsWork, all_tried, good_rounds}
-use Rattle.simulator_recovery.proofs.AuthorityBehindCancel.{all_works, authority_ends_behind_cancel, few, happened, none}
+use Rattle.simulator_recovery.specs.Withdrawn.{IsNotSetAnew}
 use Rattle.simulator_recovery.proofs.AuthorityCancels.{cancelled_at}
 use Rattle.simulator_recovery.proofs.AuthorityEnds.{EndingLaws}
-use Rattle.simulator_recovery.proofs.AuthorityOver.{none_third}
+use Rattle.simulator_recovery.proofs.BetweenCancels.{many_cancelled}
+use Rattle.simulator_recovery.proofs.BetweenEvents.{rests_keeps, route_kept}
 use Rattle.simulator_recovery.proofs.Cancelled.{NoCommand, OfRoute, RouteKeeps, accepted_so, none_comes, route_keep, clocked_routes}
-use Rattle.simulator_recovery.proofs.GivenNoMore.{over_rests, round_keeps}
+use Rattle.simulator_recovery.proofs.GivenNoMore.{RestsSo, over_rests}
+use Rattle.simulator_recovery.proofs.MovesAnswered.{rounds_both}
 use Rattle.simulator_recovery.proofs.NothingDueFrees.{FreeLaw, nothing_waits_to_be_freed}
-use Rattle.simulator_recovery.proofs.Rounds.{IsAt, rounds_reached}
-use Rattle.simulator_recovery.proofs.SignalParts.{IsQuiet, behind_ending, both_rules, over_held, step_held, watching_held}
-use Rattle.simulator_recovery.proofs.StopComes.{accepted_there, last_round}
+use Rattle.simulator_recovery.proofs.Rounds.{IsAt, ReachLaws, rounds_reached}
+use Rattle.simulator_recovery.proofs.SignalParts.{IsQuiet, behind_ending, both_rules, over_held, watching_held}
+use Rattle.simulator_recovery.proofs.StopComes.{StopLaws, accepted_there, cancel_happens, none_behind_cancel}
 use Rattle.simulator_recovery.proofs.StopsGiven.{proceeding_set}
 
 -- ---- a cancelled route stays cancelled while it is set
@@ -67,11 +67,6 @@ stays_keeps = record {
 
 abbrev StaysIn : ℕ → IxlState → Type 0
 StaysIn number ixl = (route : RouteState) → slice_get ixl.routes number ≡ Some route → StaysCancelled route
-
-stepped_stays : (site : Site) (table : Table) (number : ℕ) (input : Input) (world : WorldState) → ((command : Command) → input ≡ Commands command → ⊥) → StaysIn number world.station.ixl → StaysIn number (interlocking_stepped site table input world).station.ixl
-unfolding interlocking_stepped
-stepped_stays site table number input world none_so is = step_held (reading_of world.station.clock) table NoCommand (OfRoute number StaysCancelled) (route_keep (reading_of world.station.clock) table NoCommand none_comes number StaysCancelled stays_keeps)
-    (key_of site) input (begun_with world.station.ixl empty_outbox) none_so is
 
 -- What the parts of a step keep of a route is so behind a cancel of it, which leaves it as it was but that it is cancelled.
 cancel_keeps : (F : RouteState → Type 0) → RouteKeeps F → (site : Site) (table : Table) (world : WorldState) (route : RouteId) (one : RouteState) → refusal (reading_of world.station.clock) table (commands.Cancel route) (all_clocked (reading_of world.station.clock) world.station.ixl) ≡ None
@@ -119,58 +114,52 @@ cancelled_stays : (site : Site) (table : Table) (world : WorldState) (route : Ro
     → slice_get world.station.ixl.routes route.0 ≡ Some one → is_proceeding one.phase ≡ true → StaysIn route.0 (happens site table (event.Request (commands.Cancel route)) world).station.ixl
 cancelled_stays site table world route one accepted there proceeds = kept_behind_cancel StaysCancelled stays_keeps site table world route one accepted there (not_waiting one.phase proceeds, λ set. refl)
 
--- ---- two rounds later
+-- ---- two rounds later, or more
 
-module _ (frees : FreeLaw) (laws : EndingLaws) (between : List Event) (later_rounds : List (List Event)) (before : List Event) (flowing : Flowing Played) (route : RouteId) (row : Row) (once : Once flowing.state.sited.site) (station : IsStation flowing.state.sited.site)
-    (is_table : IsTableOf flowing.state.sited.site flowing.state.sited.table) (reached : IsReached flowing.state.sited.site flowing.state.sited.table flowing.state.run) (work : Each IsWork between) (works : Each (Each IsWork) later_rounds)
-    (before_works : Each IsWork before) (can : HasTime (suc (2 + suc (length later_rounds))) flowing.state.run) (there : slice_get flowing.state.sited.table.rows route.0 ≡ Some row) (long : ready_rounds ≤ suc (suc (length later_rounds)))
-    (below : StaysBelowLimit flowing.state.sited.site row.entry (later_rounds ++ and_cancel route before ∷ [] ∷ [] ∷ []) (all_tried between (round stations flowing)))
+module _ (frees : FreeLaw) (laws : EndingLaws) (between : List Event) (later_rounds : List (List Event)) (before : List Event) (more : List (List Event)) (flowing : Flowing Played) (route : RouteId) (row : Row) (once : Once flowing.state.sited.site)
+    (station : IsStation flowing.state.sited.site) (is_table : IsTableOf flowing.state.sited.site flowing.state.sited.table) (reached : IsReached flowing.state.sited.site flowing.state.sited.table flowing.state.run) (work : Each IsWork between)
+    (works : Each (Each IsWork) later_rounds) (before_works : Each IsWork before) (more_works : Each (Each IsWork) more) (apart : IsNotSetAnew route.0 more (good_rounds (between ∷ (later_rounds ++ and_cancel route before ∷ [])) flowing)) (can : HasTime (suc (length (later_rounds ++ and_cancel route before ∷ more))) flowing.state.run)
+    (there : slice_get flowing.state.sited.table.rows route.0 ≡ Some row) (long : ready_rounds ≤ suc (suc (length later_rounds))) (enough : authority_rounds ≤ length more)
+    (below : StaysBelowLimit flowing.state.sited.site row.entry (later_rounds ++ and_cancel route before ∷ more) (all_tried between (round stations flowing)))
     (proceeds : At (as_cancel_comes (between ∷ later_rounds) before flowing).state.run.station.ixl.routes route.0 Proceeds) (accepted : AcceptsCancel route (as_cancel_comes (between ∷ later_rounds) before flowing).state) where
   abbrev sited : SitedTable
   sited = flowing.state.sited
 
-  abbrev last : List Event
-  last = and_cancel route before
+  reach : ReachLaws
+  reach = laws.authority.confirm.ready.up.link.times.reach
 
-  abbrev first : List (List Event)
-  first = later_rounds ++ last ∷ []
+  stop_laws : StopLaws
+  stop_laws = record { ready = laws.authority.confirm.ready; signals = laws.authority.signals }
 
-  abbrev ixl : List (List Event) → IxlState
-  ixl rounds = (good_rounds (between ∷ rounds) flowing).state.run.station.ixl
-
-  at : (rounds : List (List Event)) → IsAt sited (good_rounds (between ∷ rounds) flowing).state
-  at rounds = rounds_reached laws.authority.confirm.ready.up.link.times.reach sited (between ∷ rounds) flowing (record { same = refl; reached = reached })
-
-  third_is : (first ++ [] ∷ []) ++ [] ∷ [] ≡ later_rounds ++ last ∷ [] ∷ [] ∷ []
-  third_is = append_assoc first ([] ∷ []) ([] ∷ []) ∙ append_assoc later_rounds (last ∷ []) ([] ∷ [] ∷ [])
-
-  happened_so : IsAt sited (as_cancel_comes (between ∷ later_rounds) before flowing).state
-      × ((good_rounds (between ∷ first) flowing).state.run ≡ happens sited.site sited.table (event.Request (commands.Cancel route)) (as_cancel_comes (between ∷ later_rounds) before flowing).state.run)
-  happened_so = happened laws between later_rounds before flowing route row once station is_table reached work works before_works can there long below proceeds accepted
-
-  stays_first : StaysIn route.0 (ixl first)
-  stays_first = subst (λ (w : WorldState). StaysIn route.0 w.station.ixl) (sym happened_so.1) (cancelled_stays sited.site sited.table (as_cancel_comes (between ∷ later_rounds) before flowing).state.run route proceeds.0
-      (accepted_there (between ∷ later_rounds) before flowing route happened_so.0 accepted) proceeds.1 (ap is_proceeding proceeds.2))
-
-  stays_on : (rounds : List (List Event)) → StaysIn route.0 (ixl rounds) → StaysIn route.0 (ixl (rounds ++ [] ∷ []))
-  stays_on rounds is = subst (λ (f : Flowing Played). StaysIn route.0 f.state.run.station.ixl) (sym (last_round (between ∷ rounds) [] flowing))
-      (round_keeps sited (StaysIn route.0) (stepped_stays sited.site sited.table route.0) (good_rounds (between ∷ rounds) flowing) (at rounds).same is)
+  -- behind the cancel
+  abbrev first : Flowing Played
+  first = good_rounds (between ∷ (later_rounds ++ and_cancel route before ∷ [])) flowing
 
   abbrev end : IxlState
-  end = (good_rounds (between ∷ (later_rounds ++ and_cancel route before ∷ [] ∷ [] ∷ [])) flowing).state.run.station.ixl
+  end = (good_rounds (between ∷ (later_rounds ++ and_cancel route before ∷ more)) flowing).state.run.station.ixl
+
+  at : (rounds : List (List Event)) → IsAt sited (good_rounds (between ∷ rounds) flowing).state
+  at rounds = rounds_reached reach sited (between ∷ rounds) flowing (record { same = refl; reached = reached })
+
+  happened : IsAt sited (as_cancel_comes (between ∷ later_rounds) before flowing).state × (first.state.run ≡ happens sited.site sited.table (event.Request (commands.Cancel route)) (as_cancel_comes (between ∷ later_rounds) before flowing).state.run)
+  happened = cancel_happens stop_laws (between ∷ later_rounds) before flowing route reached
+
+  end_is : good_rounds (between ∷ (later_rounds ++ and_cancel route before ∷ more)) flowing ≡ good_rounds more first
+  end_is = ap (λ (l : List (List Event)). good_rounds (between ∷ l) flowing) (sym (append_assoc later_rounds (and_cancel route before ∷ []) more)) ∙ rounds_both (between ∷ (later_rounds ++ and_cancel route before ∷ [])) more flowing
+
+  -- what is kept of the route is so till then
+  kept : (F : RouteState → Type 0) → RouteKeeps F → OfRoute route.0 F first.state.run.station.ixl.routes [] → OfRoute route.0 F end.routes []
+  kept F keeps is = subst (λ (f : Flowing Played). OfRoute route.0 F f.state.run.station.ixl.routes []) (sym end_is) (route_kept reach sited route.0 F keeps more first more_works apart (at (later_rounds ++ and_cancel route before ∷ [])) is)
 
   stays_end : StaysIn route.0 end
-  stays_end = subst (λ (l : List (List Event)). StaysIn route.0 (ixl l)) third_is (stays_on (first ++ [] ∷ []) (stays_on first stays_first))
+  stays_end = kept StaysCancelled stays_keeps (subst (λ (w : WorldState). StaysIn route.0 w.station.ixl) (sym happened.1) (cancelled_stays sited.site sited.table (as_cancel_comes (between ∷ later_rounds) before flowing).state.run route proceeds.0
+      (accepted_there (between ∷ later_rounds) before flowing route happened.0 accepted) proceeds.1 (ap is_proceeding proceeds.2)))
 
-  none_end : NoneProceeds sited.table end row.entry
-  none_end = subst (λ (l : List (List Event)). NoneProceeds sited.table (ixl l) row.entry) third_is
-      (none_third laws between later_rounds last flowing row.entry once station is_table reached work
-      (all_works laws between later_rounds before flowing route row once station is_table reached work works before_works can there long below proceeds accepted) can
-      (few laws between later_rounds before flowing route row once station is_table reached work works before_works can there long below proceeds accepted) long below
-      (none laws between later_rounds before flowing route row once station is_table reached work works before_works can there long below proceeds accepted)).1
+  rests_end : OfRoute route.0 RestsSo end.routes []
+  rests_end = kept RestsSo rests_keeps (λ one e. none_behind_cancel stop_laws (between ∷ later_rounds) before flowing route row reached there accepted route.0 row one (there, e) refl)
 
   -- its authority has ended where it is set
-  pub ended_behind_cancel : (state : RouteState) → slice_get (good_rounds (between ∷ (later_rounds ++ and_cancel route before ∷ [] ∷ [] ∷ [])) flowing).state.run.station.ixl.routes route.0 ≡ Some state → is_set state.phase ≡ true
+  pub ended_behind_cancel : (state : RouteState) → slice_get (good_rounds (between ∷ (later_rounds ++ and_cancel route before ∷ more)) flowing).state.run.station.ixl.routes route.0 ≡ Some state → is_set state.phase ≡ true
       → (state.cancelled ≡ true) × (clock : ℕ) × (done : ℕ) × (state.phase ≡ phase.Ended clock done)
   ended_behind_cancel state is set = let ended = by_phase state.phase refl in (stays.1 set, ended.0, ended.1, ended.2)
     where
@@ -180,16 +169,16 @@ module _ (frees : FreeLaw) (laws : EndingLaws) (between : List Event) (later_rou
       by_phase : (p : Phase) → state.phase ≡ p → (clock : ℕ) × (done : ℕ) × (state.phase ≡ phase.Ended clock done)
       by_phase phase.Free e = absurd (false≢true (sym (ap is_set e) ∙ set))
       by_phase phase.Waiting e = absurd (false≢true (sym stays.0 ∙ ap is_waiting e))
-      by_phase phase.Proceeding e = absurd (false≢true (sym (none_end route.0 row state (there, is) refl).1 ∙ ap is_proceeding e))
-      by_phase phase.Withdrawn e = absurd (authority_ends_behind_cancel laws between later_rounds before flowing route row once station is_table reached work works before_works can there long below proceeds accepted
-          (record { number = route.0; row = row; route = state; is_route = (there, is); entry = refl; withdrawn = e }))
+      by_phase phase.Proceeding e = absurd (false≢true (sym (rests_end state is).1 ∙ ap is_proceeding e))
+      by_phase phase.Withdrawn e = absurd (many_cancelled laws more between later_rounds before flowing route row once station is_table reached work works before_works more_works can there long enough below proceeds accepted
+          (record { number = route.0; row = row; route = state; is_route = (there, is); entry = refl; withdrawn = e }) apart)
       by_phase (phase.Ended clock done) e = (clock, done, e)
 
-  pub free_behind_cancel : (state : RouteState) → slice_get (good_rounds (between ∷ (later_rounds ++ and_cancel route before ∷ [] ∷ [] ∷ [])) flowing).state.run.station.ixl.routes route.0 ≡ Some state → IsUnseen row state
-      → AllClear flowing.state.sited.table (good_rounds (between ∷ (later_rounds ++ and_cancel route before ∷ [] ∷ [] ∷ [])) flowing).state.run.station.ixl row.sections → state.approached ≡ false → is_set state.phase ≡ false
+  pub free_behind_cancel : (state : RouteState) → slice_get (good_rounds (between ∷ (later_rounds ++ and_cancel route before ∷ more)) flowing).state.run.station.ixl.routes route.0 ≡ Some state → IsUnseen row state
+      → AllClear flowing.state.sited.table (good_rounds (between ∷ (later_rounds ++ and_cancel route before ∷ more)) flowing).state.run.station.ixl row.sections → state.approached ≡ false → is_set state.phase ≡ false
   free_behind_cancel state is unseen clear unapproached = by_set (is_set state.phase) refl
     where
       by_set : (b : Bool) → is_set state.phase ≡ b → is_set state.phase ≡ false
       by_set false e = e
-      by_set true e = let ended = ended_behind_cancel state is e in absurd (nothing_waits_to_be_freed frees sited.site sited.table (good_rounds (between ∷ (later_rounds ++ and_cancel route before ∷ [] ∷ [] ∷ [])) flowing).state.run route.0 row state
-          (at (later_rounds ++ and_cancel route before ∷ [] ∷ [] ∷ [])).reached (there, is) (λ reading. (ended.0, inr (ended.1, ended.2, ended.3, record { unseen = unseen; clear = clear; approach = inl unapproached }))))
+      by_set true e = let ended = ended_behind_cancel state is e in absurd (nothing_waits_to_be_freed frees sited.site sited.table (good_rounds (between ∷ (later_rounds ++ and_cancel route before ∷ more)) flowing).state.run route.0 row state
+          (at (later_rounds ++ and_cancel route before ∷ more)).reached (there, is) (λ reading. (ended.0, inr (ended.1, ended.2, ended.3, record { unseen = unseen; clear = clear; approach = inl unapproached }))))

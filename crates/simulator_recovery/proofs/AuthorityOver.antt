@@ -25,13 +25,14 @@ use Rattle.simulator_recovery.specs.LinkRounds.{IsUpOn, StaysBelowLimit, behind_
 use Rattle.simulator_recovery.specs.Ready.{ready_rounds}
 use Rattle.simulator_recovery.specs.RepliesOn.{RepliesAfter, RepliesOn}
 use Rattle.simulator_recovery.specs.Rounds.{HasTime, IsWork, all_tried, clocks_of, good_rounds}
+use Rattle.simulator_recovery.specs.Withdrawn.{IsNotSetAnew}
 use Rattle.simulator_recovery.proofs.AuthorityEnds.{EndingLaws, Takings, counts_given, goes, over as handed, replies_on, replies_within, stands_old}
 use Rattle.simulator_recovery.proofs.AuthorityRounds.{Goes, even, even_links, held_even, held_middle, middle_gave, middle_links, stands_middle, stands_there}
 use Rattle.simulator_recovery.proofs.AuthorityLists.{replies_last}
+use Rattle.simulator_recovery.proofs.BetweenSignals.{gives_none}
 use Rattle.simulator_recovery.proofs.ComeUp.{Begun, begun_so, behind_rounds, links_after, rounds_open, up_on}
 use Rattle.simulator_recovery.proofs.ConfirmedLinks.{confirms}
 use Rattle.simulator_recovery.proofs.ConfirmedStops.{confirmed_ends, still_up}
-use Rattle.simulator_recovery.proofs.GivenNoMore.{round_gives_no_more, round_stays}
 use Rattle.simulator_recovery.proofs.LinkRounds.{after_both, after_each, round_tried}
 use Rattle.simulator_recovery.proofs.Lists.{each_both}
 use Rattle.simulator_recovery.proofs.Ready.{IsUpBehind, Last, count_front, each_front, fewer_time, front_of, last_of, two_taken_behind, ups}
@@ -43,20 +44,15 @@ use Rattle.simulator_recovery.proofs.StaysOpen.{rounds_stay}
 use Rattle.simulator_recovery.proofs.StopAwaited.{not_outlived}
 use Rattle.simulator_recovery.proofs.StopComes.{last_round}
 
--- given no aspect over two spans, it was given none over both
-given_then : (one two three : KnownSignalState) → IsGivenNoMore one two → IsGivenNoMore two three → IsGivenNoMore one three
-given_then one two three was (inl none) = inl none
-given_then one two three (inl none) (inr (same, number)) = inl (same ∙ none)
-given_then one two three (inr (same, number)) (inr (again, more)) = inr (again ∙ same, more ∙ number)
-
+-- given no aspect, it has none still
 still_none : (one three : KnownSignalState) → one.aspect ≡ None → IsGivenNoMore one three → three.aspect ≡ None
 still_none one three none (inl now) = now
 still_none one three none (inr (same, number)) = same ∙ none
 
-module _ (laws : EndingLaws) (between : List Event) (later_rounds : List (List Event)) (last : List Event) (flowing : Flowing Played) (signal : ℕ) (once : Once flowing.state.sited.site) (station : IsStation flowing.state.sited.site)
+module _ (laws : EndingLaws) (between : List Event) (later_rounds : List (List Event)) (last one two : List Event) (flowing : Flowing Played) (signal : ℕ) (once : Once flowing.state.sited.site) (station : IsStation flowing.state.sited.site)
     (is_table : IsTableOf flowing.state.sited.site flowing.state.sited.table) (reached : IsReached flowing.state.sited.site flowing.state.sited.table flowing.state.run) (work : Each IsWork between)
-    (works : Each (Each IsWork) (later_rounds ++ last ∷ [])) (can : HasTime (suc (2 + suc (length later_rounds))) flowing.state.run) (few : signal < length flowing.state.sited.site.signals)
-    (long : ready_rounds ≤ suc (suc (length later_rounds))) (below : StaysBelowLimit flowing.state.sited.site signal (later_rounds ++ last ∷ [] ∷ [] ∷ []) (all_tried between (round stations flowing)))
+    (works : Each (Each IsWork) (later_rounds ++ last ∷ [])) (work_one : Each IsWork one) (work_two : Each IsWork two) (can : HasTime (suc (2 + suc (length later_rounds))) flowing.state.run) (few : signal < length flowing.state.sited.site.signals)
+    (long : ready_rounds ≤ suc (suc (length later_rounds))) (below : StaysBelowLimit flowing.state.sited.site signal (later_rounds ++ last ∷ one ∷ two ∷ []) (all_tried between (round stations flowing)))
     (none : NoneProceeds flowing.state.sited.table (good_rounds (between ∷ (later_rounds ++ last ∷ [])) flowing).state.run.station.ixl signal) where
   abbrev More : Type 0
   More = HasGivenMore signal (round stations (good_rounds (between ∷ later_rounds) flowing)).state.run.station.ixl (good_rounds (between ∷ (later_rounds ++ last ∷ [])) flowing).state.run.station.ixl
@@ -77,28 +73,28 @@ module _ (laws : EndingLaws) (between : List Event) (later_rounds : List (List E
   first = later_rounds ++ last ∷ []
 
   abbrev second : List (List Event)
-  second = first ++ [] ∷ []
+  second = first ++ one ∷ []
 
   abbrev third : List (List Event)
-  third = second ++ [] ∷ []
+  third = second ++ two ∷ []
 
-  third_is : third ≡ later_rounds ++ last ∷ [] ∷ [] ∷ []
-  third_is = append_assoc first ([] ∷ []) ([] ∷ []) ∙ append_assoc later_rounds (last ∷ []) ([] ∷ [] ∷ [])
+  third_is : third ≡ later_rounds ++ last ∷ one ∷ two ∷ []
+  third_is = append_assoc first (one ∷ []) (two ∷ []) ∙ append_assoc later_rounds (last ∷ []) (one ∷ two ∷ [])
 
   works_second : Each (Each IsWork) second
-  works_second = each_both (Each IsWork) first ([] ∷ []) works (tt, tt)
+  works_second = each_both (Each IsWork) first (one ∷ []) works (work_one, tt)
 
   works_third : Each (Each IsWork) third
-  works_third = each_both (Each IsWork) second ([] ∷ []) works_second (tt, tt)
+  works_third = each_both (Each IsWork) second (two ∷ []) works_second (work_two, tt)
 
   many_first : length first ≡ length later_rounds + 1
   many_first = count_front later_rounds last
 
   many_second : length second ≡ length first + 1
-  many_second = count_front first []
+  many_second = count_front first one
 
   many_third : length third ≡ length second + 1
-  many_third = count_front second []
+  many_third = count_front second two
 
   can_third : HasTime (length third) next.state.run
   can_third = start.later_can (length third) (subst (λ (n : ℕ). HasTime n flowing.state.run) (omega (arith, many_first, many_second, many_third)) can)
@@ -126,10 +122,10 @@ module _ (laws : EndingLaws) (between : List Event) (later_rounds : List (List E
   can_first = can_for (length first) (omega (arith, many_second, many_third))
 
   up_second : UpBehind second
-  up_second = front_of laws.authority.confirm.ready sited station once is_table signal there between flowing work start second [] works_third can_third up_third (omega (arith, long, many_first, many_second))
+  up_second = front_of laws.authority.confirm.ready sited station once is_table signal there between flowing work start second two works_third can_third up_third (omega (arith, long, many_first, many_second))
 
   up_first : UpBehind first
-  up_first = front_of laws.authority.confirm.ready sited station once is_table signal there between flowing work start first [] works_second can_second up_second (omega (arith, long, many_first))
+  up_first = front_of laws.authority.confirm.ready sited station once is_table signal there between flowing work start first one works_second can_second up_second (omega (arith, long, many_first))
 
   up_later : UpBehind later_rounds
   up_later = front_of laws.authority.confirm.ready sited station once is_table signal there between flowing work start later_rounds last works can_first up_first (omega (arith, long))
@@ -148,8 +144,8 @@ module _ (laws : EndingLaws) (between : List Event) (later_rounds : List (List E
   before = links_after later_rounds next start.before
 
   -- the controller has taken two items before
-  two : 2 ≤ length (seen signal before).server.taken
-  two =
+  two_before : 2 ≤ length (seen signal before).server.taken
+  two_before =
       let most = two_taken_behind laws.authority.confirm.ready sited station once is_table signal there between flowing work start later_rounds parts.0 (can_for (length later_rounds) (omega (arith, many_first, many_second, many_third))) long up_later
       in let same = ap (λ (l : Links). (l.ends signal).server.link.taken) up_later.behind.after_is
       in let stands = stands_old laws sited station once is_table signal few there between flowing work start later_rounds last parts.1 parts.0 can_given up_later up_first
@@ -157,12 +153,12 @@ module _ (laws : EndingLaws) (between : List Event) (later_rounds : List (List E
       in let taken = counted_taken (seen signal before).server counts.1 stands.server.opened
       in omega (arith, most, same, taken)
 
-  replies : More → RepliesAfter signal first [] next start.before
-  replies more = replies_last signal first [] next start.before
-      (replies_on laws sited station once is_table signal few there between flowing work start later_rounds last [] parts.1 tt parts.0 works can_given can_replied up_later up_first up_second two more)
+  replies : More → RepliesAfter signal first one next start.before
+  replies more = replies_last signal first one next start.before
+      (replies_on laws sited station once is_table signal few there between flowing work start later_rounds last one parts.1 work_one parts.0 works can_given can_replied up_later up_first up_second two_before more)
 
   over : More → HasConfirmed signal (good_rounds first next).state.run (good_rounds third next).state.run
-  over more = confirms laws.authority.confirm sited station once is_table signal there between flowing work start first [] [] up_first up_second up_third (replies more)
+  over more = confirms laws.authority.confirm sited station once is_table signal there between flowing work start first one two up_first up_second up_third (replies more)
 
   at : (rounds : List (List Event)) → IsAt sited (good_rounds rounds next).state
   at rounds = rounds_reached laws.authority.confirm.ready.up.link.times.reach sited (between ∷ rounds) flowing (record { same = refl; reached = reached })
@@ -170,40 +166,40 @@ module _ (laws : EndingLaws) (between : List Event) (later_rounds : List (List E
   abbrev ixl : List (List Event) → IxlState
   ixl rounds = (good_rounds rounds next).state.run.station.ixl
 
-  -- behind a round more
-  gives_none : (rounds : List (List Event)) → NoneProceeds sited.table (ixl rounds) signal → GivesNoMore signal (ixl rounds) (ixl (rounds ++ [] ∷ [])) × NoneProceeds sited.table (ixl (rounds ++ [] ∷ [])) signal
-  gives_none rounds rests = (
-    subst (λ (f : Flowing Played). GivesNoMore signal (ixl rounds) f.state.run.station.ixl) (sym (last_round rounds [] next)) (round_gives_no_more (good_rounds rounds next) signal rests_there),
-    subst (λ (f : Flowing Played). NoneProceeds sited.table f.state.run.station.ixl signal) (sym (last_round rounds [] next))
-        (subst (λ (s : SitedTable). NoneProceeds s.table (round stations (good_rounds rounds next)).state.run.station.ixl signal) (at rounds).same (round_stays (good_rounds rounds next) signal rests_there)),
-  )
-    where
-      rests_there : NoneProceeds (good_rounds rounds next).state.sited.table (ixl rounds) signal
-      rests_there = subst (λ (s : SitedTable). NoneProceeds s.table (ixl rounds) signal) (sym (at rounds).same) rests
-
-  none_second : GivesNoMore signal (ixl first) (ixl second) × NoneProceeds sited.table (ixl second) signal
-  none_second = gives_none first none
-
-  pub none_third : GivesNoMore signal (ixl second) (ixl third) × NoneProceeds sited.table (ixl third) signal
-  none_third = gives_none second none_second.1
-
-  known : (known : KnownSignalState) × (slice_get (ixl second).known_signals signal ≡ Some known)
-  known =
-      let is = seen_then laws.authority.signals sited.site sited.table once station is_table (good_rounds second next).state.run (at second).reached
-      in known_there sited.site sited.table (good_rounds second next).state.run is.0 is.1 signal few
-
-  no_more : GivesNoMore signal (ixl first) (ixl third)
-  no_more one three is now = given_then one known.0 three (none_second.0 one known.0 is known.1) (none_third.0 known.0 three known.1 now)
+  third_then : good_rounds third next ≡ good_rounds (one ∷ two ∷ []) (good_rounds first next)
+  third_then = last_round second two next ∙ ap (good_rounds (two ∷ [])) (last_round first one next)
 
   abbrev Withdrawn : Type 0
-  Withdrawn = IsWithdrawnFrom flowing.state.sited.table (good_rounds (between ∷ (later_rounds ++ last ∷ [] ∷ [] ∷ [])) flowing).state.run.station.ixl signal
+  Withdrawn = IsWithdrawnFrom flowing.state.sited.table (good_rounds (between ∷ (later_rounds ++ last ∷ one ∷ two ∷ [])) flowing).state.run.station.ixl signal
+
+  -- the route isn't set anew in the last two rounds
+  abbrev IsApart : Withdrawn → Type 0
+  IsApart withdrawn = IsNotSetAnew withdrawn.number (one ∷ two ∷ []) (good_rounds first next)
 
   withdrawn_there : Withdrawn → IsWithdrawnFrom sited.table (ixl third) signal
   withdrawn_there withdrawn = subst (λ (l : List (List Event)). IsWithdrawnFrom sited.table (good_rounds l next).state.run.station.ixl signal) (sym third_is) withdrawn
 
-  pub authority_ends : More → Withdrawn → ⊥
-  authority_ends more withdrawn = confirmed_ends laws.authority.signals sited.site sited.table (good_rounds first next).state.run (good_rounds third next).state.run signal once station is_table (at first).reached (at third).reached few (over more) none no_more
-      (withdrawn_there withdrawn)
+  abbrev still : Withdrawn → IsWithdrawnFrom sited.table (good_rounds (one ∷ two ∷ []) (good_rounds first next)).state.run.station.ixl signal
+  still withdrawn = record {
+    number = withdrawn.number;
+    row = withdrawn.row;
+    route = withdrawn.route;
+    is_route = (
+      withdrawn.is_route.0,
+      ap (λ (f : Flowing Played). slice_get f.state.run.station.ixl.routes withdrawn.number) (sym third_then)
+          ∙ (ap (λ (l : List (List Event)). slice_get (good_rounds l next).state.run.station.ixl.routes withdrawn.number) third_is ∙ withdrawn.is_route.1),
+    );
+    entry = withdrawn.entry;
+    withdrawn = withdrawn.withdrawn;
+  }
+
+  no_more : (withdrawn : Withdrawn) → IsApart withdrawn → GivesNoMore signal (ixl first) (ixl third)
+  no_more withdrawn apart = subst (λ (f : Flowing Played). GivesNoMore signal (ixl first) f.state.run.station.ixl) (sym third_then)
+      (gives_none laws.authority.confirm.ready.up.link.times.reach sited signal (one ∷ two ∷ []) (good_rounds first next) (work_one, (work_two, tt)) (at first) none (still withdrawn) apart)
+
+  pub authority_ends : More → (withdrawn : Withdrawn) → IsApart withdrawn → ⊥
+  authority_ends more withdrawn apart = confirmed_ends laws.authority.signals sited.site sited.table (good_rounds first next).state.run (good_rounds third next).state.run signal once station is_table (at first).reached (at third).reached few (over more) none
+      (no_more withdrawn apart) (withdrawn_there withdrawn)
 
   -- ---- what was given within the last round, or behind it
 
@@ -211,13 +207,13 @@ module _ (laws : EndingLaws) (between : List Event) (later_rounds : List (List E
   MoreWithin = HasGivenMore signal (good_rounds (between ∷ later_rounds) flowing).state.run.station.ixl (good_rounds (between ∷ (later_rounds ++ last ∷ [])) flowing).state.run.station.ixl
 
   abbrev RepliesThen : List (List Event) → Type 0
-  RepliesThen rounds = Each (Each IsWork) (rounds ++ last ∷ []) → HasTime (suc (length (rounds ++ last ∷ []))) next.state.run → UpBehind rounds → UpBehind (rounds ++ last ∷ []) → UpBehind ((rounds ++ last ∷ []) ++ [] ∷ [])
+  RepliesThen rounds = Each (Each IsWork) (rounds ++ last ∷ []) → HasTime (suc (length (rounds ++ last ∷ []))) next.state.run → UpBehind rounds → UpBehind (rounds ++ last ∷ []) → UpBehind ((rounds ++ last ∷ []) ++ one ∷ [])
       → ready_rounds ≤ suc (length rounds) → HasGivenMore signal (good_rounds rounds next).state.run.station.ixl (good_rounds (rounds ++ last ∷ []) next).state.run.station.ixl
-      → RepliesOn signal [] (good_rounds (rounds ++ last ∷ []) next) (links_after (rounds ++ last ∷ []) next start.before)
+      → RepliesOn signal one (good_rounds (rounds ++ last ∷ []) next) (links_after (rounds ++ last ∷ []) next start.before)
 
   replies_then : Takings → (front : List (List Event)) (was : List Event) → RepliesThen (front ++ was ∷ [])
   replies_then takings front was all_work can_all up_front up_given up_replied long_more more =
-      replies_within laws sited station once is_table signal few there between flowing work start front was last [] was_works.1 all_works.1 tt was_works.0 all_works.0 all_work can_front can_was can_all up_before up_front up_given up_replied two_before more takings
+      replies_within laws sited station once is_table signal few there between flowing work start front was last one was_works.1 all_works.1 work_one was_works.0 all_works.0 all_work can_front can_was can_all up_before up_front up_given up_replied two_then more takings
     where
       count_all : length ((front ++ was ∷ []) ++ last ∷ []) ≡ length (front ++ was ∷ []) + 1
       count_all = count_front (front ++ was ∷ []) last
@@ -243,8 +239,8 @@ module _ (laws : EndingLaws) (between : List Event) (later_rounds : List (List E
       up_before : UpBehind front
       up_before = front_of laws.authority.confirm.ready sited station once is_table signal there between flowing work start front was all_works.0 (can_so (length (front ++ was ∷ [])) (omega (arith, count_all))) up_front (omega (arith, long_more, count_was))
 
-      two_before : 2 ≤ length (seen signal (links_after front next start.before)).server.taken
-      two_before =
+      two_then : 2 ≤ length (seen signal (links_after front next start.before)).server.taken
+      two_then =
           let most = two_taken_behind laws.authority.confirm.ready sited station once is_table signal there between flowing work start front was_works.0 (can_so (length front) (omega (arith, count_all, count_was))) (omega (arith, long_more, count_was)) up_before
           in let same = ap (λ (l : Links). (l.ends signal).server.link.taken) up_before.behind.after_is
           in let stands = stands_old laws sited station once is_table signal few there between flowing work start front was was_works.1 was_works.0 can_front up_before up_front
@@ -256,25 +252,25 @@ module _ (laws : EndingLaws) (between : List Event) (later_rounds : List (List E
     by_last : Last (length later_rounds - 1) later_rounds → RepliesThen later_rounds
     by_last l = subst RepliesThen (sym l.are) (replies_then takings l.front l.last)
 
-    replies_there : RepliesAfter signal first [] next start.before
-    replies_there = replies_last signal first [] next start.before (by_last (last_of (length later_rounds - 1) later_rounds (omega (arith, long_more))) works can_replied up_later up_first up_second long_more more)
+    replies_there : RepliesAfter signal first one next start.before
+    replies_there = replies_last signal first one next start.before (by_last (last_of (length later_rounds - 1) later_rounds (omega (arith, long_more))) works can_replied up_later up_first up_second long_more more)
 
-    pub authority_ends_within : Withdrawn → ⊥
-    authority_ends_within withdrawn = confirmed_ends laws.authority.signals sited.site sited.table (good_rounds first next).state.run (good_rounds third next).state.run signal once station is_table (at first).reached (at third).reached few
-        (confirms laws.authority.confirm sited station once is_table signal there between flowing work start first [] [] up_first up_second up_third replies_there) none no_more (withdrawn_there withdrawn)
+    pub authority_ends_within : (withdrawn : Withdrawn) → IsApart withdrawn → ⊥
+    authority_ends_within withdrawn apart = confirmed_ends laws.authority.signals sited.site sited.table (good_rounds first next).state.run (good_rounds third next).state.run signal once station is_table (at first).reached (at third).reached few
+        (confirms laws.authority.confirm sited station once is_table signal there between flowing work start first one two up_first up_second up_third replies_there) none (no_more withdrawn apart) (withdrawn_there withdrawn)
 
   -- where no aspect was given in the present connection
   up_there : IsUpOn signal (good_rounds third next).state.run
   up_there = up_on laws.authority.confirm.ready.up sited station once is_table signal there (good_rounds third next).state.run up_third.behind.after up_third.behind.are
       (ups laws.authority.confirm.ready sited station once is_table signal there between flowing work start third up_third)
 
-  pub none_given_ends : (known : KnownSignalState) → slice_get (ixl first).known_signals signal ≡ Some known → known.aspect ≡ None → Withdrawn → ⊥
-  none_given_ends one one_there unaspected withdrawn =
+  pub none_given_ends : (known : KnownSignalState) → slice_get (ixl first).known_signals signal ≡ Some known → known.aspect ≡ None → (withdrawn : Withdrawn) → IsApart withdrawn → ⊥
+  none_given_ends known known_at unaspected withdrawn apart =
       let is = seen_then laws.authority.signals sited.site sited.table once station is_table (good_rounds third next).state.run (at third).reached
       in let after = known_there sited.site sited.table (good_rounds third next).state.run is.0 is.1 signal few
       in let controller = controller_there sited.site sited.table (good_rounds third next).state.run is.0 is.1 signal few
       in let same = client_same laws.authority.signals sited.site sited.table (good_rounds third next).state.run is.0 is.1 signal there up_there after.0 after.1 controller.0 controller.1
-      in let still = still_none one after.0 unaspected (no_more one after.0 one_there after.1)
+      in let still = still_none known after.0 unaspected (no_more withdrawn apart known after.0 known_at after.1)
       in not_outlived sited.site sited.table (good_rounds third next).state.run signal after.0 (at third).reached (withdrawn_there withdrawn) after.1 (
         ap (λ (l : LinkState). is_up l.phase) (sym same) ∙ still_up (reading_of (good_rounds third next).state.run.station.clock) up_there.client up_there.client_up,
         ap (λ (aspect : Option Aspect). has_taken_stop aspect after.0.number (confirmed_items after.0.client.link)) still,

@@ -62,7 +62,7 @@ over_rests phase.Waiting over = absurd over
 over_rests phase.Proceeding over = absurd over
 over_rests phase.Withdrawn over = absurd over
 
-quiet_rests : (old new : RouteState) → IsQuiet old new → RestsSo old → RestsSo new
+pub quiet_rests : (old new : RouteState) → IsQuiet old new → RestsSo old → RestsSo new
 quiet_rests old new (inl (same, cancelled)) rests = (λ waits. cancelled (rests.0 (ap is_waiting (sym same) ∙ waits)), ap is_proceeding same ∙ rests.1)
 quiet_rests old new (inr (over, undone, set, kept)) rests = let so = over_rests new.phase over in (λ waits. absurd (false≢true (sym so.0 ∙ waits)), so.1)
 

@@ -261,3 +261,9 @@ pub mod FieldPointsSeen
 pub mod FieldPointsStep
 pub mod FieldPointsAlways
 pub mod FieldPointsKnown
+pub mod BetweenEvents
+pub mod BetweenSignals
+pub mod BetweenStops
+pub mod BetweenEnds
+pub mod BetweenCancels
+pub mod BetweenWithdrawals

@@ -1,39 +1,36 @@
--- A route that is withdrawn and has seen a train in each section goes on so over rounds without requests, until it is free.
-use Rattle.std.proofs.Common.{◌≡◌, ◌⊎◌, inl, inr, ℕ, zero, suc, ◌+◌, Bool, true, false, List, [], ◌∷◌, ◌++◌, length, Option, Some, None, slice_get, refl, sym, ap, subst, ◌∙◌, arith}
+-- A route that is withdrawn and has seen a train in each section goes on so over rounds in which it isn't set anew, until it is free.
+use Rattle.std.proofs.Common.{◌≡◌, ◌⊎◌, inl, inr, ℕ, Bool, true, false, List, [], ◌∷◌, ◌++◌, Option, Some, None, slice_get, refl, sym, ap, subst, ◌∙◌}
 use Rattle.std.proofs.lemmas.Bool.{false≢true}
-use Rattle.std.proofs.lemmas.List.{length-append}
 use Rattle.std.proofs.lemmas.Option.{none-some, same_Some}
 use Rattle.simulator_run.specs.layout.Entries.{Site}
 use Rattle.simulator_run.specs.rasta_core.Each.{Each}
 use Rattle.simulator_run.specs.ixl_rules.Due.{IsRouteOf}
 use Rattle.simulator_run.specs.ixl_rules.Rules.{is_proceeding, is_waiting}
 use Rattle.simulator_run.specs.ixl_rules.State.{IxlState, RouteState}
-use Rattle.simulator_run.specs.ixl_rules.Step.{Commands, Input}
+use Rattle.simulator_run.specs.ixl_rules.Step.{Input}
 use Rattle.simulator_run.specs.ixl_rules.Table.{Row, SitedTable, Table}
 use Rattle.simulator_run.specs.ixl_rules.View.{is_set, was_authorised}
-use Rattle.simulator_run.specs.ixl_rules.declared.command.Command.{Command}
 use Rattle.simulator_run.specs.ixl_rules.declared.phase.Phase.{Phase}
 use Rattle.simulator_run.specs.ixl_rules.declared.phase.Phase.TheVariants as phase
 use Rattle.simulator_run.specs.simulator_event.declared.event.Event.{Event}
-use Rattle.simulator_run.specs.Flow.{Flowing, round, stations}
+use Rattle.simulator_run.specs.Flow.{Flowing}
 use Rattle.simulator_run.specs.Happens.{interlocking_stepped}
 use Rattle.simulator_run.specs.State.{WorldState}
 use Rattle.simulator_run.specs.Tried.{Played}
 use Rattle.simulator_headline.specs.Reached.{IsReached}
-use Rattle.simulator_recovery.specs.Lamps.{IsWithdrawnFrom}
 use Rattle.simulator_recovery.specs.Passage.{IsSeen}
-use Rattle.simulator_recovery.specs.Rounds.{HasTime, IsWork, clocks_of, good_rounds}
+use Rattle.simulator_recovery.specs.Rounds.{IsWork, good_rounds}
+use Rattle.simulator_recovery.specs.Withdrawn.{IsNotSetAnew}
+use Rattle.simulator_recovery.proofs.BetweenEvents.{rounds_keep}
 use Rattle.simulator_recovery.proofs.Cancelled.{OfRoute, RouteKeeps}
-use Rattle.simulator_recovery.proofs.GivenNoMore.{over_rests, round_keeps}
-use Rattle.simulator_recovery.proofs.Lists.{each_both}
+use Rattle.simulator_recovery.proofs.GivenNoMore.{over_rests}
 use Rattle.simulator_recovery.proofs.MovesAnswered.{rounds_both}
 use Rattle.simulator_recovery.proofs.PassageStays.{authorised_set, stepped_stays}
-use Rattle.simulator_recovery.proofs.Ready.{fewer_time}
-use Rattle.simulator_recovery.proofs.Rounds.{IsAt, ReachLaws, round_reached, rounds_reached}
+use Rattle.simulator_recovery.proofs.Rounds.{IsAt, ReachLaws, rounds_reached}
 use Rattle.simulator_recovery.proofs.SignalParts.{IsQuiet}
 use Rattle.simulator_recovery.proofs.StopsGiven.{proceeding_set, waiting_set}
-use Rattle.simulator_recovery.proofs.WithdrawnSteps.{stepped_route}
-use Rattle.simulator_recovery.proofs.WithdrawnTold.{none_between, none_count}
+use Rattle.simulator_recovery.proofs.WindowsSpoken.{each_two}
+use Rattle.simulator_recovery.proofs.WithdrawnSteps.{Apart, stepped_apart}
 
 -- ---- a route that doesn't wait, and doesn't proceed
 
@@ -79,20 +76,19 @@ gone_free (phase.Ended clock done) gone unauthorised = absurd (false≢true (sym
 none_keeps : RouteKeeps (λ route. ⊥)
 none_keeps = record { quiet = λ old new quiet is. is; withdrawn = λ route is proceeds. is; waits_not = λ route is waits not_so. is }
 
--- ---- what a step without a request keeps
+-- ---- what a step keeps that doesn't set it anew
 
 -- it is so, and saw each of its sections occupied, as long as it is set
 abbrev pub StaysSeen : Row → RouteState → Type 0
 StaysSeen row route = IsGone route × (was_authorised route.phase ≡ true → IsSeen row route)
 
-pub step_seen : (site : Site) (table : Table) (number : ℕ) (row : Row) (input : Input) (world : WorldState)
-    → ((command : Command) → input ≡ Commands command → ⊥) → OfRoute number (StaysSeen row) world.station.ixl.routes []
+pub step_seen : (site : Site) (table : Table) (number : ℕ) (row : Row) (input : Input) (world : WorldState) → Apart table number input world → OfRoute number (StaysSeen row) world.station.ixl.routes []
     → OfRoute number (StaysSeen row) (interlocking_stepped site table input world).station.ixl.routes []
-step_seen site table number row input world none has later here =
-    (stepped_route IsGone gone_keeps site table number input world none (λ was there. (has was there).0) later here, seen (slice_get world.station.ixl.routes number) refl)
+step_seen site table number row input world apart has later here =
+    (stepped_apart IsGone gone_keeps site table number input world apart (λ was there. (has was there).0) later here, seen (slice_get world.station.ixl.routes number) refl)
   where
     seen : (found : Option RouteState) → slice_get world.station.ixl.routes number ≡ found → was_authorised later.phase ≡ true → IsSeen row later
-    seen None e authorised = absurd (stepped_route (λ route. ⊥) none_keeps site table number input world none (λ was there. none-some was (sym e ∙ there)) later here)
+    seen None e authorised = absurd (stepped_apart (λ route. ⊥) none_keeps site table number input world apart (λ was there. none-some was (sym e ∙ there)) later here)
     seen (Some was) e authorised = by_test (was_authorised was.phase) refl
       where
         by_test : (b : Bool) → was_authorised was.phase ≡ b → IsSeen row later
@@ -100,26 +96,13 @@ step_seen site table number row input world none has later here =
         by_test false f = absurd (false≢true (sym free ∙ authorised_set later.phase authorised))
           where
             free : is_set later.phase ≡ false
-            free = stepped_route IsFree free_keeps site table number input world none (λ one there. subst IsFree (same_Some was one (sym e ∙ there)) (gone_free was.phase (has was e).0.0 f)) later here
-
--- ---- so many rounds with nothing between them
-
-pub quiet_each : (P : Event → Type 0) (n : ℕ) → Each (Each P) (none_between n)
-quiet_each P zero = tt
-quiet_each P (suc n) = (tt, quiet_each P n)
-
-module _ (reach : ReachLaws) (sited : SitedTable) (P : IxlState → Type 0)
-    (step : (input : Input) (world : WorldState) → ((command : Command) → input ≡ Commands command → ⊥)
-    → P world.station.ixl → P (interlocking_stepped sited.site sited.table input world).station.ixl) where
-  pub quiet_rounds : (n : ℕ) (f : Flowing Played) → IsAt sited f.state → P f.state.run.station.ixl → P (good_rounds (none_between n) f).state.run.station.ixl
-  quiet_rounds zero f at is = is
-  quiet_rounds (suc n) f at is = quiet_rounds n (round stations f) (round_reached reach sited f at) (round_keeps sited P step f at.same is)
+            free = stepped_apart IsFree free_keeps site table number input world apart (λ one there. subst IsFree (same_Some was one (sym e ∙ there)) (gone_free was.phase (has was e).0.0 f)) later here
 
 -- ---- behind them it is free
 
--- none is withdrawn from its signal then, and none is set whose authority has ended and that saw each section
+-- it isn't withdrawn then, and isn't set where its authority has ended and it saw each section
 pub record Leaves (table : Table) (ixl : IxlState) (number : ℕ) (row : Row) : Type 0 where
-  pub unwithdrawn : IsWithdrawnFrom table ixl row.entry → ⊥
+  pub unwithdrawn : (route : RouteState) → IsRouteOf table ixl number row route → route.phase ≡ phase.Withdrawn → ⊥
   pub unended : (route : RouteState) (clock done : ℕ) → IsRouteOf table ixl number row route → IsSeen row route → route.phase ≡ phase.Ended clock done → ⊥
 
 leaves_free : (table : Table) (ixl : IxlState) (number : ℕ) (row : Row) (state : RouteState)
@@ -130,17 +113,17 @@ leaves_free table ixl number row state leaves is (gone, seen) = by_phase state.p
     by_phase phase.Free e = ap is_set e
     by_phase phase.Waiting e = absurd (false≢true (sym gone.0 ∙ ap is_waiting e))
     by_phase phase.Proceeding e = absurd (false≢true (sym gone.1 ∙ ap is_proceeding e))
-    by_phase phase.Withdrawn e = absurd (leaves.unwithdrawn (record { number = number; row = row; route = state; is_route = is; entry = refl; withdrawn = e }))
+    by_phase phase.Withdrawn e = absurd (leaves.unwithdrawn state is e)
     by_phase (phase.Ended clock done) e = absurd (leaves.unended state clock done is (seen (ap was_authorised e)) e)
 
 -- a route that is withdrawn doesn't wait, and doesn't proceed
 withdrawn_gone : (p : Phase) → p ≡ phase.Withdrawn → (is_waiting p ≡ false) × (is_proceeding p ≡ false)
 withdrawn_gone p e = (ap is_waiting e, ap is_proceeding e)
 
-module _ (reach : ReachLaws) (between : List Event) (later_rounds : List (List Event)) (n : ℕ) (flowing : Flowing Played) (number : ℕ) (row : Row) (route state : RouteState)
-    (reached : IsReached flowing.state.sited.site flowing.state.sited.table flowing.state.run)
+module _ (reach : ReachLaws) (between : List Event) (later_rounds more : List (List Event)) (flowing : Flowing Played) (number : ℕ) (row : Row) (route state : RouteState)
+    (reached : IsReached flowing.state.sited.site flowing.state.sited.table flowing.state.run) (works : Each (Each IsWork) (later_rounds ++ more)) (apart : IsNotSetAnew number more (good_rounds (between ∷ later_rounds) flowing))
     (is : IsRouteOf flowing.state.sited.table (good_rounds (between ∷ later_rounds) flowing).state.run.station.ixl number row route)
-    (withdrawn : route.phase ≡ phase.Withdrawn) (is_then : slice_get (good_rounds (between ∷ (later_rounds ++ none_between n)) flowing).state.run.station.ixl.routes number ≡ Some state) where
+    (withdrawn : route.phase ≡ phase.Withdrawn) (is_then : slice_get (good_rounds (between ∷ (later_rounds ++ more)) flowing).state.run.station.ixl.routes number ≡ Some state) where
   abbrev sited : SitedTable
   sited = flowing.state.sited
 
@@ -151,24 +134,15 @@ module _ (reach : ReachLaws) (between : List Event) (later_rounds : List (List E
   at = rounds_reached reach sited (between ∷ later_rounds) flowing (record { same = refl; reached = reached })
 
   -- what steps keep of the route is kept till then
-  kept : (F : RouteState → Type 0) → ((input : Input) (world : WorldState) → ((command : Command) → input ≡ Commands command → ⊥) → OfRoute number F world.station.ixl.routes []
+  kept : (F : RouteState → Type 0) → ((input : Input) (world : WorldState) → Apart sited.table number input world → OfRoute number F world.station.ixl.routes []
       → OfRoute number F (interlocking_stepped sited.site sited.table input world).station.ixl.routes []) → F route → F state
-  kept F step so = subst (λ (f : Flowing Played). OfRoute number F f.state.run.station.ixl.routes []) (sym (rounds_both (between ∷ later_rounds) (none_between n) flowing))
-      (quiet_rounds reach sited (λ (ixl : IxlState). OfRoute number F ixl.routes []) step n here at (λ one there. subst F (same_Some route one (sym is.1 ∙ there)) so)) state is_then
+  kept F step so = subst (λ (f : Flowing Played). OfRoute number F f.state.run.station.ixl.routes []) (sym (rounds_both (between ∷ later_rounds) more flowing))
+      (rounds_keep reach sited number (λ (ixl : IxlState). OfRoute number F ixl.routes []) step more here (each_two (Each IsWork) later_rounds more works).1 apart at (λ one there. subst F (same_Some route one (sym is.1 ∙ there)) so)) state is_then
 
   stays_seen : IsSeen row route ⊎ IsSeen row state → StaysSeen row state
   stays_seen (inl before) = kept (StaysSeen row) (step_seen sited.site sited.table number row) (withdrawn_gone route.phase withdrawn, λ authorised. before)
-  stays_seen (inr by_then) = (kept IsGone (stepped_route IsGone gone_keeps sited.site sited.table number) (withdrawn_gone route.phase withdrawn), λ authorised. by_then)
+  stays_seen (inr by_then) = (kept IsGone (stepped_apart IsGone gone_keeps sited.site sited.table number) (withdrawn_gone route.phase withdrawn), λ authorised. by_then)
 
-  pub free_behind : Leaves sited.table (good_rounds (between ∷ (later_rounds ++ none_between n)) flowing).state.run.station.ixl number row
+  pub free_behind : Leaves sited.table (good_rounds (between ∷ (later_rounds ++ more)) flowing).state.run.station.ixl number row
       → IsSeen row route ⊎ IsSeen row state → is_set state.phase ≡ false
   free_behind leaves seen = leaves_free sited.table _ number row state leaves (is.0, is_then) (stays_seen seen)
-
--- ---- the premises of such rounds
-
-pub quiet_works : (later_rounds : List (List Event)) (n : ℕ) → Each (Each IsWork) later_rounds → Each (Each IsWork) (later_rounds ++ none_between n)
-quiet_works later_rounds n works = each_both (Each IsWork) later_rounds (none_between n) works (quiet_each IsWork n)
-
-pub quiet_time : (later_rounds : List (List Event)) (n : ℕ) (world : WorldState) → HasTime (suc (n + length later_rounds)) world → HasTime (suc (length (later_rounds ++ none_between n))) world
-quiet_time later_rounds n world can = fewer_time (suc (length (later_rounds ++ none_between n))) (suc (n + length later_rounds)) (clocks_of world)
-    (let both = length-append later_rounds (none_between n) in let count = none_count n in omega (arith, both, count)) can

@@ -1,5 +1,5 @@
 -- In a step in which a route loses its aspect its signal is given stop; or the route keeps it.
-use Rattle.std.proofs.Common.{◌≡◌, ◌≢◌, ◌⊎◌, inl, inr, ℕ, ◌+◌, ◌^◌, ◌<◌, ◌≤◌, ◌==◌, Bool, true, false, not, List, [], Option, Some, None, slice_get, refl, sym, ap, subst, ◌∙◌, arith}
+use Rattle.std.proofs.Common.{◌≡◌, ◌≢◌, ◌⊎◌, inl, inr, ℕ, ◌+◌, ◌≤◌, ◌==◌, Bool, true, false, not, List, [], Option, Some, None, slice_get, refl, sym, ap, subst, ◌∙◌, arith}
 use Rattle.std.specs.Prelude.{◌||◌}
 use Rattle.std.proofs.lemmas.Bool.{false≢true}
 use Rattle.std.proofs.lemmas.Option.{same_Some}
@@ -20,8 +20,8 @@ use Rattle.simulator_run.specs.ixl_client.Step.{clocked, commanding, hearing, ti
 use Rattle.simulator_run.specs.ixl_client.declared.command.Command.TheVariants as client_commands
 use Rattle.simulator_run.specs.ixl_rules.Commands.{commanded_by, obeyed, refusal, set_anew}
 use Rattle.simulator_run.specs.ixl_rules.Due.{At}
-use Rattle.simulator_run.specs.ixl_rules.Rules.{come_to, count, ending_authority, is_proceeding, is_stop_due, is_withdrawn, moved, proceeding, ruled, stopped, withdrawing, withdrawn}
-use Rattle.simulator_run.specs.ixl_rules.State.{IxlState, KnownSignalState, RouteState, changed}
+use Rattle.simulator_run.specs.ixl_rules.Rules.{come_to, count, ending_authority, is_proceeding, is_stop_due, is_withdrawn, ruled, stopped, withdrawing, withdrawn}
+use Rattle.simulator_run.specs.ixl_rules.State.{KnownSignalState, RouteState, changed}
 use Rattle.simulator_run.specs.ixl_rules.Step.{Commands, Datagram, Input, Tick, addressed, all_clocked, clocked_known_signal, detector_hearing, given, known_point_hearing, known_signal_hearing, looking, looking_by, looks, node_hearing, occupied_heard, stepped, ticked, watching}
 use Rattle.simulator_run.specs.ixl_rules.StepSoFar.{Detector, Node, Point, Signal, StepSoFar, begun_with, detector_after, empty_outbox, giving_aspect, known_signal_after, noted, over, with_detector, with_one, with_route}
 use Rattle.simulator_run.specs.ixl_rules.Table.{Row, Table}
@@ -29,7 +29,6 @@ use Rattle.simulator_run.specs.ixl_rules.View.{is_signal_ready, was_authorised}
 use Rattle.simulator_run.specs.ixl_rules.declared.command.Command.{Command}
 use Rattle.simulator_run.specs.ixl_rules.declared.command.Command.TheVariants as commands
 use Rattle.simulator_run.specs.ixl_rules.declared.command.Refusal.{Refusal}
-use Rattle.simulator_run.specs.ixl_rules.declared.phase.Phase.{Phase}
 use Rattle.simulator_run.specs.ixl_rules.declared.phase.Phase.TheVariants as phase
 use Rattle.simulator_run.specs.simulator_event.declared.event.Event.TheVariants as event
 use Rattle.simulator_run.specs.Happens.{interlocking_stepped}
@@ -37,25 +36,21 @@ use Rattle.simulator_run.specs.Nodes.{key_of}
 use Rattle.simulator_run.specs.State.{WorldState}
 use Rattle.simulator_headline.specs.Reached.{IsReached}
 use Rattle.simulator_recovery.specs.Counts.{ClientStandsByCounts}
-use Rattle.simulator_recovery.specs.NothingDue.{HasAspect}
 use Rattle.simulator_recovery.specs.Withdrawn.{SetsNot}
 use Rattle.simulator_recovery.proofs.AlwaysFew.{reached_rests}
-use Rattle.simulator_recovery.proofs.AlwaysStopped.{standing_then}
 use Rattle.simulator_recovery.proofs.AspectCalls.{hears as hears_so}
-use Rattle.simulator_recovery.proofs.AuthorityCancels.{CountsSo, Goes, IsPast, Turned, clocked_there, command_counts, rule_past}
+use Rattle.simulator_recovery.proofs.AuthorityCancels.{CountsSo, clocked_there, command_counts}
 use Rattle.simulator_recovery.proofs.Cancelled.{NoCommand as NoOne, OfRoute, RouteKeeps, none_comes, route_keep}
 use Rattle.simulator_recovery.proofs.ClientLinks.{ClockedStands, clocked_stands, commanding_stands, hearing_stands, ticking_stands, up_open}
-use Rattle.simulator_recovery.proofs.DueCourse.{LeavesSetting, proceeds_held, proceeds_keep, seen_held, ticked_held as route_ticked, until_moved}
 use Rattle.simulator_recovery.proofs.DueTicks.{inside_ticks}
 use Rattle.simulator_recovery.proofs.IxlClients.{changed_at, signal_client}
 use Rattle.simulator_recovery.proofs.IxlSoFar.{set_at}
 use Rattle.simulator_recovery.proofs.DueShapes.{along_keeps, either_keeps, one_keeps, over_keeps, route_keeps, where_keeps}
 use Rattle.simulator_recovery.proofs.FewItems.{GivesFew}
-use Rattle.simulator_recovery.proofs.GivenNoMore.{NoCommand, Rests, rests_keep}
 use Rattle.simulator_recovery.proofs.RoutesReady.{clocked_up}
-use Rattle.simulator_recovery.proofs.SignalParts.{IsGiven, PartsKeep, RulesKeep, aspect_held, behind_ending, behind_withdrawal, ending_held, new_signal, over_held, step_held, ticked_held, watched_held}
+use Rattle.simulator_recovery.proofs.SignalParts.{IsGiven, PartsKeep, RulesKeep, aspect_held, behind_ending, both_rules, clocked_held, ending_held, new_signal, over_held, step_held, ticked_held, watching_held}
 use Rattle.simulator_recovery.proofs.StationTalk.{clocked_link}
-use Rattle.simulator_recovery.proofs.StopsGiven.{AnyCommand, StopsStand, changed_elsewhere, changed_here, differs, is_equal, stand_keep}
+use Rattle.simulator_recovery.proofs.StopsGiven.{changed_elsewhere, changed_here, differs, is_equal}
 use Rattle.simulator_recovery.proofs.WaitingItems.{clock_went, done_went, ready_inside, ticked_none}
 
 -- ---- a client that is ready
@@ -69,7 +64,7 @@ ready_up client stands ready = by_up (is_up client.link.phase) refl
     by_up false e = absurd (false≢true (sym (ready_inside client.stage ready) ∙ (stands.outside ∙ ap not e)))
 
 -- it stands by its counts
-ready_counts : (items : ℕ) (client : ClientState) → ClientStandsByCounts client → is_ready client.stage ≡ true → client.link.given ≡ items → CountsSo items client
+pub ready_counts : (items : ℕ) (client : ClientState) → ClientStandsByCounts client → is_ready client.stage ≡ true → client.link.given ≡ items → CountsSo items client
 ready_counts items client stands ready are =
     let by_stage = stands.stands (up_open client.link.phase (ready_up client stands ready))
     in record { taken = by_stage.taken; many = by_stage.given; counts = by_stage.counts; are = are }
@@ -172,17 +167,17 @@ module _ (now : ℕ) (table : Table) (signal items : ℕ) where
 -- ---- what is given by the rules
 
 -- it stands by its counts, and has given so many at least where it is ready
-abbrev Grows : ℕ → ClientState → Type 0
+abbrev pub Grows : ℕ → ClientState → Type 0
 Grows items client = ClientStandsByCounts client × (is_ready client.stage ≡ true → items ≤ client.link.given)
 
-counts_grow : (n : ℕ) → stops_at_greatest n ≤ stops_at_greatest (n + 1)
+pub counts_grow : (n : ℕ) → stops_at_greatest n ≤ stops_at_greatest (n + 1)
 counts_grow n = omega arith
 
 module _ (now : ℕ) (table : Table) (signal items : ℕ) where
-  abbrev GrowsAmong : List RouteState → List KnownSignalState → Type 0
+  abbrev pub GrowsAmong : List RouteState → List KnownSignalState → Type 0
   GrowsAmong routes signals = (known : KnownSignalState) → slice_get signals signal ≡ Some known → Grows items known.client
 
-  set_grows : (place : ℕ) (new : KnownSignalState) (routes : List RouteState) (signals : List KnownSignalState) → (place ≡ signal → Grows items new.client) → GrowsAmong routes signals → GrowsAmong routes (changed (λ old. new) place signals)
+  pub set_grows : (place : ℕ) (new : KnownSignalState) (routes : List RouteState) (signals : List KnownSignalState) → (place ≡ signal → Grows items new.client) → GrowsAmong routes signals → GrowsAmong routes (changed (λ old. new) place signals)
   set_grows place new routes signals so is known e = choose (set_at place new signals signal known e)
     where
       choose : ((signal ≡ place) × (known ≡ new)) ⊎ ((signal ≢ place) × (slice_get signals signal ≡ Some known)) → Grows items known.client
@@ -190,7 +185,7 @@ module _ (now : ℕ) (table : Table) (signal items : ℕ) where
       choose (inr (differ, f)) = is known f
 
   -- an aspect
-  given_grows : (aspect : Aspect) (number : ℕ) (known : KnownSignalState) (client : ClientState) → IsGiven now aspect known.client client → Grows items known.client → Grows items (new_signal aspect number client known).client
+  pub given_grows : (aspect : Aspect) (number : ℕ) (known : KnownSignalState) (client : ClientState) → IsGiven now aspect known.client client → Grows items known.client → Grows items (new_signal aspect number client known).client
   given_grows aspect number known client is grows = subst (Grows items) (sym (signal_client (Some aspect) number known.indicated client ∙ is.is))
       (commanding_stands now (client_commands.Indicate aspect) (begun known.client is.outbox) grows.0, more)
     where
@@ -219,7 +214,7 @@ module _ (now : ℕ) (table : Table) (signal items : ℕ) where
           in let same = (ticked_none now known.client outbox inside.up).given
           in omega (arith, least, same)
 
-  rules : RulesKeep now table GrowsAmong
+  pub rules : RulesKeep now table GrowsAmong
   rules = record {
     quiet = λ number change routes signals quiet is. is;
     proceeds = λ number row route known many client change routes signals at waits goes changes there given is.
@@ -256,7 +251,7 @@ module _ (site : Site) (table : Table) (signal : ℕ) (input : Input) (world : W
   abbrev begins : StepSoFar
   begins = begun_with world.station.ixl empty_outbox
 
-  abbrev seen_then : StepSoFar
+  abbrev pub seen_then : StepSoFar
   seen_then = over (watching table) (count table) (given Now table (key_of site) input (record begins { ixl = all_clocked Now begins.ixl }))
 
   late : KnownSignalState
@@ -280,7 +275,7 @@ module _ (site : Site) (table : Table) (signal : ℕ) (input : Input) (world : W
         are = ap (λ (c : ClientState). c.link.given) client_is ∙ (went.none few ready up_late).given;
       }
 
-  seen_known : At seen_then.ixl.known_signals signal (Counted known.client.link.given)
+  pub seen_known : At seen_then.ixl.known_signals signal (Counted known.client.link.given)
   unfolding late
   seen_known = seen_counts Now table signal known.client.link.given (key_of site) input (record begins { ixl = all_clocked Now begins.ixl }) (late, clocked_there Now world.station.ixl signal known there, late_so)
 
@@ -295,33 +290,52 @@ module _ (site : Site) (table : Table) (signal : ℕ) (input : Input) (world : W
 
 -- ---- a step
 
--- No route proceeds from a signal, or waits to but a cancelled one; and stop was given to the signal behind so many items, or no aspect in its
--- present connection.
-pub record HasFallen (table : Table) (signal items : ℕ) (ixl : IxlState) : Type 0 where
-  pub given_so : KnownSignalState
-  pub past : IsPast items given_so
-  pub rests : Rests table signal given_so.aspect given_so.number ixl.routes ixl.known_signals
+-- no request for the route comes that is accepted
+abbrev pub Apart : Table → ℕ → Input → WorldState → Type 0
+Apart table number input world = (command : Command) → input ≡ Commands command
+    → refusal (reading_of world.station.clock) table command (all_clocked (reading_of world.station.clock) world.station.ixl) ≡ None → SetsNot number (event.Request command)
 
--- what is kept of a route is kept over a step
-pub stepped_route : (F : RouteState → Type 0) → RouteKeeps F → (site : Site) (table : Table) (number : ℕ) (input : Input) (world : WorldState) → ((command : Command) → input ≡ Commands command → ⊥) → OfRoute number F world.station.ixl.routes []
-    → OfRoute number F (interlocking_stepped site table input world).station.ixl.routes []
-unfolding interlocking_stepped
-stepped_route F keeps site table number input world none is = step_held (reading_of world.station.clock) table NoOne (OfRoute number F) (route_keep (reading_of world.station.clock) table NoOne none_comes number F keeps)
-    (key_of site) input (begun_with world.station.ixl empty_outbox) none is
+module _ (now : ℕ) (table : Table) (number : ℕ) (P : List RouteState → List KnownSignalState → Type 0) (keep : PartsKeep now table (λ command. SetsNot number (event.Request command)) P) where
+  abbrev Asks : Command → Type 0
+  Asks command = SetsNot number (event.Request command)
 
--- so it is where no request sets the route anew
-pub stepped_apart : (F : RouteState → Type 0) → RouteKeeps F → (site : Site) (table : Table) (number : ℕ) (input : Input) (world : WorldState) → ((command : Command) → input ≡ Commands command → SetsNot number (event.Request command))
+  abbrev Held : StepSoFar → Type 0
+  Held part = P part.ixl.routes part.ixl.known_signals
+
+  given_refused : (key : Key) (command : Command) (cause : Refusal) (part : StepSoFar) → refusal now table command part.ixl ≡ Some cause → Held part → Held (given now table key (Commands command) part)
+  unfolding given
+  given_refused key command cause part refused all = subst (λ (found : Option Refusal). Held (record part { ixl = commanded_by found command part.ixl })) (sym refused) all
+
+  refused_held : (key : Key) (command : Command) (cause : Refusal) (part : StepSoFar) → refusal now table command (all_clocked now part.ixl) ≡ Some cause → Held part → Held (stepped now table key (Commands command) part)
+  unfolding stepped
+  refused_held key command cause part refused all = ticked_held now table P keep.rules (Commands command) _ (behind_ending now table P keep.rules _ (both_rules now table Asks P keep _
+      (over_held now table P keep.rules (watching table) (watching_held now table Asks P keep) (count table) _
+      (given_refused key command cause (record part { ixl = all_clocked now part.ixl }) refused (clocked_held now table Asks P keep part all)))))
+
+  -- what the parts of a step keep where no request comes for the route is kept where it is refused
+  pub held_apart : (key : Key) (input : Input) (part : StepSoFar) → ((command : Command) → input ≡ Commands command → refusal now table command (all_clocked now part.ixl) ≡ None → SetsNot number (event.Request command))
+      → Held part → Held (stepped now table key input part)
+  held_apart key Tick part apart all = step_held now table Asks P keep key Tick part (λ command e. absurd (cc e)) all
+  held_apart key (Datagram bytes) part apart all = step_held now table Asks P keep key (Datagram bytes) part (λ command e. absurd (cc e)) all
+  held_apart key (Commands command) part apart all = by_refusal (refusal now table command (all_clocked now part.ixl)) refl
+    where
+      same_command : {one other : Command} → Commands one ≡ Commands other → one ≡ other
+      same_command e = cc e
+
+      by_refusal : (found : Option Refusal) → refusal now table command (all_clocked now part.ixl) ≡ found → Held (stepped now table key (Commands command) part)
+      by_refusal None e = step_held now table Asks P keep key (Commands command) part (λ other f. subst Asks (same_command f) (apart command refl e)) all
+      by_refusal (Some cause) e = refused_held key command cause part e all
+
+-- so what is kept of one route
+pub stepped_apart : (F : RouteState → Type 0) → RouteKeeps F → (site : Site) (table : Table) (number : ℕ) (input : Input) (world : WorldState) → Apart table number input world
     → OfRoute number F world.station.ixl.routes [] → OfRoute number F (interlocking_stepped site table input world).station.ixl.routes []
 unfolding interlocking_stepped
-stepped_apart F keeps site table number input world apart is = step_held (reading_of world.station.clock) table Apart (OfRoute number F) keep (key_of site) input (begun_with world.station.ixl empty_outbox) apart is
+stepped_apart F keeps site table number input world apart is = held_apart (reading_of world.station.clock) table number (OfRoute number F) keep (key_of site) input (begun_with world.station.ixl empty_outbox) apart is
   where
-    Apart : Command → Type 0
-    Apart command = SetsNot number (event.Request command)
-
     kept : PartsKeep (reading_of world.station.clock) table NoOne (OfRoute number F)
     kept = route_keep (reading_of world.station.clock) table NoOne none_comes number F keeps
 
-    keep : PartsKeep (reading_of world.station.clock) table Apart (OfRoute number F)
+    keep : PartsKeep (reading_of world.station.clock) table (λ command. SetsNot number (event.Request command)) (OfRoute number F)
     keep = record {
       rules = kept.rules;
       clock = kept.clock;
@@ -331,53 +345,7 @@ stepped_apart F keeps site table number input world apart is = step_held (readin
       sets = λ route ixl obeys none of one e. other route obeys ixl.routes of one (changed_at set_anew route.0 ixl.routes number one e);
     }
       where
-        other : (route : RouteId) → Apart (commands.Request route) → (routes : List RouteState) → ((one : RouteState) → slice_get routes number ≡ Some one → F one) → (one : RouteState)
+        other : (route : RouteId) → SetsNot number (event.Request (commands.Request route)) → (routes : List RouteState) → ((one : RouteState) → slice_get routes number ≡ Some one → F one) → (one : RouteState)
             → ((number ≡ route.0) × (was : RouteState) × (slice_get routes route.0 ≡ Some was) × (one ≡ set_anew was)) ⊎ (slice_get routes number ≡ Some one) → F one
         other route obeys routes of one (inl (same, was, there, is)) = absurd (obeys (sym same))
         other route obeys routes of one (inr there) = of one there
-
-pub proceeding_is : (p : Phase) → is_proceeding p ≡ true → p ≡ phase.Proceeding
-proceeding_is phase.Free e = absurd (false≢true e)
-proceeding_is phase.Waiting e = absurd (false≢true e)
-proceeding_is phase.Proceeding e = refl
-proceeding_is phase.Withdrawn e = absurd (false≢true e)
-proceeding_is (phase.Ended clock done) e = absurd (false≢true e)
-
-pub step_falls : (site : Site) (table : Table) (number : ℕ) (row : Row) (input : Input) (world : WorldState) (known : KnownSignalState) → slice_get table.rows number ≡ Some row → IsReached site table world → LeavesSetting number input
-    → At world.station.ixl.routes number HasAspect → slice_get world.station.ixl.known_signals row.entry ≡ Some known → is_ready known.client.stage ≡ true → is_up (settled (reading_of world.station.clock) known.client.link).phase ≡ true
-    → ClientStandsByCounts known.client → known.client.link.given < 2 ^ 31
-    → HasFallen table row.entry known.client.link.given (interlocking_stepped site table input world).station.ixl ⊎ At (interlocking_stepped site table input world).station.ixl.routes number HasAspect
-unfolding interlocking_stepped stepped
-step_falls site table number row input world known row_there reached leaves proceeds there ready up stands small =
-    by_turn (rule_past now table number row row_there false known.client.link.given small counted.0 counted.2.1 seen
-    (watched_held now table AnyCommand (StopsStand table) (stand_keep now table) (key_of site) input begins (λ command e. tt) (standing_then site table world reached)) goes)
-  where
-    now : ℕ
-    now = reading_of world.station.clock
-
-    begins : StepSoFar
-    begins = begun_with world.station.ixl empty_outbox
-
-    seen : StepSoFar
-    seen = over (watching table) (count table) (given now table (key_of site) input (record begins { ixl = all_clocked now begins.ixl }))
-
-    counted : At seen.ixl.known_signals row.entry (Counted known.client.link.given)
-    counted = seen_known site table row.entry input world known reached there ready up stands
-
-    still : At seen.ixl.routes number HasAspect
-    still = seen_held now table number HasAspect proceeds_keep (key_of site) input begins leaves proceeds
-
-    goes : Goes now table number row row_there false known.client.link.given small counted.0 counted.2.1 seen
-    goes = record { route = still.0; there = still.1; proceeds = ap is_proceeding still.2.0; cancelled = still.2.1; signal = counted.1 }
-
-    by_turn : Turned now table number row row_there false known.client.link.given small counted.0 counted.2.1 (withdrawn now table seen)
-        → HasFallen table row.entry known.client.link.given (ticked now input (ruled now table seen)).ixl ⊎ At (ticked now input (ruled now table seen)).ixl.routes number HasAspect
-    by_turn (inl p) = inl (record {
-      given_so = p.given_so;
-      past = p.past;
-      rests = ticked_held now table (Rests table row.entry p.given_so.aspect p.given_so.number) (rests_keep now table row.entry p.given_so.aspect p.given_so.number).rules input (ruled now table seen)
-          (behind_withdrawal now table NoCommand (Rests table row.entry p.given_so.aspect p.given_so.number) (rests_keep now table row.entry p.given_so.aspect p.given_so.number) seen p.rests);
-    })
-    by_turn (inr (still_goes, uncancelled)) = inr (route_ticked now table number HasAspect proceeds_keep input (ruled now table seen)
-        (over_keeps (λ (q : StepSoFar). At q.ixl.routes number HasAspect) (proceeding now table) (proceeds_held now table number) (count table) (moved now table seen)
-        (until_moved now table number HasAspect proceeds_keep seen (still_goes.route, still_goes.there, (proceeding_is still_goes.route.phase still_goes.proceeds, still_goes.cancelled)))))

@@ -1,5 +1,5 @@
 -- What the interlocking gives a signal is confirmed within 32 good rounds: the signal says something in 30 of them.
-use Rattle.std.proofs.Common.{◌≡◌, ℕ, zero, suc, ◌+◌, ◌≤◌, ◌<◌, Bool, true, false, nat_le, List, [], ◌∷◌, ◌++◌, append_assoc, append-nil, length, replicate, refl, sym, ap, subst, ◌∙◌, arith, leb-false, leb-true}
+use Rattle.std.proofs.Common.{◌≡◌, ℕ, zero, suc, ◌+◌, ◌≤◌, ◌<◌, Bool, true, false, nat_le, List, [], ◌∷◌, ◌++◌, append_assoc, append-nil, length, refl, sym, ap, subst, ◌∙◌, arith, leb-false, leb-true}
 use Rattle.rasta_core_recovery.specs.Replies.{StaysAtWork, speaking_rounds}
 use Rattle.rasta_core_recovery.specs.Rounds.{Flow, flow_after}
 use Rattle.rasta_core_recovery.specs.Work.{AreAtWork, LeavesOpen, StayBelow, recovery_rounds_at_work, work_round, work_rounds}
@@ -53,40 +53,61 @@ pub record ToldLaws : Type 0 where
 
 -- ---- so many rounds more
 
-abbrev pub and_more : List (List Event) → ℕ → List (List Event)
-and_more rounds zero = rounds
-and_more rounds (suc n) = and_more rounds n ++ [] ∷ []
+-- what comes behind a round, of so many lists
+abbrev pub nth : List (List Event) → ℕ → List Event
+nth [] i = []
+nth (one ∷ more) zero = one
+nth (one ∷ more) (suc i) = nth more i
 
-pub and_work : (rounds : List (List Event)) → Each (Each IsWork) rounds → (n : ℕ) → Each (Each IsWork) (and_more rounds n)
-and_work rounds works zero = works
-and_work rounds works (suc n) = each_both (Each IsWork) (and_more rounds n) ([] ∷ []) (and_work rounds works n) (tt, tt)
+pub each_nth : (P : Event → Type 0) (more : List (List Event)) → Each (Each P) more → (i : ℕ) → Each P (nth more i)
+each_nth P [] each i = tt
+each_nth P (one ∷ more) each zero = each.0
+each_nth P (one ∷ more) each (suc i) = each_nth P more each.1 i
 
-pub and_count : (rounds : List (List Event)) (n : ℕ) → length (and_more rounds n) ≡ length rounds + n
-and_count rounds zero = omega arith
-and_count rounds (suc n) = let more = count_front (and_more rounds n) [] in let count = and_count rounds n in omega (arith, more, count)
+abbrev pub and_more : (ℕ → List Event) → List (List Event) → ℕ → List (List Event)
+and_more at rounds zero = rounds
+and_more at rounds (suc n) = and_more at rounds n ++ at n ∷ []
 
-abbrev pub none_between : ℕ → List (List Event)
-none_between n = replicate n []
+pub and_work : (at : ℕ → List Event) (rounds : List (List Event)) → ((i : ℕ) → Each IsWork (at i)) → Each (Each IsWork) rounds → (n : ℕ) → Each (Each IsWork) (and_more at rounds n)
+and_work at rounds each works zero = works
+and_work at rounds each works (suc n) = each_both (Each IsWork) (and_more at rounds n) (at n ∷ []) (and_work at rounds each works n) (each n, tt)
 
--- the last of so many
-pub none_last : (n : ℕ) → none_between (suc n) ≡ none_between n ++ [] ∷ []
-none_last zero = refl
-none_last (suc n) = ap (λ (l : List (List Event)). [] ∷ l) (none_last n)
+pub and_count : (at : ℕ → List Event) (rounds : List (List Event)) (n : ℕ) → length (and_more at rounds n) ≡ length rounds + n
+and_count at rounds zero = omega arith
+and_count at rounds (suc n) = let more = count_front (and_more at rounds n) (at n) in let count = and_count at rounds n in omega (arith, more, count)
 
-pub none_count : (n : ℕ) → length (none_between n) ≡ n
-none_count zero = refl
-none_count (suc n) = ap suc (none_count n)
+-- so many lists
+abbrev pub listed : (ℕ → List Event) → ℕ → List (List Event)
+listed at zero = []
+listed at (suc n) = listed at n ++ at n ∷ []
 
-pub and_is : (rounds : List (List Event)) (n : ℕ) → and_more rounds n ≡ rounds ++ none_between n
-and_is rounds zero = sym (append-nil rounds)
-and_is rounds (suc n) = ap (λ (l : List (List Event)). l ++ [] ∷ []) (and_is rounds n) ∙ (append_assoc rounds (none_between n) ([] ∷ []) ∙ ap (λ (l : List (List Event)). rounds ++ l) (sym (none_last n)))
+-- by their first
+pub listed_first : (at : ℕ → List Event) (n : ℕ) → listed at (suc n) ≡ at 0 ∷ listed (λ i. at (suc i)) n
+listed_first at zero = refl
+listed_first at (suc n) = ap (λ (l : List (List Event)). l ++ at (suc n) ∷ []) (listed_first at n)
 
-joined : (rounds : List (List Event)) (n : ℕ) → and_more rounds (suc n) ≡ and_more (and_more rounds 1) n
-joined rounds zero = refl
-joined rounds (suc n) = ap (λ (l : List (List Event)). l ++ [] ∷ []) (joined rounds n)
+listed_count : (at : ℕ → List Event) (n : ℕ) → length (listed at n) ≡ n
+listed_count at zero = refl
+listed_count at (suc n) = let more = count_front (listed at n) (at n) in let count = listed_count at n in omega (arith, more, count)
 
-and_from : (rounds : List (List Event)) (n : ℕ) → and_more rounds (suc n) ≡ and_more rounds 1 ++ none_between n
-and_from rounds n = joined rounds n ∙ and_is (and_more rounds 1) n
+listed_whole : (more : List (List Event)) → listed (nth more) (length more) ≡ more
+listed_whole [] = refl
+listed_whole (one ∷ more) = listed_first (nth (one ∷ more)) (length more) ∙ ap (λ (l : List (List Event)). one ∷ l) (listed_whole more)
+
+pub and_is : (at : ℕ → List Event) (rounds : List (List Event)) (n : ℕ) → and_more at rounds n ≡ rounds ++ listed at n
+and_is at rounds zero = sym (append-nil rounds)
+and_is at rounds (suc n) = ap (λ (l : List (List Event)). l ++ at n ∷ []) (and_is at rounds n) ∙ append_assoc rounds (listed at n) (at n ∷ [])
+
+-- all of them
+pub and_whole : (rounds more : List (List Event)) → and_more (nth more) rounds (length more) ≡ rounds ++ more
+and_whole rounds more = and_is (nth more) rounds (length more) ∙ ap (λ (l : List (List Event)). rounds ++ l) (listed_whole more)
+
+joined : (at : ℕ → List Event) (rounds : List (List Event)) (n : ℕ) → and_more at rounds (suc n) ≡ and_more (λ i. at (suc i)) (rounds ++ at 0 ∷ []) n
+joined at rounds zero = refl
+joined at rounds (suc n) = ap (λ (l : List (List Event)). l ++ at (suc n) ∷ []) (joined at rounds n)
+
+and_from : (at : ℕ → List Event) (rounds : List (List Event)) (n : ℕ) → and_more at rounds (suc n) ≡ and_more at rounds 1 ++ listed (λ i. at (suc i)) n
+and_from at rounds n = joined at rounds n ∙ and_is (λ i. at (suc i)) (and_more at rounds 1) n
 
 -- a count that has risen has risen in one step
 pub rises_once : (f : ℕ → ℕ) (n : ℕ) → f zero < f n → (i : ℕ) × (i < n) × (f i < f (suc i))
@@ -134,14 +155,14 @@ module _ (laws : ToldLaws) (sited : SitedTable) (station : IsStation sited.site)
   long_lists rounds s = let l = s.long in let n = lists_length link rounds next start.before in omega (arith, l, n)
 
   -- one round
-  module _ (rounds : List (List Event)) (s : UpBehind rounds) (t : UpBehind (rounds ++ [] ∷ [])) where
-    calls : (calls : List LinkEvent) × (lists (rounds ++ [] ∷ []) ≡ lists rounds ++ calls ∷ [])
-    calls = lists_front link rounds [] next start.before
+  module _ (rounds : List (List Event)) (last : List Event) (s : UpBehind rounds) (t : UpBehind (rounds ++ last ∷ [])) where
+    calls : (calls : List LinkEvent) × (lists (rounds ++ last ∷ []) ≡ lists rounds ++ calls ∷ [])
+    calls = lists_front link rounds last next start.before
 
     abbrev at : Flow
     at = work_rounds (lists rounds) flow
 
-    then_at : work_rounds (lists (rounds ++ [] ∷ [])) flow ≡ work_round calls.0 at
+    then_at : work_rounds (lists (rounds ++ last ∷ [])) flow ≡ work_round calls.0 at
     then_at = ap (λ (l : List (List LinkEvent)). work_rounds l flow) calls.1 ∙ rounds_both (lists rounds) calls.0 flow
 
     stays : StaysAtWork names at calls.0
@@ -151,7 +172,7 @@ module _ (laws : ToldLaws) (sited : SitedTable) (station : IsStation sited.site)
       room = (below_front (lists rounds) calls.0 flow (subst (λ (l : List (List LinkEvent)). StayBelow l flow) calls.1 t.below)).1;
     }
 
-    hands : (ends rounds).client.link.given ≤ (ends (rounds ++ [] ∷ [])).server.link.taken
+    hands : (ends rounds).client.link.given ≤ (ends (rounds ++ last ∷ [])).server.link.taken
     hands =
         let over = laws.ready.over names (start_of link starts_at_zero) start.is_run.events passed (lists rounds) calls.0 are_so start.is_run.may s.behind.work s.opens s.below
         (let l = long_lists rounds s in omega (arith, l)) stays.work stays.opens stays.room
@@ -160,27 +181,28 @@ module _ (laws : ToldLaws) (sited : SitedTable) (station : IsStation sited.site)
         in omega (arith, more, is)
 
   -- three rounds, in the second of which the signal says something
-  module _ (rounds : List (List Event)) (s : UpBehind rounds) (t : UpBehind (rounds ++ [] ∷ [])) (u : UpBehind ((rounds ++ [] ∷ []) ++ [] ∷ [])) (v : UpBehind (((rounds ++ [] ∷ []) ++ [] ∷ []) ++ [] ∷ []))
-      (speaks : (ends (rounds ++ [] ∷ [])).server.link.sent < (ends ((rounds ++ [] ∷ []) ++ [] ∷ [])).server.link.sent) where
+  module _ (rounds : List (List Event)) (first_list second_list third_list : List Event) (s : UpBehind rounds) (t : UpBehind (rounds ++ first_list ∷ [])) (u : UpBehind ((rounds ++ first_list ∷ []) ++ second_list ∷ []))
+      (v : UpBehind (((rounds ++ first_list ∷ []) ++ second_list ∷ []) ++ third_list ∷ []))
+      (speaks : (ends (rounds ++ first_list ∷ [])).server.link.sent < (ends ((rounds ++ first_list ∷ []) ++ second_list ∷ [])).server.link.sent) where
     abbrev one : List (List Event)
-    one = rounds ++ [] ∷ []
+    one = rounds ++ first_list ∷ []
 
     abbrev two : List (List Event)
-    two = one ++ [] ∷ []
+    two = one ++ second_list ∷ []
 
     abbrev three : List (List Event)
-    three = two ++ [] ∷ []
+    three = two ++ third_list ∷ []
 
     told : (ends one).server.link.taken ≤ confirmed_items (ends three).client.link
-    told = subst (λ (f : Flow). (ends one).server.link.taken ≤ confirmed_items f.ends.client.link) (sym (then_at two u v ∙ ap (work_round (calls two u v).0) (then_at one t u)))
-        (laws.confirm names (start_of link starts_at_zero) start.is_run.events passed (lists one) (calls one t u).0 (calls two u v).0 are_so start.is_run.may t.behind.work t.opens t.below (long_lists one t) (stays one t u)
-        (subst (λ (f : Flow). StaysAtWork names f (calls two u v).0) (then_at one t u) (stays two u v)) (subst (λ (f : Flow). (ends one).server.link.sent < f.ends.server.link.sent) (then_at one t u) speaks))
+    told = subst (λ (f : Flow). (ends one).server.link.taken ≤ confirmed_items f.ends.client.link) (sym (then_at two third_list u v ∙ ap (work_round (calls two third_list u v).0) (then_at one second_list t u)))
+        (laws.confirm names (start_of link starts_at_zero) start.is_run.events passed (lists one) (calls one second_list t u).0 (calls two third_list u v).0 are_so start.is_run.may t.behind.work t.opens t.below (long_lists one t) (stays one second_list t u)
+        (subst (λ (f : Flow). StaysAtWork names f (calls two third_list u v).0) (then_at one second_list t u) (stays two third_list u v)) (subst (λ (f : Flow). (ends one).server.link.sent < f.ends.server.link.sent) (then_at one second_list t u) speaks))
 
     pub told_so : HasConfirmed link (good_rounds rounds next).state.run (good_rounds three next).state.run
     told_so = record {
       before = was;
       behind = up;
-      confirmed = let hand = hands rounds s t in let more = told in omega (arith, hand, more, client_given, client_confirmed);
+      confirmed = let hand = hands rounds first_list s t in let more = told in omega (arith, hand, more, client_given, client_confirmed);
     }
       where
         was : IsUpOn link (good_rounds rounds next).state.run
@@ -198,12 +220,12 @@ module _ (laws : ToldLaws) (sited : SitedTable) (station : IsStation sited.site)
             ∙ settled_confirmed (reading_of (good_rounds three next).state.run.station.clock) up.client)
 
   -- so many rounds behind a moment, in which it says something
-  module _ (rounds : List (List Event)) (each : (i : ℕ) → i ≤ 32 → UpBehind (and_more rounds i)) where
+  module _ (list_at : ℕ → List Event) (rounds : List (List Event)) (each : (i : ℕ) → i ≤ 32 → UpBehind (and_more list_at rounds i)) where
     abbrev some : List (List Event)
-    some = and_more rounds 1
+    some = and_more list_at rounds 1
 
     abbrev others : List (List Event)
-    others = none_between 30
+    others = listed (λ i. list_at (suc i)) 30
 
     later_calls : (calls : List (List LinkEvent)) × (lists (some ++ others) ≡ lists some ++ calls)
     later_calls = lists_two link some others next start.before
@@ -212,7 +234,7 @@ module _ (laws : ToldLaws) (sited : SitedTable) (station : IsStation sited.site)
     up_some = each 1 (omega arith)
 
     up_all : UpBehind (some ++ others)
-    up_all = subst UpBehind (and_from rounds 30) (each 31 (omega arith))
+    up_all = subst UpBehind (and_from list_at rounds 30) (each 31 (omega arith))
 
     many : length later_calls.0 ≡ 30
     many =
@@ -221,7 +243,7 @@ module _ (laws : ToldLaws) (sited : SitedTable) (station : IsStation sited.site)
         in let c = count_two some others
         in let d = ap length later_calls.1
         in let e = count_two (lists some) later_calls.0
-        in let n = none_count 30
+        in let n = listed_count (λ i. list_at (suc i)) 30
         in omega (arith, a, b, c, d, e, n)
 
     spoken_all : (ends some).server.link.sent < (ends (some ++ others)).server.link.sent
@@ -233,18 +255,18 @@ module _ (laws : ToldLaws) (sited : SitedTable) (station : IsStation sited.site)
         (omega (arith, many)))
 
     sent : ℕ → ℕ
-    sent i = (ends (and_more rounds (suc i))).server.link.sent
+    sent i = (ends (and_more list_at rounds (suc i))).server.link.sent
 
     rises : sent zero < sent 30
     unfolding sent
-    rises = subst (λ (l : List (List Event)). (ends some).server.link.sent < (ends l).server.link.sent) (sym (and_from rounds 30)) spoken_all
+    rises = subst (λ (l : List (List Event)). (ends some).server.link.sent < (ends l).server.link.sent) (sym (and_from list_at rounds 30)) spoken_all
 
     found : (i : ℕ) × (i < 30) × (sent i < sent (suc i))
     found = rises_once sent 30 rises
 
-    pub told_within : (i : ℕ) × (i < 30) × HasConfirmed link (good_rounds (and_more rounds i) next).state.run (good_rounds (and_more rounds (suc (suc (suc i)))) next).state.run
+    pub told_within : (i : ℕ) × (i < 30) × HasConfirmed link (good_rounds (and_more list_at rounds i) next).state.run (good_rounds (and_more list_at rounds (suc (suc (suc i)))) next).state.run
     unfolding sent
     told_within = by found
       where
-        by : (i : ℕ) × (i < 30) × (sent i < sent (suc i)) → (i : ℕ) × (i < 30) × HasConfirmed link (good_rounds (and_more rounds i) next).state.run (good_rounds (and_more rounds (suc (suc (suc i)))) next).state.run
-        by (i, less, more) = (i, less, told_so (and_more rounds i) (each i (omega (arith, less))) (each (suc i) (omega (arith, less))) (each (suc (suc i)) (omega (arith, less))) (each (suc (suc (suc i))) (omega (arith, less))) more)
+        by : (i : ℕ) × (i < 30) × (sent i < sent (suc i)) → (i : ℕ) × (i < 30) × HasConfirmed link (good_rounds (and_more list_at rounds i) next).state.run (good_rounds (and_more list_at rounds (suc (suc (suc i)))) next).state.run
+        by (i, less, more) = (i, less, told_so (and_more list_at rounds i) (list_at i) (list_at (suc i)) (list_at (suc (suc i))) (each i (omega (arith, less))) (each (suc i) (omega (arith, less))) (each (suc (suc i)) (omega (arith, less))) (each (suc (suc (suc i))) (omega (arith, less))) more)

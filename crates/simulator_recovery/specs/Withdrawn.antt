@@ -1,13 +1,30 @@
 -- When a cancelled route is free whose approach counted, and when authority has ended whatever came before.
-use Rattle.std.specs.Prelude.{◌≢◌, ℕ}
+use Rattle.std.specs.Prelude.{◌≡◌, ◌≢◌, ℕ, List, [], ◌∷◌}
 use Rattle.simulator_run.specs.ixl_rules.declared.command.Command.TheVariants as commands
 use Rattle.simulator_run.specs.simulator_event.declared.event.Event.{Event}
 use Rattle.simulator_run.specs.simulator_event.declared.event.Event.TheVariants as event
+use Rattle.simulator_run.specs.simulator_event.declared.reply.Answer.TheVariants as answer
+use Rattle.simulator_run.specs.Flow.{Flowing, round, stations}
+use Rattle.simulator_run.specs.Happens.{answered}
+use Rattle.simulator_run.specs.Tried.{Played, after}
+use Rattle.simulator_recovery.specs.Rounds.{all_tried}
 
 -- this event doesn't ask for the route
 abbrev pub SetsNot : ℕ → Event → Type 0
 SetsNot number (event.Request (commands.Request route)) = route.0 ≢ number
 SetsNot number _ = Unit {0}
+
+-- of these events, one after another, none is accepted that asks for the route
+abbrev pub NoneSets : ℕ → List Event → Flowing Played → Type 0
+NoneSets number [] flowing = Unit {0}
+NoneSets number (one ∷ others) flowing =
+    (answered flowing.state.sited.site flowing.state.sited.table one flowing.state.run ≡ answer.Accepted → SetsNot number one)
+    × NoneSets number others (record flowing { state = after flowing.state one })
+
+-- so in these good rounds the route isn't set anew
+abbrev pub IsNotSetAnew : ℕ → List (List Event) → Flowing Played → Type 0
+IsNotSetAnew number [] flowing = Unit {0}
+IsNotSetAnew number (between ∷ later) flowing = NoneSets number between (round stations flowing) × IsNotSetAnew number later (all_tried between (round stations flowing))
 
 -- so many good rounds after its authority has ended a cancelled route is free, unless a train came: 120,000 ms, its approach time
 abbrev pub approach_time_rounds : ℕ

@@ -1,6 +1,6 @@
 //! When authority ends.
 
-ghost use Rattle.std.specs.Prelude.{◌≡◌, ◌≤◌, ◌<◌, ◌+◌, ℕ, suc, List, [], ◌∷◌, ◌++◌, length, replicate, false, true, Some, slice_get};
+ghost use Rattle.std.specs.Prelude.{◌≡◌, ◌≤◌, ◌<◌, ℕ, suc, List, [], ◌∷◌, ◌++◌, length, false, true, Some, slice_get};
 ghost use Rattle.ixl_table.specs.Table.{IsTableOf};
 ghost use Rattle.simulator_run.specs.layout.Once.{Once};
 ghost use Rattle.simulator_run.specs.layout.Station.{IsStation};
@@ -24,6 +24,7 @@ ghost use Rattle.simulator_recovery.specs.LinkRounds.{StaysBelowLimit};
 ghost use Rattle.simulator_recovery.specs.NothingDue.{Proceeds};
 ghost use Rattle.simulator_recovery.specs.Ready.{ready_rounds};
 ghost use Rattle.simulator_recovery.specs.Rounds.{HasTime, IsWork, all_tried, good_rounds};
+ghost use Rattle.simulator_recovery.specs.Withdrawn.{IsNotSetAnew};
 
 use crate::{
     events_close_no_link, signals_never_fill_their_windows, stations_stand_by_their_counts,
@@ -48,18 +49,19 @@ use simulator_run_links::{
 };
 
 /// Authority ends where stop is given: where the interlocking gives something to a signal behind a good round from the 1565th on, and no
-/// route proceeds from the signal behind that, or waits to but a cancelled one, none is withdrawn from it behind the second round after:
-/// the signal has taken stop and reported in the first, and the interlocking has read the report in the second. Whatever
-/// requests and occupancies come between the rounds before. The premises are those of `links_come_up`, of the signal's link.
+/// route proceeds from the signal behind that, or waits to but a cancelled one, none is withdrawn from it behind the second round after,
+/// or a later one: the signal has taken stop and reported in the first, and the interlocking has read the report in the second. Whatever
+/// requests and occupancies come between the rounds, before and after, as long as that route isn't set anew (`IsNotSetAnew`). The
+/// premises are those of `links_come_up`, of the signal's link.
 pub fn authority_ends_where_stop_is_given()
-    ensures { (between : List Event) (later : List (List Event)) (last : List Event) (flowing : Flowing Played) (signal : ℕ) → Once flowing.state.sited.site → IsStation flowing.state.sited.site
+    ensures { (between : List Event) (later : List (List Event)) (last : List Event) (more : List (List Event)) (flowing : Flowing Played) (signal : ℕ) → Once flowing.state.sited.site → IsStation flowing.state.sited.site
         → IsTableOf flowing.state.sited.site flowing.state.sited.table → IsReached flowing.state.sited.site flowing.state.sited.table flowing.state.run
-        → Each IsWork between → Each (Each IsWork) (later ++ last ∷ []) → HasTime (suc (authority_rounds + suc (length later))) flowing.state.run → signal < length flowing.state.sited.site.signals
-        → ready_rounds ≤ suc (suc (length later))
-        → StaysBelowLimit flowing.state.sited.site signal (later ++ last ∷ replicate authority_rounds []) (all_tried between (round stations flowing))
+        → Each IsWork between → Each (Each IsWork) (later ++ last ∷ more) → HasTime (suc (length (later ++ last ∷ more))) flowing.state.run → signal < length flowing.state.sited.site.signals
+        → ready_rounds ≤ suc (suc (length later)) → authority_rounds ≤ length more
+        → StaysBelowLimit flowing.state.sited.site signal (later ++ last ∷ more) (all_tried between (round stations flowing))
         → HasGivenMore signal (round stations (good_rounds (between ∷ later) flowing)).state.run.station.ixl (good_rounds (between ∷ (later ++ last ∷ [])) flowing).state.run.station.ixl
         → NoneProceeds flowing.state.sited.table (good_rounds (between ∷ (later ++ last ∷ [])) flowing).state.run.station.ixl signal
-        → IsWithdrawnFrom flowing.state.sited.table (good_rounds (between ∷ (later ++ last ∷ replicate authority_rounds [])) flowing).state.run.station.ixl signal → ⊥ }
+        → (still : IsWithdrawnFrom flowing.state.sited.table (good_rounds (between ∷ (later ++ last ∷ more)) flowing).state.run.station.ixl signal) → IsNotSetAnew still.number more (good_rounds (between ∷ (later ++ last ∷ [])) flowing) → ⊥ }
 {
     every_world_is_safe();
     items_are_counted();
@@ -93,16 +95,16 @@ pub fn authority_ends_where_stop_is_given()
 }
 
 /// Authority ends behind a cancel: where a cancel of a route that proceeds is accepted behind a good round from the 1565th on, no route is
-/// withdrawn from its signal behind the second round after, whatever requests and occupancies come before: 20 ms after the cancel at most
-/// its authority has ended.
+/// withdrawn from its signal behind the second round after, or a later one, whatever requests and occupancies come before and after, as
+/// long as that route isn't set anew (`IsNotSetAnew`): 20 ms after the cancel at most its authority has ended.
 pub fn authority_ends_behind_a_cancel()
-    ensures { (between : List Event) (later : List (List Event)) (before : List Event) (flowing : Flowing Played) (route : RouteId) (row : Row) → Once flowing.state.sited.site → IsStation flowing.state.sited.site
+    ensures { (between : List Event) (later : List (List Event)) (before : List Event) (more : List (List Event)) (flowing : Flowing Played) (route : RouteId) (row : Row) → Once flowing.state.sited.site → IsStation flowing.state.sited.site
         → IsTableOf flowing.state.sited.site flowing.state.sited.table → IsReached flowing.state.sited.site flowing.state.sited.table flowing.state.run
-        → Each IsWork between → Each (Each IsWork) later → Each IsWork before → HasTime (suc (authority_rounds + suc (length later))) flowing.state.run
-        → slice_get flowing.state.sited.table.rows route.0 ≡ Some row → ready_rounds ≤ suc (suc (length later))
-        → StaysBelowLimit flowing.state.sited.site row.entry (later ++ and_cancel route before ∷ replicate authority_rounds []) (all_tried between (round stations flowing))
+        → Each IsWork between → Each (Each IsWork) later → Each IsWork before → Each (Each IsWork) more → HasTime (suc (length (later ++ and_cancel route before ∷ more))) flowing.state.run
+        → slice_get flowing.state.sited.table.rows route.0 ≡ Some row → ready_rounds ≤ suc (suc (length later)) → authority_rounds ≤ length more
+        → StaysBelowLimit flowing.state.sited.site row.entry (later ++ and_cancel route before ∷ more) (all_tried between (round stations flowing))
         → At (as_cancel_comes (between ∷ later) before flowing).state.run.station.ixl.routes route.0 Proceeds → AcceptsCancel route (as_cancel_comes (between ∷ later) before flowing).state
-        → IsWithdrawnFrom flowing.state.sited.table (good_rounds (between ∷ (later ++ and_cancel route before ∷ replicate authority_rounds [])) flowing).state.run.station.ixl row.entry → ⊥ }
+        → (still : IsWithdrawnFrom flowing.state.sited.table (good_rounds (between ∷ (later ++ and_cancel route before ∷ more)) flowing).state.run.station.ixl row.entry) → IsNotSetAnew still.number more (good_rounds (between ∷ (later ++ and_cancel route before ∷ [])) flowing) → ⊥ }
 {
     every_world_is_safe();
     items_are_counted();
@@ -148,17 +150,18 @@ pub fn rounds_leave_no_cancelled_route()
 }
 
 /// A route is free behind its cancel: where a cancel of a route that proceeds is accepted behind a good round from the 1565th on, the route
-/// is free behind the second round after, if no section of it was reported occupied since its authority was given, all are clear, and its
-/// approach didn't count. So it is 20 ms after the cancel.
+/// is free behind the second round after, or a later one, if no section of it was reported occupied since its authority was given, all are
+/// clear then, and its approach didn't count. So it is 20 ms after the cancel, whatever requests and occupancies come before and after,
+/// as long as the route isn't set anew (`IsNotSetAnew`).
 pub fn routes_are_free_behind_a_cancel()
-    ensures { (between : List Event) (later : List (List Event)) (before : List Event) (flowing : Flowing Played) (route : RouteId) (row : Row) → Once flowing.state.sited.site → IsStation flowing.state.sited.site
+    ensures { (between : List Event) (later : List (List Event)) (before : List Event) (more : List (List Event)) (flowing : Flowing Played) (route : RouteId) (row : Row) → Once flowing.state.sited.site → IsStation flowing.state.sited.site
         → IsTableOf flowing.state.sited.site flowing.state.sited.table → IsReached flowing.state.sited.site flowing.state.sited.table flowing.state.run
-        → Each IsWork between → Each (Each IsWork) later → Each IsWork before → HasTime (suc (authority_rounds + suc (length later))) flowing.state.run
-        → slice_get flowing.state.sited.table.rows route.0 ≡ Some row → ready_rounds ≤ suc (suc (length later))
-        → StaysBelowLimit flowing.state.sited.site row.entry (later ++ and_cancel route before ∷ replicate authority_rounds []) (all_tried between (round stations flowing))
+        → Each IsWork between → Each (Each IsWork) later → Each IsWork before → Each (Each IsWork) more → IsNotSetAnew route.0 more (good_rounds (between ∷ (later ++ and_cancel route before ∷ [])) flowing) → HasTime (suc (length (later ++ and_cancel route before ∷ more))) flowing.state.run
+        → slice_get flowing.state.sited.table.rows route.0 ≡ Some row → ready_rounds ≤ suc (suc (length later)) → authority_rounds ≤ length more
+        → StaysBelowLimit flowing.state.sited.site row.entry (later ++ and_cancel route before ∷ more) (all_tried between (round stations flowing))
         → At (as_cancel_comes (between ∷ later) before flowing).state.run.station.ixl.routes route.0 Proceeds → AcceptsCancel route (as_cancel_comes (between ∷ later) before flowing).state
-        → (state : RouteState) → slice_get (good_rounds (between ∷ (later ++ and_cancel route before ∷ replicate authority_rounds [])) flowing).state.run.station.ixl.routes route.0 ≡ Some state
-        → IsUnseen row state → AllClear flowing.state.sited.table (good_rounds (between ∷ (later ++ and_cancel route before ∷ replicate authority_rounds [])) flowing).state.run.station.ixl row.sections
+        → (state : RouteState) → slice_get (good_rounds (between ∷ (later ++ and_cancel route before ∷ more)) flowing).state.run.station.ixl.routes route.0 ≡ Some state
+        → IsUnseen row state → AllClear flowing.state.sited.table (good_rounds (between ∷ (later ++ and_cancel route before ∷ more)) flowing).state.run.station.ixl row.sections
         → state.approached ≡ false → is_set state.phase ≡ false }
 {
     every_world_is_safe();

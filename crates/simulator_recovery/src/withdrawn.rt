@@ -1,6 +1,6 @@
 //! When a cancelled route that waits is free, and when the authority of a withdrawn one ends.
 
-ghost use Rattle.std.specs.Prelude.{◌≡◌, ◌≤◌, ◌<◌, ◌+◌, ℕ, suc, List, [], ◌∷◌, ◌++◌, length, replicate, false, true, Some, slice_get};
+ghost use Rattle.std.specs.Prelude.{◌≡◌, ◌≤◌, ◌<◌, ℕ, suc, List, [], ◌∷◌, ◌++◌, length, false, true, Some, slice_get};
 ghost use Rattle.ixl_table.specs.Table.{IsTableOf};
 ghost use Rattle.simulator_run.specs.layout.Entries.{Site};
 ghost use Rattle.simulator_run.specs.layout.Once.{Once};
@@ -11,7 +11,7 @@ ghost use Rattle.simulator_run.specs.ixl_rules.State.{RouteState};
 ghost use Rattle.simulator_run.specs.ixl_rules.Table.{Row, Table};
 ghost use Rattle.simulator_run.specs.ixl_rules.View.{is_set};
 ghost use Rattle.simulator_run.specs.ixl_rules.declared.command.Command.TheVariants.{Cancel};
-ghost use Rattle.simulator_run.specs.ixl_rules.declared.phase.Phase.TheVariants.{Ended, Waiting};
+ghost use Rattle.simulator_run.specs.ixl_rules.declared.phase.Phase.TheVariants.{Ended, Waiting, Withdrawn};
 ghost use Rattle.simulator_run.specs.rasta_core.Each.{Each};
 ghost use Rattle.simulator_run.specs.rasta_core.Ends.{reading_of};
 ghost use Rattle.simulator_run.specs.simulator_event.declared.event.Event.{Event};
@@ -29,7 +29,7 @@ ghost use Rattle.simulator_recovery.specs.NothingDue.{HasAspect, Proceeds};
 ghost use Rattle.simulator_recovery.specs.Ready.{ready_rounds};
 ghost use Rattle.simulator_recovery.specs.Rounds.{HasTime, IsWork, all_tried, good_rounds};
 ghost use Rattle.simulator_recovery.specs.RoutesCome.{IsSignalUp};
-ghost use Rattle.simulator_recovery.specs.Withdrawn.{SetsNot, approach_rounds, approach_time_rounds, told_rounds};
+ghost use Rattle.simulator_recovery.specs.Withdrawn.{IsNotSetAnew, approach_rounds, approach_time_rounds, told_rounds};
 
 use crate::{
     events_close_no_link, signals_never_fill_their_windows, stations_stand_by_their_counts,
@@ -49,8 +49,7 @@ use simulator_run::ixl_rules::rasta_core::{
 };
 use simulator_run::ixl_rules::rasta_pdu::written_is_read;
 use simulator_run::ixl_rules::{
-    move_is_given_where_due, request_is_accepted_where_admissible,
-    route_is_freed_where_cancel_lets_it_go, stop_is_given_where_due,
+    request_is_accepted_where_admissible, route_is_freed_where_cancel_lets_it_go,
 };
 use simulator_run_links::{
     ends_are_those_of_the_nodes, events_are_those_of_the_links, layouts_name_their_links,
@@ -116,17 +115,18 @@ pub fn ended_routes_are_free_at_once()
 
 /// Authority ends where stop is given within a round: where the interlocking gives something to a signal in a good round behind the 1565th, or
 /// behind that round, and no route proceeds from the signal then, or waits to but a cancelled one, none is withdrawn from it behind the
-/// second round after. So it is where a route is withdrawn within a round, as by a section that is reported occupied in it. The
-/// premises are those of `links_come_up`, of the signal's link.
+/// second round after, or a later one, whatever requests and occupancies come, as long as that route isn't set anew (`IsNotSetAnew`). So
+/// it is where a route is withdrawn within a round, as by a section that is reported occupied in it. The premises are those of
+/// `links_come_up`, of the signal's link.
 pub fn authority_ends_where_stop_is_given_within_a_round()
-    ensures { (between : List Event) (later : List (List Event)) (last : List Event) (flowing : Flowing Played) (signal : ℕ) → Once flowing.state.sited.site → IsStation flowing.state.sited.site
+    ensures { (between : List Event) (later : List (List Event)) (last : List Event) (more : List (List Event)) (flowing : Flowing Played) (signal : ℕ) → Once flowing.state.sited.site → IsStation flowing.state.sited.site
         → IsTableOf flowing.state.sited.site flowing.state.sited.table → IsReached flowing.state.sited.site flowing.state.sited.table flowing.state.run
-        → Each IsWork between → Each (Each IsWork) (later ++ last ∷ []) → HasTime (suc (authority_rounds + suc (length later))) flowing.state.run → signal < length flowing.state.sited.site.signals
-        → ready_rounds ≤ suc (length later)
-        → StaysBelowLimit flowing.state.sited.site signal (later ++ last ∷ replicate authority_rounds []) (all_tried between (round stations flowing))
+        → Each IsWork between → Each (Each IsWork) (later ++ last ∷ more) → HasTime (suc (length (later ++ last ∷ more))) flowing.state.run → signal < length flowing.state.sited.site.signals
+        → ready_rounds ≤ suc (length later) → authority_rounds ≤ length more
+        → StaysBelowLimit flowing.state.sited.site signal (later ++ last ∷ more) (all_tried between (round stations flowing))
         → HasGivenMore signal (good_rounds (between ∷ later) flowing).state.run.station.ixl (good_rounds (between ∷ (later ++ last ∷ [])) flowing).state.run.station.ixl
         → NoneProceeds flowing.state.sited.table (good_rounds (between ∷ (later ++ last ∷ [])) flowing).state.run.station.ixl signal
-        → IsWithdrawnFrom flowing.state.sited.table (good_rounds (between ∷ (later ++ last ∷ replicate authority_rounds [])) flowing).state.run.station.ixl signal → ⊥ }
+        → (still : IsWithdrawnFrom flowing.state.sited.table (good_rounds (between ∷ (later ++ last ∷ more)) flowing).state.run.station.ixl signal) → IsNotSetAnew still.number more (good_rounds (between ∷ (later ++ last ∷ [])) flowing) → ⊥ }
 {
     every_world_is_safe();
     items_are_counted();
@@ -160,19 +160,20 @@ pub fn authority_ends_where_stop_is_given_within_a_round()
     signals_never_fill_their_windows();
 }
 
-/// Authority ends behind a withdrawal: where no route is withdrawn from a signal behind a good round from the 1565th on, and one is behind
-/// the next, none is behind the second round after that: at the latest 20 ms after the round in which it was withdrawn its authority
-/// has ended. So it is where a section of the route is reported occupied, or a point loses its position. The premises are those
-/// of `links_come_up`, of the signal's link.
+/// Authority ends behind a withdrawal: where a route isn't withdrawn behind a good round from the 1565th on, and is behind the next, it isn't
+/// behind the second round after that, or a later one: at the latest 20 ms after the round in which it was withdrawn its authority has
+/// ended. So it is where a section of the route is reported occupied, or a point loses its position, whatever requests and occupancies
+/// come, as long as the route isn't set anew behind its withdrawal (`IsNotSetAnew`). Nor is any other route withdrawn from its signal
+/// then that wasn't set since. The premises are those of `links_come_up`, of the signal's link.
 pub fn authority_ends_behind_a_withdrawal()
-    ensures { (between : List Event) (later : List (List Event)) (flowing : Flowing Played) (signal : ℕ) → Once flowing.state.sited.site → IsStation flowing.state.sited.site
+    ensures { (between : List Event) (later : List (List Event)) (last : List Event) (more : List (List Event)) (flowing : Flowing Played) (signal : ℕ) → Once flowing.state.sited.site → IsStation flowing.state.sited.site
         → IsTableOf flowing.state.sited.site flowing.state.sited.table → IsReached flowing.state.sited.site flowing.state.sited.table flowing.state.run
-        → Each IsWork between → Each (Each IsWork) later → HasTime (suc (authority_rounds + suc (length later))) flowing.state.run → signal < length flowing.state.sited.site.signals
-        → ready_rounds ≤ suc (length later)
-        → StaysBelowLimit flowing.state.sited.site signal (later ++ [] ∷ replicate authority_rounds []) (all_tried between (round stations flowing))
-        → (IsWithdrawnFrom flowing.state.sited.table (good_rounds (between ∷ later) flowing).state.run.station.ixl signal → ⊥)
-        → IsWithdrawnFrom flowing.state.sited.table (good_rounds (between ∷ (later ++ [] ∷ [])) flowing).state.run.station.ixl signal
-        → IsWithdrawnFrom flowing.state.sited.table (good_rounds (between ∷ (later ++ [] ∷ replicate authority_rounds [])) flowing).state.run.station.ixl signal → ⊥ }
+        → Each IsWork between → Each (Each IsWork) (later ++ last ∷ more) → HasTime (suc (length (later ++ last ∷ more))) flowing.state.run → signal < length flowing.state.sited.site.signals
+        → ready_rounds ≤ suc (length later) → authority_rounds ≤ length more
+        → StaysBelowLimit flowing.state.sited.site signal (later ++ last ∷ more) (all_tried between (round stations flowing))
+        → (withdrawn : IsWithdrawnFrom flowing.state.sited.table (good_rounds (between ∷ (later ++ last ∷ [])) flowing).state.run.station.ixl signal)
+        → ((route : RouteState) → slice_get (good_rounds (between ∷ later) flowing).state.run.station.ixl.routes withdrawn.number ≡ Some route → route.phase ≡ Withdrawn → ⊥)
+        → (still : IsWithdrawnFrom flowing.state.sited.table (good_rounds (between ∷ (later ++ last ∷ more)) flowing).state.run.station.ixl signal) → IsNotSetAnew still.number more (good_rounds (between ∷ (later ++ last ∷ [])) flowing) → ⊥ }
 {
     every_world_is_safe();
     items_are_counted();
@@ -206,21 +207,19 @@ pub fn authority_ends_behind_a_withdrawal()
     stations_stand_by_their_counts();
     events_close_no_link();
     signals_never_fill_their_windows();
-    stop_is_given_where_due();
-    move_is_given_where_due();
 }
 
 /// No authority outlives its withdrawal for long: where a route is withdrawn from a signal behind a good round from the 1562nd on, however
-/// long ago and whatever came before, none is withdrawn from it 32 good rounds later, 320 ms, or more. The premises are those of
-/// `links_come_up`, of the signal's link.
+/// long ago and whatever came before, none is withdrawn from it 32 good rounds later, 320 ms, or more, whatever requests and occupancies
+/// come in these, but where it was set anew in them (`IsNotSetAnew`). The premises are those of `links_come_up`, of the signal's link.
 pub fn authority_ends_within_a_heartbeat()
-    ensures { (between : List Event) (later : List (List Event)) (n : ℕ) (flowing : Flowing Played) (signal : ℕ) → Once flowing.state.sited.site → IsStation flowing.state.sited.site
+    ensures { (between : List Event) (later more : List (List Event)) (flowing : Flowing Played) (signal : ℕ) → Once flowing.state.sited.site → IsStation flowing.state.sited.site
         → IsTableOf flowing.state.sited.site flowing.state.sited.table → IsReached flowing.state.sited.site flowing.state.sited.table flowing.state.run
-        → Each IsWork between → Each (Each IsWork) later → HasTime (suc (n + length later)) flowing.state.run → signal < length flowing.state.sited.site.signals
-        → link_rounds ≤ suc (length later) → told_rounds ≤ n
-        → StaysBelowLimit flowing.state.sited.site signal (later ++ replicate n []) (all_tried between (round stations flowing))
+        → Each IsWork between → Each (Each IsWork) (later ++ more) → HasTime (suc (length (later ++ more))) flowing.state.run → signal < length flowing.state.sited.site.signals
+        → link_rounds ≤ suc (length later) → told_rounds ≤ length more
+        → StaysBelowLimit flowing.state.sited.site signal (later ++ more) (all_tried between (round stations flowing))
         → IsWithdrawnFrom flowing.state.sited.table (good_rounds (between ∷ later) flowing).state.run.station.ixl signal
-        → IsWithdrawnFrom flowing.state.sited.table (good_rounds (between ∷ (later ++ replicate n [])) flowing).state.run.station.ixl signal → ⊥ }
+        → (still : IsWithdrawnFrom flowing.state.sited.table (good_rounds (between ∷ (later ++ more)) flowing).state.run.station.ixl signal) → IsNotSetAnew still.number more (good_rounds (between ∷ later) flowing) → ⊥ }
 {
     every_world_is_safe();
     items_are_counted();
@@ -245,10 +244,10 @@ pub fn authority_ends_within_a_heartbeat()
 /// A route whose authority has ended is free behind its approach: a cancelled one is free 12000 good rounds later, 120,000 ms, or more, if
 /// no section of it was reported occupied since its authority was given and all are clear then. So it is whether or not its approach
 /// counted, whatever has happened to the station before, whatever becomes of its links, and whatever requests and occupancies come,
-/// but a request for this route (`SetsNot`).
+/// as long as the route isn't set anew (`IsNotSetAnew`).
 pub fn ended_routes_are_free_behind_their_approach()
     ensures { (more : List (List Event)) (flowing : Flowing Played) (number : ℕ) (row : Row) (route : RouteState) (clock freed : ℕ) → Once flowing.state.sited.site → IsStation flowing.state.sited.site
-        → IsReached flowing.state.sited.site flowing.state.sited.table flowing.state.run → Each (Each IsWork) more → Each (Each (SetsNot number)) more → HasTime (length more) flowing.state.run → approach_time_rounds ≤ length more
+        → IsReached flowing.state.sited.site flowing.state.sited.table flowing.state.run → Each (Each IsWork) more → IsNotSetAnew number more flowing → HasTime (length more) flowing.state.run → approach_time_rounds ≤ length more
         → IsRouteOf flowing.state.sited.table flowing.state.run.station.ixl number row route → route.cancelled ≡ true → route.phase ≡ Ended clock freed
         → (state : RouteState) → slice_get (good_rounds more flowing).state.run.station.ixl.routes number ≡ Some state
         → IsUnseen row state → AllClear flowing.state.sited.table (good_rounds more flowing).state.run.station.ixl row.sections → is_set state.phase ≡ false }
@@ -260,17 +259,18 @@ pub fn ended_routes_are_free_behind_their_approach()
 
 /// A cancelled route is free behind its approach: where a cancel of a route that proceeds is accepted behind a good round from the 1565th on,
 /// the route is free 12002 good rounds after, 120,020 ms, or more, if no section of it was reported occupied since its authority was given
-/// and all are clear then. So it is whether or not its approach counted, and whatever requests and occupancies come 20 ms after the
-/// cancel or later, but a request for this route. The premises are those of `links_come_up`, of the signal's link, till then.
+/// and all are clear then. So it is whether or not its approach counted, and whatever requests and occupancies come, as long as the
+/// route isn't set anew behind its cancel (`IsNotSetAnew`). The premises are those of `links_come_up`, of the signal's link, till 20 ms
+/// after it.
 pub fn cancelled_routes_are_free_behind_their_approach()
-    ensures { (between : List Event) (later : List (List Event)) (before : List Event) (more : List (List Event)) (flowing : Flowing Played) (route : RouteId) (row : Row) → Once flowing.state.sited.site → IsStation flowing.state.sited.site
+    ensures { (between : List Event) (later : List (List Event)) (before : List Event) (some more : List (List Event)) (flowing : Flowing Played) (route : RouteId) (row : Row) → Once flowing.state.sited.site → IsStation flowing.state.sited.site
         → IsTableOf flowing.state.sited.site flowing.state.sited.table → IsReached flowing.state.sited.site flowing.state.sited.table flowing.state.run
-        → Each IsWork between → Each (Each IsWork) later → Each IsWork before → Each (Each IsWork) more → Each (Each (SetsNot route.0)) more → HasTime (suc (authority_rounds + length more + suc (length later))) flowing.state.run
-        → slice_get flowing.state.sited.table.rows route.0 ≡ Some row → ready_rounds ≤ suc (suc (length later)) → approach_rounds ≤ authority_rounds + length more
-        → StaysBelowLimit flowing.state.sited.site row.entry (later ++ and_cancel route before ∷ replicate authority_rounds []) (all_tried between (round stations flowing))
+        → Each IsWork between → Each (Each IsWork) later → Each IsWork before → Each (Each IsWork) (some ++ more) → IsNotSetAnew route.0 (some ++ more) (good_rounds (between ∷ (later ++ and_cancel route before ∷ [])) flowing) → HasTime (suc (length (later ++ and_cancel route before ∷ (some ++ more)))) flowing.state.run
+        → slice_get flowing.state.sited.table.rows route.0 ≡ Some row → ready_rounds ≤ suc (suc (length later)) → length some ≡ authority_rounds → approach_rounds ≤ length (some ++ more)
+        → StaysBelowLimit flowing.state.sited.site row.entry (later ++ and_cancel route before ∷ some) (all_tried between (round stations flowing))
         → At (as_cancel_comes (between ∷ later) before flowing).state.run.station.ixl.routes route.0 Proceeds → AcceptsCancel route (as_cancel_comes (between ∷ later) before flowing).state
-        → (state : RouteState) → slice_get (good_rounds (between ∷ (later ++ and_cancel route before ∷ (replicate authority_rounds [] ++ more))) flowing).state.run.station.ixl.routes route.0 ≡ Some state
-        → IsUnseen row state → AllClear flowing.state.sited.table (good_rounds (between ∷ (later ++ and_cancel route before ∷ (replicate authority_rounds [] ++ more))) flowing).state.run.station.ixl row.sections
+        → (state : RouteState) → slice_get (good_rounds (between ∷ (later ++ and_cancel route before ∷ (some ++ more))) flowing).state.run.station.ixl.routes route.0 ≡ Some state
+        → IsUnseen row state → AllClear flowing.state.sited.table (good_rounds (between ∷ (later ++ and_cancel route before ∷ (some ++ more))) flowing).state.run.station.ixl row.sections
         → is_set state.phase ≡ false }
 {
     every_world_is_safe();

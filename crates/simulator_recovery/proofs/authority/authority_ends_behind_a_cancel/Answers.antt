@@ -1,11 +1,11 @@
-use Rattle.simulator_recovery.proofs.AuthorityBehindCancel.{authority_ends_behind_cancel}
+use Rattle.simulator_recovery.proofs.BetweenCancels.{many_cancelled}
 use Rattle.simulator_recovery.proofs.LinkRounds.{LinkLaws}
 use Rattle.simulator_recovery.proofs.Ready.{ReadyLaws}
 use Rattle.simulator_recovery.proofs.RepliedThrough.{EndLaws}
 use Rattle.simulator_recovery.proofs.authority.authority_ends_behind_a_cancel.Goals as goal
 
 pub returns : goal.returns
-returns c = λ between later_rounds before flowing route row once station is_table reached work works before_works can there long below proceeds accepted withdrawn.
+returns c = λ between later_rounds before more flowing route row once station is_table reached work works before_works more_works can there long enough below proceeds accepted still apart.
     let link : LinkLaws = record {
       times = record { reach = record { on = c.reached_worlds_are_safe.ensures.on }; standing = c.stations_have_links.ensures.run };
       named = c.layouts_name_their_links.ensures;
@@ -41,7 +41,7 @@ returns c = λ between later_rounds before flowing route row once station is_tab
       stays = c.outside_until_it_enters.ensures.stays;
       inside = c.own_connection.ensures.inside;
     }
-    in authority_ends_behind_cancel (record {
+    in many_cancelled (record {
       authority = record {
         confirm = record { ready = ready; confirm = c.two_ends_at_work_confirm.ensures };
         round = record {
@@ -66,4 +66,4 @@ returns c = λ between later_rounds before flowing route row once station is_tab
       few = c.signals_never_fill_their_windows.ensures.few;
       starts_timely = c.starts_in_time.ensures;
       starts_ordered = c.every_event_keeps_order.ensures.starts;
-    }) between later_rounds before flowing route row once station is_table reached work works before_works can there long below proceeds accepted withdrawn
+    }) more between later_rounds before flowing route row once station is_table reached work works before_works more_works can there long enough below proceeds accepted still apart

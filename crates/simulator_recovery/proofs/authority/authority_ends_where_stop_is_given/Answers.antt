@@ -1,11 +1,11 @@
-use Rattle.simulator_recovery.proofs.AuthorityOver.{authority_ends}
+use Rattle.simulator_recovery.proofs.BetweenEnds.{many_given}
 use Rattle.simulator_recovery.proofs.LinkRounds.{LinkLaws}
 use Rattle.simulator_recovery.proofs.Ready.{ReadyLaws}
 use Rattle.simulator_recovery.proofs.RepliedThrough.{EndLaws}
 use Rattle.simulator_recovery.proofs.authority.authority_ends_where_stop_is_given.Goals as goal
 
 pub returns : goal.returns
-returns c = λ between later_rounds last flowing signal once station is_table reached work works can few long below more none withdrawn.
+returns c = λ between later_rounds last more flowing signal once station is_table reached work works can few long enough below gave none still apart.
     let link : LinkLaws = record {
       times = record { reach = record { on = c.reached_worlds_are_safe.ensures.on }; standing = c.stations_have_links.ensures.run };
       named = c.layouts_name_their_links.ensures;
@@ -41,7 +41,7 @@ returns c = λ between later_rounds last flowing signal once station is_table re
       stays = c.outside_until_it_enters.ensures.stays;
       inside = c.own_connection.ensures.inside;
     }
-    in authority_ends (record {
+    in many_given (record {
       authority = record {
         confirm = record { ready = ready; confirm = c.two_ends_at_work_confirm.ensures };
         round = record {
@@ -66,4 +66,4 @@ returns c = λ between later_rounds last flowing signal once station is_table re
       few = c.signals_never_fill_their_windows.ensures.few;
       starts_timely = c.starts_in_time.ensures;
       starts_ordered = c.every_event_keeps_order.ensures.starts;
-    }) between later_rounds last flowing signal once station is_table reached work works can few long below none more withdrawn
+    }) more between later_rounds last flowing signal once station is_table reached work works can few long enough below gave none still apart

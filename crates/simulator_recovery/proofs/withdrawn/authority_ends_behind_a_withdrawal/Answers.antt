@@ -1,14 +1,14 @@
 use Rattle.simulator_recovery.proofs.AuthorityEnds.{EndingLaws}
+use Rattle.simulator_recovery.proofs.BetweenWithdrawals.{many_withdrawn}
 use Rattle.simulator_recovery.proofs.LinkRounds.{LinkLaws}
 use Rattle.simulator_recovery.proofs.Ready.{ReadyLaws}
 use Rattle.simulator_recovery.proofs.Rounds.{ReachLaws}
 use Rattle.simulator_recovery.proofs.RepliedThrough.{EndLaws}
 use Rattle.simulator_recovery.proofs.SeenSignals.{SignalLaws}
-use Rattle.simulator_recovery.proofs.WithdrawnRounds.{ends_behind_withdrawal}
 use Rattle.simulator_recovery.proofs.withdrawn.authority_ends_behind_a_withdrawal.Goals as goal
 
 pub returns : goal.returns
-returns c = λ between later_rounds flowing signal once station is_table reached work works can few long below unwithdrawn withdrawn.
+returns c = λ between later_rounds last more flowing signal once station is_table reached work works can few long enough below withdrawn not_yet still apart.
     let reach : ReachLaws = record { on = c.reached_worlds_are_safe.ensures.on }
     in let link : LinkLaws = record {
       times = record { reach = reach; standing = c.stations_have_links.ensures.run };
@@ -72,7 +72,7 @@ returns c = λ between later_rounds flowing signal once station is_table reached
       starts_timely = c.starts_in_time.ensures;
       starts_ordered = c.every_event_keeps_order.ensures.starts;
     }
-    in ends_behind_withdrawal (record {
+    in many_withdrawn (record {
       ending = ending;
       takings = c.what_servers_take_at_work_confirms.ensures;
       up = record {
@@ -92,6 +92,4 @@ returns c = λ between later_rounds flowing signal once station is_table reached
         order_starts = c.every_event_keeps_order.ensures.starts;
         time_starts = c.starts_in_time.ensures;
       };
-      stop = c.stop_is_given_where_due.ensures;
-      move = c.move_is_given_where_due.ensures;
-    }) between later_rounds flowing signal once station is_table reached work works can few long below unwithdrawn withdrawn
+    }) more between later_rounds last flowing signal once station is_table reached work works can few long enough below withdrawn not_yet still apart
