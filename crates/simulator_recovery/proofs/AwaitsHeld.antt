@@ -1,5 +1,5 @@
 -- A point that a route holds with authority is awaited by no client: no move of it is out.
-use Rattle.std.proofs.Common.{◌≡◌, ◌⊎◌, inl, inr, ℕ, ◌<◌, ◌==◌, Bool, true, false, List, [], Option, Some, None, slice_get, refl, sym, ap, subst, ◌∙◌}
+use Rattle.std.proofs.Common.{◌≡◌, ◌≢◌, ◌⊎◌, inl, inr, ℕ, ◌<◌, ◌==◌, Bool, true, false, List, [], Option, Some, None, slice_get, refl, sym, ap, subst, ◌∙◌}
 use Rattle.std.specs.List.{Contains}
 use Rattle.std.proofs.lemmas.Bool.{false≢true}
 use Rattle.std.proofs.lemmas.Option.{same_Some}
@@ -29,7 +29,6 @@ use Rattle.simulator_run.specs.Happens.{interlocking_stepped}
 use Rattle.simulator_run.specs.Nodes.{key_of}
 use Rattle.simulator_run.specs.State.{WorldState}
 use Rattle.simulator_headline.specs.Reached.{IsReached}
-use Rattle.simulator_recovery.specs.FieldPoints.{HasAuthority}
 use Rattle.simulator_recovery.specs.NothingDue.{IsPointReady}
 use Rattle.simulator_recovery.specs.SidesOfMoves.{AwaitsMove}
 use Rattle.simulator_recovery.specs.UnheldPoints.{HoldsWithAuthority}
@@ -38,14 +37,13 @@ use Rattle.simulator_recovery.proofs.DueCourse.{at_changed}
 use Rattle.simulator_recovery.proofs.DueShapes.{moving_keeps, over_keeps}
 use Rattle.simulator_recovery.proofs.IxlAlways.{always_whole}
 use Rattle.simulator_recovery.proofs.IxlClients.{mapped_at, point_client}
-use Rattle.simulator_recovery.proofs.NothingDueMoves.{MoveLaw, MoveLeaves}
+use Rattle.simulator_recovery.proofs.NothingDueMoves.{MoveLaw}
 use Rattle.simulator_recovery.proofs.NothingDueStops.{HoldsEach, held_stays, holds_each, one_leaves}
 use Rattle.simulator_recovery.proofs.OnceParts.{ClientsKeep, OfPoints, On, behind_moves_on, clocked_on, given_on, until_moves_on}
 use Rattle.simulator_recovery.proofs.SidesClient.{hears_nothing, stands, ticks_nothing}
 use Rattle.simulator_recovery.proofs.SignalParts.{PartsKeep, both_rules, cancel_held, over_held, passage_held, step_held, watched_held}
 use Rattle.simulator_recovery.proofs.StopsGiven.{AnyCommand, differs, is_equal}
-use Rattle.simulator_recovery.proofs.UnheldPhases.{HeldNone, HoldsNone, HoldsNoneAt, NoneOrKnown, NoneOrSided, moving_none, proceeding_or, step_or, ticked_or}
-use Rattle.simulator_recovery.proofs.UnheldRounds.{none_held, none_or}
+use Rattle.simulator_recovery.proofs.UnheldPhases.{HeldNone, HoldsNone, HoldsNoneAt, NoneOrKnown, NoneOrSided, moving_none, none_held, none_or, proceeding_or, step_or, ticked_or}
 
 -- ---- the client: it comes to await a report by a move alone
 
@@ -126,70 +124,86 @@ module _ (law : MoveLaw) (site : Site) (table : Table) (holds : HoldsEach table)
       let it = sided (known, e, ap is_outside awaits)
       in false≢true (ap is_available (sym awaits) ∙ (ap (λ (one : KnownPointState). is_available one.client.stage) (same_Some known it.0 (sym e ∙ it.1)) ∙ it.2.0)))
 
-  abbrev Holding : RouteState → Type 0
+  abbrev pub Holding : RouteState → Type 0
   Holding route = (was_authorised route.phase ≡ true) × (is_set route.phase ≡ true) × (freed_sections route.phase < need.until)
 
-  -- the fifth rule gives no move to a point that is held with authority
-  abbrev HeldQuiet : StepSoFar → Type 0
-  HeldQuiet part = At part.ixl.routes k Holding × On need.point AwaitsNoneAt part
+  -- ---- the fifth rule
 
-  one_quiet : (now number : ℕ) (own : Need) (part : StepSoFar) → HeldQuiet part → HeldQuiet (moving_one now table number own part)
-  one_quiet now number own part is = decide (need.point == own.point) refl
-    where
-      leaves : MoveLeaves own.point part.ixl (moving_one now table number own part).ixl
-      leaves = one_leaves now table k law holds number own part
+  -- It gives no move to a point that is held with authority: so it keeps what the moves of other points keep.
+  module _ (now : ℕ) (P : StepSoFar → Type 0) (others : (number : ℕ) (own : Need) (part : StepSoFar) → need.point ≢ own.point → P part → P (moving_one now table number own part)) where
+    abbrev HeldSo : StepSoFar → Type 0
+    HeldSo part = At part.ixl.routes k Holding × P part
 
-      held : need.point ≡ own.point → IsHeldWithAuthority table part.ixl own.point
-      held same = (k, row, is.0.0, need.side, (row_there, is.0.1), is.0.2.0, (is.0.2.1, (need, within, same, refl, is.0.2.2)))
+    one_so : (number : ℕ) (own : Need) (part : StepSoFar) → HeldSo part → HeldSo (moving_one now table number own part)
+    one_so number own part is = decide (need.point == own.point) refl
+      where
+        held : need.point ≡ own.point → IsHeldWithAuthority table part.ixl own.point
+        held same = (k, row, is.0.0, need.side, (row_there, is.0.1), is.0.2.0, (is.0.2.1, (need, within, same, refl, is.0.2.2)))
 
-      decide : (b : Bool) → (need.point == own.point) ≡ b → HeldQuiet (moving_one now table number own part)
-      decide true e = subst HeldQuiet (sym (held_stays now table k law holds number own part (held (is_equal need.point own.point e)))) is
-      decide false e = (
-        subst (λ (routes : List RouteState). At routes k Holding) (sym leaves.routes) is.0,
-        λ known there. is.1 known (sym (leaves.points need.point (differs need.point own.point e)) ∙ there),
-      )
+        decide : (b : Bool) → (need.point == own.point) ≡ b → HeldSo (moving_one now table number own part)
+        decide true e = subst HeldSo (sym (held_stays now table k law holds number own part (held (is_equal need.point own.point e)))) is
+        decide false e = (
+          subst (λ (routes : List RouteState). At routes k Holding) (sym (one_leaves now table k law holds number own part).routes) is.0,
+          others number own part (differs need.point own.point e) is.1,
+        )
 
-  step_quiet : (input : Input) (world : WorldState) → NoneOrQuiet world.station.ixl → At world.station.ixl.routes k (λ route. Unit {0})
-      → NoneOrQuiet (interlocking_stepped site table input world).station.ixl
-  unfolding interlocking_stepped stepped
-  step_quiet input world (inl none) there = sided_quiet (interlocking_stepped site table input world).station.ixl (step_or site table k row row_there need within input world none)
-  step_quiet input world (inr quiet) there = by_phase (none_or need.until (holds k row need row_there within) here.0.phase)
-    where
-      now : ℕ
-      now = reading_of world.station.clock
+    pub moved_so : (seen : StepSoFar) → At (freed_by_cancel now table seen).ixl.routes k Holding → P (freed_by_cancel now table seen) → P (moved now table seen)
+    moved_so seen holding is = (over_keeps HeldSo (moving now table) (moving_keeps HeldSo now table one_so) (count table) (freed_by_cancel now table seen) (holding, is)).1
 
-      begins : StepSoFar
-      begins = begun_with world.station.ixl empty_outbox
+  -- ---- a step
 
-      heard : StepSoFar
-      heard = given now table (key_of site) input (record begins { ixl = all_clocked now begins.ixl })
+  module _ (input : Input) (world : WorldState) where
+    abbrev pub now : ℕ
+    now = reading_of world.station.clock
 
-      seen : StepSoFar
-      seen = over (watching table) (count table) heard
+    abbrev begun_part : StepSoFar
+    begun_part = begun_with world.station.ixl empty_outbox
 
-      freed : StepSoFar
-      freed = freed_by_cancel now table seen
+    -- what it has done behind its input, and before the rules; and then behind the fourth of them
+    abbrev pub heard : StepSoFar
+    heard = given now table (key_of site) input (record begun_part { ixl = all_clocked now begun_part.ixl })
 
-      here : At freed.ixl.routes k (λ route. Unit {0})
-      here = over_held now table (IsThere now table k) (there_kept now table k).rules (freeing_by_cancel now table) (cancel_held now table (IsThere now table k) (there_kept now table k).rules)
-          (count table) (freed_by_passage now table seen)
-          (over_held now table (IsThere now table k) (there_kept now table k).rules (freeing_by_passage table) (passage_held now table (IsThere now table k) (there_kept now table k).rules)
-          (count table) (ended now table seen)
-          (both_rules now table AnyCommand (IsThere now table k) (there_kept now table k) seen
-          (watched_held now table AnyCommand (IsThere now table k) (there_kept now table k) (key_of site) input begins (λ command e. tt) there)))
+    abbrev pub seen : StepSoFar
+    seen = over (watching table) (count table) heard
 
-      still : On need.point AwaitsNoneAt freed
-      still = until_moves_on now need.point AwaitsNoneAt (none_kept site now) table heard
-          (given_quiet site now need.point table (key_of site) input (record begins { ixl = all_clocked now begins.ixl })
-          (clocked_on now need.point AwaitsNoneAt (none_kept site now) begins quiet))
+    abbrev pub freed : StepSoFar
+    freed = freed_by_cancel now table seen
 
-      by_phase : HoldsNone need.until here.0.phase ⊎ Holding here.0 → NoneOrQuiet (ticked now input (ruled now table seen)).ixl
-      by_phase (inl none) = sided_quiet (ticked now input (ruled now table seen)).ixl (ticked_or site table k row row_there need within now input (ruled now table seen)
-          (over_keeps (NoneOrKnown now table k need.until row row_there need within) (proceeding now table) (proceeding_or now table k need.until row row_there need within)
-          (count table) (moved now table seen)
-          (inl (over_keeps (HeldNone now table k need.until) (moving now table) (moving_none now table k need.until) (count table) freed (here.0, here.1, none)))))
-      by_phase (inr holding) = inr (behind_moves_on now need.point AwaitsNoneAt (none_kept site now) table input seen
-          (over_keeps HeldQuiet (moving now table) (moving_keeps HeldQuiet now table (one_quiet now)) (count table) freed ((here.0, here.1, holding), still)).1)
+    here : At world.station.ixl.routes k (λ route. Unit {0}) → At freed.ixl.routes k (λ route. Unit {0})
+    here there = over_held now table (IsThere now table k) (there_kept now table k).rules (freeing_by_cancel now table) (cancel_held now table (IsThere now table k) (there_kept now table k).rules)
+        (count table) (freed_by_passage now table seen)
+        (over_held now table (IsThere now table k) (there_kept now table k).rules (freeing_by_passage table) (passage_held now table (IsThere now table k) (there_kept now table k).rules)
+        (count table) (ended now table seen)
+        (both_rules now table AnyCommand (IsThere now table k) (there_kept now table k) seen
+        (watched_held now table AnyCommand (IsThere now table k) (there_kept now table k) (key_of site) input begun_part (λ command e. tt) there)))
+
+    -- the route holds none with authority before the fifth rule, or holds the point
+    pub holds_or : At world.station.ixl.routes k (λ route. Unit {0}) → At freed.ixl.routes k (λ route. HoldsNone need.until route.phase) ⊎ At freed.ixl.routes k Holding
+    holds_or there = choose (none_or need.until (holds k row need row_there within) (here there).0.phase)
+      where
+        choose : HoldsNone need.until (here there).0.phase ⊎ Holding (here there).0 → At freed.ixl.routes k (λ route. HoldsNone need.until route.phase) ⊎ At freed.ixl.routes k Holding
+        choose (inl none) = inl ((here there).0, (here there).1, none)
+        choose (inr holding) = inr ((here there).0, (here there).1, holding)
+
+    others_quiet : (number : ℕ) (own : Need) (part : StepSoFar) → need.point ≢ own.point → On need.point AwaitsNoneAt part → On need.point AwaitsNoneAt (moving_one now table number own part)
+    others_quiet number own part differ is known there = is known (sym ((one_leaves now table k law holds number own part).points need.point differ) ∙ there)
+
+    step_quiet : NoneOrQuiet world.station.ixl → At world.station.ixl.routes k (λ route. Unit {0}) → NoneOrQuiet (interlocking_stepped site table input world).station.ixl
+    unfolding interlocking_stepped stepped
+    step_quiet (inl none) there = sided_quiet (interlocking_stepped site table input world).station.ixl (step_or site table k row row_there need within input world none)
+    step_quiet (inr quiet) there = by_phase (holds_or there)
+      where
+        still : On need.point AwaitsNoneAt freed
+        still = until_moves_on now need.point AwaitsNoneAt (none_kept site now) table heard
+            (given_quiet site now need.point table (key_of site) input (record begun_part { ixl = all_clocked now begun_part.ixl })
+            (clocked_on now need.point AwaitsNoneAt (none_kept site now) begun_part quiet))
+
+        by_phase : At freed.ixl.routes k (λ route. HoldsNone need.until route.phase) ⊎ At freed.ixl.routes k Holding → NoneOrQuiet (ticked now input (ruled now table seen)).ixl
+        by_phase (inl none) = sided_quiet (ticked now input (ruled now table seen)).ixl (ticked_or site table k row row_there need within now input (ruled now table seen)
+            (over_keeps (NoneOrKnown now table k need.until row row_there need within) (proceeding now table) (proceeding_or now table k need.until row row_there need within)
+            (count table) (moved now table seen)
+            (inl (over_keeps (HeldNone now table k need.until) (moving now table) (moving_none now table k need.until) (count table) freed none))))
+        by_phase (inr holding) = inr (behind_moves_on now need.point AwaitsNoneAt (none_kept site now) table input seen (moved_so now (On need.point AwaitsNoneAt) others_quiet seen holding still))
 
   -- ---- every list of events
 
@@ -200,11 +214,11 @@ module _ (law : MoveLaw) (site : Site) (table : Table) (holds : HoldsEach table)
   unfolding interlocking_stepped
   step_stands input world is = (step_quiet input world is.0 is.1, there)
     where
-      now : ℕ
-      now = reading_of world.station.clock
+      at : ℕ
+      at = reading_of world.station.clock
 
-      there : At (stepped now table (key_of site) input (begun_with world.station.ixl empty_outbox)).ixl.routes k (λ route. Unit {0})
-      there = step_held now table AnyCommand (IsThere now table k) (there_kept now table k) (key_of site) input (begun_with world.station.ixl empty_outbox) (λ command e. tt) is.1
+      there : At (stepped at table (key_of site) input (begun_with world.station.ixl empty_outbox)).ixl.routes k (λ route. Unit {0})
+      there = step_held at table AnyCommand (IsThere at table k) (there_kept at table k) (key_of site) input (begun_with world.station.ixl empty_outbox) (λ command e. tt) is.1
 
   new_stands : (begins : Beginning) → Stands (new_ixl site table begins)
   unfolding new_ixl
@@ -238,18 +252,11 @@ available_or world point (known, there, ready) = by_stage known.client.stage ref
     by_stage stage.AwaitsStart e is = absurd (false≢true is)
     by_stage (stage.AwaitsStatus left) e is = absurd (false≢true is)
 
--- so a point is available that a route with authority requires, where its link is ready
+-- so a point is available that a route holds with authority, where its link is ready
 pub ready_available : MoveLaw → (site : Site) (table : Table) (world : WorldState) (number : ℕ) (row : Row) (route : RouteState) (need : Need) → IsTableOf site table → IsReached site table world
-    → IsRouteOf table world.station.ixl number row route → HasAuthority route → Contains row.needs need → IsPointReady world.station.ixl need.point → IsAvailable world.station.ixl need.point
-ready_available law site table world number row route need is_table reached is authority within ready = choose (available_or world need.point ready)
+    → IsRouteOf table world.station.ixl number row route → HoldsWithAuthority need route → Contains row.needs need → IsPointReady world.station.ixl need.point → IsAvailable world.station.ixl need.point
+ready_available law site table world number row route need is_table reached is holds within ready = choose (available_or world need.point ready)
   where
-    some : 0 < need.until
-    some = holds_each site table is_table number row need is.0 within
-
-    holds : HasAuthority route → HoldsWithAuthority need route
-    holds (inl proceeds) = (ap was_authorised proceeds, subst (λ (n : ℕ). n < need.until) (sym (ap freed_sections proceeds)) some)
-    holds (inr withdrawn) = (ap was_authorised withdrawn, subst (λ (n : ℕ). n < need.until) (sym (ap freed_sections withdrawn)) some)
-
     choose : IsAvailable world.station.ixl need.point ⊎ AwaitsMove need.point world → IsAvailable world.station.ixl need.point
     choose (inl available) = available
-    choose (inr awaits) = absurd (awaits_nothing law site table world number row route need is_table reached is (holds authority) within awaits)
+    choose (inr awaits) = absurd (awaits_nothing law site table world number row route need is_table reached is holds within awaits)

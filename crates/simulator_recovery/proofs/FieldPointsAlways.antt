@@ -95,13 +95,13 @@ module _ (site : Site) (entry : PointEntry) (host : HostState PointState) (lists
 
 -- ---- a contact tells of another position only of a point that is driven
 
-driven_there : (points : List (ClockedControllerState PointState)) (place : ℕ) (c : ClockedControllerState PointState) → slice_get points place ≡ Some c
+pub driven_there : (points : List (ClockedControllerState PointState)) (place : ℕ) (c : ClockedControllerState PointState) → slice_get points place ≡ Some c
     → driven_at place points ≡ drives (reading_of c.clock) c.host.object
 driven_there [] place c e = absurd (none-some c e)
 driven_there (first ∷ others) zero c e = ap (λ (x : ClockedControllerState PointState). drives (reading_of x.clock) x.host.object) (same_Some first c e)
 driven_there (first ∷ others) (suc place) c e = driven_there others place c e
 
-reach_refused : (site : Site) (point : PointId) (position : Position) (world : WorldState) → driven_at point.0 world.points ≡ None → refusal site (event.Reach point position) world ≡ None → ⊥
+pub reach_refused : (site : Site) (point : PointId) (position : Position) (world : WorldState) → driven_at point.0 world.points ≡ None → refusal site (event.Reach point position) world ≡ None → ⊥
 unfolding refusal
 reach_refused site point position world none may = choose (nat_le (length site.points) point.0) (may_reach (driven_at point.0 world.points) position)
     (ap (λ (side : Option Side). may_reach side position) none) may

@@ -1,6 +1,5 @@
--- A point that a route with authority requires is known at its side, where its link is up at both ends and no move is out.
+-- A point that stands at a side, with its moves answered, is known at this side, where its link is up at both ends and no move is out.
 use Rattle.std.proofs.Common.{◌≡◌, ◌⊎◌, inl, inr, ℕ, ◌<◌, ◌≤◌, List, [], ◌∷◌, length, map, true, Some, None, slice_get, refl, sym, ap, subst, ◌∙◌, arith}
-use Rattle.std.specs.List.{Contains}
 use Rattle.std.proofs.lemmas.List.{length-append}
 use Rattle.std.proofs.lemmas.Option.{same_Some, slice_get_within}
 use Rattle.ixl_table.specs.Table.{IsTableOf}
@@ -26,9 +25,10 @@ use Rattle.simulator_run.specs.rasta_core.identity.Role.{Role}
 use Rattle.simulator_run.specs.rasta_core.identity.Role.TheVariants as role
 use Rattle.simulator_run.specs.point_ctl.Drive.{PointState}
 use Rattle.simulator_run.specs.ixl_client.Client.{is_available}
-use Rattle.simulator_run.specs.ixl_rules.Due.{IsAvailable, IsRouteOf, Known}
-use Rattle.simulator_run.specs.ixl_rules.State.{KnownPointState, KnownSignalState, RouteState}
-use Rattle.simulator_run.specs.ixl_rules.Table.{Need, Row, Table}
+use Rattle.simulator_run.specs.sci_telegram.declared.message.Side.{Side}
+use Rattle.simulator_run.specs.ixl_rules.Due.{IsAvailable, Known}
+use Rattle.simulator_run.specs.ixl_rules.State.{KnownPointState, KnownSignalState}
+use Rattle.simulator_run.specs.ixl_rules.Table.{Table}
 use Rattle.simulator_run.specs.Links.{ServerEnd, end_of_server, names_at}
 use Rattle.simulator_run.specs.Nodes.{links, partners, point_link}
 use Rattle.simulator_run.specs.State.{ClockedControllerState, WorldState}
@@ -36,14 +36,13 @@ use Rattle.simulator_run_links.specs.HasLinks.{HasLinks, links_in}
 use Rattle.simulator_run_links.specs.Whole.{IsWhole}
 use Rattle.simulator_headline.specs.InFlight.{given_on}
 use Rattle.simulator_headline.specs.Reached.{IsReached, IsReadOff, IsTakenOf, end_at}
-use Rattle.simulator_recovery.specs.FieldPoints.{HasAuthority}
 use Rattle.simulator_recovery.specs.LinkRounds.{AreInOne, IsUpOn}
 use Rattle.simulator_recovery.proofs.Addressed.{partners_length}
 use Rattle.simulator_recovery.proofs.AlwaysExpected.{ExpectedLaws}
 use Rattle.simulator_recovery.proofs.AtLink.{mapped, of_second}
 use Rattle.simulator_recovery.proofs.ClientLinks.{up_open}
 use Rattle.simulator_recovery.proofs.FieldPointsAlways.{AlwaysTells, always_tells}
-use Rattle.simulator_recovery.proofs.FieldPointsSeen.{AnswersIn, MachineLaws, answers_in, authorised, count, fits, inside, known_or, last, rests}
+use Rattle.simulator_recovery.proofs.FieldPointsSeen.{AnswersIn, MachineLaws, RestsIn, answers_in, count, fits, inside, known_or, last}
 use Rattle.simulator_recovery.proofs.FieldPointsStep.{AllTell}
 use Rattle.simulator_recovery.proofs.InOne.{ConnectionLaws, in_one}
 use Rattle.simulator_recovery.proofs.LinkCounts.{settled_open}
@@ -71,25 +70,23 @@ none_made Before items some = absurd (omega (arith, some))
 none_made In items some = refl
 none_made Gone items some = refl
 
-module _ (laws : FieldLaws) (site : Site) (table : Table) (world : WorldState) (number : ℕ) (row : Row) (route : RouteState) (need : Need) (once : Once site) (station : IsStation site)
-    (is_table : IsTableOf site table)
-    (reached : IsReached site table world) (is : IsRouteOf table world.station.ixl number row route) (authority : HasAuthority route) (within : Contains row.needs need)
-    (up : IsUpOn (point_link site need.point) world)
-    (known : KnownPointState) (there : slice_get world.station.ixl.known_points need.point ≡ Some known) (available : is_available known.client.stage ≡ true) where
+module _ (laws : FieldLaws) (site : Site) (table : Table) (world : WorldState) (place : ℕ) (side : Side) (once : Once site) (station : IsStation site) (is_table : IsTableOf site table)
+    (reached : IsReached site table world) (rests : RestsIn laws.machine site table once station is_table world reached place side) (up : IsUpOn (point_link site place) world)
+    (known : KnownPointState) (there : slice_get world.station.ixl.known_points place ≡ Some known) (available : is_available known.client.stage ≡ true) where
   abbrev link : ℕ
-  link = point_link site need.point
+  link = point_link site place
 
   abbrev now : ℕ
   now = reading_of world.station.clock
 
-  seen_in : AnswersIn site table world
+  abbrev seen_in : AnswersIn site table world
   seen_in = answers_in laws.machine site table once station is_table world reached
 
   abbrev network : Links
   network = seen_in.represented.network
 
   abbrev point : Point
-  point = seen_in.machine.points need.point
+  point = seen_in.machine.points place
 
   tells : AlwaysTells laws.expected laws.owed site table station once is_table world
   tells = always_tells laws.expected laws.owed site table station once is_table world reached
@@ -97,27 +94,27 @@ module _ (laws : FieldLaws) (site : Site) (table : Table) (world : WorldState) (
   whole : IsWhole site world
   whole = seen_in.represented.linked.whole
 
-  few : need.point < length site.points
-  few = let inside = slice_get_within world.station.ixl.known_points need.point known there in let many = whole.clients.known_points in omega (arith, inside, many)
+  few : place < length site.points
+  few = let inside = slice_get_within world.station.ixl.known_points place known there in let many = whole.clients.known_points in omega (arith, inside, many)
 
   below : link < links site
   below = let f = few in omega (arith, f)
 
-  controller : (c : ClockedControllerState PointState) × (slice_get world.points need.point ≡ Some c)
-  controller = let f = few in let many = whole.points in at_place world.points need.point (omega (arith, f, many))
+  controller : (c : ClockedControllerState PointState) × (slice_get world.points place ≡ Some c)
+  controller = let f = few in let many = whole.points in at_place world.points place (omega (arith, f, many))
 
-  entry : (entry : PointEntry) × (slice_get site.points need.point ≡ Some entry)
-  entry = at_place site.points need.point few
+  entry : (entry : PointEntry) × (slice_get site.points place ≡ Some entry)
+  entry = at_place site.points place few
 
   client_same : up.client ≡ known.client.link
-  client_same = same_Some up.client known.client.link (sym up.client_there ∙ of_second _ _ _ (length site.signals) need.point known.client.link
+  client_same = same_Some up.client known.client.link (sym up.client_there ∙ of_second _ _ _ (length site.signals) place known.client.link
       (map_length (λ (k : KnownSignalState). k.client.link) world.station.ixl.known_signals ∙ whole.clients.known_signals)
-      (mapped (λ (k : KnownPointState). k.client.link) world.station.ixl.known_points need.point known there))
+      (mapped (λ (k : KnownPointState). k.client.link) world.station.ixl.known_points place known there))
 
   server_same : up.server ≡ end_of_server controller.0
   server_same = same_Some up.server (end_of_server controller.0) (sym up.server_there ∙ of_second (map end_of_server world.signals)
-      (map end_of_server world.points) _ (length site.signals) need.point (end_of_server controller.0)
-      (map_length end_of_server world.signals ∙ whole.signals) (mapped end_of_server world.points need.point controller.0 controller.1))
+      (map end_of_server world.points) _ (length site.signals) place (end_of_server controller.0)
+      (map_length end_of_server world.signals ∙ whole.signals) (mapped end_of_server world.points place controller.0 controller.1))
 
   client_up : is_up (settled now known.client.link).phase ≡ true
   client_up = ap (λ (l : LinkState). is_up (settled now l).phase) (sym client_same) ∙ up.client_up
@@ -170,8 +167,8 @@ module _ (laws : FieldLaws) (site : Site) (table : Table) (world : WorldState) (
   module _ (none : moves_given point ≡ 0) where
     gave_few : length (network.ends link).client.given ≤ 2
     gave_few =
-        let it = fits site table world seen_in.machine seen_in.represented seen_in.answers number row route need is.0 within is.1 (authorised route authority) known there client_up available
-        in let alive = inside site table world seen_in.machine seen_in.represented seen_in.answers number row route need is.0 within is.1 (authorised route authority) known there client_up available
+        let it = fits site table world seen_in.machine seen_in.represented place side rests.stands rests.answers known there client_up available
+        in let alive = inside site table world seen_in.machine seen_in.represented place side rests.stands rests.answers known there client_up available
         in let moves = it.moves alive
         in let same = ap length (it.client.given alive)
         in let most = given_most known.client.peer known.client.stage it.commands
@@ -186,14 +183,13 @@ module _ (laws : FieldLaws) (site : Site) (table : Table) (world : WorldState) (
         in omega (arith, gave, same, parts, both)
 
     all_there : AllTell controller.0.host.object.sensed (network.ends link).server.given
-    all_there = subst (AllTell controller.0.host.object.sensed) given_same (tells.holds.standing need.point controller.0 entry.0 controller.1 entry.1 host_open took_few)
+    all_there = subst (AllTell controller.0.host.object.sensed) given_same (tells.holds.standing place controller.0 entry.0 controller.1 entry.1 host_open took_few)
 
     made_so : reports_made point ≡ reports_in (of_server (server_of (seen link network)) (network.ends link).server.given)
-    made_so = (seen_in.represented.points.each need.point controller.0 controller.1).made
+    made_so = (seen_in.represented.points.each place controller.0 controller.1).made
 
     one_made : length (reports_made point) ≡ 1
-    one_made = let all = count site table world seen_in.machine seen_in.represented seen_in.answers number row route need is.0 within is.1
-        (authorised route authority) known there client_up available in omega (arith, all, none)
+    one_made = let all = count site table world seen_in.machine seen_in.represented place side rests.stands rests.answers known there client_up available in omega (arith, all, none)
 
     made_there : reports_made point ≡ reports_in (network.ends link).server.given
     made_there = made_so ∙ ap reports_in (none_made (server_of (seen link network)) (network.ends link).server.given (let one = one_made in let same = ap length made_so in omega (arith, one, same)))
@@ -201,28 +197,23 @@ module _ (laws : FieldLaws) (site : Site) (table : Table) (world : WorldState) (
     last_there : last_of None (reports_made point) ≡ point.position
     last_there = last_one (position_seen controller.0.host.object.sensed) (reports_made point) one_made
         (subst (Each (λ (told : Position). told ≡ position_seen controller.0.host.object.sensed)) (sym made_there) all_there)
-        ∙ sym (seen_in.represented.points.each need.point controller.0 controller.1).position
+        ∙ sym (seen_in.represented.points.each place controller.0 controller.1).position
 
-  pub known_side : known.side ≡ Some need.side
-  known_side = choose (known_or site table world seen_in.machine seen_in.represented seen_in.answers number row route need is.0 within is.1
-      (authorised route authority) known there client_up available)
+  pub known_side : known.side ≡ Some side
+  known_side = choose (known_or site table world seen_in.machine seen_in.represented place side rests.stands rests.answers known there client_up available)
     where
-      choose : (known.side ≡ Some need.side) ⊎ ((known.side ≡ None) × (moves_given point ≡ 0)) → known.side ≡ Some need.side
+      choose : (known.side ≡ Some side) ⊎ ((known.side ≡ None) × (moves_given point ≡ 0)) → known.side ≡ Some side
       choose (inl side) = side
       choose (inr (nowhere, none)) = absurd (cc (sym (ap position_known nowhere)
-          ∙ (sym (last site table world seen_in.machine seen_in.represented seen_in.answers number row route need is.0 within is.1 (authorised route authority) known there client_up available)
-          ∙ (last_there none ∙ (rests site table world seen_in.machine seen_in.represented seen_in.answers number row route need is.0 within is.1
-          (authorised route authority) known there client_up available).stands.stands))))
+          ∙ (sym (last site table world seen_in.machine seen_in.represented place side rests.stands rests.answers known there client_up available)
+          ∙ (last_there none ∙ rests.stands))))
 
-pub authority_known : FieldLaws → (site : Site) (table : Table) (world : WorldState) (number : ℕ) (row : Row) (route : RouteState) (need : Need) → Once site → IsStation site → IsTableOf site table
-    → IsReached site table world → IsRouteOf table world.station.ixl number row route → HasAuthority route → Contains row.needs need → IsUpOn (point_link site need.point) world
-    → IsAvailable world.station.ixl need.point
-    → Known world.station.ixl need.point need.side
-authority_known laws site table world number row route need once station is_table reached is authority within up available = (
+pub rests_known : (laws : FieldLaws) (site : Site) (table : Table) (world : WorldState) (place : ℕ) (side : Side) (once : Once site) (station : IsStation site) (is_table : IsTableOf site table)
+    (reached : IsReached site table world) → RestsIn laws.machine site table once station is_table world reached place side → IsUpOn (point_link site place) world
+    → IsAvailable world.station.ixl place
+    → Known world.station.ixl place side
+rests_known laws site table world place side once station is_table reached rests up available = (
   available.0,
   available.1,
-  (
-    available.2,
-    known_side laws site table world number row route need once station is_table reached is authority within up available.0 available.1 available.2,
-  ),
+  (available.2, known_side laws site table world place side once station is_table reached rests up available.0 available.1 available.2),
 )

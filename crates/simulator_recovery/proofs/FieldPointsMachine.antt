@@ -63,6 +63,38 @@ known_answers side point sound known = inr (
     none_coming : point.coming ≡ []
     none_coming = let given = sound.given in let answered = known.answered in let both = length-append point.heard point.coming in none_left point.coming (omega (arith, given, answered, both))
 
+-- a point that is driven took a move in its connection
+abbrev pub HasTaken : Point → Type 0
+HasTaken point = point.driven ≡ true → 1 ≤ point.taken
+
+hears_taken : (coming : List Position) (point : Point) → HasTaken point → HasTaken (heard_next coming point)
+hears_taken [] point took = took
+hears_taken (next ∷ later) point took = took
+
+point_takes : (move : PointMove) (point : Point) → IsPointSound point → PointMay move point → HasTaken point → HasTaken (point_after move point)
+point_takes (PointLink Opens) point sound may took = λ drives. absurd (sound.link.quiet may (sound.driver drives))
+point_takes (PointLink Enters) point sound may took = took
+point_takes (PointLink ComesUp) point sound may took = took
+point_takes (PointLink Closes) point sound may took = took
+point_takes (PointLink Leaves) point sound may took = λ drives. absurd (false≢true drives)
+point_takes (PointLink QuietEnds) point sound may took = took
+point_takes (Takes begins) point sound may took = λ drives. omega arith
+point_takes DriveEnds point sound may took = λ drives. absurd (false≢true drives)
+point_takes (Reaches position) point sound may took = took
+point_takes (Reports position) point sound may took = took
+point_takes Hears point sound may took = hears_taken point.coming point took
+point_takes (RecountsMoves taken flight) point sound may took = λ drives. absurd (cc (sym may.0 ∙ sound.driver drives))
+point_takes (RecountsReports heard coming) point sound may took = took
+
+-- one whose moves are answered isn't driven
+pub undriven : (side : Side) (point : Point) → IsPointSound point → HasTaken point → Answers side point → point.driven ≡ false
+undriven side point sound took answers = choose point.driven refl answers
+  where
+    choose : (b : Bool) → point.driven ≡ b → Answers side point → point.driven ≡ false
+    choose false e is = e
+    choose true e (inl none) = let some = took e in absurd (omega (arith, some, none))
+    choose true e (inr (all, last)) = let owes = sound.owing e in absurd (omega (arith, owes, all))
+
 -- ---- the machine
 
 same_is : (a b : ℕ) → is_same a b ≡ true → a ≡ b
@@ -118,6 +150,24 @@ module _ (table : Table) (machine : Machine) (kept : Invariant table machine) (a
       go true e route point side held required = absurd (false≢true (sym (ap has_authority (kept.unset e route)) ∙ held))
       go false e route point side held required = answer route point side (held_resumed machine route e ∙ held) required
 
+-- so it is of each point that it took a move where it is driven
+abbrev AllTaken : Machine → Type 0
+AllTaken machine = (place : ℕ) → HasTaken (machine.points place)
+
+move_takes : (table : Table) (machine : Machine) → Invariant table machine → (move : Move) → May table machine move → AllTaken machine → AllTaken (after table machine move)
+move_takes table machine kept (AtSignal place move) may all = all
+move_takes table machine kept (AtPoint place move) may all =
+    at_each (λ n p. HasTaken p) place (point_after move (machine.points place)) machine.points (point_takes move (machine.points place) (kept.points place) may (all place)) all
+move_takes table machine kept (GivesMove place) may all = at_each (λ n p. HasTaken p) place _ machine.points (all place) all
+move_takes table machine kept (Sets route) may all = all
+move_takes table machine kept (Authorises route) may all = all
+move_takes table machine kept (GivesAspect route) may all = all
+move_takes table machine kept (Ends route) may all = all
+move_takes table machine kept (FreesPart route) may all = all
+move_takes table machine kept (Frees route) may all = all
+move_takes table machine kept Restarts may all = λ place. point_takes (PointLink Closes) (machine.points place) (kept.points place) tt (all place)
+move_takes table machine kept HoldEnds may all = all
+
 -- ---- every list of moves
 
 -- each move keeps the invariant
@@ -134,3 +184,13 @@ pub held_answer : EachKeeps → (table : Table) → IsSound table → (positions
     → HeldAnswer table machine
 held_answer each table sound positions begins machine to = subst (HeldAnswer table) to.leads
     (run_answers each table sound to.moves (first positions) begins (λ route point side held required. absurd (false≢true held)) to.may)
+
+run_takes : EachKeeps → (table : Table) → IsSound table → (moves : List Move) (machine : Machine) → Invariant table machine → AllTaken machine → MayRun right_rules table moves machine
+    → AllTaken (run right_rules table moves machine)
+run_takes each table sound [] machine kept all may = all
+run_takes each table sound (move ∷ moves) machine kept all may =
+    run_takes each table sound moves (after table machine move) (each table machine move sound kept may.0) (move_takes table machine kept move may.0 all) may.1
+
+pub all_taken : EachKeeps → (table : Table) → IsSound table → (positions : ℕ → Position) → Invariant table (first positions) → (machine : Machine) → MovesTo table (first positions) machine
+    → (place : ℕ) → HasTaken (machine.points place)
+all_taken each table sound positions begins machine to = subst AllTaken to.leads (run_takes each table sound to.moves (first positions) begins (λ place drives. absurd (false≢true drives)) to.may)

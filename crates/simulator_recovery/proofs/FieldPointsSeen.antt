@@ -1,4 +1,5 @@
--- Where a point is known that a route holds which proceeds or was withdrawn: at its side or nowhere, as the machine sees it.
+-- Where a point is known that stands at a side, with its moves answered: at this side or nowhere, as the machine sees it. So a point stands that a
+-- route with authority requires.
 use Rattle.std.proofs.Common.{◌≡◌, ◌⊎◌, inl, inr, ℕ, ◌+◌, ◌≤◌, ◌==◌, ◌&&◌, Bool, true, false, List, [], ◌∷◌, ◌++◌, append-nil, length, Option, Some, None, slice_get, refl, sym, ap, subst, ◌∙◌, arith}
 use Rattle.std.specs.Prelude.{◌||◌}
 use Rattle.std.specs.List.{All, Contains, list_any}
@@ -7,7 +8,7 @@ use Rattle.std.proofs.lemmas.Bool.Decides.{nat_tests}
 use Rattle.std.proofs.lemmas.List.{length-append}
 use Rattle.std.proofs.lemmas.List.Elements.{All-cons, All-contains, All-nil}
 use Rattle.ixl_table.specs.Table.{IsTableOf}
-use Rattle.simulator_machine.specs.Invariant.{Invariant, IsPointSound, IsSettled}
+use Rattle.simulator_machine.specs.Invariant.{Invariant, IsPointSound}
 use Rattle.simulator_machine.specs.Lists.{last_of}
 use Rattle.simulator_machine.specs.Machine.{Machine, is_held}
 use Rattle.simulator_machine.specs.Point.{Point, Position, moves_given, reports_made}
@@ -30,8 +31,10 @@ use Rattle.simulator_run.specs.sci_telegram.declared.message.Side.TheVariants as
 use Rattle.simulator_run.specs.ixl_client.Client.{is_available}
 use Rattle.simulator_run.specs.ixl_client.declared.stage.Stage.{Stage}
 use Rattle.simulator_run.specs.ixl_client.declared.stage.Stage.TheVariants as stage
+use Rattle.simulator_run.specs.ixl_rules.Due.{IsRouteOf}
 use Rattle.simulator_run.specs.ixl_rules.State.{KnownPointState, RouteState}
 use Rattle.simulator_run.specs.ixl_rules.Table.{Need, Row, Table}
+use Rattle.simulator_run.specs.ixl_rules.declared.phase.Phase.TheVariants as phase
 use Rattle.simulator_run.specs.First.{IsOutsetOf, Outset, world_at}
 use Rattle.simulator_run.specs.Run.{CanHappen, after_all}
 use Rattle.simulator_run.specs.State.{WorldState}
@@ -39,8 +42,7 @@ use Rattle.simulator_run.specs.simulator_event.declared.event.Event.{Event}
 use Rattle.simulator_headline.specs.Reached.{IsReached}
 use Rattle.simulator_headline.specs.Represents.{Represents, RepresentsAfter, given_in}
 use Rattle.simulator_headline.specs.Seen.{positions_at}
-use Rattle.simulator_recovery.specs.FieldPoints.{HasAuthority}
-use Rattle.simulator_recovery.proofs.FieldPointsMachine.{Answers, EachKeeps, HeldAnswer, held_answer, held_resumed}
+use Rattle.simulator_recovery.proofs.FieldPointsMachine.{Answers, EachKeeps, HasTaken, HeldAnswer, all_taken, held_answer, held_resumed}
 use Rattle.simulator_recovery.proofs.SeenSignals.{inside_at}
 
 -- ---- the table of the machine
@@ -87,7 +89,7 @@ required table number row need there within = subst (λ (r : Row). list_any test
     both true false e f = absurd (cc f)
     both false b e f = absurd (cc e)
 
--- ---- a point that such a route holds
+-- ---- a point
 
 none_left : (list : List Position) → length list ≤ 0 → list ≡ []
 none_left [] few = refl
@@ -101,39 +103,53 @@ all_heard stage.AwaitsAnswer heard moves e are = absurd (false≢true e)
 all_heard stage.AwaitsStart heard moves e are = absurd (false≢true e)
 all_heard (stage.AwaitsStatus left) heard moves e are = absurd (false≢true e)
 
+-- A route has authority: it proceeds, or it was withdrawn and its authority hasn't ended.
+abbrev pub HasAuthority : RouteState → Type 0
+HasAuthority route = (route.phase ≡ phase.Proceeding) ⊎ (route.phase ≡ phase.Withdrawn)
+
+authorised : (route : RouteState) → HasAuthority route → route_seen (Some route) ≡ Authorised
+authorised route (inl proceeds) = ap phase_seen proceeds
+authorised route (inr withdrawn) = ap phase_seen withdrawn
+
+-- where a route has authority
 module _ (site : Site) (table : Table) (world : WorldState) (machine : Machine) (represented : Represents site table world machine) (answer : HeldAnswer (machine_table table) machine)
-    (number : ℕ) (row : Row) (route : RouteState) (need : Need) (row_there : slice_get table.rows number ≡ Some row) (within : Contains row.needs need)
-    (route_there : slice_get world.station.ixl.routes number ≡ Some route) (authorised : route_seen (Some route) ≡ Authorised)
-    (known : KnownPointState) (there : slice_get world.station.ixl.known_points need.point ≡ Some known)
+    (number : ℕ) (row : Row) (route : RouteState) (need : Need) (is : IsRouteOf table world.station.ixl number row route) (within : Contains row.needs need) (authority : HasAuthority route) where
+  held : is_held machine number ≡ true
+  held = go machine.holding refl
+    where
+      seen : machine.routes number ≡ Authorised
+      seen = represented.station.sees.routes number ∙ (ap route_seen is.1 ∙ authorised route authority)
+
+      go : (test : Bool) → machine.holding ≡ test → is_held machine number ≡ true
+      go true e = absurd (cc (sym seen ∙ represented.invariant.unset e number))
+      go false e = held_resumed machine number e ∙ ap has_authority seen
+
+  pub authority_stands : (machine.points need.point).position ≡ Some (side_seen need.side)
+  authority_stands = (represented.invariant.settled number need.point (side_seen need.side) held (required table number row need is.0 within)).stands.stands
+
+  pub authority_answers : Answers (side_seen need.side) (machine.points need.point)
+  authority_answers = answer number need.point (side_seen need.side) held (required table number row need is.0 within)
+
+-- where it stands at a side, and its moves are answered
+module _ (site : Site) (table : Table) (world : WorldState) (machine : Machine) (represented : Represents site table world machine) (place : ℕ) (side : Side)
+    (stands : (machine.points place).position ≡ Some (side_seen side)) (answers : Answers (side_seen side) (machine.points place))
+    (known : KnownPointState) (there : slice_get world.station.ixl.known_points place ≡ Some known)
     (up : is_up (settled (reading_of world.station.clock) known.client.link).phase ≡ true) (available : is_available known.client.stage ≡ true) where
   abbrev now : ℕ
   now = reading_of world.station.clock
 
   abbrev point : Point
-  point = machine.points need.point
-
-  seen : machine.routes number ≡ Authorised
-  seen = represented.station.sees.routes number ∙ (ap route_seen route_there ∙ authorised)
-
-  held : is_held machine number ≡ true
-  held = go machine.holding refl
-    where
-      go : (test : Bool) → machine.holding ≡ test → is_held machine number ≡ true
-      go true e = absurd (cc (sym seen ∙ represented.invariant.unset e number))
-      go false e = held_resumed machine number e ∙ ap has_authority seen
+  point = machine.points place
 
   sound : IsPointSound point
-  sound = represented.invariant.points need.point
-
-  pub rests : IsSettled (side_seen need.side) point
-  rests = represented.invariant.settled number need.point (side_seen need.side) held (required table number row need row_there within)
+  sound = represented.invariant.points place
 
   pub inside : is_inside now known.client.link ≡ true
   inside = inside_at now known.client.link up
 
-  pub fits : KnownPointFits now known ((given_in site represented.network).points need.point) point
-  fits = (subst (λ (found : Option KnownPointState). SeesPoint now world.station.ixl found ((given_in site represented.network).points need.point) point) there
-      (represented.station.sees.points need.point)).fits
+  pub fits : KnownPointFits now known ((given_in site represented.network).points place) point
+  fits = (subst (λ (found : Option KnownPointState). SeesPoint now world.station.ixl found ((given_in site represented.network).points place) point) there
+      (represented.station.sees.points place)).fits
 
   heard : length point.heard ≡ length fits.commands + 1
   heard = all_heard known.client.stage (length point.heard) (length fits.commands) available (fits.heard inside)
@@ -152,16 +168,16 @@ module _ (site : Site) (table : Table) (world : WorldState) (machine : Machine) 
   last = ap (last_of None) made ∙ fits.last inside
 
   -- it is known at its side; or nowhere, and it was given no move in the connection
-  pub known_or : (known.side ≡ Some need.side) ⊎ ((known.side ≡ None) × (moves_given point ≡ 0))
+  pub known_or : (known.side ≡ Some side) ⊎ ((known.side ≡ None) × (moves_given point ≡ 0))
   known_or = by_side known.side refl
     where
-      by_answer : known.side ≡ None → Answers (side_seen need.side) point → (known.side ≡ Some need.side) ⊎ ((known.side ≡ None) × (moves_given point ≡ 0))
+      by_answer : known.side ≡ None → Answers (side_seen side) point → (known.side ≡ Some side) ⊎ ((known.side ≡ None) × (moves_given point ≡ 0))
       by_answer e (inl none) = inr (e, none)
-      by_answer e (inr (all, side)) = absurd (cc (sym side ∙ (last ∙ ap position_seen e)))
+      by_answer e (inr (all, at)) = absurd (cc (sym at ∙ (last ∙ ap position_seen e)))
 
-      by_side : (s : Option Side) → known.side ≡ s → (known.side ≡ Some need.side) ⊎ ((known.side ≡ None) × (moves_given point ≡ 0))
-      by_side None e = by_answer e (answer number need.point (side_seen need.side) held (required table number row need row_there within))
-      by_side (Some s) e = inl (e ∙ ap Some (same_side s need.side (some_same (sym (sound.last count (side_seen s) (last ∙ ap position_seen e)) ∙ rests.stands.stands))))
+      by_side : (s : Option Side) → known.side ≡ s → (known.side ≡ Some side) ⊎ ((known.side ≡ None) × (moves_given point ≡ 0))
+      by_side None e = by_answer e answers
+      by_side (Some s) e = inl (e ∙ ap Some (same_side s side (some_same (sym (sound.last count (side_seen s) (last ∙ ap position_seen e)) ∙ stands))))
         where
           some_same : {A : Type 0} {a b : A} → Some a ≡ Some b → a ≡ b
           some_same f = cc f
@@ -183,17 +199,31 @@ pub record AnswersIn (site : Site) (table : Table) (world : WorldState) : Type 0
   pub machine : Machine
   pub represented : Represents site table world machine
   pub answers : HeldAnswer (machine_table table) machine
+  pub took : (place : ℕ) → HasTaken (machine.points place)
 
 pub answers_in : MachineLaws → (site : Site) (table : Table) → Once site → IsStation site → IsTableOf site table → (world : WorldState) → IsReached site table world → AnswersIn site table world
 answers_in laws site table once station is_table world reached = subst (AnswersIn site table) (sym reached.after) (record {
   machine = to.machine;
   represented = to.represented;
   answers = held_answer laws.each (machine_table table) (laws.sound table) (positions_at reached.outset) (laws.begins (machine_table table) (positions_at reached.outset)) to.machine to.moves;
+  took = all_taken laws.each (machine_table table) (laws.sound table) (positions_at reached.outset) (laws.begins (machine_table table) (positions_at reached.outset)) to.machine to.moves;
 })
   where
     to : RepresentsAfter site table (first (positions_at reached.outset)) (after_all site table reached.events (world_at site table reached.outset))
     to = laws.moves site table reached.outset reached.events once station is_table reached.lies reached.can
 
-pub authorised : (route : RouteState) → HasAuthority route → route_seen (Some route) ≡ Authorised
-authorised route (inl proceeds) = ap phase_seen proceeds
-authorised route (inr withdrawn) = ap phase_seen withdrawn
+-- In this machine a point stands at a side, and its moves are answered.
+pub record RestsIn (laws : MachineLaws) (site : Site) (table : Table) (once : Once site) (station : IsStation site) (is_table : IsTableOf site table) (world : WorldState)
+    (reached : IsReached site table world) (place : ℕ) (side : Side) : Type 0 where
+  pub stands : ((answers_in laws site table once station is_table world reached).machine.points place).position ≡ Some (side_seen side)
+  pub answers : Answers (side_seen side) ((answers_in laws site table once station is_table world reached).machine.points place)
+
+pub authority_rests : (laws : MachineLaws) (site : Site) (table : Table) (once : Once site) (station : IsStation site) (is_table : IsTableOf site table) (world : WorldState)
+    (reached : IsReached site table world) (number : ℕ) (row : Row) (route : RouteState) (need : Need) → IsRouteOf table world.station.ixl number row route → Contains row.needs need
+    → HasAuthority route → RestsIn laws site table once station is_table world reached need.point need.side
+authority_rests laws site table once station is_table world reached number row route need is within authority =
+    let it = answers_in laws site table once station is_table world reached
+    in record {
+      stands = authority_stands site table world it.machine it.represented it.answers number row route need is within authority;
+      answers = authority_answers site table world it.machine it.represented it.answers number row route need is within authority;
+    }

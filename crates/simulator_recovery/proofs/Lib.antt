@@ -225,7 +225,6 @@ pub mod HeldRoutes
 pub mod HeldCome
 pub mod UnheldProceeding
 pub mod UnheldPhases
-pub mod UnheldRounds
 pub mod UnheldAccepted
 pub mod HeldRounds
 pub mod BeginsYoung
@@ -267,3 +266,10 @@ pub mod BetweenStops
 pub mod BetweenEnds
 pub mod BetweenCancels
 pub mod BetweenWithdrawals
+pub mod EndedCalls
+pub mod EndedHears
+pub mod EndedClient
+pub mod EndedStep
+pub mod EndedLinks
+pub mod EndedWorld
+pub mod EndedAlways

@@ -48,7 +48,7 @@ set_same [] place new x e = absurd (none-some x e)
 set_same (y ∷ list) zero new x e = refl
 set_same (y ∷ list) (suc place) new x e = set_same list place new x e
 
-set_apart : {X : Type 0} (list : List X) (at place : ℕ) (new : X) → at ≢ place → slice_get (slice_set list at new) place ≡ slice_get list place
+pub set_apart : {X : Type 0} (list : List X) (at place : ℕ) (new : X) → at ≢ place → slice_get (slice_set list at new) place ≡ slice_get list place
 set_apart [] at place new differ = refl
 set_apart (x ∷ list) zero zero new differ = absurd (differ refl)
 set_apart (x ∷ list) zero (suc place) new differ = refl

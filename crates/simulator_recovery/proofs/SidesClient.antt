@@ -1,29 +1,27 @@
 -- What a client gives in a step while it awaits a report: nothing but the move that it was given in the step.
-use Rattle.std.proofs.Common.{◌≡◌, ℕ, ◌∙◌, Bool, true, false, List, [], ◌∷◌, ◌++◌, map, ◌&&◌, if◌then◌else◌, refl, sym, ap, subst}
+use Rattle.std.proofs.Common.{◌≡◌, ℕ, ◌∙◌, Bool, true, false, List, [], ◌∷◌, ◌++◌, map, if◌then◌else◌, refl, sym, ap}
 use Rattle.std.proofs.lemmas.Bool.{false≢true}
 use Rattle.simulator_run.specs.layout.Entries.{Site}
 use Rattle.simulator_run.specs.rasta_core.Calls.{opening, opens, receiving, ticking as link_ticking}
 use Rattle.simulator_run.specs.rasta_core.Establishment.{beginning, requesting}
 use Rattle.simulator_run.specs.rasta_core.Outbox.{OutboxState}
 use Rattle.simulator_run.specs.rasta_core.PdusHandedOut.{beating, sending}
-use Rattle.simulator_run.specs.rasta_core.State.{is_open, is_up}
+use Rattle.simulator_run.specs.rasta_core.State.{is_up}
 use Rattle.simulator_run.specs.rasta_core.Steps.{all_made}
 use Rattle.simulator_run.specs.rasta_core.phase.Phase.TheVariants as phases
-use Rattle.simulator_run.specs.rasta_core.reason.Reason.{Reason}
-use Rattle.simulator_run.specs.sci_telegram.declared.message.Initialisation.TheVariants.{VersionCheck}
-use Rattle.simulator_run.specs.sci_telegram.declared.message.Message.{Message}
 use Rattle.simulator_run.specs.sci_telegram.declared.message.Side.{Side}
-use Rattle.simulator_run.specs.ixl_client.Client.{ClientState, PeerState, is_available, is_outside, is_ready}
-use Rattle.simulator_run.specs.ixl_client.ClientSoFar.{ClientSoFar, Closes, LinkCall, Opens, Receives, Ticks, as_call, begun, calling}
-use Rattle.simulator_run.specs.ixl_client.Step.{acted_on, acting, acting_all, at_stage, commanding, fallen, hearing, message_of, posting, rising, saying, stage_after_command, ticking}
+use Rattle.simulator_run.specs.ixl_client.Client.{ClientState, PeerState, is_available, is_ready}
+use Rattle.simulator_run.specs.ixl_client.ClientSoFar.{ClientSoFar, LinkCall, Opens, Receives, Ticks, as_call, begun, calling}
+use Rattle.simulator_run.specs.ixl_client.Step.{acting_all, at_stage, commanding, fallen, hearing, message_of, posting, rising, stage_after_command, ticking}
 use Rattle.simulator_run.specs.ixl_client.declared.command.Command.TheVariants.{Move}
 use Rattle.simulator_run.specs.ixl_client.declared.stage.Stage.{Stage}
 use Rattle.simulator_run.specs.ixl_client.declared.stage.Stage.TheVariants as stage
 use Rattle.simulator_run.specs.ixl_rules.StepSoFar.{Signal}
-use Rattle.simulator_machine_links.specs.Flows.{given_after, taken_after}
+use Rattle.simulator_machine_links.specs.Flows.{given_after}
 use Rattle.simulator_recovery.specs.ClientSaid.{commanded}
 use Rattle.simulator_recovery.proofs.ClientItem.{answers, changes, completes, Goes, starts, tells}
-use Rattle.simulator_recovery.proofs.ClientTalk.{Fate, Posted, Tracks, accepted, asks, called, closes, fate, goes, posts, refused}
+use Rattle.simulator_recovery.proofs.ClientTalk.{Posted, accepted, called, posts, refused}
+use Rattle.simulator_recovery.proofs.EndedHears.{Heard, Tracked, at_start, has_heard}
 use Rattle.simulator_recovery.proofs.StationTalk.{fallen_link}
 
 -- A client awaits a report behind these calls only where it did before them, and has given the same.
@@ -58,113 +56,36 @@ stands client = choose (is_up client.link.phase) refl
     choose false up e = absurd (false≢true (ap is_ready e))
 
 module _ (site : Site) (now connection : ℕ) (client : ClientState) (outbox : OutboxState) (given : List (List ℕ)) where
-  abbrev Tracked : ClientSoFar → List (List ℕ) → List (List ℕ) → Type 0
-  Tracked = Tracks site (Signal 0) client.peer tt now connection client.link given []
-
   abbrev start : ClientSoFar
   start = begun client outbox
 
-  at_start : Tracked start given []
-  unfolding all_made given_after taken_after
-  at_start = record { link_is = refl; gave = refl; took = refl }
+  -- where it awaits a report it did so before, and has given the same
+  abbrev Awaits : Stage → List (List ℕ) → Type 0
+  Awaits s gave = s ≡ stage.AwaitsReport → (client.stage ≡ stage.AwaitsReport) × (gave ≡ given)
 
-  -- what was called so far, and that it gave nothing where a report is awaited
-  record Heard (part : ClientSoFar) : Type 0 where
-    gave : List (List ℕ)
-    took : List (List ℕ)
-    tracks : Tracked part gave took
-    awaited : part.client.stage ≡ stage.AwaitsReport → client.stage ≡ stage.AwaitsReport
-    same : part.client.stage ≡ stage.AwaitsReport → gave ≡ given
+  not_ready : (s : Stage) → is_ready s ≡ false → (gave : List (List ℕ)) → Awaits s gave
+  not_ready s none gave e = absurd (false≢true (sym none ∙ ap is_ready e))
 
-  closing : (why : Reason) (part : ClientSoFar) → Heard part → Heard (calling now (Closes why) part)
-  unfolding calling
-  closing why part h = record {
-    gave = h.gave;
-    took = h.took;
-    tracks = called site (Signal 0) client.peer tt now connection client.link given [] (Closes why) part h.gave h.took h.tracks;
-    awaited = h.awaited;
-    same = h.same;
-  }
+  abbrev behind_items : List ℕ → ClientSoFar
+  behind_items bytes = acting_all now (receiving now bytes client.link).items (rising now (calling now (Receives bytes) start))
 
-  received : (bytes : List ℕ) → Heard (calling now (Receives bytes) start)
-  unfolding calling
-  received bytes = record {
-    gave = given;
-    took = [] ++ (receiving now bytes client.link).items;
-    tracks = called site (Signal 0) client.peer tt now connection client.link given [] (Receives bytes) start given [] at_start;
-    awaited = λ e. e;
-    same = λ e. refl;
-  }
-
-  said : (told : Message) (part : ClientSoFar) (next : Stage) → (next ≡ stage.AwaitsReport → ⊥) → Heard part → Heard (at_stage next (posting now told part))
-  said told part next not h = by_post _ (posts site (Signal 0) client.peer tt now connection client.link given [] told part h.gave h.took h.tracks)
-    where
-      by_post : (item : List ℕ) → Posted site (Signal 0) client.peer tt now connection client.link given [] item part (posting now told part) h.gave h.took → Heard (at_stage next (posting now told part))
-      by_post item (accepted up tr) = record { gave = h.gave ++ item ∷ []; took = h.took; tracks = record { link_is = tr.link_is; gave = tr.gave; took = tr.took }; awaited = λ e. absurd (not e); same = λ e. absurd (not e) }
-      by_post item (refused down was tr) = record { gave = h.gave; took = h.took; tracks = record { link_is = tr.link_is; gave = tr.gave; took = tr.took }; awaited = λ e. absurd (not e); same = λ e. absurd (not e) }
-
-  one_heard : (item : List ℕ) (part : ClientSoFar) → Heard part → Heard (acting now item part)
-  one_heard item part h = choose (fate now item part)
-    where
-      done : ClientSoFar
-      done = acting now item part
-
-      choose : Fate now item part done → Heard done
-      choose (closes why at) = subst Heard (sym at) (closing why part h)
-      choose (goes link_same calls_same peer_same more on) = record {
-        gave = h.gave;
-        took = h.took;
-        tracks = record {
-          link_is = link_same ∙ h.tracks.link_is ∙ ap (λ (cs : List LinkCall). (all_made now (map (as_call connection) cs) client.link).link) (sym calls_same);
-          gave = ap (λ (cs : List LinkCall). given_after now (map (as_call connection) cs) client.link given) calls_same ∙ h.tracks.gave;
-          took = ap (λ (cs : List LinkCall). taken_after now (map (as_call connection) cs) client.link []) calls_same ∙ h.tracks.took;
-        };
-        awaited = λ e. absurd (never part.client.peer part.client.stage done.client.stage on e);
-        same = λ e. absurd (never part.client.peer part.client.stage done.client.stage on e);
-      }
-      choose (asks is at) = subst Heard (sym at) (said _ (acted_on item part) stage.AwaitsStart (λ e. false≢true (ap is_ready e)) (record {
-        gave = h.gave;
-        took = h.took;
-        tracks = record { link_is = h.tracks.link_is; gave = h.tracks.gave; took = h.tracks.took };
-        awaited = h.awaited;
-        same = h.same;
-      }))
-
-  all_heard : (items : List (List ℕ)) (part : ClientSoFar) → Heard part → Heard (acting_all now items part)
-  unfolding acting_all
-  all_heard [] part h = h
-  all_heard (item ∷ others) part h = choose (is_open part.client.link.phase) (all_heard others (acting now item part) (one_heard item part h))
-    where
-      choose : (b : Bool) → Heard (acting_all now others (acting now item part)) → Heard (if b then acting_all now others (acting now item part) else part)
-      choose true more = more
-      choose false more = h
-
-  risen : (part : ClientSoFar) → Heard part → Heard (rising now part)
-  unfolding rising
-  risen part h = choose (is_outside part.client.stage && is_up part.client.link.phase)
-    where
-      choose : (b : Bool) → Heard (if b then at_stage stage.AwaitsAnswer (saying now (VersionCheck part.client.peer.version) part) else part)
-      choose true = said _ part stage.AwaitsAnswer (λ e. false≢true (ap is_ready e)) h
-      choose false = h
+  heard : (bytes : List ℕ) → Heard site now connection client outbox given Awaits (λ old new gave on was e. absurd (never client.peer old new on e))
+      (λ old gave was. (not_ready stage.AwaitsAnswer refl gave, not_ready stage.AwaitsAnswer refl _)) (λ old gave was. (not_ready stage.AwaitsStart refl gave, not_ready stage.AwaitsStart refl _))
+      (behind_items bytes)
+  heard bytes = has_heard site now connection client outbox given Awaits _ _ _ bytes (λ e. (e, refl))
 
   pub hears_nothing : (bytes : List ℕ) → GivesNothing now connection given client (hearing now bytes start).client (hearing now bytes start).calls
   unfolding hearing
   hears_nothing bytes = record {
-    link_is = fallen_link part.client ∙ h.tracks.link_is;
-    awaited = λ e. h.awaited (stands part.client e).awaits;
-    same = λ e. h.tracks.gave ∙ h.same (stands part.client e).awaits;
+    link_is = fallen_link (behind_items bytes).client ∙ (heard bytes).tracks.link_is;
+    awaited = λ e. ((heard bytes).way (stands (behind_items bytes).client e).awaits).0;
+    same = λ e. (heard bytes).tracks.gave ∙ ((heard bytes).way (stands (behind_items bytes).client e).awaits).1;
   }
-    where
-      part : ClientSoFar
-      part = acting_all now (receiving now bytes client.link).items (rising now (calling now (Receives bytes) start))
-
-      h : Heard part
-      h = all_heard (receiving now bytes client.link).items (rising now (calling now (Receives bytes) start)) (risen (calling now (Receives bytes) start) (received bytes))
 
   -- a move
   pub gives_move : (side : Side) → GivesOne now connection (commanded client.peer (Move side)) given client (commanding now (Move side) start).client (commanding now (Move side) start).calls
   unfolding commanding
-  gives_move side = by_post (posts site (Signal 0) client.peer tt now connection client.link given [] (message_of (Move side)) start given [] at_start)
+  gives_move side = by_post (posts site (Signal 0) client.peer tt now connection client.link given [] (message_of (Move side)) start given [] (at_start site now connection client outbox given))
     where
       item : List ℕ
       item = commanded client.peer (Move side)
@@ -190,14 +111,15 @@ module _ (site : Site) (now connection : ℕ) (client : ClientState) (outbox : O
       opened : ClientSoFar
       opened = calling now Opens ticked
 
-      tracks : Tracked opened (if opens now ticked.client.link then [] else given) (if opens now ticked.client.link then [] else [])
+      tracks : Tracked site now connection client outbox given opened (if opens now ticked.client.link then [] else given) (if opens now ticked.client.link then [] else [])
       tracks = called site (Signal 0) client.peer tt now connection client.link given [] Opens ticked given []
-          (called site (Signal 0) client.peer tt now connection client.link given [] Ticks start given [] at_start)
+          (called site (Signal 0) client.peer tt now connection client.link given [] Ticks start given [] (at_start site now connection client outbox given))
 
       start_phase : opens now ticked.client.link ≡ true → (opening now ticked.client.link).link.phase ≡ phases.Start
       start_phase e = rw e refl
 
-      by_opened : (b : Bool) → opens now ticked.client.link ≡ b → Tracked opened (if b then [] else given) (if b then [] else []) → GivesNothing now connection given client (fallen opened.client) opened.calls
+      by_opened : (b : Bool) → opens now ticked.client.link ≡ b
+          → Tracked site now connection client outbox given opened (if b then [] else given) (if b then [] else []) → GivesNothing now connection given client (fallen opened.client) opened.calls
       by_opened true e tr = record {
         link_is = fallen_link opened.client ∙ tr.link_is;
         awaited = λ f. (stands opened.client f).awaits;

@@ -1,5 +1,5 @@
 -- A route that holds a point with authority by no more than it did, through a step: it doesn't hold it so, or is just given authority.
-use Rattle.std.proofs.Common.{◌≡◌, ◌⊎◌, inl, inr, ℕ, suc, ◌≤◌, ◌==◌, ◌&&◌, Bool, true, false, if◌then◌else◌, List, length, Option, Some, None, slice_get, refl, sym, ap, subst, ◌∙◌, arith}
+use Rattle.std.proofs.Common.{◌≡◌, ◌⊎◌, inl, inr, ℕ, suc, ◌<◌, ◌≤◌, ◌==◌, ◌&&◌, Bool, true, false, nat_lt, if◌then◌else◌, List, length, Option, Some, None, slice_get, refl, sym, ap, subst, ◌∙◌, arith, ltb-true, ltb-false}
 use Rattle.std.specs.Prelude.{◌||◌}
 use Rattle.std.specs.List.{Contains}
 use Rattle.std.proofs.lemmas.Bool.{false≢true}
@@ -18,7 +18,7 @@ use Rattle.simulator_run.specs.ixl_rules.State.{IxlState, KnownPointState, Route
 use Rattle.simulator_run.specs.ixl_rules.Step.{Commands, Datagram, Input, Tick, addressed, all_clocked, detector_hearing, given, known_point_hearing, known_signal_hearing, looking, looking_by, looks, node_hearing, occupied_heard, route_looks, stepped, ticked, watching}
 use Rattle.simulator_run.specs.ixl_rules.StepSoFar.{Detector, Node as IxlNode, Point, Signal, StepSoFar, begun_with, detector_after, empty_outbox, giving_aspect, noted, over, with_detector, with_one, with_route}
 use Rattle.simulator_run.specs.ixl_rules.Table.{Need, Row, Table}
-use Rattle.simulator_run.specs.ixl_rules.View.{is_at_known_stop, place_in, was_authorised}
+use Rattle.simulator_run.specs.ixl_rules.View.{freed_sections, is_at_known_stop, is_set, place_in, was_authorised}
 use Rattle.simulator_run.specs.ixl_rules.declared.command.Command.{Command}
 use Rattle.simulator_run.specs.ixl_rules.declared.command.Command.TheVariants as commands
 use Rattle.simulator_run.specs.ixl_rules.declared.command.Refusal.{Refusal}
@@ -44,6 +44,26 @@ HoldsNone until phase.Waiting = Unit {0}
 HoldsNone until phase.Proceeding = ⊥
 HoldsNone until phase.Withdrawn = ⊥
 HoldsNone until (phase.Ended clock freed) = until ≤ freed
+
+pub none_held : (until : ℕ) (p : Phase) → HoldsNone until p → was_authorised p ≡ true → freed_sections p < until → ⊥
+none_held until phase.Free none authority awaits = false≢true authority
+none_held until phase.Waiting none authority awaits = false≢true authority
+none_held until phase.Proceeding none authority awaits = none
+none_held until phase.Withdrawn none authority awaits = none
+none_held until (phase.Ended clock done) none authority awaits = omega (arith, none, awaits)
+
+-- of a point that waits for one section at least
+pub none_or : (until : ℕ) → 0 < until → (p : Phase) → HoldsNone until p ⊎ ((was_authorised p ≡ true) × (is_set p ≡ true) × (freed_sections p < until))
+none_or until some phase.Free = inl tt
+none_or until some phase.Waiting = inl tt
+none_or until some phase.Proceeding = inr (refl, refl, some)
+none_or until some phase.Withdrawn = inr (refl, refl, some)
+none_or until some (phase.Ended clock done) = choose (nat_lt done until) refl
+  where
+    choose : (b : Bool) → nat_lt done until ≡ b
+        → HoldsNone until (phase.Ended clock done) ⊎ ((was_authorised (phase.Ended clock done) ≡ true) × (is_set (phase.Ended clock done) ≡ true) × (done < until))
+    choose true e = inr (refl, refl, ltb-true _ _ e)
+    choose false e = inl (ltb-false _ _ e)
 
 module _ (now : ℕ) (table : Table) (k until : ℕ) where
   abbrev pub Holds : RouteState → Type 0
@@ -122,7 +142,7 @@ module _ (now : ℕ) (table : Table) (k until : ℕ) where
   pub moving_none : (number : ℕ) (part : StepSoFar) → HeldNone part → HeldNone (moving now table number part)
   moving_none = moving_keeps HeldNone now table moving_one_none
 
-  until_moved : (part : StepSoFar) → HeldNone part → HeldNone (moved now table part)
+  pub until_moved : (part : StepSoFar) → HeldNone part → HeldNone (moved now table part)
   until_moved part is =
       over_keeps HeldNone (moving now table) moving_none (count table) (freed_by_cancel now table part)
       (over_keeps HeldNone (freeing_by_cancel now table) cancel_none (count table) (freed_by_passage now table part)

@@ -30,4 +30,3 @@ pub mod Withdrawn
 pub mod UnheldPoints
 pub mod Answered
 pub mod OnceMoved
-pub mod FieldPoints

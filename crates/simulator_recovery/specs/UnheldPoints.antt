@@ -2,37 +2,17 @@
 use Rattle.std.specs.Prelude.{◌≡◌, ◌⊎◌, ◌<◌, ℕ, false, IsTrue}
 use Rattle.std.specs.FinSet.{contains}
 use Rattle.std.specs.List.{Contains}
-use Rattle.simulator_run.specs.sci_telegram.declared.message.Side.{Side}
-use Rattle.simulator_run.specs.ixl_rules.Due.{At, HoldsPoint, IsClear, IsRouteOf, Known}
+use Rattle.simulator_run.specs.ixl_rules.Due.{At, IsClear}
 use Rattle.simulator_run.specs.ixl_rules.State.{RouteState}
 use Rattle.simulator_run.specs.ixl_rules.Table.{Need, Row, Table}
 use Rattle.simulator_run.specs.ixl_rules.View.{freed_sections, was_authorised}
-use Rattle.simulator_run.specs.ixl_rules.declared.phase.Phase.TheVariants as phase
 use Rattle.simulator_run.specs.State.{WorldState}
 use Rattle.simulator_recovery.specs.HeldPoints.{IsKnownOrOnItsWay}
-use Rattle.simulator_recovery.specs.NothingDue.{Proceeds}
 
 -- A route holds a point that it requires with authority: it was given authority in its setting, and not all sections are freed for which the
 -- point waits.
 abbrev pub HoldsWithAuthority : Need → RouteState → Type 0
 HoldsWithAuthority need route = IsTrue (was_authorised route.phase) × (freed_sections route.phase < need.until)
-
--- It proceeds, or doesn't hold the point so. So it isn't one that was withdrawn, or whose authority has ended, and holds the point still.
-abbrev pub ProceedsOrHoldsNone : Need → RouteState → Type 0
-ProceedsOrHoldsNone need route = Proceeds route ⊎ (HoldsWithAuthority need route → ⊥)
-
--- The authority of a route has ended.
-abbrev pub HasEnded : RouteState → Type 0
-HasEnded route = (clock : ℕ) × (done : ℕ) × (route.phase ≡ phase.Ended clock done)
-
--- A route holds a point, and its authority has ended.
-abbrev pub IsHeldBehindEnd : Table → WorldState → ℕ → Type 0
-IsHeldBehindEnd table world point = (number : ℕ) × (row : Row) × (route : RouteState) × (side : Side)
-    × IsRouteOf table world.station.ixl number row route × HasEnded route × HoldsPoint row route.phase point side
-
--- Each point that this route requires is known at its side, or no such route holds it.
-abbrev pub AreKnownOrUnheld : Table → Row → WorldState → Type 0
-AreKnownOrUnheld table row world = (need : Need) → Contains row.needs need → (IsHeldBehindEnd table world need.point → ⊥) ⊎ Known world.station.ixl need.point need.side
 
 -- Each point that a route requires is known at its side, or on its way, or its own section is known to be clear.
 abbrev pub HasClearPoints : Table → Row → WorldState → Type 0

@@ -1,36 +1,32 @@
 //! Points that routes with authority hold: where they are known.
 
-ghost use Rattle.std.specs.Prelude.{◌≡◌, ◌≤◌, ◌⊎◌, ℕ, suc, List, [], ◌∷◌, ◌++◌, length, Some, slice_get};
-ghost use Rattle.std.specs.List.{Contains};
+ghost use Rattle.std.specs.Prelude.{◌≡◌, ◌≤◌, ℕ, suc, List, [], ◌∷◌, ◌++◌, length, Some, slice_get};
 ghost use Rattle.ixl_table.specs.Table.{IsTableOf};
 ghost use Rattle.simulator_run.specs.layout.Entries.{Site};
 ghost use Rattle.simulator_run.specs.layout.Once.{Once};
 ghost use Rattle.simulator_run.specs.layout.Station.{IsStation};
 ghost use Rattle.simulator_run.specs.layout.declared.ids.RouteId.{RouteId};
-ghost use Rattle.simulator_run.specs.ixl_rules.Due.{At, HoldsPoint, IsHeldAt, IsRouteOf, Known};
+ghost use Rattle.simulator_run.specs.ixl_rules.Due.{HoldsPoint, IsHeldAt, IsRouteOf, Known};
 ghost use Rattle.simulator_run.specs.ixl_rules.State.{RouteState};
-ghost use Rattle.simulator_run.specs.ixl_rules.Table.{Need, Row, Table};
+ghost use Rattle.simulator_run.specs.ixl_rules.Table.{Row, Table};
 ghost use Rattle.simulator_run.specs.rasta_core.Each.{Each};
 ghost use Rattle.simulator_run.specs.sci_telegram.declared.message.Side.{Side};
 ghost use Rattle.simulator_run.specs.simulator_event.declared.event.Event.{Event};
 ghost use Rattle.simulator_run.specs.Flow.{Flowing, round, stations};
-ghost use Rattle.simulator_run.specs.Nodes.{point_link};
 ghost use Rattle.simulator_run.specs.State.{WorldState};
 ghost use Rattle.simulator_run.specs.Tried.{Played};
 ghost use Rattle.simulator_headline.specs.Reached.{IsReached};
 ghost use Rattle.simulator_recovery.specs.HeldPoints.{ComesBy};
-ghost use Rattle.simulator_recovery.specs.LinkRounds.{StaysBelowLimit};
 ghost use Rattle.simulator_recovery.specs.Moves.{move_rounds};
 ghost use Rattle.simulator_recovery.specs.NothingDue.{IsPointReady, Proceeds};
 ghost use Rattle.simulator_recovery.specs.Ready.{ready_rounds};
 ghost use Rattle.simulator_recovery.specs.Rounds.{HasTime, IsWork, all_tried, good_rounds};
 ghost use Rattle.simulator_recovery.specs.RoutesCome.{AcceptsRequest, AreBelowLimit, StaysClear, StaysSet, and_request, as_request_comes};
-ghost use Rattle.simulator_recovery.specs.UnheldPoints.{AreKnownOrUnheld, HasClearPoints, HasClearPointsYet, HoldsWithAuthority, ProceedsOrHoldsNone};
+ghost use Rattle.simulator_recovery.specs.UnheldPoints.{HasClearPoints, HasClearPointsYet};
 
 use crate::{
-    accepted_routes_come_in_time, accepted_settings_are_on_course, links_are_ready, links_stay_up,
-    points_of_routes_with_authority_are_known, set_routes_come_in_time,
-    set_routes_hold_their_points,
+    accepted_routes_come_in_time, accepted_settings_are_on_course, links_are_ready,
+    points_held_with_authority_are_known, set_routes_come_in_time, set_routes_hold_their_points,
 };
 use simulator_headline::{every_world_is_safe, reached_worlds_are_safe};
 use simulator_run::ixl_rules::{
@@ -51,49 +47,18 @@ pub fn points_of_proceeding_routes_are_known()
     stop_is_given_where_due();
 }
 
-/// Points of routes with authority stay known. Behind a good round from the 1565th on a route proceeds, or doesn't hold a point that it requires, or
-/// the point is known at its side; and behind a later one it holds the point with authority. Then the point is known at its side there. So it is
-/// of each point that a route holds, whether it has its aspect, is withdrawn, or its authority has ended; but for a route that was withdrawn or
-/// ended before the links were ready, holds the point since, and finds it known nowhere at its side then. The premises are those of
-/// `links_are_ready`, of the point's link.
-pub fn points_held_with_authority_stay_known()
-    ensures { (between : List Event) (later more : List (List Event)) (flowing : Flowing Played) (number : ℕ) (row : Row) (need : Need)
-        → Once flowing.state.sited.site → IsStation flowing.state.sited.site
-        → IsTableOf flowing.state.sited.site flowing.state.sited.table → IsReached flowing.state.sited.site flowing.state.sited.table flowing.state.run
-        → Each IsWork between → Each (Each IsWork) later → Each (Each IsWork) more → HasTime (suc (length (later ++ more))) flowing.state.run → ready_rounds ≤ suc (length later)
-        → slice_get flowing.state.sited.table.rows number ≡ Some row → Contains row.needs need
-        → StaysBelowLimit flowing.state.sited.site (point_link flowing.state.sited.site need.point) (later ++ more) (all_tried between (round stations flowing))
-        → At (good_rounds (between ∷ later) flowing).state.run.station.ixl.routes number (ProceedsOrHoldsNone need)
-        ⊎ Known (good_rounds (between ∷ later) flowing).state.run.station.ixl need.point need.side
-        → At (good_rounds (between ∷ (later ++ more)) flowing).state.run.station.ixl.routes number (HoldsWithAuthority need)
-        → Known (good_rounds (between ∷ (later ++ more)) flowing).state.run.station.ixl need.point need.side }
-{
-    every_world_is_safe();
-    links_are_ready();
-    links_stay_up();
-    move_is_given_where_due();
-    points_of_proceeding_routes_are_known();
-    reached_worlds_are_safe();
-    request_is_accepted_where_admissible();
-    stations_have_links();
-}
-
 /// Accepted routes come over clear sections: where the request of a route is accepted behind a good round from the 1565th on, and each point that
 /// it requires is known at its side behind the request, or its move is out, or its own section is clear, the route comes within 52 rounds, as in
-/// `accepted_routes_come_in_time`, whichever other routes hold its points. What is asked of them is asked of one moment alone: behind some
-/// good round from the 1565th on, the one of the request or an earlier one, each of these points is known at its side, or no route holds it
-/// whose authority has ended. The premises are else those of `accepted_routes_come_in_time`.
+/// `accepted_routes_come_in_time`, whichever other routes hold its points. For a point that one holds with authority is known at its side.
+/// The premises are else those of `accepted_routes_come_in_time`.
 pub fn accepted_routes_come_over_clear_sections()
-    ensures { (between : List Event) (early since later : List (List Event)) (before : List Event) (more still : List (List Event)) (flowing : Flowing Played)
-        (route : RouteId) (row : Row)
+    ensures { (between : List Event) (later : List (List Event)) (before : List Event) (more still : List (List Event)) (flowing : Flowing Played) (route : RouteId) (row : Row)
         → Once flowing.state.sited.site
         → IsStation flowing.state.sited.site → IsTableOf flowing.state.sited.site flowing.state.sited.table → IsReached flowing.state.sited.site flowing.state.sited.table flowing.state.run
         → Each IsWork between → Each (Each IsWork) later → Each IsWork before → Each (Each IsWork) more → Each (Each IsWork) still
-        → HasTime (suc (length (((later ++ and_request route before ∷ []) ++ more) ++ still))) flowing.state.run
-        → length flowing.state.sited.site.points ≤ length flowing.drives → later ++ and_request route before ∷ [] ≡ early ++ since → ready_rounds ≤ suc (length early)
-        → length more ≡ move_rounds → slice_get flowing.state.sited.table.rows route.0 ≡ Some row
+        → HasTime (suc (length (((later ++ and_request route before ∷ []) ++ more) ++ still))) flowing.state.run → length flowing.state.sited.site.points ≤ length flowing.drives
+        → ready_rounds ≤ suc (suc (length later)) → length more ≡ move_rounds → slice_get flowing.state.sited.table.rows route.0 ≡ Some row
         → AreBelowLimit flowing.state.sited.site row (((later ++ and_request route before ∷ []) ++ more) ++ still) (all_tried between (round stations flowing))
-        → AreKnownOrUnheld flowing.state.sited.table row (good_rounds (between ∷ early) flowing).state.run
         → AcceptsRequest route (as_request_comes (between ∷ later) before flowing).state
         → StaysClear route.0 row (more ++ still) (good_rounds (between ∷ (later ++ and_request route before ∷ [])) flowing)
         → HasClearPoints flowing.state.sited.table row (good_rounds (between ∷ (later ++ and_request route before ∷ [])) flowing).state.run
@@ -103,8 +68,7 @@ pub fn accepted_routes_come_over_clear_sections()
     accepted_settings_are_on_course();
     every_world_is_safe();
     links_are_ready();
-    points_held_with_authority_stay_known();
-    points_of_routes_with_authority_are_known();
+    points_held_with_authority_are_known();
     reached_worlds_are_safe();
     request_is_accepted_where_admissible();
     set_routes_hold_their_points();
@@ -115,22 +79,20 @@ pub fn accepted_routes_come_over_clear_sections()
 /// out, or its own section is clear and it got no move in this connection since the route was set. The premises are else those of
 /// `set_routes_come_in_time`.
 pub fn set_routes_come_over_clear_sections()
-    ensures { (between : List Event) (early later more still : List (List Event)) (flowing : Flowing Played) (number : ℕ) (row : Row)
+    ensures { (between : List Event) (later more still : List (List Event)) (flowing : Flowing Played) (number : ℕ) (row : Row)
         → Once flowing.state.sited.site → IsStation flowing.state.sited.site
         → IsTableOf flowing.state.sited.site flowing.state.sited.table → IsReached flowing.state.sited.site flowing.state.sited.table flowing.state.run
-        → Each IsWork between → Each (Each IsWork) (early ++ later) → Each (Each IsWork) more → Each (Each IsWork) still
-        → HasTime (suc (length (((early ++ later) ++ more) ++ still))) flowing.state.run → length flowing.state.sited.site.points ≤ length flowing.drives
-        → ready_rounds ≤ suc (length early) → length more ≡ move_rounds → slice_get flowing.state.sited.table.rows number ≡ Some row
-        → AreBelowLimit flowing.state.sited.site row (((early ++ later) ++ more) ++ still) (all_tried between (round stations flowing))
-        → AreKnownOrUnheld flowing.state.sited.table row (good_rounds (between ∷ early) flowing).state.run
-        → StaysSet number row (more ++ still) (good_rounds (between ∷ (early ++ later)) flowing)
-        → HasClearPointsYet flowing.state.sited.table number row (good_rounds (between ∷ (early ++ later)) flowing).state.run
-        → ComesBy number row more still (good_rounds (between ∷ (early ++ later)) flowing) }
+        → Each IsWork between → Each (Each IsWork) later → Each (Each IsWork) more → Each (Each IsWork) still
+        → HasTime (suc (length ((later ++ more) ++ still))) flowing.state.run → length flowing.state.sited.site.points ≤ length flowing.drives
+        → ready_rounds ≤ suc (length later) → length more ≡ move_rounds → slice_get flowing.state.sited.table.rows number ≡ Some row
+        → AreBelowLimit flowing.state.sited.site row ((later ++ more) ++ still) (all_tried between (round stations flowing))
+        → StaysSet number row (more ++ still) (good_rounds (between ∷ later) flowing)
+        → HasClearPointsYet flowing.state.sited.table number row (good_rounds (between ∷ later) flowing).state.run
+        → ComesBy number row more still (good_rounds (between ∷ later) flowing) }
 {
     every_world_is_safe();
     links_are_ready();
-    points_held_with_authority_stay_known();
-    points_of_routes_with_authority_are_known();
+    points_held_with_authority_are_known();
     reached_worlds_are_safe();
     request_is_accepted_where_admissible();
     set_routes_come_in_time();
