@@ -325,5 +325,5 @@ clients_confirm laws names start events passed rounds front rest calls are may w
     let f : Flow = flow_after names start events passed in
     let m = mirror_of names f first.timely in
     let l = leads laws names are rounds f m.0 first m.1 work opens room in
-    let hale = all_come names (length rounds) m.0 l.last long (sound_of names f m.0 first m.1) l.is_run in
+    let hale = all_come names (length rounds) m.0 l.last long (sound_of names f m.0 first m.1) l.is_run l.climb in
     round_confirmed laws names are (work_rounds rounds f) l.last l.mirrors l.holds hale front rest calls first_round second_round speaks

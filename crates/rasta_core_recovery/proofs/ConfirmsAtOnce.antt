@@ -168,7 +168,7 @@ module _ (laws : Laws) (names : Names) (start : Start) (events : List Event) (pa
   l = leads laws names are rounds f m.0 first m.1 work opens room
 
   hale : Hale names l.last
-  hale = all_come names (length rounds) m.0 l.last long (sound_of names f m.0 first m.1) l.is_run
+  hale = all_come names (length rounds) m.0 l.last long (sound_of names f m.0 first m.1) l.is_run l.climb
 
   pub speaks_alone : confirmed_items (work_round two (work_round one g)).ends.server.link ≤ confirmed_items (work_round one g).ends.server.link
   speaks_alone = still laws names are g l.last l.mirrors l.holds hale one two alone

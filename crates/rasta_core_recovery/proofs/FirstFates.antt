@@ -14,6 +14,7 @@ use Rattle.rasta_core_recovery.proofs.Early.{HealthyOrOld, early_from}
 use Rattle.rasta_core_recovery.proofs.Facts.{Calls, Facts, IsFirst}
 use Rattle.rasta_core_recovery.proofs.Fates.{Asking as AskingStep, Comes, Leaves, Stays, asking_step, asks_on, comes_later, goes_out, in_it_of, joining, joins, leaves_comes, out_comes, search, search_from, seen_narrow, server_joined, stays_comes, same_pair}
 use Rattle.rasta_core_recovery.proofs.FirstGrants.{Asking, ServerFirst, grants, rests, server_first}
+use Rattle.rasta_core_recovery.proofs.FirstHears.{Below}
 use Rattle.rasta_core_recovery.proofs.FirstRises.{Climbs}
 use Rattle.rasta_core_recovery.proofs.FirstTalk.{talk_at_once, talk_on_joining}
 use Rattle.rasta_core_recovery.proofs.FirstWaits.{alone_comes_on, granted_comes, just_granted}
@@ -24,11 +25,7 @@ use Rattle.rasta_core_recovery.proofs.Stays.{left_of, out_is}
 use Rattle.rasta_core_recovery.proofs.WindowNumbers.{wire_once}
 use Rattle.rasta_core_recovery.proofs.Words.{IsNumbered, Row, row_most, voice_of}
 
--- what both have sent doesn't fall, while both are inside
-abbrev pub Climbing : Pair → Type 0
-Climbing p = (k : ℕ) → BothIn (pair_rounds k p) → Climbs (pair_rounds k p)
-
--- and a client that asks stands as it did when it asked
+-- a client that asks stands as it did when it asked
 abbrev pub AskingOn : Names → Pair → Type 0
 AskingOn names p = (k : ℕ) → is_asking (pair_rounds k p).client ≡ true → Asking names (pair_rounds k p)
 
@@ -66,7 +63,8 @@ the_step l ps = record { link = l; pdus = ps }
 asked_as : {a b c d : ℕ} (names : Names) (clock closed : ℕ) → a ≡ b → c ≡ d → asking_link names clock closed a c ≡ asking_link names clock closed b d
 asked_as names clock closed e f = cc
 
-module _ (names : Names) (n : ℕ) (p : Pair) (long : 1561 ≤ n) (seen : Seen names n p) (climbing : Climbing p) (askings : AskingOn names p) where
+module _ (names : Names) (n : ℕ) (p : Pair) (long : 1561 ≤ n) (seen : Seen names n p) (below : BothIn p → Below p) (climbing : BothIn (pair_round p) → Climbs (pair_round p))
+    (askings : AskingOn names p) where
   long_enough : 1000 ≤ n
   long_enough = omega (arith, long)
 
@@ -85,13 +83,14 @@ module _ (names : Names) (n : ℕ) (p : Pair) (long : 1561 ≤ n) (seen : Seen n
       (λ k least most stay. talked_early k (omega (arith, least)) (omega (arith, most)) stay (talk (stay.both 0 (omega arith)) (stay.both 1 (omega (arith, least)))))
 
   joined_talks : Joined p.client.clock p.client → BothIn p → BothIn (pair_round p) → Talk names (pair_round p).client.clock p.server.clock false false (pair_round p)
-  joined_talks j now_in then_in = talk_at_once names p (seen.facts 0) (seen.facts 1) (seen.client_past 1) (seen.server_past 1) (climbing 0 now_in) (climbing 1 then_in) now_in j.joined then_in
+  joined_talks j now_in then_in = talk_at_once names p (seen.facts 0) (seen.facts 1) (seen.client_past 1) (seen.server_past 1) (below now_in)
+      (climbing then_in) now_in j.joined then_in
       (rows_after p j (server_joined names p (seen.facts 0) now_in.server) then_in) (omega (arith, seen.client_clock 1)) (omega (arith, seen.server_clock 1))
 
   joining_talks : Asks p.client.clock p.client → is_asking (pair_round p).client ≡ false → BothIn p → BothIn (pair_round p)
       → Talk names (pair_round p).client.clock p.server.clock false false (pair_round p)
   joining_talks is joined now_in then_in =
-      talk_on_joining names p (seen.facts 0) (seen.facts 1) (seen.client_past 1) (seen.server_past 1) (climbing 0 now_in) (climbing 1 then_in) is now_in.server joined then_in
+      talk_on_joining names p (seen.facts 0) (seen.facts 1) (seen.client_past 1) (seen.server_past 1) (below now_in) (climbing then_in) is now_in.server joined then_in
       (rows_joining p is (server_joined names p (seen.facts 0) now_in.server) joined then_in) (omega (arith, seen.client_clock 1)) (omega (arith, seen.server_clock 1))
 
   -- ---- it asks on

@@ -1,17 +1,17 @@
 -- What comes in the first good round was sent before it: an end that has joined comes to expect and to keep nothing younger by it.
-use Rattle.std.proofs.Common.{◌≡◌, ℕ, ◌∙◌, ◌+◌, ◌-◌, ◌^◌, ◌≤◌, ◌<◌, ◌⊎◌, inl, inr, Bool, true, false, List, [], ◌∷◌, ◌++◌, sym, ap, subst, arith}
+use Rattle.std.proofs.Common.{◌≡◌, ℕ, ◌∙◌, ◌+◌, ◌-◌, ◌^◌, ◌≤◌, ◌<◌, ◌⊎◌, inl, inr, Bool, true, false, List, [], ◌∷◌, ◌++◌, refl, sym, ap, subst, arith}
 use Rattle.rasta_core_run.specs.Sequence.{stamp, wire}
-use Rattle.rasta_core_run.specs.State.{LinkState}
+use Rattle.rasta_core_run.specs.State.{LinkState, is_asking}
 use Rattle.rasta_core_run.specs.PdusHandedOut.{Step, then_do}
 use Rattle.rasta_core_run.specs.Receipt.{hearing}
 use Rattle.rasta_core_run.specs.Each.{Each}
 use Rattle.rasta_core_run.specs.pdu.Pdu.{Pdu}
-use Rattle.rasta_core_recovery.specs.Falls.{Stand}
-use Rattle.rasta_core_recovery.proofs.Links.{all_heard, end_round, heard, worked}
+use Rattle.rasta_core_recovery.specs.Falls.{Stand, stands}
+use Rattle.rasta_core_recovery.proofs.Links.{Pair, all_heard, end_round, heard, worked}
 use Rattle.rasta_core_recovery.proofs.Calls.{at_reading, spoken}
 use Rattle.rasta_core_recovery.proofs.Course.{Joined, asked_joined, lively, placed, taken_joined}
 use Rattle.rasta_core_recovery.proofs.Deed.{Deed, asks, hears, keeps, leaves, takes}
-use Rattle.rasta_core_recovery.proofs.FirstRises.{PdusRise}
+use Rattle.rasta_core_recovery.proofs.FirstRises.{Climbs, KeepsOf, PdusRise}
 use Rattle.rasta_core_recovery.proofs.Fold.{Begins, Next, Out, all_hear, begins, gone_next, heard_case, late, on, round_on, stays_next, stays_out, works_out}
 use Rattle.rasta_core_recovery.proofs.Turn.{Either, Ended, done, ends, gone, gone_end, reading_joined, so, spoken_joined}
 
@@ -25,7 +25,7 @@ pub record IsBelow (first bound last : ℕ) (p : Pdu) : Type 0 where
   pub before : read_as ≤ last
   pub recent : last ≤ read_as + 4000
 
-pub each_below : (l m : LinkState) (low high : Stand) (ps : List Pdu) → high.sent ≡ m.sent → PdusRise l m low ps high → Each (IsBelow m.own_first m.sent m.clock) ps
+each_below : (l m : LinkState) (low high : Stand) (ps : List Pdu) → high.sent ≡ m.sent → PdusRise l m low ps high → Each (IsBelow m.own_first m.sent m.clock) ps
 each_below l m low high [] same rises = tt
 each_below l m low high (p ∷ ps) same (at, up, said, more) = (
   record {
@@ -43,6 +43,26 @@ each_below l m low high (p ∷ ps) same (at, up, said, more) = (
     ends_at : (low : Stand) (qs : List Pdu) → PdusRise l m low qs high → low.sent ≤ high.sent
     ends_at low [] rises = rises.0
     ends_at low (q ∷ qs) (there, going, saying, others) = let e = ends_at there qs others in omega (arith, e, going.0)
+
+-- what two ends keep of each other, and that all that comes to either was said before now: in any order, and again and again
+pub record Below (p : Pair) : Type 0 where
+  pub client_kept : ℕ
+  pub server_kept : ℕ
+  pub client_keeps : is_asking p.client ≡ false → KeepsOf p.client p.server client_kept
+  pub server_keeps : KeepsOf p.server p.client server_kept
+  pub to_client : Each (IsBelow p.server.own_first p.server.sent p.server.clock) p.to_client
+  pub to_server : Each (IsBelow p.client.own_first p.client.sent p.client.clock) p.to_server
+
+-- so it is where it comes in the order of its sending
+pub below_of : (p : Pair) → Climbs p → Below p
+below_of p climbs = record {
+  client_kept = climbs.client_kept;
+  server_kept = climbs.server_kept;
+  client_keeps = climbs.client_keeps;
+  server_keeps = climbs.server_keeps;
+  to_client = each_below p.client p.server climbs.server_low (stands p.server climbs.server_kept) p.to_client refl climbs.to_client;
+  to_server = each_below p.server p.client climbs.client_low (stands p.client climbs.client_kept) p.to_server refl climbs.to_server;
+}
 
 -- an end that expects none above this place, and keeps a stamp of this reading at most
 pub record IsOld (bound last now : ℕ) (l : LinkState) : Type 0 where

@@ -48,7 +48,7 @@ rises_drop Q (suc n) low high (d ∷ ds) (at, up, q, more) = rises_drop Q n at h
 
 -- datagrams of this end that come, as they are read
 module _ (names : Names) (w : Speaker) (l m : LinkState) (first : m.own_first ≡ w.first) (partner_first : m.partner_first ≡ w.partner_first) (clock : m.clock ≡ w.clock / 1000) (partner_clock : l.clock ≡ w.partner_clock / 1000) where
-  said : (sent_at : ℕ) (at : Stand) (p : Pdu) → w.time + 10000 ≤ sent_at + lifetime → sent_at ≤ w.time → IsToldAt w sent_at at p → IsSaidAt l m at p
+  pub said : (sent_at : ℕ) (at : Stand) (p : Pdu) → w.time + 10000 ≤ sent_at + lifetime → sent_at ≤ w.time → IsToldAt w sent_at at p → IsSaidAt l m at p
   said sent_at at p in_time past t = record {
     some = t.some;
     number = t.number ∙ ap (λ (f : ℕ). wire f (at.sent - 1)) (sym first);
@@ -96,6 +96,14 @@ pub record KeepsOf (l m : LinkState) (kept : ℕ) : Type 0 where
   pub before : kept ≤ m.clock
   pub recent : m.clock ≤ kept + 4000
 
+pub keeps_of : (l k : LinkState) (clock partner_clock kept : ℕ) → l.clock ≡ clock / 1000 → k.clock ≡ partner_clock / 1000 → l.clock < l.own_stamp + 1800
+    → Keeps l clock partner_clock kept → KeepsOf l k kept
+keeps_of l k clock partner_clock kept at partner_at young keeps = record {
+  kept_is = keeps.kept_is;
+  before = let b = keeps.before in omega (arith, b, partner_at);
+  recent = let y = keeps.lately in omega (arith, y, young, at, partner_at);
+}
+
 -- what both have sent and comes to the other doesn't fall
 pub record Climbs (p : Pair) : Type 0 where
   pub client_kept : ℕ
@@ -119,14 +127,6 @@ module _ (names : Names) (f : Flow) (p : Pair) (m : Mirrors names f p) (ordered 
 
   flights : Each (InFlight names times) flying
   flights = each_drop (InFlight names times) f.passed f.ends.sent timely.datagrams
-
-  keeps_of : (l k : LinkState) (clock partner_clock kept : ℕ) → l.clock ≡ clock / 1000 → k.clock ≡ partner_clock / 1000 → l.clock < l.own_stamp + 1800 → Keeps l clock partner_clock kept
-      → KeepsOf l k kept
-  keeps_of l k clock partner_clock kept at partner_at young keeps = record {
-    kept_is = keeps.kept_is;
-    before = let b = keeps.before in omega (arith, b, partner_at);
-    recent = let y = keeps.lately in omega (arith, y, young, at, partner_at);
-  }
 
   client_way : (mid : Stand) × PdusRise f.ends.client.link f.ends.server.link mid p.to_client (stands f.ends.server.link rising.server_kept)
   client_way =

@@ -3,13 +3,12 @@ use Rattle.std.proofs.Common.{◌≡◌, ℕ, ◌∙◌, ◌+◌, ◌-◌, ◌^�
 use Rattle.rasta_core_run.specs.Sequence.{stamp}
 use Rattle.rasta_core_run.specs.State.{LinkState, is_asking, is_open}
 use Rattle.rasta_core_run.specs.Names.{Names}
-use Rattle.rasta_core_recovery.specs.Falls.{stands}
 use Rattle.rasta_core_recovery.proofs.Converse.{Talk}
 use Rattle.rasta_core_recovery.proofs.Course.{Joined}
 use Rattle.rasta_core_recovery.proofs.Asks.{Asks, asks_asking}
 use Rattle.rasta_core_recovery.proofs.Entered.{entered}
 use Rattle.rasta_core_recovery.proofs.Facts.{Calls, Facts, Shares}
-use Rattle.rasta_core_recovery.proofs.FirstHears.{IsOld, each_below, old_behind}
+use Rattle.rasta_core_recovery.proofs.FirstHears.{Below, IsOld, old_behind}
 use Rattle.rasta_core_recovery.proofs.FirstRises.{Climbs, KeepsOf, Lately, lately_of}
 use Rattle.rasta_core_recovery.proofs.Links.{Pair, end_round, pair_round}
 use Rattle.rasta_core_recovery.proofs.Pasts.{Past}
@@ -111,16 +110,17 @@ pub behind_of : (bound last now : ℕ) (l : LinkState) → IsOld bound last now 
 behind_of bound last now l o = record { most = o.most; kept = o.kept; kept_is = o.kept_is; before = o.before; recent = o.recent }
 
 -- a client that had joined
-pub client_behind : (p : Pair) → Climbs p → Joined p.client.clock p.client → p.client.partner_first ≡ p.server.own_first → p.client.expected ≤ p.server.sent → p.server.sent < 2 ^ 31
+pub client_behind : (p : Pair) → Below p → Joined p.client.clock p.client → p.client.partner_first ≡ p.server.own_first → p.client.expected ≤ p.server.sent
+    → p.server.sent < 2 ^ 31
     → is_open (pair_round p).client.phase ≡ true → IsBehindIt p.server.sent p.server.clock (pair_round p).client
 unfolding pair_round
-client_behind p climbs is first most fits then_in =
-    choose (old_behind p.server.own_first p.server.sent p.server.clock (p.client.clock + 10) fits p.to_client p.client refl is first most climbs.client_kept keeps.kept_is keeps.before
-    keeps.recent
-    (each_below p.client p.server climbs.server_low (stands p.server climbs.server_kept) p.to_client refl climbs.to_client))
+client_behind p below is first most fits then_in =
+    choose (old_behind p.server.own_first p.server.sent p.server.clock
+    (p.client.clock + 10) fits p.to_client p.client refl is first most below.client_kept keeps.kept_is keeps.before
+    keeps.recent below.to_client)
   where
-    keeps : KeepsOf p.client p.server climbs.client_kept
-    keeps = climbs.client_keeps is.joined
+    keeps : KeepsOf p.client p.server below.client_kept
+    keeps = below.client_keeps is.joined
 
     choose : Either (p.client.clock + 10) (end_round (p.client.clock + 10) p.to_client p.client).link
         (IsOld p.server.sent p.server.clock (p.client.clock + 10) (end_round (p.client.clock + 10) p.to_client p.client).link)
@@ -129,13 +129,14 @@ client_behind p climbs is first most fits then_in =
     choose (so o) = behind_of p.server.sent p.server.clock (p.client.clock + 10) _ o
 
 -- and a server
-pub server_behind_it : (p : Pair) → Climbs p → Joined p.server.clock p.server → p.server.partner_first ≡ p.client.own_first → p.server.expected ≤ p.client.sent → p.client.sent < 2 ^ 31
+pub server_behind_it : (p : Pair) → Below p → Joined p.server.clock p.server → p.server.partner_first ≡ p.client.own_first → p.server.expected ≤ p.client.sent
+    → p.client.sent < 2 ^ 31
     → is_open (pair_round p).server.phase ≡ true → IsBehindIt p.client.sent p.client.clock (pair_round p).server
 unfolding pair_round
-server_behind_it p climbs is first most fits then_in =
-    choose (old_behind p.client.own_first p.client.sent p.client.clock (p.server.clock + 10) fits p.to_server p.server refl is first most climbs.server_kept climbs.server_keeps.kept_is
-    climbs.server_keeps.before climbs.server_keeps.recent
-    (each_below p.server p.client climbs.client_low (stands p.client climbs.client_kept) p.to_server refl climbs.to_server))
+server_behind_it p below is first most fits then_in =
+    choose (old_behind p.client.own_first p.client.sent p.client.clock
+    (p.server.clock + 10) fits p.to_server p.server refl is first most below.server_kept below.server_keeps.kept_is
+    below.server_keeps.before below.server_keeps.recent below.to_server)
   where
     choose : Either (p.server.clock + 10) (end_round (p.server.clock + 10) p.to_server p.server).link
         (IsOld p.client.sent p.client.clock (p.server.clock + 10) (end_round (p.server.clock + 10) p.to_server p.server).link)
@@ -144,14 +145,15 @@ server_behind_it p climbs is first most fits then_in =
     choose (so o) = behind_of p.client.sent p.client.clock (p.server.clock + 10) _ o
 
 -- where both were in it before
-pub talk_at_once : (names : Names) (p : Pair) → Facts names p → Facts names (pair_round p) → Past (pair_round p).client → Past (pair_round p).server → Climbs p → Climbs (pair_round p)
+pub talk_at_once : (names : Names) (p : Pair) → Facts names p → Facts names (pair_round p) → Past (pair_round p).client → Past (pair_round p).server → Below p
+    → Climbs (pair_round p)
     → BothIn p → is_asking p.client ≡ false → BothIn (pair_round p) → Rows p (pair_round p)
     → (pair_round p).client.clock ≡ p.client.clock + 10 → (pair_round p).server.clock ≡ p.server.clock + 10 → Talk names (pair_round p).client.clock p.server.clock false false (pair_round p)
-talk_at_once names p facts then_facts client_past server_past climbs then_climbs now_in joined then_in rows client_clock server_clock =
+talk_at_once names p facts then_facts client_past server_past below then_climbs now_in joined then_in rows client_clock server_clock =
     talk_first names p (pair_round p) then_facts client_past server_past then_climbs then_in rows (omega (arith, shares.1.some, shares.1.most)) (omega (arith, shares.0.some, shares.0.most))
     client_clock server_clock
-    (client_behind p climbs client_is shares.0.first shares.0.most shares.1.fits then_in.client)
-    (server_behind_it p climbs server_is shares.1.first shares.1.most shares.0.fits then_in.server).most
+    (client_behind p below client_is shares.0.first shares.0.most shares.1.fits then_in.client)
+    (server_behind_it p below server_is shares.1.first shares.1.most shares.0.fits then_in.server).most
     (server_behind p server_is (facts.returned now_in.server) then_in.server)
   where
     shares : Shares p.client p.server × Shares p.server p.client
@@ -171,13 +173,14 @@ by_response p is calls then_in joined = let e = entered (p.client.clock + 10) p.
     record { most = omega (arith, e.expected, calls.said); kept = e.heard.reading; kept_is = e.heard.kept_is; before = e.heard.before; recent = e.heard.recent }
 
 -- where the client asked before, and has joined in it
-pub talk_on_joining : (names : Names) (p : Pair) → Facts names p → Facts names (pair_round p) → Past (pair_round p).client → Past (pair_round p).server → Climbs p → Climbs (pair_round p)
+pub talk_on_joining : (names : Names) (p : Pair) → Facts names p → Facts names (pair_round p) → Past (pair_round p).client → Past (pair_round p).server → Below p
+    → Climbs (pair_round p)
     → Asks p.client.clock p.client → is_open p.server.phase ≡ true → is_asking (pair_round p).client ≡ false
     → BothIn (pair_round p) → Rows p (pair_round p) → (pair_round p).client.clock ≡ p.client.clock + 10 → (pair_round p).server.clock ≡ p.server.clock + 10
     → Talk names (pair_round p).client.clock p.server.clock false false (pair_round p)
-talk_on_joining names p facts then_facts client_past server_past climbs then_climbs is server_in joined then_in rows client_clock server_clock =
+talk_on_joining names p facts then_facts client_past server_past below then_climbs is server_in joined then_in rows client_clock server_clock =
     talk_first names p (pair_round p) then_facts client_past server_past then_climbs then_in rows calls.some calls.said client_clock server_clock (by_response p is calls then_in.client joined)
-    (server_behind_it p climbs server_is calls.partner calls.most
+    (server_behind_it p below server_is calls.partner calls.most
     (let m = row_most (IsNumbered (voice_of (pair_round p).client)) p.client.sent (pair_round p).client.sent (pair_round p).to_server rows.client in let f = shares.0.fits in
     omega (arith, m, f)) then_in.server).most
     (server_behind p server_is (facts.returned server_in) then_in.server)

@@ -9,7 +9,6 @@ use Rattle.rasta_core_run.specs.identity.Role.TheVariants as role
 use Rattle.rasta_core_run.specs.Each.{Each}
 use Rattle.rasta_core_run.specs.Names.{Names}
 use Rattle.rasta_core_run.specs.pdu.Pdu.{Pdu}
-use Rattle.rasta_core_recovery.specs.Falls.{stands}
 use Rattle.rasta_core_recovery.proofs.Acts.{Act, Asks as Opens, Beats, Gives, HasRoom, Hears, IsBefore, IsGift, IsWork, Roomy, WorkRound, acted, all_brought, all_did, behind, client_step, clock_acts, did, server_step}
 use Rattle.rasta_core_recovery.proofs.Answered.{HasEntered}
 use Rattle.rasta_core_recovery.proofs.Asks.{Asks, asks_asking}
@@ -19,7 +18,7 @@ use Rattle.rasta_core_recovery.proofs.Course.{Joined, lively}
 use Rattle.rasta_core_recovery.proofs.Facts.{Calls, Facts, IsFirst, Shares}
 use Rattle.rasta_core_recovery.proofs.FirstFates.{none_first}
 use Rattle.rasta_core_recovery.proofs.FirstGrants.{Asking, ServerFirst, grants, granted, hears_again, hears_first as takes_first, rests}
-use Rattle.rasta_core_recovery.proofs.FirstHears.{Any, Hears as HearsOld, IsBelow, IsOld, each_below, old_step}
+use Rattle.rasta_core_recovery.proofs.FirstHears.{Any, Below, Hears as HearsOld, IsBelow, IsOld, old_step}
 use Rattle.rasta_core_recovery.proofs.FirstRises.{Climbs, KeepsOf}
 use Rattle.rasta_core_recovery.proofs.FirstTalk.{IsBehindIt, behind_of, talk_first}
 use Rattle.rasta_core_recovery.proofs.Fold.{Next, gone_next, stays_next}
@@ -82,24 +81,24 @@ module _ (first bound last now : ℕ) (fits : bound < 2 ^ 31) where
       finish (gone_done why left) = absurd (cc (left.is_out, is_in))
       finish (so_done h ((o, p, all), calm) a) = o
 
-client_behind_at_work : (p : Pair) (r : WorkRound p) → Climbs p → Joined p.client.clock p.client → p.client.partner_first ≡ p.server.own_first → p.client.expected ≤ p.server.sent
+client_behind_at_work : (p : Pair) (r : WorkRound p) → Below p → Joined p.client.clock p.client → p.client.partner_first ≡ p.server.own_first
+    → p.client.expected ≤ p.server.sent
     → p.server.sent < 2 ^ 31 → is_open (behind p r).client.phase ≡ true → IsBehindIt p.server.sent p.server.clock (behind p r).client
-client_behind_at_work p r climbs is first most fits then_in =
+client_behind_at_work p r below is first most fits then_in =
     behind_of p.server.sent p.server.clock (p.client.clock + 10) (client_step p r).link
     (old_at_work p.server.own_first p.server.sent p.server.clock (p.client.clock + 10) fits role.Client p.to_client r.client_acts p.client r.client_work refl is first most
-    climbs.client_kept keeps.kept_is keeps.before keeps.recent (each_below p.client p.server climbs.server_low (stands p.server climbs.server_kept) p.to_client refl climbs.to_client)
-    r.client_room then_in)
+    below.client_kept keeps.kept_is keeps.before keeps.recent below.to_client r.client_room then_in)
   where
-    keeps : KeepsOf p.client p.server climbs.client_kept
-    keeps = climbs.client_keeps is.joined
+    keeps : KeepsOf p.client p.server below.client_kept
+    keeps = below.client_keeps is.joined
 
-server_behind_at_work : (p : Pair) (r : WorkRound p) → Climbs p → Joined p.server.clock p.server → p.server.partner_first ≡ p.client.own_first → p.server.expected ≤ p.client.sent
+server_behind_at_work : (p : Pair) (r : WorkRound p) → Below p → Joined p.server.clock p.server → p.server.partner_first ≡ p.client.own_first
+    → p.server.expected ≤ p.client.sent
     → p.client.sent < 2 ^ 31 → is_open (behind p r).server.phase ≡ true → IsBehindIt p.client.sent p.client.clock (behind p r).server
-server_behind_at_work p r climbs is first most fits then_in =
+server_behind_at_work p r below is first most fits then_in =
     behind_of p.client.sent p.client.clock (p.server.clock + 10) (server_step p r).link
     (old_at_work p.client.own_first p.client.sent p.client.clock (p.server.clock + 10) fits role.Server p.to_server r.server_acts p.server r.server_work refl is first most
-    climbs.server_kept climbs.server_keeps.kept_is climbs.server_keeps.before climbs.server_keeps.recent
-    (each_below p.server p.client climbs.client_low (stands p.client climbs.client_kept) p.to_server refl climbs.to_server) r.server_room then_in)
+    below.server_kept below.server_keeps.kept_is below.server_keeps.before below.server_keeps.recent below.to_server r.server_room then_in)
 
 -- a server inside knows no own stamp of it yet
 pub server_old_at_work : (p : Pair) (r : WorkRound p) (names : Names) → Facts names p → Joined p.server.clock p.server → is_open (behind p r).server.phase ≡ true
@@ -109,14 +108,15 @@ server_old_at_work p r names facts is then_in =
 
 -- ---- what is under way behind it
 
-pub talk_at_once_at_work : (names : Names) (p : Pair) (r : WorkRound p) → Sound names p → Sound names (behind p r) → BothIn p → Joined p.client.clock p.client → BothIn (behind p r)
+pub talk_at_once_at_work : (names : Names) (p : Pair) (r : WorkRound p) → Sound names p → Sound names (behind p r) → Climbs (behind p r) → BothIn p
+    → Joined p.client.clock p.client → BothIn (behind p r)
     → Talk names (behind p r).client.clock p.server.clock false false (behind p r)
-talk_at_once_at_work names p r sound then_sound now_in client_is then_in =
-    talk_first names p (behind p r) then_sound.facts then_sound.client_past then_sound.server_past (then_sound.climbs then_in) then_in (rows_at_work p r client_is server_is then_in)
+talk_at_once_at_work names p r sound then_sound then_climbs now_in client_is then_in =
+    talk_first names p (behind p r) then_sound.facts then_sound.client_past then_sound.server_past then_climbs then_in (rows_at_work p r client_is server_is then_in)
     (omega (arith, shares.1.some, shares.1.most)) (omega (arith, shares.0.some, shares.0.most))
     (client_clock_on p r client_is then_in.client) (server_clock_on p r server_is then_in.server)
-    (client_behind_at_work p r (sound.climbs now_in) client_is shares.0.first shares.0.most shares.1.fits then_in.client)
-    (server_behind_at_work p r (sound.climbs now_in) server_is shares.1.first shares.1.most shares.0.fits then_in.server).most
+    (client_behind_at_work p r (sound.below now_in) client_is shares.0.first shares.0.most shares.1.fits then_in.client)
+    (server_behind_at_work p r (sound.below now_in) server_is shares.1.first shares.1.most shares.0.fits then_in.server).most
     (server_old_at_work p r names sound.facts server_is then_in.server)
   where
     shares : Shares p.client p.server × Shares p.server p.client
@@ -125,14 +125,15 @@ talk_at_once_at_work names p r sound then_sound now_in client_is then_in =
     server_is : Joined p.server.clock p.server
     server_is = joined_of p.server now_in.server (server_not_asking names p.server sound.facts.server) (sound.facts.server_young now_in.server)
 
-pub talk_on_joining_at_work : (names : Names) (p : Pair) (r : WorkRound p) → Sound names p → Sound names (behind p r) → Asks p.client.clock p.client → is_open p.server.phase ≡ true
+pub talk_on_joining_at_work : (names : Names) (p : Pair) (r : WorkRound p) → Sound names p → Sound names (behind p r) → Climbs (behind p r) → Asks p.client.clock p.client
+    → is_open p.server.phase ≡ true
     → is_asking (behind p r).client ≡ false → BothIn (behind p r) → (behind p r).client.clock ≡ p.client.clock + 10
     → Talk names (behind p r).client.clock p.server.clock false false (behind p r)
-talk_on_joining_at_work names p r sound then_sound is server_in joined then_in client_clock =
-    talk_first names p (behind p r) then_sound.facts then_sound.client_past then_sound.server_past (then_sound.climbs then_in) then_in rows calls.some calls.said client_clock
+talk_on_joining_at_work names p r sound then_sound then_climbs is server_in joined then_in client_clock =
+    talk_first names p (behind p r) then_sound.facts then_sound.client_past then_sound.server_past then_climbs then_in rows calls.some calls.said client_clock
     (server_clock_on p r server_is then_in.server)
     (record { most = omega (arith, e.expected, calls.said); kept = e.heard.reading; kept_is = e.heard.kept_is; before = e.heard.before; recent = e.heard.recent })
-    (server_behind_at_work p r (sound.climbs (record { client = ap is_open is.starts; server = server_in })) server_is calls.partner calls.most
+    (server_behind_at_work p r (sound.below (record { client = ap is_open is.starts; server = server_in })) server_is calls.partner calls.most
     (let m = row_most (IsNumbered (voice_of (behind p r).client)) p.client.sent (behind p r).client.sent (behind p r).to_server rows.client in let f = shares.0.fits in omega (arith, m, f))
     then_in.server).most
     (server_old_at_work p r names sound.facts server_is then_in.server)

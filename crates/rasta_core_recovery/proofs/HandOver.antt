@@ -13,13 +13,13 @@ use Rattle.rasta_core.specs.LinkAndFlow.{Plays, joined, asking, left, HasJoined}
 use Rattle.rasta_core.specs.Order.{Rises, Way as Order}
 use Rattle.rasta_core.specs.Ordered.{AreTogether}
 use Rattle.rasta_core_recovery.specs.Rounds.{Flow, flow_after}
-use Rattle.rasta_core_recovery.specs.Work.{AreAtWork, HandOver, HasTaken, HaveRoom, IsAtWork, LeavesOpen, StayBelow, recovery_rounds_at_work, work_round, work_rounds}
+use Rattle.rasta_core_recovery.specs.FirstRound.{BeginAtWork}
+use Rattle.rasta_core_recovery.specs.Work.{HandOver, HasTaken, HaveRoom, IsAtWork, LeavesOpen, StayBelow, recovery_rounds_at_work, work_round, work_rounds}
 use Rattle.rasta_core_recovery.proofs.Links.{Pair}
 use Rattle.rasta_core_recovery.proofs.Acts.{behind}
 use Rattle.rasta_core_recovery.proofs.Given.{Grows}
 use Rattle.rasta_core_recovery.proofs.Course.{Joined}
 use Rattle.rasta_core_recovery.proofs.Mirror.{Mirrors}
-use Rattle.rasta_core_recovery.proofs.Bridge.{mirror_of}
 use Rattle.rasta_core_recovery.proofs.Facts.{are_together}
 use Rattle.rasta_core_recovery.proofs.Recovers.{Laws, Holds, holds_run, holds_after}
 use Rattle.rasta_core_recovery.proofs.Within.{Continues}
@@ -27,7 +27,7 @@ use Rattle.rasta_core_recovery.proofs.Hale.{Hale, Keeps}
 use Rattle.rasta_core_recovery.proofs.WorkBridge.{Follows, follows}
 use Rattle.rasta_core_recovery.proofs.WorkFates.{Soon, soon_on, soon_keeps, soon_up}
 use Rattle.rasta_core_recovery.proofs.WorkSum.{soon_come}
-use Rattle.rasta_core_recovery.proofs.WorkRecovers.{leads, sound_of}
+use Rattle.rasta_core_recovery.proofs.AnyFirstWork.{Begins, begins}
 
 -- ---- lists
 
@@ -177,15 +177,15 @@ module _ (names : Names) (f : Flow) (p : Pair) (calls : List Event) (m : Mirrors
       (ap (λ (l : LinkState). is_up l.phase) m.client ∙ soon_up names p h)
 
 pub hands_over : Laws → (names : Names) (start : Start) (events : List Event) (passed : ℕ) (rounds : List (List Event)) (calls : List Event) → AreNames names → MayRun names events (started names start)
-    → AreAtWork names rounds (flow_after names start events passed) → Each (Each LeavesOpen) rounds → StayBelow rounds (flow_after names start events passed) → recovery_rounds_at_work ≤ suc (length rounds)
+    → BeginAtWork names rounds (flow_after names start events passed) → Each (Each LeavesOpen) rounds → StayBelow rounds (flow_after names start events passed)
+    → recovery_rounds_at_work ≤ suc (length rounds)
     → IsAtWork names (work_rounds rounds (flow_after names start events passed)) calls → Each LeavesOpen calls → HaveRoom calls (later 10000 10000 10000 (work_rounds rounds (flow_after names start events passed)).ends)
     → HandOver (work_rounds rounds (flow_after names start events passed)).ends (work_round calls (work_rounds rounds (flow_after names start events passed))).ends
 hands_over laws names start events passed rounds calls are may work opens room long last last_open last_room =
     let first = holds_after laws names start events are may in
     let f : Flow = flow_after names start events passed in
-    let m = mirror_of names f first.timely in
-    let l = leads laws names are rounds f m.0 first m.1 work opens room in
+    let l : Begins names (length rounds) (work_rounds rounds f) = begins laws names are rounds f first work opens room in
     let g : Flow = work_rounds rounds f in
-    let soon = soon_come names (length rounds) m.0 l.last (omega (arith, long)) (sound_of names f m.0 first m.1) l.is_run in
+    let soon = soon_come names (length rounds) l.first l.last (omega (arith, long)) l.sound l.is_run l.climb in
     round_hands_over names g l.last calls l.mirrors l.holds (holds_run laws names are (Passes 10000 10000 10000 ∷ calls) g.ends l.holds last.may) soon
     (follows laws.time laws.written laws.hands names are g l.last calls l.mirrors last last_open last_room)

@@ -5,7 +5,7 @@ use Rattle.rasta_core_run.specs.identity.Role.TheVariants as role
 use Rattle.rasta_core_run.specs.Bag.{lifetime}
 use Rattle.rasta_core_run.specs.Ends.{Sent, Call, Receives}
 use Rattle.rasta_core_run.specs.Run.{Ends, called, later}
-use Rattle.rasta_core_run.specs.Events.{Event, Calls, IsAmong, IsDelivered, MayRun, happened, run}
+use Rattle.rasta_core_run.specs.Events.{Event, Calls, IsAmong, IsDelivered, MayRun, Passes, happened, run}
 use Rattle.rasta_core_run.specs.Names.{Names, partner_of}
 use Rattle.rasta_core_recovery.specs.Rounds.{Flow, can_come, comings, own_work, round_events, good_round, good_rounds, events_of}
 
@@ -55,12 +55,17 @@ comings_may names t (d ∷ ds) ends among at = choose (can_come t d) refl
     choose false e skip take = skip
     choose true e skip take = (inl (d, delivered e), take)
 
-pub may_happen : (names : Names) (f : Flow) → MayRun names (round_events f) f.ends
+-- also one in which these come, which were sent
+pub round_may : (names : Names) (f : Flow) (due : List Sent) → ((d : Sent) → IsAmong d due → IsAmong d f.ends.sent)
+    → MayRun names (Passes 10000 10000 10000 ∷ (comings (f.ends.time + 10000) due ++ own_work)) f.ends
 unfolding later
-may_happen names f = (
+round_may names f due among = (
   (record { least = omega arith; most = omega arith }, record { least = omega arith; most = omega arith }),
-  comings_may names (f.ends.time + 10000) (drop f.passed f.ends.sent) (later 10000 10000 10000 f.ends) (λ d i. among_drop d f.passed f.ends.sent i) refl,
+  comings_may names (f.ends.time + 10000) due (later 10000 10000 10000 f.ends) among refl,
 )
+
+pub may_happen : (names : Names) (f : Flow) → MayRun names (round_events f) f.ends
+may_happen names f = round_may names f (drop f.passed f.ends.sent) (λ d i. among_drop d f.passed f.ends.sent i)
 
 -- ---- and so may many
 

@@ -114,5 +114,5 @@ clients_speak laws names start events passed rounds more are may work opens room
     let f : Flow = flow_after names start events passed in
     let m = mirror_of names f first.timely in
     let l = leads laws names are rounds f m.0 first m.1 work opens room in
-    let hale = all_come names (length rounds) m.0 l.last long (sound_of names f m.0 first m.1) l.is_run in
+    let hale = all_come names (length rounds) m.0 l.last long (sound_of names f m.0 first m.1) l.is_run l.climb in
     speaks laws names are more (work_rounds rounds f) l.last l.mirrors hale more_work more_opens more_room more_long

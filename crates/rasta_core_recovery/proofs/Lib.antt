@@ -92,6 +92,9 @@ pub mod FirstTalk
 pub mod FirstFates
 pub mod FirstWork
 pub mod FirstWorkWaits
+pub mod AnyFirst
+pub mod AnyFirstRecovers
+pub mod AnyFirstWork
 pub mod WithdrawnHears
 pub mod WithdrawnSpeaks
 pub mod WithdrawnServers

@@ -18,16 +18,17 @@ use Rattle.rasta_core_recovery.proofs.Ages.{rounds_clock}
 use Rattle.rasta_core_recovery.proofs.Facts.{facts}
 use Rattle.rasta_core_recovery.proofs.Happen.{may_happen}
 use Rattle.rasta_core_recovery.proofs.Pasts.{Past, Pasts, OwnBefore, run_past, starts_past}
-use Rattle.rasta_core_recovery.proofs.Seen.{Rooms, Seen, rounds_add, seen_later, healthy_for}
+use Rattle.rasta_core_recovery.proofs.Seen.{BothIn, Rooms, Seen, rounds_add, seen_later, healthy_for}
 use Rattle.rasta_core_recovery.proofs.Fates.{Comes}
 use Rattle.rasta_core_recovery.specs.Falls.{NothingFalls}
 use Rattle.rasta_core_recovery.proofs.ConfirmingEvents.{Laws as EventLaws}
 use Rattle.rasta_core_recovery.proofs.FallsEvents.{event_rises}
 use Rattle.rasta_core_recovery.proofs.FallsAlways.{starts_rising}
 use Rattle.rasta_core_recovery.proofs.FirstAsked.{Asked, event_asked, starts_asked}
-use Rattle.rasta_core_recovery.proofs.FirstFates.{AskingOn, Climbing, first_comes}
+use Rattle.rasta_core_recovery.proofs.FirstFates.{AskingOn, first_comes}
 use Rattle.rasta_core_recovery.proofs.FirstGrants.{asking_of}
-use Rattle.rasta_core_recovery.proofs.FirstRises.{climbs}
+use Rattle.rasta_core_recovery.proofs.FirstHears.{below_of}
+use Rattle.rasta_core_recovery.proofs.FirstRises.{Climbs, climbs}
 use Rattle.rasta_core_recovery.proofs.Gaps.{Lasts, lasts_later, UpNow, Goes, up_now, up_later, up_of, goes_for, calm_for}
 
 abbrev pub KeepsOrder : Type 0
@@ -72,6 +73,24 @@ holds_run laws names are (e ∷ events) ends is may = holds_run laws names are e
   asked = event_asked laws.events names e ends are is.timely may.0 is.asked;
 }) may.1
 
+-- once they are healthy they stay so
+pub healthy_at : (names : Names) (n : ℕ) (p : Pair) → recovery_rounds ≤ n → Seen names n p → Comes names 1561 p → Healthy names 1 (pair_rounds n p)
+healthy_at names n p long seen comes = subst (Healthy names 1) (rounds_add (n - comes.rounds) comes.rounds p ∙ ap (λ (k : ℕ). pair_rounds k p) (omega (arith, whole)))
+    (healthy_for names (n - comes.rounds) (n - comes.rounds) (pair_rounds comes.rounds p)
+    (seen_later names comes.rounds (n - comes.rounds) p (subst (λ (k : ℕ). Seen names k p) (sym whole) seen)) (omega arith) comes.healthy)
+  where
+    whole : comes.rounds + (n - comes.rounds) ≡ n
+    whole = omega (arith, long, comes.soon)
+
+pub is_up_then : (l k : LinkState) → l ≡ k → k.phase ≡ phase.Up → is_up l.phase ≡ true
+is_up_then l k e up = ap (λ (j : LinkState). is_up j.phase) e ∙ ap is_up up
+
+pub rooms_of : (e : Ends) (q : Pair) → e.client.link ≡ q.client → e.server.link ≡ q.server → IsBelowLimit e.client × IsBelowLimit e.server → Rooms q
+rooms_of e q c s room = record {
+  client = subst (λ (l : LinkState). is_open l.phase ≡ true → l.sent + 1 < 2147483000) c room.0;
+  server = subst (λ (l : LinkState). is_open l.phase ≡ true → l.sent + 1 < 2147483000) s room.1;
+}
+
 module _ (laws : Laws) (names : Names) (are : AreNames names) (f : Flow) (start : Holds names f.ends) where
   holds : (k : ℕ) → Holds names (good_rounds k f).ends
   unfolding good_round
@@ -79,7 +98,7 @@ module _ (laws : Laws) (names : Names) (are : AreNames names) (f : Flow) (start 
   holds (suc k) = holds_run laws names are (round_events (good_rounds k f)) (good_rounds k f).ends (holds k) (may_happen names (good_rounds k f))
 
   module _ (p : Pair) (first : Mirrors names f p) where
-    mirrors : (k : ℕ) → Mirrors names (good_rounds k f) (pair_rounds k p)
+    pub mirrors : (k : ℕ) → Mirrors names (good_rounds k f) (pair_rounds k p)
     mirrors zero = first
     mirrors (suc k) = mirrors_on laws.time laws.written laws.hands names are (good_rounds k f) (pair_rounds k p) (mirrors k)
 
@@ -92,13 +111,7 @@ module _ (laws : Laws) (names : Names) (are : AreNames names) (f : Flow) (start 
     server_now : (k : ℕ) → (pair_rounds k p).server.clock ≡ (good_rounds k f).ends.server.clock / 1000
     server_now k = sym (ap (λ (l : LinkState). l.clock) (mirrors k).server) ∙ (holds k).timely.server.clock
 
-    rooms_of : (e : Ends) (q : Pair) → e.client.link ≡ q.client → e.server.link ≡ q.server → IsBelowLimit e.client × IsBelowLimit e.server → Rooms q
-    rooms_of e q c s room = record {
-      client = subst (λ (l : LinkState). is_open l.phase ≡ true → l.sent + 1 < 2147483000) c room.0;
-      server = subst (λ (l : LinkState). is_open l.phase ≡ true → l.sent + 1 < 2147483000) s room.1;
-    }
-
-    seen : (n : ℕ) → StayBelowLimit n f → Seen names n p
+    pub seen : (n : ℕ) → StayBelowLimit n f → Seen names n p
     seen n room = record {
       facts = λ k. facts names (good_rounds k f) (pair_rounds k p) (mirrors k) (holds k).ordered;
       client_clock = λ k. reading_on _ _ _ _ k (rounds_clock role.Client k f) (client_now k) (client_now 0);
@@ -108,7 +121,7 @@ module _ (laws : Laws) (names : Names) (are : AreNames names) (f : Flow) (start 
       room = λ k most. rooms_of (good_rounds k f).ends (pair_rounds k p) (mirrors k).client (mirrors k).server (room k most);
     }
 
-    climbing : Climbing p
+    pub climbing : (k : ℕ) → BothIn (pair_rounds k p) → Climbs (pair_rounds k p)
     climbing k both = climbs names (good_rounds k f) (pair_rounds k p) (mirrors k) (holds k).ordered client_in server_in ((holds k).rising (record { client = client_in; server = server_in }))
       where
         client_in : is_open (good_rounds k f).ends.client.link.phase ≡ true
@@ -117,24 +130,12 @@ module _ (laws : Laws) (names : Names) (are : AreNames names) (f : Flow) (start 
         server_in : is_open (good_rounds k f).ends.server.link.phase ≡ true
         server_in = ap (λ (l : LinkState). is_open l.phase) (mirrors k).server ∙ both.server
 
-    askings : AskingOn names p
+    pub askings : AskingOn names p
     askings k asks = asking_of names (good_rounds k f) (pair_rounds k p) (mirrors k) (holds k).ordered (holds k).asked asks
 
     healthy_then : (n : ℕ) → recovery_rounds ≤ n → StayBelowLimit n f → Healthy names 1 (pair_rounds n p)
-    healthy_then n long room = subst (Healthy names 1) (rounds_add (n - comes.rounds) comes.rounds p ∙ ap (λ (k : ℕ). pair_rounds k p) (omega (arith, whole)))
-        (healthy_for names (n - comes.rounds) (n - comes.rounds) (pair_rounds comes.rounds p) (seen_later names comes.rounds (n - comes.rounds) p (subst (λ (k : ℕ). Seen names k p) (sym whole) all)) (omega arith) comes.healthy)
-      where
-        all : Seen names n p
-        all = seen n room
-
-        comes : Comes names 1561 p
-        comes = first_comes names n p long all climbing askings
-
-        whole : comes.rounds + (n - comes.rounds) ≡ n
-        whole = omega (arith, long, comes.soon)
-
-    is_up_then : (l k : LinkState) → l ≡ k → k.phase ≡ phase.Up → is_up l.phase ≡ true
-    is_up_then l k e up = ap (λ (j : LinkState). is_up j.phase) e ∙ ap is_up up
+    healthy_then n long room = let all = seen n room in healthy_at names n p long all
+        (first_comes names n p long all (λ both. below_of p (climbing 0 both)) (climbing 1) askings)
 
     up_at : (n : ℕ) → (pair_rounds n p).client.phase ≡ phase.Up → (pair_rounds n p).server.phase ≡ phase.Up → AreUp (good_rounds n f).ends
     up_at n client server = (is_up_then _ _ (mirrors n).client client, is_up_then _ _ (mirrors n).server server)

@@ -490,5 +490,5 @@ replies_confirm laws names start events passed rounds front item rest calls are 
     let f : Flow = flow_after names start events passed in
     let m = mirror_of names f first.timely in
     let l = leads laws names are rounds f m.0 first m.1 work opens room in
-    let hale = all_come names (length rounds) m.0 l.last long (sound_of names f m.0 first m.1) l.is_run in
+    let hale = all_come names (length rounds) m.0 l.last long (sound_of names f m.0 first m.1) l.is_run l.climb in
     round_confirms laws names are (work_rounds rounds f) l.last l.mirrors l.holds hale front item rest calls first_round second_round accepts

@@ -7,21 +7,27 @@ use Rattle.rasta_core_recovery.proofs.Facts.{Facts}
 use Rattle.rasta_core_recovery.proofs.Pasts.{Past}
 use Rattle.rasta_core_recovery.proofs.Seen.{BothIn}
 use Rattle.rasta_core_recovery.proofs.FirstGrants.{Asking}
+use Rattle.rasta_core_recovery.proofs.FirstHears.{Below}
 use Rattle.rasta_core_recovery.proofs.FirstRises.{Climbs}
 use Rattle.rasta_core_run.specs.State.{is_asking}
 
--- what is so of two ends behind each round
+-- what is so of two ends behind each round, and before the first
 pub record Sound (names : Names) (p : Pair) : Type 0 where
   pub facts : Facts names p
   pub client_past : Past p.client
   pub server_past : Past p.server
-  pub climbs : BothIn p → Climbs p
+  pub below : BothIn p → Below p
   pub asking : is_asking p.client ≡ true → Asking names p
 
 -- from one pair to another in so many rounds
 abbrev pub Run : Names → ℕ → Pair → Pair → Type 0
 Run names zero p z = p ≡ z
 Run names (suc n) p z = (r : WorkRound p) × Sound names (behind p r) × Run names n (behind p r) z
+
+-- behind the first of them what both have sent doesn't fall
+abbrev pub Climb : (names : Names) (n : ℕ) (p z : Pair) → Run names n p z → Type 0
+Climb names zero p z run = Unit {0}
+Climb names (suc n) p z run = BothIn (behind p run.0) → Climbs (behind p run.0)
 
 -- the pair behind so many of them
 abbrev pub reached : (k : ℕ) (names : Names) (n : ℕ) (p z : Pair) → Run names n p z → Pair
@@ -71,3 +77,15 @@ pub record Last (names : Names) (n : ℕ) (p z : Pair) : Type 0 where
 pub last_of : (names : Names) (n : ℕ) (p z : Pair) → Run names (suc n) p z → Last names n p z
 last_of names zero p z (r, s, e) = record { before = p; run = refl; round = r; ends = e }
 last_of names (suc n) p z (r, s, run) = let l = last_of names n (behind p r) z run in record { before = l.before; run = (r, s, l.run); round = l.round; ends = l.ends }
+
+pub last_climbs : (names : Names) (n : ℕ) (p z : Pair) (run : Run names (suc n) p z) → Climb names (suc n) p z run
+    → Climb names n p (last_of names n p z run).before (last_of names n p z run).run
+unfolding last_of
+last_climbs names zero p z run climbs = tt
+last_climbs names (suc n) p z (r, s, run) climbs = climbs
+
+-- as the pair behind the first round
+pub climbs_then : (names : Names) (n : ℕ) (p z : Pair) (run : Run names n p z) → 1 ≤ n → Climb names n p z run → BothIn (reached 1 names n p z run)
+    → Climbs (reached 1 names n p z run)
+climbs_then names zero p z run some climbs both = absurd (omega (arith, some))
+climbs_then names (suc n) p z run some climbs both = climbs both

@@ -22,7 +22,8 @@ use Rattle.rasta_core_recovery.proofs.FirstWorkWaits.{Waits, granted_comes, stil
 use Rattle.rasta_core_recovery.proofs.WorkAsks.{in_round_at_work, alone_round_at_work}
 use Rattle.rasta_core_recovery.proofs.WorkTalk.{server_joined}
 use Rattle.rasta_core_recovery.proofs.Hale.{Hale}
-use Rattle.rasta_core_recovery.proofs.WorkRun.{Sound, Run, Rounds, reached, rounds_of, last_of}
+use Rattle.rasta_core_recovery.proofs.FirstRises.{Climbs}
+use Rattle.rasta_core_recovery.proofs.WorkRun.{Sound, Run, Rounds, Climb, reached, rounds_of, last_of, last_climbs, climbs_then}
 use Rattle.rasta_core_recovery.proofs.WorkFates.{Soon, soon_on, server_clock_on, server_rests_on, out_comes, left_alone}
 use Rattle.rasta_core_recovery.proofs.WorkEarly.{server_is}
 use Rattle.rasta_core_recovery.proofs.WorkStays.{Stays, stays_first, stays_or_comes, first_comes}
@@ -50,6 +51,9 @@ module _ (names : Names) (n : ℕ) (z : Pair) (at : ℕ → Pair) (rounds : Roun
   then_sound : Sound names (behind (at 0) r.0)
   then_sound = subst (Sound names) r.1 (rounds.sound 1 (omega (arith, long)))
 
+  climbs_behind : (BothIn (at 1) → Climbs (at 1)) → Stays names n z at rounds 1 → Climbs (behind (at 0) r.0)
+  climbs_behind climbs s = subst Climbs r.1 (climbs (s.both 1 (omega arith)))
+
   in_then : Stays names n z at rounds 1 → BothIn (behind (at 0) r.0)
   in_then s = subst BothIn r.1 (s.both 1 (omega arith))
 
@@ -59,11 +63,12 @@ module _ (names : Names) (n : ℕ) (z : Pair) (at : ℕ → Pair) (rounds : Roun
   talks : Talk names (behind (at 0) r.0).client.clock (at 0).server.clock false false (behind (at 0) r.0) → Talk names (at 1).client.clock (at 0).server.clock false false (at 1)
   talks talk = subst (λ (q : Pair). Talk names q.client.clock (at 0).server.clock false false q) (sym r.1) talk
 
-  pub joined_comes : 1560 ≤ n → Joined (at 0).client.clock (at 0).client → Soon names z
-  joined_comes longer joined = by_server (is_open (at 0).server.phase) refl
+  pub joined_comes : 1560 ≤ n → (BothIn (at 1) → Climbs (at 1)) → Joined (at 0).client.clock (at 0).client → Soon names z
+  joined_comes longer climbs joined = by_server (is_open (at 0).server.phase) refl
     where
       goes_on : (e : is_open (at 0).server.phase ≡ true) → Stays names n z at rounds 1 → Soon names z
-      goes_on e s = first_comes names n z at rounds longer s (talks (talk_at_once_at_work names (at 0) r.0 now_sound then_sound (record { client = joined.connected; server = e }) joined (in_then s)))
+      goes_on e s = first_comes names n z at rounds longer s (talks
+          (talk_at_once_at_work names (at 0) r.0 now_sound then_sound (climbs_behind climbs s) (record { client = joined.connected; server = e }) joined (in_then s)))
 
       choose : is_open (at 0).server.phase ≡ true → Soon names z ⊎ (Joined (at 1).client.clock (at 1).client × (is_open (at 1).server.phase ≡ true)) → Soon names z
       choose e (inl h) = h
@@ -98,9 +103,11 @@ module _ (names : Names) (n : ℕ) (z : Pair) (at : ℕ → Pair) (rounds : Roun
           ∙ ap (λ (t : Step). is_open t.link.phase) (server_rests_on names (at 0) r.0 now_sound.facts e (inr (omega (arith, called_lately is j e)))) ∙ e)
 
   -- in the first round
-  pub joining_comes : 1560 ≤ n → Asks (at 0).client.clock (at 0).client → Joined (at 1).client.clock (at 1).client → (at 1).client.clock ≡ (at 0).client.clock + 10 → Soon names z
-  joining_comes longer is j clock = joining is j (λ e s. first_comes names n z at rounds longer s
-      (talks (talk_on_joining_at_work names (at 0) r.0 now_sound then_sound is e (ap (λ (q : Pair). is_asking q.client) (sym r.1) ∙ j.joined) (in_then s) (ap (λ (q : Pair). q.client.clock) (sym r.1) ∙ clock))))
+  pub joining_comes : 1560 ≤ n → (BothIn (at 1) → Climbs (at 1)) → Asks (at 0).client.clock (at 0).client → Joined (at 1).client.clock (at 1).client
+      → (at 1).client.clock ≡ (at 0).client.clock + 10 → Soon names z
+  joining_comes longer climbs is j clock = joining is j (λ e s. first_comes names n z at rounds longer s
+      (talks (talk_on_joining_at_work names (at 0) r.0 now_sound then_sound (climbs_behind climbs s) is e (ap (λ (q : Pair). is_asking q.client) (sym r.1) ∙ j.joined)
+      (in_then s) (ap (λ (q : Pair). q.client.clock) (sym r.1) ∙ clock))))
 
 -- ---- a client that asks
 
@@ -201,29 +208,32 @@ module _ (names : Names) (n : ℕ) (p z : Pair) (most : 1559 ≤ n) (sound : Sou
       by_server true e = was_inside e
       by_server false e = by (first_of_at_work names p r sound.facts asking_now e)
 
-asks_first : (names : Names) (n : ℕ) (p z : Pair) → 1560 ≤ n → Sound names p → Run names n p z → Asks p.client.clock p.client → Soon names z
-asks_first names zero p z most sound run is = absurd (omega (arith, most))
-asks_first names (suc n) p z most sound run is = choose (asked_round p run.0 is)
+asks_first : (names : Names) (n : ℕ) (p z : Pair) → 1560 ≤ n → Sound names p → (run : Run names n p z) → Climb names n p z run → Asks p.client.clock p.client → Soon names z
+asks_first names zero p z most sound run climbs is = absurd (omega (arith, most))
+asks_first names (suc n) p z most sound run climbs is = choose (asked_round p run.0 is)
   where
     choose : Either (p.client.clock + 10) (client_step p run.0).link (Joined (p.client.clock + 10) (client_step p run.0).link ⊎ AsksOn (p.client.clock + 10) p.client (client_step p run.0)) → Soon names z
     choose (gone left) = out_comes names n (behind p run.0) z (omega (arith, most)) run.1 run.2 left.is_out
-    choose (so (inl j)) = joining_comes names (suc n) z (λ k. reached k names (suc n) p z run) (rounds_of names (suc n) p z sound run) (omega (arith, most)) most is (subst (λ (k : ℕ). Joined k (client_step p run.0).link) (sym j.clock) j) j.clock
+    choose (so (inl j)) = joining_comes names (suc n) z (λ k. reached k names (suc n) p z run) (rounds_of names (suc n) p z sound run) (omega (arith, most)) most climbs is
+        (subst (λ (k : ℕ). Joined k (client_step p run.0).link) (sym j.clock) j) j.clock
     choose (so (inr a)) = asks_on_comes names n p z (omega (arith, most)) sound run.0 run.1 run.2 is a
 
 -- ---- the sum
 
 -- two ends at work, whatever has happened before
-pub soon_come : (names : Names) (n : ℕ) (p z : Pair) → 1560 ≤ n → Sound names p → Run names n p z → Soon names z
-soon_come names n p z most sound run = by_phase (is_open p.client.phase) refl
+pub soon_come : (names : Names) (n : ℕ) (p z : Pair) → 1560 ≤ n → Sound names p → (run : Run names n p z) → Climb names n p z run → Soon names z
+soon_come names n p z most sound run climbs = by_phase (is_open p.client.phase) refl
   where
     inside : is_open p.client.phase ≡ true → Young p.client → (b : Bool) → is_asking p.client ≡ b → Soon names z
-    inside is_in young false e = joined_comes names n z (λ k. reached k names n p z run) (rounds_of names n p z sound run) (omega (arith, most)) most (joined_of p.client is_in e young)
-    inside is_in young true e = asks_first names n p z most sound run (asking_is p.client.clock p.client refl e young.young young.own)
+    inside is_in young false e = joined_comes names n z (λ k. reached k names n p z run) (rounds_of names n p z sound run) (omega (arith, most)) most
+        (climbs_then names n p z run (omega (arith, most)) climbs) (joined_of p.client is_in e young)
+    inside is_in young true e = asks_first names n p z most sound run climbs (asking_is p.client.clock p.client refl e young.young young.own)
 
     by_phase : (b : Bool) → is_open p.client.phase ≡ b → Soon names z
     by_phase false e = out_comes names n p z (omega (arith, most)) sound run e
     by_phase true e = inside e (sound.facts.client_young e) (is_asking p.client) refl
 
-pub all_come : (names : Names) (n : ℕ) (p z : Pair) → 1561 ≤ n → Sound names p → Run names n p z → Hale names z
-all_come names zero p z most sound run = absurd (omega (arith, most))
-all_come names (suc n) p z most sound run = let l = last_of names n p z run in subst (Hale names) l.ends (soon_on names l.before l.round (soon_come names n p l.before (omega (arith, most)) sound l.run))
+pub all_come : (names : Names) (n : ℕ) (p z : Pair) → 1561 ≤ n → Sound names p → (run : Run names n p z) → Climb names n p z run → Hale names z
+all_come names zero p z most sound run climbs = absurd (omega (arith, most))
+all_come names (suc n) p z most sound run climbs = let l = last_of names n p z run in subst (Hale names) l.ends
+    (soon_on names l.before l.round (soon_come names n p l.before (omega (arith, most)) sound l.run (last_climbs names n p z run climbs)))

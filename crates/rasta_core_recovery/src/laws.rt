@@ -2,6 +2,7 @@
 
 ghost use Rattle.std.specs.Prelude.{◌≡◌, ℕ, suc, ◌+◌, ◌≤◌, ◌<◌, List, ◌++◌, drop, length};
 ghost use Rattle.rasta_core_run.specs.Each.{Each};
+ghost use Rattle.rasta_core_run.specs.Ends.{Sent};
 ghost use Rattle.rasta_core_run.specs.Events.{Event, May, MayRun, Start, happened, run, started};
 ghost use Rattle.rasta_core_run.specs.Names.{AreNames, Names};
 ghost use Rattle.rasta_core_run.specs.Run.{Ends, later};
@@ -9,6 +10,7 @@ ghost use Rattle.rasta_core_run.specs.State.{confirmed_items};
 ghost use Rattle.rasta_core.specs.Invariant.{Timely};
 ghost use Rattle.rasta_core.specs.Ordered.{Ordered};
 ghost use Rattle.rasta_core_recovery.specs.Confirming.{Answers, AreIn, Confirming, FewLeft, FewWait, HasLeft, Owes};
+ghost use Rattle.rasta_core_recovery.specs.FirstRound.{BeginAtWork, StayBelowLimitFrom, WereSent, round_of};
 ghost use Rattle.rasta_core_recovery.specs.ServerConfirming.{AwaitsAnswers, ClientHasLeft, ClientOwes, FewOfServerLeft, FewOfServerWait, ServerConfirming};
 ghost use Rattle.rasta_core_recovery.specs.Replies.{Accepts, ClientSpeaks, SpeaksAlone, StaysAtWork, in_round, speaking_rounds, with_reply};
 ghost use Rattle.rasta_core_recovery.specs.Rounds.{AreUp, Flow, StayBelowLimit, calm_rounds, comings, events_of, flow_after, gap_rounds, good_round, good_rounds, own_work, recovery_rounds};
@@ -36,6 +38,28 @@ pub fn two_ends_come_up()
     ensures { (names : Names) (start : Start) (events : List Event) (passed n : ℕ) → AreNames names → MayRun names events (started names start)
         → recovery_rounds ≤ n → StayBelowLimit n (flow_after names start events passed)
         → AreUp (good_rounds n (flow_after names start events passed)).ends }
+{
+    starts_in_time();
+    every_event_keeps_time();
+    every_event_keeps_order();
+    written_is_read();
+    read_was_written();
+    calls_hand_out_pdus();
+    links_are_settled();
+    one_connection();
+    own_connection();
+    opening_is_new();
+    what_is_taken();
+    outside_until_it_enters();
+    connection_begins();
+}
+
+/// And so they do whatever comes in the first of these rounds (`round_of`), of all that was sent before it: in any order, again and
+/// again, or never. The good rounds behind it are counted with it: after each from the 1561st on both ends are up.
+pub fn two_ends_come_up_whatever_comes_first()
+    ensures { (names : Names) (start : Start) (events : List Event) (due : List Sent) (n : ℕ) → AreNames names → MayRun names events (started names start)
+        → WereSent (run events (started names start)).sent due → recovery_rounds ≤ suc n → StayBelowLimitFrom due n (flow_after names start events 0)
+        → AreUp (good_rounds n (round_of due (flow_after names start events 0))).ends }
 {
     starts_in_time();
     every_event_keeps_time();
@@ -100,10 +124,11 @@ pub fn gaps_are_rare()
 
 /// Two ends at work come up, too: whatever has happened to them before, and whatever items they are given meanwhile, both are up
 /// after each round at work from the 1561st on, so for good 15.61 s after these rounds began. That is where nothing closes
-/// an end in them, and no end comes to the limit of PDUs in a connection.
+/// an end in them, and no end comes to the limit of PDUs in a connection. In the first of them anything may come that was sent
+/// before it, in any order, again and again, or never.
 pub fn two_ends_at_work_come_up()
     ensures { (names : Names) (start : Start) (events : List Event) (passed : ℕ) (rounds : List (List Event)) → AreNames names → MayRun names events (started names start)
-        → AreAtWork names rounds (flow_after names start events passed) → Each (Each LeavesOpen) rounds → StayBelow rounds (flow_after names start events passed)
+        → BeginAtWork names rounds (flow_after names start events passed) → Each (Each LeavesOpen) rounds → StayBelow rounds (flow_after names start events passed)
         → recovery_rounds_at_work ≤ length rounds
         → AreUp (work_rounds rounds (flow_after names start events passed)).ends }
 {
@@ -125,10 +150,10 @@ pub fn two_ends_at_work_come_up()
 /// Two ends at work hand over what they are given: whatever has happened to them before, behind each round at work from the 1561st
 /// on each end has taken all that the other had given behind the round before, in the connection that both are in; and behind that
 /// one the client was up. So nothing that is given is lost or waits for long, as long as nothing closes an end and none comes
-/// to the limit of PDUs.
+/// to the limit of PDUs. In the first of these rounds anything may come that was sent before it, here too.
 pub fn two_ends_at_work_hand_over()
     ensures { (names : Names) (start : Start) (events : List Event) (passed : ℕ) (rounds : List (List Event)) (calls : List Event) → AreNames names
-        → MayRun names events (started names start) → AreAtWork names rounds (flow_after names start events passed) → Each (Each LeavesOpen) rounds
+        → MayRun names events (started names start) → BeginAtWork names rounds (flow_after names start events passed) → Each (Each LeavesOpen) rounds
         → StayBelow rounds (flow_after names start events passed) → recovery_rounds_at_work ≤ suc (length rounds)
         → IsAtWork names (work_rounds rounds (flow_after names start events passed)) calls → Each LeavesOpen calls
         → HaveRoom calls (later 10000 10000 10000 (work_rounds rounds (flow_after names start events passed)).ends)

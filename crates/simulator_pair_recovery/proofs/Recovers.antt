@@ -66,24 +66,16 @@ is_alive time d is = rw (is.in_time, is.there, same) refl
     same : bytes_eq d.bytes d.bytes ≡ true
     same = (bytes_eq-Decides d.bytes d.bytes).1 refl
 
-not_refused : (who : Role) (ends : Ends) (time : ℕ) (d : Sent) (front rest : List Sent) → ends.time ≡ time + 10000 → ends.sent ≡ front ++ d ∷ rest → Comes time d → is_none (refusal_of_delivery who d.bytes ends) ≡ true
+-- one that can come has a copy
+copy_there : (ends : Ends) (time : ℕ) (d : Sent) (front rest : List Sent) → ends.time ≡ time + 10000 → ends.sent ≡ front ++ d ∷ rest → Comes time d
+    → (copy : Sent) × (copy_of d.bytes ends ≡ Some copy)
+copy_there ends time d front rest at sent is = let copy = has_copy (time + 10000) d front rest (is_alive time d is) in
+    (copy.0, ap (λ (t : ℕ). newest_copy t d.bytes ends.sent) at ∙ ap (newest_copy (time + 10000) d.bytes) sent ∙ copy.1)
+
+-- and what has a copy isn't refused
+copy_goes : (who : Role) (ends : Ends) (d copy : Sent) → copy_of d.bytes ends ≡ Some copy → is_none (refusal_of_delivery who d.bytes ends) ≡ true
 unfolding refusal_of_delivery
-not_refused who ends time d front rest at sent is = rw found refl
-  where
-    copy : (copy : Sent) × (newest_copy (time + 10000) d.bytes (front ++ d ∷ rest) ≡ Some copy)
-    copy = has_copy (time + 10000) d front rest (is_alive time d is)
-
-    found : copy_of d.bytes ends ≡ Some copy.0
-    found = ap (λ (t : ℕ). newest_copy t d.bytes ends.sent) at ∙ ap (newest_copy (time + 10000) d.bytes) sent ∙ copy.1
-
--- a datagram that can come arrives
-fresh_arrives : (pair : PairState) (time : ℕ) (d : Sent) (front rest : List Sent) → pair.ends.time ≡ time + 10000 → pair.ends.sent ≡ front ++ d ∷ rest → Comes time d
-    → arriving (Some d) pair ≡ stepped (partner_of d.sender) (Receives d.bytes (connection_of (copy_of d.bytes pair.ends))) pair
-unfolding arriving arrived
-fresh_arrives pair time d front rest at sent is = rw (is.there, short, not_refused (partner_of d.sender) pair.ends time d front rest at sent is) refl
-  where
-    short : nat_lt 512 (length d.bytes) ≡ false
-    short = let e = is.short in grind (arith, nat_tests)
+copy_goes who ends d copy found = rw found refl
 
 stepped_ends : (who : Role) (call : Call) (pair : PairState) → (stepped who call pair).ends ≡ called who call pair.ends
 unfolding stepped
@@ -95,6 +87,34 @@ pub record LawsHere : Type 0 where
   pub laws : Laws
   pub hands : HandsOut
   pub short : WrittenIsShort
+
+arrived_adds : LawsHere → (who : Role) (bytes : List ℕ) (pair : PairState) → Reached pair.ends → Adds pair.ends (arrived who bytes pair).ends
+unfolding arrived
+arrived_adds law who bytes pair is = choose (is_none (refusal_of_delivery who bytes pair.ends)) refl
+  where
+    choose : (b : Bool) → is_none (refusal_of_delivery who bytes pair.ends) ≡ b
+        → Adds pair.ends (if b then stepped who (Receives bytes (connection_of (copy_of bytes pair.ends))) pair else pair).ends
+    choose true f = subst (Adds pair.ends) (sym (stepped_ends who (Receives bytes (connection_of (copy_of bytes pair.ends))) pair))
+        (called_adds law.hands law.short who (Receives bytes (connection_of (copy_of bytes pair.ends))) pair.ends (reached_timely law.laws pair.ends is)
+        (may_receive law.laws who bytes pair.ends (reached_timely law.laws pair.ends is) (none_is (refusal_of_delivery who bytes pair.ends) f)))
+    choose false f = adds_none pair.ends
+
+pub arriving_adds : LawsHere → (o : Option Sent) (pair : PairState) → Reached pair.ends → Adds pair.ends (arriving o pair).ends
+unfolding arriving
+arriving_adds law None pair is = adds_none pair.ends
+arriving_adds law (Some sent) pair is = choose (sent.is_lost || nat_lt 512 (length sent.bytes))
+  where
+    choose : (b : Bool) → Adds pair.ends (if b then pair else arrived (partner_of sent.sender) sent.bytes pair).ends
+    choose true = adds_none pair.ends
+    choose false = arrived_adds law (partner_of sent.sender) sent.bytes pair is
+
+pub arriving_from_adds : LawsHere → (index more : ℕ) (pair : PairState) → Reached pair.ends → Adds pair.ends (arriving_from index more pair).ends
+unfolding arriving_from
+arriving_from_adds law index zero pair is = adds_none pair.ends
+arriving_from_adds law index (suc more) pair is =
+    adds_then pair.ends (arriving (slice_get pair.ends.sent index) pair).ends (arriving_from (suc index) more (arriving (slice_get pair.ends.sent index) pair)).ends
+    (arriving_adds law (slice_get pair.ends.sent index) pair is)
+    (arriving_from_adds law (suc index) more (arriving (slice_get pair.ends.sent index) pair) (arriving_reached law.laws (slice_get pair.ends.sent index) pair is))
 
 -- how far a pair and two ends have come in a round
 pub record Both (time : ℕ) (a : Ends) (b : Ends) (before : Ends) : Type 0 where
@@ -112,13 +132,24 @@ can_come_too time d e is same = ap (λ (b : Bool). not b && nat_le (time + 10000
     in_time : nat_le (time + 10000) (e.at + lifetime) ≡ true
     in_time = subst (λ (at : ℕ). nat_le (time + 10000) (at + lifetime) ≡ true) same.at is.in_time
 
-pub one_arrives : LawsHere → (time : ℕ) (d e : Sent) (pair : PairState) (b before : Ends) (front rest : List Sent) → pair.ends.time ≡ time + 10000 → pair.ends.sent ≡ front ++ d ∷ rest → Comes time d → AlikeSent d e
+-- it has a copy, so it arrives
+pub copy_arrives : (pair : PairState) (d copy : Sent) → d.is_lost ≡ false → length d.bytes ≤ 225 → copy_of d.bytes pair.ends ≡ Some copy
+    → arriving (Some d) pair ≡ stepped (partner_of d.sender) (Receives d.bytes (connection_of (copy_of d.bytes pair.ends))) pair
+unfolding arriving arrived
+copy_arrives pair d copy there few found = rw (there, short, copy_goes (partner_of d.sender) pair.ends d copy found) refl
+  where
+    short : nat_lt 512 (length d.bytes) ≡ false
+    short = let e = few in grind (arith, nat_tests)
+
+-- and two ends hear the same where they hear another of the same bytes
+pub one_comes : LawsHere → (time : ℕ) (d e copy : Sent) (pair : PairState) (b before : Ends) → d.is_lost ≡ false → length d.bytes ≤ 225 → copy_of d.bytes pair.ends ≡ Some copy
+    → d.bytes ≡ e.bytes → d.sender ≡ e.sender
     → Both time pair.ends b before → Both time (arriving (Some d) pair).ends (called (names_of.partner_of e.sender) (Receives e.bytes e.connection) b) before
-one_arrives law time d e pair b before front rest at sent is same both = record {
+one_comes law time d e copy pair b before there few found same_bytes same_sender both = record {
   reached = reached;
   alike = subst (λ (x : Ends). Alike x (called (names_of.partner_of e.sender) (Receives e.bytes e.connection) b)) (sym ends)
-      (subst (λ (w : Role). Alike (called who call pair.ends) (called w (Receives e.bytes e.connection) b)) (same_partner d.sender ∙ ap names_of.partner_of same.sender)
-      (called_alike who call (Receives e.bytes e.connection) pair.ends b (receives d.bytes e.bytes _ e.connection same.bytes) both.alike));
+      (subst (λ (w : Role). Alike (called who call pair.ends) (called w (Receives e.bytes e.connection) b)) (same_partner d.sender ∙ ap names_of.partner_of same_sender)
+      (called_alike who call (Receives e.bytes e.connection) pair.ends b (receives d.bytes e.bytes _ e.connection same_bytes) both.alike));
   adds = adds_then before pair.ends (arriving (Some d) pair).ends both.adds (subst (Adds pair.ends) (sym ends) (called_adds law.hands law.short who call pair.ends (reached_timely law.laws pair.ends both.reached) may));
 }
   where
@@ -129,14 +160,20 @@ one_arrives law time d e pair b before front rest at sent is same both = record 
     call = Receives d.bytes (connection_of (copy_of d.bytes pair.ends))
 
     ends : (arriving (Some d) pair).ends ≡ called who call pair.ends
-    ends = ap (λ (p : PairState). p.ends) (fresh_arrives pair time d front rest at sent is) ∙ stepped_ends who call pair
+    ends = ap (λ (p : PairState). p.ends) (copy_arrives pair d copy there few found) ∙ stepped_ends who call pair
 
     may : MayCall names who call pair.ends
     may = may_receive law.laws who d.bytes pair.ends (reached_timely law.laws pair.ends both.reached)
-        (none_is (refusal_of_delivery who d.bytes pair.ends) (not_refused who pair.ends time d front rest at sent is))
+        (none_is (refusal_of_delivery who d.bytes pair.ends) (copy_goes who pair.ends d copy found))
 
     reached : Reached (arriving (Some d) pair).ends
-    reached = subst Reached (sym (ap (λ (p : PairState). p.ends) (fresh_arrives pair time d front rest at sent is))) (reached_stepped who call pair both.reached may)
+    reached = subst Reached (sym (ap (λ (p : PairState). p.ends) (copy_arrives pair d copy there few found))) (reached_stepped who call pair both.reached may)
+
+one_arrives : LawsHere → (time : ℕ) (d e : Sent) (pair : PairState) (b before : Ends) (front rest : List Sent) → pair.ends.time ≡ time + 10000
+    → pair.ends.sent ≡ front ++ d ∷ rest → Comes time d → AlikeSent d e
+    → Both time pair.ends b before → Both time (arriving (Some d) pair).ends (called (names_of.partner_of e.sender) (Receives e.bytes e.connection) b) before
+one_arrives law time d e pair b before front rest at sent is same both = let copy = copy_there pair.ends time d front rest at sent is in
+    one_comes law time d e copy.0 pair b before is.there is.short copy.1 same.bytes same.sender both
 
 all_arrive : LawsHere → (time : ℕ) (ds es : List Sent) (pair : PairState) (b before : Ends) (front rest : List Sent) → before.time ≡ time + 10000 → pair.ends.sent ≡ front ++ (ds ++ rest) → Each (IsFresh time) ds → AllAlike ds es
     → Both time pair.ends b before → Both time (arriving_from (length front) (length ds) pair).ends (run (comings (time + 10000) es) b) before
@@ -172,13 +209,8 @@ all_arrive law time (d ∷ ds) (e ∷ es) pair b before front rest at sent fresh
     one : Both time (arriving (Some d) pair).ends next before
     one = one_arrives law time d e pair b before front (ds ++ rest) now sent comes_here alike.0 both
 
-    ends : (arriving (Some d) pair).ends ≡ called (partner_of d.sender) (Receives d.bytes (connection_of (copy_of d.bytes pair.ends))) pair.ends
-    ends = ap (λ (p : PairState). p.ends) (fresh_arrives pair time d front (ds ++ rest) now sent comes_here) ∙ stepped_ends (partner_of d.sender) (Receives d.bytes (connection_of (copy_of d.bytes pair.ends))) pair
-
     added : Adds pair.ends (arriving (Some d) pair).ends
-    added = subst (Adds pair.ends) (sym ends) (called_adds law.hands law.short (partner_of d.sender) (Receives d.bytes (connection_of (copy_of d.bytes pair.ends))) pair.ends (reached_timely law.laws pair.ends both.reached)
-        (may_receive law.laws (partner_of d.sender) d.bytes pair.ends (reached_timely law.laws pair.ends both.reached)
-        (none_is (refusal_of_delivery (partner_of d.sender) d.bytes pair.ends) (not_refused (partner_of d.sender) pair.ends time d front (ds ++ rest) now sent comes_here))))
+    added = arriving_adds law (Some d) pair both.reached
 
     then_sent : (arriving (Some d) pair).ends.sent ≡ (front ++ d ∷ []) ++ (ds ++ (rest ++ added.more))
     then_sent = added.sent ∙ ap (λ (s : List Sent). s ++ added.more) sent ∙ append_assoc front (d ∷ (ds ++ rest)) added.more
@@ -223,34 +255,6 @@ pub later_is : (ends : Ends) → ((later 10000 10000 10000 ends).time ≡ ends.t
 unfolding later end_later
 later_is ends = (refl, refl, refl, refl)
 
--- ---- the first round, in which anything may come
-
-arrived_adds : LawsHere → (who : Role) (bytes : List ℕ) (pair : PairState) → Reached pair.ends → Adds pair.ends (arrived who bytes pair).ends
-unfolding arrived
-arrived_adds law who bytes pair is = choose (is_none (refusal_of_delivery who bytes pair.ends)) refl
-  where
-    choose : (b : Bool) → is_none (refusal_of_delivery who bytes pair.ends) ≡ b → Adds pair.ends (if b then stepped who (Receives bytes (connection_of (copy_of bytes pair.ends))) pair else pair).ends
-    choose true f = subst (Adds pair.ends) (sym (stepped_ends who (Receives bytes (connection_of (copy_of bytes pair.ends))) pair))
-        (called_adds law.hands law.short who (Receives bytes (connection_of (copy_of bytes pair.ends))) pair.ends (reached_timely law.laws pair.ends is) (may_receive law.laws who bytes pair.ends (reached_timely law.laws pair.ends is) (none_is (refusal_of_delivery who bytes pair.ends) f)))
-    choose false f = adds_none pair.ends
-
-pub arriving_adds : LawsHere → (o : Option Sent) (pair : PairState) → Reached pair.ends → Adds pair.ends (arriving o pair).ends
-unfolding arriving
-arriving_adds law None pair is = adds_none pair.ends
-arriving_adds law (Some sent) pair is = choose (sent.is_lost || nat_lt 512 (length sent.bytes))
-  where
-    choose : (b : Bool) → Adds pair.ends (if b then pair else arrived (partner_of sent.sender) sent.bytes pair).ends
-    choose true = adds_none pair.ends
-    choose false = arrived_adds law (partner_of sent.sender) sent.bytes pair is
-
-pub arriving_from_adds : LawsHere → (index more : ℕ) (pair : PairState) → Reached pair.ends → Adds pair.ends (arriving_from index more pair).ends
-unfolding arriving_from
-arriving_from_adds law index zero pair is = adds_none pair.ends
-arriving_from_adds law index (suc more) pair is =
-    adds_then pair.ends (arriving (slice_get pair.ends.sent index) pair).ends (arriving_from (suc index) more (arriving (slice_get pair.ends.sent index) pair)).ends
-    (arriving_adds law (slice_get pair.ends.sent index) pair is)
-    (arriving_from_adds law (suc index) more (arriving (slice_get pair.ends.sent index) pair) (arriving_reached law.laws (slice_get pair.ends.sent index) pair is))
-
 -- ---- a round of both
 
 -- how far a pair and two ends have come after so many rounds
@@ -282,7 +286,7 @@ length_both : (xs ys : List Sent) → length (xs ++ ys) ≡ length xs + length y
 length_both [] ys = omega arith
 length_both (x ∷ xs) ys = let e = length_both xs ys in omega (arith, e)
 
-run_both : (a b : List Event) (ends : Ends) → run (a ++ b) ends ≡ run b (run a ends)
+pub run_both : (a b : List Event) (ends : Ends) → run (a ++ b) ends ≡ run b (run a ends)
 run_both [] b ends = refl
 run_both (e ∷ a) b ends = run_both a b (happened e ends)
 
@@ -295,7 +299,7 @@ round_passed : (f : Flowing) → (round f).passed ≡ length f.pair.ends.sent
 unfolding round
 round_passed f = refl
 
-pub good_ends : (g : Flow) → (good_round g).ends ≡ run own_work (run (comings (g.ends.time + 10000) (drop g.passed g.ends.sent)) (later 10000 10000 10000 g.ends))
+good_ends : (g : Flow) → (good_round g).ends ≡ run own_work (run (comings (g.ends.time + 10000) (drop g.passed g.ends.sent)) (later 10000 10000 10000 g.ends))
 unfolding good_round
 good_ends g = run_both (comings (g.ends.time + 10000) (drop g.passed g.ends.sent)) own_work (later 10000 10000 10000 g.ends)
 
@@ -313,12 +317,14 @@ time_passes k n first f can t c s = let x = can.time.time in let y = can.time.cl
     time_goes f.pair (omega (arith, t, x, b)) (omega (arith, c, y, b)) (omega (arith, s, z, b))
 
 -- what a round leaves, by what its last part has
-pub goes_from : (k n : ℕ) (first f : Flowing) (g : Flow) (new : Ends) → Both f.pair.ends.time (round f).pair.ends new (later 10000 10000 10000 f.pair.ends) → length f.pair.ends.sent ≡ length g.ends.sent → (good_round g).ends ≡ new
-    → f.pair.ends.time ≡ first.pair.ends.time + 10000 * k → f.pair.ends.client.clock ≡ first.pair.ends.client.clock + 10000 * k → f.pair.ends.server.clock ≡ first.pair.ends.server.clock + 10000 * k → Goes (suc k) first (round f) (good_round g)
-goes_from k n first f g new both same is t c s = let l = later_is f.pair.ends in record {
+pub goes_from : (k n : ℕ) (first f : Flowing) (g h : Flow) (new : Ends) → Both f.pair.ends.time (round f).pair.ends new (later 10000 10000 10000 f.pair.ends)
+    → length f.pair.ends.sent ≡ length g.ends.sent → h.ends ≡ new
+    → h.passed ≡ length g.ends.sent → f.pair.ends.time ≡ first.pair.ends.time + 10000 * k → f.pair.ends.client.clock ≡ first.pair.ends.client.clock + 10000 * k
+    → f.pair.ends.server.clock ≡ first.pair.ends.server.clock + 10000 * k → Goes (suc k) first (round f) h
+goes_from k n first f g h new both same is at t c s = let l = later_is f.pair.ends in record {
   reached = both.reached;
   alike = subst (Alike (round f).pair.ends) (sym is) both.alike;
-  passed = round_passed f ∙ same ∙ sym (good_passed g);
+  passed = round_passed f ∙ same ∙ sym at;
   old = f.pair.ends.sent;
   more = both.adds.more;
   split = both.adds.sent ∙ ap (λ (xs : List Sent). xs ++ both.adds.more) l.1;
@@ -330,8 +336,10 @@ goes_from k n first f g new both same is t c s = let l = later_is f.pair.ends in
 }
 
 round_goes : LawsHere → (k n : ℕ) (first f : Flowing) (g : Flow) → CanGo k n first → Goes k first f g → Goes (suc k) first (round f) (good_round g)
-round_goes law k n first f g can goes = goes_from k n first f g _ (subst (λ (x : Ends). Both f.pair.ends.time x (run own_work (run (comings (g.ends.time + 10000) es) (later 10000 10000 10000 g.ends))) later_f) (sym (round_ends f)) worked)
-    (same_length f.pair.ends.sent g.ends.sent goes.alike.sent) (good_ends g) goes.time goes.client_clock goes.server_clock
+round_goes law k n first f g can goes = goes_from k n first f g (good_round g) _
+    (subst (λ (x : Ends). Both f.pair.ends.time x (run own_work (run (comings (g.ends.time + 10000) es) (later 10000 10000 10000 g.ends))) later_f)
+    (sym (round_ends f)) worked)
+    (same_length f.pair.ends.sent g.ends.sent goes.alike.sent) (good_ends g) (good_passed g) goes.time goes.client_clock goes.server_clock
   where
     es : List Sent
     es = drop g.passed g.ends.sent

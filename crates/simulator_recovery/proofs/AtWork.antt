@@ -3,7 +3,7 @@ use Rattle.std.proofs.Common.{◌≡◌, ℕ, zero, suc, ◌+◌, ◌-◌, ◌^�
 use Rattle.std.specs.Prelude.{slice_index_or, ◌&&◌}
 use Rattle.std.proofs.lemmas.Bool.Decides.{nat_tests}
 use Rattle.rasta_core_recovery.specs.Rounds.{can_come}
-use Rattle.rasta_core_recovery.specs.Work.{IsWorkAt, calls_in, clock_calls, due_to}
+use Rattle.rasta_core_recovery.specs.Work.{IsCall, IsWorkAt, calls_in, clock_calls, due_to}
 use Rattle.ixl_table.specs.Table.{IsTableOf, as_section}
 use Rattle.simulator_run.specs.layout.Entries.{Site}
 use Rattle.simulator_run.specs.layout.Once.{Once}
@@ -30,7 +30,7 @@ use Rattle.simulator_run.specs.simulator_event.declared.event.Event.TheVariants 
 use Rattle.simulator_run.specs.simulator_event.refused.Refused.{Refused}
 use Rattle.simulator_run.specs.declared.round.FoundDriven.{FoundDriven}
 use Rattle.simulator_run.specs.declared.round.RoundEvent.{RoundEvent}
-use Rattle.simulator_run.specs.Flow.{Flowing, deliveries, position_of, reach, reaches, round_of_time, stations, ticks}
+use Rattle.simulator_run.specs.Flow.{Flowing, deliveries, position_of, reach, reaches, round, round_of_time, stations, ticks}
 use Rattle.simulator_run.specs.Happens.{coming}
 use Rattle.simulator_run.specs.Links.{AreLinksOf, names_at}
 use Rattle.simulator_run.specs.Network.{connection_of, copy_of}
@@ -43,7 +43,7 @@ use Rattle.simulator_run_links.specs.HasLinks.{IsStanding}
 use Rattle.simulator_run_links.specs.Whole.{IsWhole}
 use Rattle.simulator_headline.specs.Reached.{IsReached}
 use Rattle.simulator_recovery.specs.LinkRounds.{IsAtWorkOn, all_events_tried, behind_time, calls_of_round, calls_on, event_of, events_tried, events_where, links_behind, time_of_round}
-use Rattle.simulator_recovery.specs.Rounds.{HasTime, IsFresh, IsWork, LeavesFresh, NoneRefused, arrivals, clocks_of}
+use Rattle.simulator_recovery.specs.Rounds.{HasTime, IsFresh, IsWork, LeavesFresh, NoneRefused, all_tried, arrivals, clocks_of}
 use Rattle.simulator_recovery.proofs.Addressed.{addressed_is}
 use Rattle.simulator_recovery.proofs.Arrives.{ArrivalLaws, due_in_order, none_refused}
 use Rattle.simulator_recovery.proofs.Clocks.{time_may_pass}
@@ -165,6 +165,15 @@ drop_front (first ∷ front) rest = drop_front front rest
 -- the table knows each detector
 pub table_sections : (site : Site) (table : Table) → IsTableOf site table → length table.detectors ≡ length site.detectors
 table_sections site table is = sym (map_length (λ sections. map as_section sections) table.detectors) ∙ ap length is.detectors ∙ map_length (λ detector. detector.sections) site.detectors
+
+-- what a round is to a link, where this is due at its ends
+pub record IsRoundOn (site : Site) (due : Role → ℕ → List (List ℕ)) (new : Flowing Played) (between : List Event) (before : Links) (link : ℕ) : Type 0 where
+  pub are : AreLinksOf site (all_tried between (round stations new)).state.run (links_behind between new before)
+  pub may : MayRun (names_at site link) (Passes 10000 10000 10000 ∷ calls_on link between new before) (seen link before)
+  pub only : Each IsCall (calls_on link between new before)
+  pub client : IsWorkAt role.Client (due role.Client link) (calls_in role.Client (calls_on link between new before))
+  pub server : IsWorkAt role.Server (due role.Server link) (calls_in role.Server (calls_on link between new before))
+  pub leads : seen link (links_behind between new before) ≡ run (Passes 10000 10000 10000 ∷ calls_on link between new before) (seen link before)
 
 -- ---- one delivery
 
@@ -373,10 +382,11 @@ module _ (laws : LinkLaws) (sited : SitedTable) (station : IsStation sited.site)
       (sym (due_more who link old.state.run.sent leaves.more new before has leaves.sent ∙ dues_are who link new.state.run.time leaves.more leaves.fresh))
       (all_arrive who link new.passed leaves.more (timed new) (passed_links new before) (time_followed new before has).has from arrive)
 
-  -- A round of which it is known what comes in it: the datagrams that were sent behind these.
-  module _ (old new : Flowing Played) (come : List RoundEvent) (due_in_it : deliveries (stations.arrival new.state) new.passed (length new.state.run.sent - new.passed) ≡ come)
+  -- A round of which it is known what comes in it, at each end of each link.
+  module _ (due : Role → ℕ → List (List ℕ)) (new : Flowing Played) (come : List RoundEvent)
+      (due_in_it : deliveries (stations.arrival new.state) new.passed (length new.state.run.sent - new.passed) ≡ come)
       (between : List Event) (before : Links) (work : Each IsWork between) (has : HasThese sited new.state before) (goes : refusal_of (round_of_time new.state.sited.site) new.state ≡ None)
-      (comes : (who : Role) (link : ℕ) → IsFront (due_behind who link old.state.run.sent before) (all_called_at who link (all_events_tried (map event_of come) (timed new)))) where
+      (comes : (who : Role) (link : ℕ) → IsFront (due who link) (all_called_at who link (all_events_tried (map event_of come) (timed new)))) where
     -- in a round what is due comes, then all nodes tick, and then something is said at most
     arrived : List Event
     arrived = map event_of come
@@ -418,7 +428,7 @@ module _ (laws : LinkLaws) (sited : SitedTable) (station : IsStation sited.site)
         ∙ ap (λ (l : List LinksEvent). all_events_tried arrived (timed new) ++ l) (events_both ticked rest (after_each arrived (timed new)))
 
     -- what an end of a link is called to
-    work_at : (who : Role) (link : ℕ) → link < links sited.site → IsWorkAt who (due_behind who link old.state.run.sent before) (all_called_at who link (calls_of_round between new))
+    work_at : (who : Role) (link : ℕ) → link < links sited.site → IsWorkAt who (due who link) (all_called_at who link (calls_of_round between new))
     unfolding arrived ticked
     work_at who link below = record {
       front = first ++ second.0;
@@ -428,7 +438,7 @@ module _ (laws : LinkLaws) (sited : SitedTable) (station : IsStation sited.site)
           ∙ ap (λ (l : List Call). first ++ l) (called_both who link (all_events_tried ticked after_arrived) (all_events_tried rest (after_each ticked after_arrived))
           ∙ ap (λ (l : List Call). l ++ third) second.1.1 ∙ append_assoc second.0 (clock_calls who) third)
           ∙ sym (append_assoc first second.0 (clock_calls who ++ third));
-      comes = both.comes ∙ append-nil (due_behind who link old.state.run.sent before);
+      comes = both.comes ∙ append-nil (due who link);
       before = both.before;
       behind = all_say who link (all_events_tried rest (after_each ticked after_arrived)) (all_silent_say rest (after_each ticked after_arrived) rest_silent);
     }
@@ -442,8 +452,8 @@ module _ (laws : LinkLaws) (sited : SitedTable) (station : IsStation sited.site)
         third : List Call
         third = all_called_at who link (all_events_tried rest (after_each ticked after_arrived))
 
-        both : IsFront (due_behind who link old.state.run.sent before ++ []) (first ++ second.0)
-        both = front_then (due_behind who link old.state.run.sent before) [] first second.0 (comes who link) (front_said second.0 second.1.0)
+        both : IsFront (due who link ++ []) (first ++ second.0)
+        both = front_then (due who link) [] first second.0 (comes who link) (front_said second.0 second.1.0)
 
     -- ---- as the link sees it
 
@@ -466,24 +476,41 @@ module _ (laws : LinkLaws) (sited : SitedTable) (station : IsStation sited.site)
           (laws.sees link (clock_event ∷ calls_of_round between new) before),
     )
 
-    work_on : (who : Role) (link : ℕ) → link < links sited.site
-        → IsWorkAt who (due_to who (before.time + 10000) (drop (length (of_link link old.state.run.sent)) (of_link link before.sent))) (calls_in who (calls_on link between new before))
-    work_on who link below = subst (IsWorkAt who (due_behind who link old.state.run.sent before))
+    work_on : (who : Role) (link : ℕ) → link < links sited.site → IsWorkAt who (due who link) (calls_in who (calls_on link between new before))
+    work_on who link below = subst (IsWorkAt who (due who link))
         (sym (seen_calls who link (calls_of_round between new) (passed_links new before) (round_called between new (timed new) work))) (work_at who link below)
 
+    pub has_behind : HasThese sited (after_each (map event_of (behind_time new) ++ between) (timed new)) (links_behind between new before)
+    has_behind = (all_followed laws sited station once (map event_of (behind_time new) ++ between) (timed new) (passed_links new before)
+        (time_followed new before has).has).has
+
+    pub round_on : (link : ℕ) → link < links sited.site → IsRoundOn sited.site due new between before link
+    round_on link below = record {
+      are = subst (λ (world : Played). AreLinksOf sited.site world.run (links_behind between new before)) (sym (round_tried between new)) has_behind.are;
+      may = (at_link link below).0;
+      only = calls_alone link (calls_of_round between new) (passed_links new before) (round_called between new (timed new) work);
+      client = work_on role.Client link below;
+      server = work_on role.Server link below;
+      leads = (at_link link below).1;
+    }
+
+  -- one in which the datagrams come that were sent behind these
+  module _ (old new : Flowing Played) (come : List RoundEvent) (due_in_it : deliveries (stations.arrival new.state) new.passed (length new.state.run.sent - new.passed) ≡ come)
+      (between : List Event) (before : Links) (work : Each IsWork between) (has : HasThese sited new.state before)
+      (goes : refusal_of (round_of_time new.state.sited.site) new.state ≡ None)
+      (comes : (who : Role) (link : ℕ) → IsFront (due_behind who link old.state.run.sent before)
+      (all_called_at who link (all_events_tried (map event_of come) (timed new)))) where
+    abbrev due_in_round : Role → ℕ → List (List ℕ)
+    due_in_round who link = due_behind who link old.state.run.sent before
+
     pub all_has : HasThese sited (after_each (map event_of (behind_time new) ++ between) (timed new)) (links_behind between new before)
-    all_has = (all_followed laws sited station once (map event_of (behind_time new) ++ between) (timed new) (passed_links new before) (time_followed new before has).has).has
+    all_has = has_behind due_in_round new come due_in_it between before work has goes comes
 
     pub round_at_work : (link : ℕ) → link < links sited.site → IsAtWorkOn sited.site link between old new before
-    round_at_work link below = record {
-      are = subst (λ (world : Played). AreLinksOf sited.site world.run (links_behind between new before)) (sym (round_tried between new)) all_has.are;
-      work = record {
-        may = (at_link link below).0;
-        only = calls_alone link (calls_of_round between new) (passed_links new before) (round_called between new (timed new) work);
-        client = work_on role.Client link below;
-        server = work_on role.Server link below;
-      };
-      leads = (at_link link below).1;
+    round_at_work link below = let r = round_on due_in_round new come due_in_it between before work has goes comes link below in record {
+      are = r.are;
+      work = record { may = r.may; only = r.only; client = r.client; server = r.server };
+      leads = r.leads;
     }
 
 -- ---- datagrams are read as what their senders wrote
@@ -491,7 +518,8 @@ module _ (laws : LinkLaws) (sited : SitedTable) (station : IsStation sited.site)
 here : (n : ℕ) → (n == n) ≡ true
 here n = grind (arith, nat_tests)
 
-each_by_link : (P : ℕ → Sent → Type 0) (count : ℕ) (list : List OnLink) → Each (λ (one : OnLink). one.link < count) list → ((link : ℕ) → link < count → Each (P link) (of_link link list)) → Each (λ (one : OnLink). P one.link one.datagram) list
+pub each_by_link : (P : ℕ → Sent → Type 0) (count : ℕ) (list : List OnLink) → Each (λ (one : OnLink). one.link < count) list
+    → ((link : ℕ) → link < count → Each (P link) (of_link link list)) → Each (λ (one : OnLink). P one.link one.datagram) list
 each_by_link P count [] below each = tt
 each_by_link P count (one ∷ more) below each = (
   (subst (λ (b : Bool). Each (P one.link) (if b then one.datagram ∷ of_link one.link more else of_link one.link more)) (here one.link) (each one.link below.0)).0,

@@ -39,7 +39,7 @@ use Rattle.simulator_recovery.proofs.AtLink.{mapped}
 use Rattle.simulator_recovery.proofs.AuthorityLists.{links_last, lists_last, time_left}
 use Rattle.simulator_recovery.proofs.AuthorityRounds.{AuthorityLaws, Goes, Held, controls_timed, even_links, gives_last, held_after, held_even, later_client_taken, later_given, later_sent, later_server_taken, none_taken_between, round_calm, round_due_so, round_gives_few, round_grows, round_may, round_room, server_through, client_through, stands_there, stands_timed, start_is, taken_even, taken_most, timed_host}
 use Rattle.simulator_recovery.proofs.ClientLinks.{up_open}
-use Rattle.simulator_recovery.proofs.ComeUp.{Begun, flow_then, links_after, lists_length, lists_on}
+use Rattle.simulator_recovery.proofs.ComeUp.{Begun, flow_then, links_after, lists_length, lists_on, rounds_begin}
 use Rattle.simulator_recovery.proofs.LinkCounts.{settled_open}
 use Rattle.simulator_recovery.proofs.LinkRounds.{after_each, are_links, round_tried}
 use Rattle.simulator_recovery.proofs.Lists.{at_place}
@@ -153,7 +153,7 @@ module _ (laws : EndingLaws) (sited : SitedTable) (station : IsStation sited.sit
     pub over : HandOver (seen place (links_after rounds next start.before)) (seen place (links_after (rounds ++ last ∷ []) next start.before))
     over = subst (λ (e : Ends). HandOver e (seen place new)) (sym old_is) (subst (HandOver at.ends) (sym new_is)
         (laws.authority.confirm.ready.over names (start_of place starts_at_zero) start.is_run.events (length (of_link place flowing.state.run.sent)) (lists rounds) calls are_so start.is_run.may
-        work.0 opened.0 room.0 (let l = s.long in let n = lists_length place rounds next start.before in omega (arith, l, n)) work.1 opened.1 room.1))
+        (rounds_begin names (lists rounds) flow work.0) opened.0 room.0 (let l = s.long in let n = lists_length place rounds next start.before in omega (arith, l, n)) work.1 opened.1 room.1))
 
     stays_at_work : StaysAtWork names at calls
     stays_at_work = record { work = work.1; opens = opened.1; room = room.1 }

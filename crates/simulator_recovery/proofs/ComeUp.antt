@@ -1,7 +1,8 @@
 -- The links of a station come up, as long as nothing closes them.
-use Rattle.std.proofs.Common.{◌≡◌, ◌≢◌, ℕ, suc, ◌+◌, ◌*◌, ◌<◌, ◌≤◌, ◌==◌, Bool, true, false, if◌then◌else◌, List, [], ◌∷◌, ◌++◌, length, map, None, refl, sym, ap, subst, ◌∙◌, arith}
+use Rattle.std.proofs.Common.{◌≡◌, ◌≢◌, ℕ, zero, suc, inl, inr, drop, ◌+◌, ◌*◌, ◌<◌, ◌≤◌, ◌==◌, Bool, true, false, if◌then◌else◌, List, [], ◌∷◌, ◌++◌, length, map, None, refl, sym, ap, subst, ◌∙◌, arith}
 use Rattle.std.proofs.lemmas.Bool.Decides.{nat_tests}
 use Rattle.rasta_core_recovery.specs.Rounds.{AreUp, Flow, flow_after}
+use Rattle.rasta_core_recovery.specs.FirstRound.{BeginAtWork, WereSent}
 use Rattle.rasta_core_recovery.specs.Work.{AreAtWork, HaveRoom, LeavesOpen, StayBelow, recovery_rounds_at_work, work_round, work_rounds}
 use Rattle.ixl_table.specs.Table.{IsTableOf}
 use Rattle.simulator_run.specs.layout.Entries.{Site}
@@ -9,8 +10,8 @@ use Rattle.simulator_run.specs.layout.Once.{Once}
 use Rattle.simulator_run.specs.layout.Station.{IsStation}
 use Rattle.simulator_run.specs.rasta_core.Each.{Each}
 use Rattle.simulator_run.specs.rasta_core.EachLink.{AreTimely}
-use Rattle.simulator_run.specs.rasta_core.Ends.{Closes, Opens, Receives, Sends, Ticks}
-use Rattle.simulator_run.specs.rasta_core.Events.{Calls, Elsewhere, Event as LinkEvent, IsRun, MayRun, Start, run, started}
+use Rattle.simulator_run.specs.rasta_core.Ends.{Closes, Opens, Receives, Sends, Sent, Ticks}
+use Rattle.simulator_run.specs.rasta_core.Events.{Calls, Elsewhere, Event as LinkEvent, IsAmong, IsRun, MayRun, Start, run, started}
 use Rattle.simulator_run.specs.rasta_core.Links.{AreLinks, CallsOn, Links, LinksEvent, LinksStart, LosesAny, MayRunLinks, PassesFor, RestartsOn, begun, events_on, happened_to, of_link, run_links, run_on, seen, sent_by, start_of}
 use Rattle.simulator_run.specs.rasta_core.Names.{AreNames, Names}
 use Rattle.simulator_run.specs.rasta_core.Run.{Ends, later}
@@ -110,7 +111,8 @@ pub record ComeUpLaws : Type 0 where
   pub runs : (count : ℕ) (names : ℕ → Names) (start : LinksStart) (events : List LinksEvent) → AreLinks count names → MayRunLinks count names events (begun names start)
       → (link : ℕ) → link < count → IsRun (names link) (start_of link start) (seen link (run_links events (begun names start)))
   pub up : (names : Names) (start : Start) (events : List LinkEvent) (passed : ℕ) (rounds : List (List LinkEvent)) → AreNames names → MayRun names events (started names start)
-      → AreAtWork names rounds (flow_after names start events passed) → Each (Each LeavesOpen) rounds → StayBelow rounds (flow_after names start events passed) → recovery_rounds_at_work ≤ length rounds
+      → BeginAtWork names rounds (flow_after names start events passed) → Each (Each LeavesOpen) rounds → StayBelow rounds (flow_after names start events passed)
+      → recovery_rounds_at_work ≤ length rounds
       → AreUp (work_rounds rounds (flow_after names start events passed)).ends
 
 -- the rounds of a link
@@ -134,11 +136,46 @@ abbrev pub links_after : List (List Event) → Flowing Played → Links → Link
 links_after [] flowing before = before
 links_after (between ∷ later) flowing before = links_after later (all_tried between (round stations flowing)) (links_behind between flowing before)
 
+-- ---- a first round
+
+among_drop : (n : ℕ) (ds all : List Sent) → ((d : Sent) → IsAmong d ds → IsAmong d all) → WereSent all (drop n ds)
+among_drop n [] all turn = none n
+  where
+    none : (n : ℕ) → WereSent all (drop n [])
+    none zero = tt
+    none (suc n) = tt
+among_drop zero (d ∷ ds) all turn = (turn d (inl refl), among_drop zero ds all (λ x is. turn x (inr is)))
+among_drop (suc n) (d ∷ ds) all turn = among_drop n ds all (λ x is. turn x (inr is))
+
+-- rounds at work begin with one in which only that comes which was sent before
+pub rounds_begin : (names : Names) (rounds : List (List LinkEvent)) (f : Flow) → AreAtWork names rounds f → BeginAtWork names rounds f
+rounds_begin names [] f work = tt
+rounds_begin names (calls ∷ others) f (first, work) = (
+  record {
+    due = drop f.passed f.ends.sent;
+    were_sent = among_drop f.passed f.ends.sent f.ends.sent (λ d is. is);
+    may = first.may;
+    only = first.only;
+    client = first.client;
+    server = first.server;
+  },
+  work,
+)
+
+-- rounds at work; or such of which the first is one in which anything may come that was sent before
+abbrev pub WorkFrom : Bool → Names → List (List LinkEvent) → Flow → Type 0
+WorkFrom true names rounds f = BeginAtWork names rounds f
+WorkFrom false names rounds f = AreAtWork names rounds f
+
+pub begins_so : (any_first : Bool) (names : Names) (rounds : List (List LinkEvent)) (f : Flow) → WorkFrom any_first names rounds f → BeginAtWork names rounds f
+begins_so true names rounds f work = work
+begins_so false names rounds f work = rounds_begin names rounds f work
+
 -- A link goes through rounds at work, one for each good round of the station.
-pub record RoundsOn (site : Site) (link : ℕ) (rounds : List (List Event)) (f : Flow) (new : Flowing Played) (before : Links) : Type 0 where
+pub record RoundsOn (any_first : Bool) (site : Site) (link : ℕ) (rounds : List (List Event)) (f : Flow) (new : Flowing Played) (before : Links) : Type 0 where
   pub after : Links
   pub are : AreLinksOf site (good_rounds rounds new).state.run after
-  pub work : AreAtWork (names_at site link) (lists_on link rounds new before) f
+  pub work : WorkFrom any_first (names_at site link) (lists_on link rounds new before) f
   pub ends : seen link after ≡ (work_rounds (lists_on link rounds new before) f).ends
   pub below : StayBelowOn link rounds new before → StayBelow (lists_on link rounds new before) f
   pub after_is : after ≡ links_after rounds new before
@@ -157,14 +194,21 @@ module _ (laws : ComeUpLaws) (sited : SitedTable) (station : IsStation sited.sit
       ∙ subst (λ (n : ℕ). seen link (happened_to (clock_event laws.link sited station once sections) before) ≡ later 10000 10000 n (seen link before)) (tens_at (links sited.site) link there)
       (laws.sees_one link (clock_event laws.link sited station once sections) before)) room
 
-  pub one_more : (between : List Event) (later_rounds : List (List Event)) (old new : Flowing Played) (before : Links) → Each IsWork between → time_of_round new ≡ clock_event laws.link sited station once sections ∷ []
-      → AreLinksOf sited.site new.state.run before → IsAtWorkOn sited.site link between old new before
-      → RoundsOn sited.site link later_rounds (flow_of link (length (of_link link new.state.run.sent)) (links_behind between new before)) (all_tried between (round stations new)) (links_behind between new before)
-      → RoundsOn sited.site link (between ∷ later_rounds) (flow_of link (length (of_link link old.state.run.sent)) before) new before
-  one_more between later_rounds old new before work time are one rest = record {
+  -- a round, and those behind it
+  pub one_before : (any_first : Bool) (passed : ℕ) (between : List Event) (later_rounds : List (List Event)) (new : Flowing Played) (before : Links) → Each IsWork between
+      → time_of_round new ≡ clock_event laws.link sited station once sections ∷ []
+      → AreLinksOf sited.site new.state.run before
+      → seen link (links_behind between new before) ≡ (work_round (calls_on link between new before) (flow_of link passed before)).ends
+      → (AreAtWork (names_at sited.site link) (lists_on link later_rounds (all_tried between (round stations new)) (links_behind between new before))
+      (work_round (calls_on link between new before) (flow_of link passed before))
+      → WorkFrom any_first (names_at sited.site link) (lists_on link (between ∷ later_rounds) new before) (flow_of link passed before))
+      → RoundsOn false sited.site link later_rounds (flow_of link (length (of_link link new.state.run.sent)) (links_behind between new before))
+      (all_tried between (round stations new)) (links_behind between new before)
+      → RoundsOn any_first sited.site link (between ∷ later_rounds) (flow_of link passed before) new before
+  one_before any_first passed between later_rounds new before work time are leads with_first rest = record {
     after = more.after;
     are = more.are;
-    work = (one.work, more.work);
+    work = with_first more.work;
     ends = more.ends;
     below = λ stay. (
       later_room new before (calls_on link between new before) time
@@ -175,19 +219,28 @@ module _ (laws : ComeUpLaws) (sited : SitedTable) (station : IsStation sited.sit
   }
     where
       next : Flow
-      next = work_round (calls_on link between new before) (flow_of link (length (of_link link old.state.run.sent)) before)
+      next = work_round (calls_on link between new before) (flow_of link passed before)
 
       two : {ends other : Ends} {n m : ℕ} → ends ≡ other → n ≡ m → flow_with ends n ≡ flow_with other m
       two e f = cc (e, f)
 
       is_next : flow_of link (length (of_link link new.state.run.sent)) (links_behind between new before) ≡ next
-      is_next = two one.leads (ap (λ sent. length (of_link link sent)) (sym are.sent_is))
+      is_next = two leads (ap (λ sent. length (of_link link sent)) (sym are.sent_is))
 
-      more : RoundsOn sited.site link later_rounds next (all_tried between (round stations new)) (links_behind between new before)
-      more = subst (λ (f : Flow). RoundsOn sited.site link later_rounds f (all_tried between (round stations new)) (links_behind between new before)) is_next rest
+      more : RoundsOn false sited.site link later_rounds next (all_tried between (round stations new)) (links_behind between new before)
+      more = subst (λ (f : Flow). RoundsOn false sited.site link later_rounds f (all_tried between (round stations new)) (links_behind between new before)) is_next rest
+
+  pub one_more : (between : List Event) (later_rounds : List (List Event)) (old new : Flowing Played) (before : Links) → Each IsWork between
+      → time_of_round new ≡ clock_event laws.link sited station once sections ∷ []
+      → AreLinksOf sited.site new.state.run before → IsAtWorkOn sited.site link between old new before
+      → RoundsOn false sited.site link later_rounds (flow_of link (length (of_link link new.state.run.sent)) (links_behind between new before))
+      (all_tried between (round stations new)) (links_behind between new before)
+      → RoundsOn false sited.site link (between ∷ later_rounds) (flow_of link (length (of_link link old.state.run.sent)) before) new before
+  one_more between later_rounds old new before work time are one rest = one_before false
+      (length (of_link link old.state.run.sent)) between later_rounds new before work time are one.leads (λ more. (one.work, more)) rest
 
   pub through : (rounds : List (List Event)) (old new : Flowing Played) (leaves : LeavesFresh old new) (before : Links) → HasThese sited new.state before → IsAt sited new.state → Each (Each IsWork) rounds → HasTime (length rounds) new.state.run
-      → RoundsOn sited.site link rounds (flow_of link (length (of_link link old.state.run.sent)) before) new before
+      → RoundsOn false sited.site link rounds (flow_of link (length (of_link link old.state.run.sent)) before) new before
   through [] old new leaves before has is work can = record { after = before; are = has.are; work = tt; ends = refl; below = λ stay. tt; after_is = refl }
   through (between ∷ later_rounds) old new leaves before has is work can =
       let same = is.same
@@ -276,8 +329,10 @@ module _ (laws : ComeUpLaws) (sited : SitedTable) (station : IsStation sited.sit
     pub has : HasThese sited next.state before
     pub is : IsAt sited next.state
     pub is_run : IsRun (names_at sited.site link) (start_of link starts_at_zero) (seen link before)
+    -- whether anything may come in the first of them that was sent before
+    pub any_first : Bool
     pub goes : (rounds : List (List Event)) → Each (Each IsWork) rounds → HasTime (length rounds) next.state.run
-        → RoundsOn sited.site link rounds (flow_of link (length (of_link link old.state.run.sent)) before) next before
+        → RoundsOn any_first sited.site link rounds (flow_of link (length (of_link link old.state.run.sent)) before) next before
 
   -- They are rounds at work of this link, which has had a run of its own.
   module _ (old next : Flowing Played) (start : BegunAt old next) where
@@ -297,7 +352,7 @@ module _ (laws : ComeUpLaws) (sited : SitedTable) (station : IsStation sited.sit
     pub record BehindAt (rounds : List (List Event)) : Type 0 where
       pub after : Links
       pub are : AreLinksOf sited.site (good_rounds rounds next).state.run after
-      pub work : AreAtWork (names_at sited.site link) (lists_at rounds) flow_at
+      pub work : WorkFrom start.any_first (names_at sited.site link) (lists_at rounds) flow_at
       pub ends : seen link after ≡ (work_rounds (lists_at rounds) flow_at).ends
       pub below : StaysBelowLimit sited.site link rounds next → StayBelow (lists_at rounds) flow_at
       pub after_is : after ≡ links_after rounds next start.before
@@ -306,18 +361,20 @@ module _ (laws : ComeUpLaws) (sited : SitedTable) (station : IsStation sited.sit
     behind_at rounds work can = record {
       after = goes.after;
       are = goes.are;
-      work = subst (AreAtWork (names_at sited.site link) (lists_at rounds)) is_flow goes.work;
+      work = subst (WorkFrom start.any_first (names_at sited.site link) (lists_at rounds)) is_flow goes.work;
       ends = goes.ends ∙ ap (λ (f : Flow). (work_rounds (lists_at rounds) f).ends) is_flow;
       below = λ below. subst (StayBelow (lists_at rounds)) is_flow (goes.below (below start.before start.has.are));
       after_is = goes.after_is;
     }
       where
-        goes : RoundsOn sited.site link rounds (flow_of link passed_at start.before) next start.before
+        goes : RoundsOn start.any_first sited.site link rounds (flow_of link passed_at start.before) next start.before
         goes = start.goes rounds work can
 
     pub up_at : (rounds : List (List Event)) → (b : BehindAt rounds) → Each (Each LeavesOpen) (lists_at rounds) → StayBelow (lists_at rounds) flow_at → recovery_rounds_at_work ≤ length (lists_at rounds) → AreUp (seen link b.after)
     up_at rounds b open_so below long = subst AreUp (sym b.ends)
-        (laws.up (names_at sited.site link) (start_of link starts_at_zero) start.is_run.events passed_at (lists_at rounds) ((are_links laws.link sited station once).each link there) start.is_run.may b.work open_so below long)
+        (laws.up (names_at sited.site link) (start_of link starts_at_zero) start.is_run.events passed_at (lists_at rounds)
+        ((are_links laws.link sited station once).each link there) start.is_run.may
+        (begins_so start.any_first (names_at sited.site link) (lists_at rounds) flow_at b.work) open_so below long)
 
   -- The rounds behind a first one.
   module _ (first : List Event) (flowing : Flowing Played) (work_first : Each IsWork first) (start : Begun first flowing) where
@@ -327,6 +384,7 @@ module _ (laws : ComeUpLaws) (sited : SitedTable) (station : IsStation sited.sit
       has = start.has;
       is = start.is;
       is_run = start.is_run;
+      any_first = false;
       goes = λ rounds work can. through rounds flowing (all_tried first (round stations flowing)) (leaves_fresh first flowing work_first) start.before start.has start.is work can;
     }
 

@@ -1,7 +1,9 @@
--- The links of a station come up from the first of good rounds on, where what is too old to come stays away in it.
-use Rattle.std.proofs.Common.{◌≡◌, ℕ, zero, suc, ◌⊎◌, inl, inr, ◌∙◌, ◌+◌, ◌*◌, ◌<◌, ◌≤◌, List, [], ◌∷◌, ◌++◌, append_assoc, append-nil, length, map, drop, None, Ok, refl, sym, ap, subst, arith}
+-- The links of a station come up from the first of good rounds on, where nothing old is said again in it.
+use Rattle.std.proofs.Common.{◌≡◌, ◌≢◌, ℕ, zero, suc, ◌⊎◌, inl, inr, ◌∙◌, ◌+◌, ◌*◌, ◌<◌, ◌≤◌, ◌==◌, Bool, true, false, List, [], ◌∷◌, ◌++◌, append_assoc, append-nil, length, map, drop, Some, None, Ok, refl, sym, ap, subst, arith}
+use Rattle.std.proofs.lemmas.Bool.Decides.{nat_tests}
 use Rattle.std.specs.Prelude.{◌↔◌, IsTrue, ◌-◌}
-use Rattle.rasta_core_recovery.specs.Work.{due_to}
+use Rattle.rasta_core_recovery.specs.FirstRound.{IsFirstAtWork, WereSent}
+use Rattle.rasta_core_recovery.specs.Work.{IsWorkAt, calls_in, due_to}
 use Rattle.ixl_table.specs.Table.{IsTableOf}
 use Rattle.simulator_run.specs.layout.Entries.{Site}
 use Rattle.simulator_run.specs.layout.Once.{Once}
@@ -14,8 +16,12 @@ use Rattle.simulator_run.specs.ixl_rules.Table.{SitedTable}
 use Rattle.simulator_run.specs.rasta_core.Bag.{newest_copy}
 use Rattle.simulator_run.specs.rasta_core.Each.{Each}
 use Rattle.simulator_run.specs.rasta_core.EachLink.{AreTimely}
-use Rattle.simulator_run.specs.rasta_core.Links.{AreLinks, Links, OnLink, begun, of_link, run_links}
+use Rattle.simulator_run.specs.rasta_core.Ends.{Call, Sent}
+use Rattle.simulator_run.specs.rasta_core.Invariant.{InFlight}
+use Rattle.simulator_run.specs.rasta_core.Links.{AreLinks, IsAmongAll, Links, OnLink, begun, of_link, run_links}
+use Rattle.simulator_run.specs.rasta_core.Names.{name_of, partner_of}
 use Rattle.simulator_run.specs.rasta_core.identity.Role.{Role}
+use Rattle.simulator_run.specs.rasta_core.identity.Role.TheVariants as role
 use Rattle.simulator_run.specs.simulator_event.declared.event.Event.{Event}
 use Rattle.simulator_run.specs.declared.round.RoundEvent.{RoundEvent}
 use Rattle.simulator_run.specs.Flow.{Flowing, deliveries, reaches, round, round_of_time, stations, ticks}
@@ -26,16 +32,17 @@ use Rattle.simulator_run.specs.State.{WorldState}
 use Rattle.simulator_run.specs.Tried.{Played, after, refusal_of}
 use Rattle.simulator_run_links.specs.HasLinks.{IsStanding}
 use Rattle.simulator_headline.specs.Reached.{IsReached}
-use Rattle.simulator_recovery.specs.FirstRound.{IsTooOld, OldStaysAway, first_link_rounds, first_ready_rounds}
-use Rattle.simulator_recovery.specs.LinkRounds.{IsAtWorkOn, IsUpOn, StaysBelowLimit, all_events_tried, event_of, flow_of, links_behind}
+use Rattle.simulator_recovery.specs.FirstRound.{NoneIsSaidAgain, first_link_rounds, first_ready_rounds}
+use Rattle.simulator_recovery.specs.LinkRounds.{IsUpOn, StaysBelowLimit, all_events_tried, calls_on, event_of, flow_of, links_behind}
 use Rattle.simulator_recovery.specs.Ready.{IsReadyOn}
 use Rattle.simulator_recovery.specs.Rounds.{HasTime, IsWork, all_tried, clocks_of, good_rounds}
 use Rattle.simulator_recovery.proofs.Arrives.{passed_time}
-use Rattle.simulator_recovery.proofs.AtWork.{IsFrom, all_from, all_has, due_more, round_at_work, table_sections, time_followed, time_is}
+use Rattle.simulator_recovery.proofs.AtWork.{IsFrom, IsRoundOn, all_from, each_by_link, has_behind, round_on, table_sections, time_followed, time_is}
 use Rattle.simulator_recovery.proofs.Clocks.{CanGoOn, HasAll, IsCalm, time_may_pass}
-use Rattle.simulator_recovery.proofs.ComeUp.{BegunAt, ComeUpLaws, RoundsOn, behind_at, lists_length, one_more, rounds_open, through, up_at, up_on}
+use Rattle.simulator_recovery.proofs.ComeUp.{BegunAt, ComeUpLaws, RoundsOn, behind_at, lists_length, one_before, rounds_open, through, up_at, up_on}
 use Rattle.simulator_recovery.proofs.EndCalls.{IsFront, all_called_at}
-use Rattle.simulator_recovery.proofs.FirstRoundArrives.{IsTried, all_add, all_there, arrivals_there, first_arrive, none_before}
+use Rattle.simulator_recovery.proofs.FirstRoundArrives.{IsFound, IsTried, alive_comes, all_add, all_in_place, all_sent, all_there, arrivals_there, first_arrive, found_is, none_before}
+use Rattle.simulator_recovery.proofs.Fresh.{same_pdu}
 use Rattle.simulator_recovery.proofs.LinkRounds.{HasThese, after_both, after_each, are_links, calm_events, round_tried}
 use Rattle.simulator_recovery.proofs.Lists.{each_both, map_both}
 use Rattle.simulator_recovery.proofs.Ready.{ReadyLaws, ready_at}
@@ -79,22 +86,127 @@ all_due world n s = choose s.at
         (all_there world s.front (drop n world.run.sent) (length world.run.sent - n) s.are (sym s.many))
     choose (inr none) = none_due world n (length world.run.sent - n) (sym s.many ∙ ap (λ (l : List OnLink). length l) none) ∙ sym (ap (arrivals_there n) none)
 
-each_tried : ReadIsIntact → IntactIsTested → (site : Site) (time : ℕ) (last more list : List OnLink) → Each (IsFrom site) list
-    → Each (λ (one : OnLink). IsTooOld time one → newest_copy time one.datagram.bytes (datagrams_of (last ++ more)) ≡ None) list → Each (IsTried site time last) list
-each_tried read tested site time last more [] from away = tt
-each_tried read tested site time last more (one ∷ list) from away = (
-  record {
-    whole = (tested (key_of site) one.datagram.bytes).1 (read (key_of site) one.datagram.bytes from.0.pdu from.0.read);
-    gone = λ old. none_before time one.datagram.bytes last more (away.0 old);
-  },
-  each_tried read tested site time last more list from.1 away.1,
-)
+-- ---- of which link a copy is
+
+-- a datagram of a link, as it is read
+record IsSpelled (site : Site) (one : OnLink) : Type 0 where
+  below : one.link < links site
+  pdu : Pdu
+  read : reading (key_of site) one.datagram.bytes ≡ Ok pdu
+  receiver : pdu.receiver ≡ name_of (partner_of one.datagram.sender) (names_at site one.link)
+  sender : pdu.sender ≡ name_of one.datagram.sender (names_at site one.link)
+
+abbrev Flying : Site → ℕ → Sent → Type 0
+Flying site link d = (pdu : Pdu) × (reading (key_of site) d.bytes ≡ Ok pdu) × (pdu.receiver ≡ name_of (partner_of d.sender)
+    (names_at site link)) × (pdu.sender ≡ name_of d.sender (names_at site link))
+
+flying : (site : Site) (link : ℕ) (times : _) (list : List Sent) → Each (InFlight (names_at site link) times) list → Each (Flying site link) list
+flying site link times [] each = tt
+flying site link times (first ∷ others) each = ((each.0.pdu, each.0.read, each.0.receiver, each.0.sender), flying site link times others each.1)
+
+all_spelled : (site : Site) (these : Links) → AreTimely (links site) (names_at site) these → Each (IsSpelled site) these.sent
+all_spelled site these timely = spell these.sent timely.numbered (each_by_link (Flying site) (links site) these.sent timely.numbered
+    (λ link below. let t = timely.each link below in flying site link _ (of_link link these.sent) t.datagrams))
+  where
+    spell : (list : List OnLink) → Each (λ (one : OnLink). one.link < links site) list → Each (λ (one : OnLink). Flying site one.link one.datagram) list
+        → Each (IsSpelled site) list
+    spell [] below each = tt
+    spell (one ∷ list) below each = (record { below = below.0; pdu = each.0.0; read = each.0.1; receiver = each.0.2; sender = each.0.3 }, spell list below.1 each.1)
+
+-- names tell the link and the sender
+one_of : (site : Site) → AreLinks (links site) (names_at site) → (l m : ℕ) → l < links site → m < links site → (a b : Role)
+    → name_of (partner_of a) (names_at site l) ≡ name_of (partner_of b) (names_at site m) → name_of a (names_at site l) ≡ name_of b (names_at site m) → (l ≡ m) × (a ≡ b)
+one_of site are l m l_below m_below a b receivers senders = choose (l == m) refl
+  where
+    is_same_number : (l == m) ≡ true → l ≡ m
+    is_same_number e = grind (arith, nat_tests)
+
+    is_other : (l == m) ≡ false → l ≢ m
+    is_other e same = absurd (not_same e same)
+      where
+        not_same : (l == m) ≡ false → l ≡ m → ⊥
+        not_same e f = grind (arith, nat_tests)
+
+    differ : (x y : Role) → l ≡ m → name_of x (names_at site l) ≡ name_of y (names_at site m) → x ≡ y
+    differ role.Client role.Client e f = refl
+    differ role.Server role.Server e f = refl
+    differ role.Client role.Server e f = absurd ((are.each l l_below).differ (f ∙ ap (λ (n : ℕ). (names_at site n).server) (sym e)))
+    differ role.Server role.Client e f = absurd ((are.each l l_below).differ (sym (f ∙ ap (λ (n : ℕ). (names_at site n).client) (sym e))))
+
+    never : (x y : Role) → l ≢ m → name_of (partner_of x) (names_at site l) ≡ name_of (partner_of y) (names_at site m)
+        → name_of x (names_at site l) ≡ name_of y (names_at site m) → ⊥
+    never role.Client role.Client other r s = (are.apart l m l_below m_below other).0 r
+    never role.Client role.Server other r s = (are.apart l m l_below m_below other).1 r
+    never role.Server role.Client other r s = (are.apart l m l_below m_below other).1 s
+    never role.Server role.Server other r s = (are.apart l m l_below m_below other).0 s
+
+    choose : (c : Bool) → (l == m) ≡ c → (l ≡ m) × (a ≡ b)
+    choose true e = (is_same_number e, differ a b (is_same_number e) senders)
+    choose false e = absurd (never a b (is_other e) receivers senders)
+
+each_among : (P : OnLink → Type 0) (list : List OnLink) (one : OnLink) → Each P list → IsAmongAll one list → P one
+each_among P [] one each is = absurd is
+each_among P (x ∷ list) one each (inl same) = subst P same each.0
+each_among P (x ∷ list) one each (inr is) = each_among P list one each.1 is
+
+-- a copy is of the link and the sender of what it is a copy of
+same_as : (site : Site) → AreLinks (links site) (names_at site) → (one other : OnLink) → IsSpelled site one → IsSpelled site other → other.datagram.bytes ≡ one.datagram.bytes
+    → (other.link ≡ one.link) × (other.datagram.sender ≡ one.datagram.sender)
+same_as site are one other o p same = one_of site are other.link one.link p.below o.below other.datagram.sender one.datagram.sender
+    (sym p.receiver ∙ ap (λ (q : Pdu). q.receiver) pdus ∙ o.receiver) (sym p.sender ∙ ap (λ (q : Pdu). q.sender) pdus ∙ o.sender)
+  where
+    pdus : p.pdu ≡ o.pdu
+    pdus = same_pdu (ap (reading (key_of site)) (sym same) ∙ p.read) o.read
+
+as_pair : (one : OnLink) (link : ℕ) (d : Sent) → one.link ≡ link → one.datagram ≡ d → one ≡ record { link = link; datagram = d }
+as_pair one link d e f = two e f
+  where
+    packed : ℕ → Sent → OnLink
+    packed l x = record { link = l; datagram = x }
+
+    two : {l m : ℕ} {x y : Sent} → l ≡ m → x ≡ y → packed l x ≡ packed m y
+    two a b = cc (a, b)
+
+module _ (read : ReadIsIntact) (tested : IntactIsTested) (site : Site) (are : AreLinks (links site) (names_at site)) (time : ℕ) (sent last : List OnLink)
+    (spelled : Each (IsSpelled site) sent) where
+  copy_of_it : (one : OnLink) (c : Sent) → IsSpelled site one → newest_copy time one.datagram.bytes (datagrams_of sent) ≡ Some c
+      → IsAmongAll (record { link = one.link; datagram = c }) sent × (c.sender ≡ one.datagram.sender)
+  copy_of_it one c is e = (
+    subst (λ (o : OnLink). IsAmongAll o sent) (as_pair f.one one.link c same.0 f.is) f.among,
+    ap (λ (d : Sent). d.sender) (sym f.is) ∙ same.1,
+  )
+    where
+      f : IsFound time one.datagram.bytes sent c
+      f = found_is time one.datagram.bytes sent c e
+
+      same : (f.one.link ≡ one.link) × (f.one.datagram.sender ≡ one.datagram.sender)
+      same = same_as site are one f.one is (each_among (IsSpelled site) sent f.one spelled f.among)
+          (ap (λ (d : Sent). d.bytes) f.is ∙ (alive_comes time one.datagram.bytes c f.alive).1)
+
+  each_tried : (more list : List OnLink) → Each (IsSpelled site) list
+      → Each (λ (one : OnLink). one.datagram.is_lost ≡ false → newest_copy time one.datagram.bytes (datagrams_of sent) ≡ None
+      → newest_copy time one.datagram.bytes (datagrams_of (last ++ more)) ≡ None) list
+      → Each (IsTried site time sent last) list
+  each_tried more [] from again = tt
+  each_tried more (one ∷ list) from again = (
+    record {
+      whole = (tested (key_of site) one.datagram.bytes).1 (read (key_of site) one.datagram.bytes from.0.pdu from.0.read);
+      gone = λ there none. none_before time one.datagram.bytes last more (again.0 there none);
+      of_link = λ c e. (copy_of_it one c from.0 e).0;
+      of_sender = λ c e. (copy_of_it one c from.0 e).1;
+    },
+    each_tried more list from.1 again.1,
+  )
+
+each_front : {X : Type 0} (P : X → Type 0) (xs ys : List X) → Each P (xs ++ ys) → Each P ys
+each_front P [] ys each = each
+each_front P (x ∷ xs) ys each = each_front P xs ys each.1
 
 -- ---- the first round and those behind it
 
 module _ (laws : ComeUpLaws) (read : ReadIsIntact) (tested : IntactIsTested) (flowing : Flowing Played) (link : ℕ) (once : Once flowing.state.sited.site) (station : IsStation flowing.state.sited.site)
     (is_table : IsTableOf flowing.state.sited.site flowing.state.sited.table) (reached : IsReached flowing.state.sited.site flowing.state.sited.table flowing.state.run)
-    (there : link < links flowing.state.sited.site) (away : OldStaysAway flowing) where
+    (there : link < links flowing.state.sited.site) (again : NoneIsSaidAgain flowing) where
   abbrev pub sited : SitedTable
   sited = flowing.state.sited
 
@@ -145,8 +257,8 @@ module _ (laws : ComeUpLaws) (read : ReadIsIntact) (tested : IntactIsTested) (fl
   abbrev behind_it : Played
   behind_it = after flowing.state (round_of_time sited.site)
 
-  now_sent : behind_it.run.sent ≡ s.front ++ (more ++ [])
-  now_sent = (time_sends_none flowing.state).sent ∙ s.are ∙ ap (λ (l : List OnLink). s.front ++ l) (sym (append-nil more))
+  now_sent : behind_it.run.sent ≡ world.sent ++ []
+  now_sent = (time_sends_none flowing.state).sent ∙ sym (append-nil world.sent)
 
   abbrev mid : Played
   mid = after_each (map event_of come) behind_it
@@ -171,9 +283,21 @@ module _ (laws : ComeUpLaws) (read : ReadIsIntact) (tested : IntactIsTested) (fl
   from : Each (IsFrom sited.site) more
   from = all_from sited.site these s.front more these_timely (has.are.sent_is ∙ s.are)
 
-  tried : Each (IsTried sited.site time mid.run.sent) more
-  tried = each_tried read tested sited.site time mid.run.sent own.is.more more from
-      (subst (λ (l : List OnLink). Each (λ (one : OnLink). IsTooOld time one → newest_copy time one.datagram.bytes (datagrams_of l) ≡ None) more) own.is.sent away)
+  spelled : Each (IsSpelled sited.site) world.sent
+  spelled = subst (Each (IsSpelled sited.site)) has.are.sent_is (all_spelled sited.site these these_timely)
+
+  tried : Each (IsTried sited.site time world.sent mid.run.sent) more
+  tried = each_tried read tested sited.site named time world.sent mid.run.sent spelled own.is.more more
+      (each_front (IsSpelled sited.site) s.front more (subst (Each (IsSpelled sited.site)) s.are spelled))
+      (subst (λ (l : List OnLink). Each (λ (one : OnLink). one.datagram.is_lost ≡ false → newest_copy time one.datagram.bytes (datagrams_of world.sent) ≡ None
+      → newest_copy time one.datagram.bytes (datagrams_of l) ≡ None) more) own.is.sent again)
+
+  -- what comes in it
+  abbrev due_in_all : List OnLink
+  due_in_all = all_in_place time world.sent more
+
+  abbrev due_at : Role → ℕ → List (List ℕ)
+  due_at who on_link = due_to who time (of_link on_link due_in_all)
 
   module _ (able : Each CanGoOn (clocks_of world)) where
     goes : refusal_of (round_of_time sited.site) flowing.state ≡ None
@@ -183,34 +307,48 @@ module _ (laws : ComeUpLaws) (read : ReadIsIntact) (tested : IntactIsTested) (fl
     now = ap (λ (w : Played). w.run.time) (tried_happens flowing.state (round_of_time sited.site) goes) ∙ ap (λ (w : WorldState). w.time) (time_happens sited.site sited.table world)
         ∙ passed_time 10000 _ world
 
-    comes : (who : Role) (on_link : ℕ)
-        → IsFront (due_to who (these.time + 10000) (drop (length (of_link on_link s.front)) (of_link on_link these.sent))) (all_called_at who on_link (all_events_tried (map event_of come) behind_it))
-    comes who on_link = subst (λ (due : List (List ℕ)). IsFront due (all_called_at who on_link (all_events_tried (map event_of come) behind_it)))
-        (sym (due_more laws.link sited station once sections who on_link s.front more flowing these has s.are))
-        (first_arrive laws.link sited station once sections who on_link time mid.run.sent flowing.passed s.front more [] behind_it _
-        (time_followed laws.link sited station once sections flowing these has).has now now_sent from tried refl)
+    comes : (who : Role) (on_link : ℕ) → IsFront (due_at who on_link) (all_called_at who on_link (all_events_tried (map event_of come) behind_it))
+    comes who on_link = first_arrive laws.link sited station once sections who on_link time world.sent mid.run.sent flowing.passed more [] behind_it _
+        (time_followed laws.link sited station once sections flowing these has).has now now_sent from tried refl
 
     module _ (between : List Event) (work : Each IsWork between) where
-      one : IsAtWorkOn sited.site link between old flowing these
-      one = round_at_work laws.link sited station once sections old flowing come (all_due flowing.state flowing.passed s) between these work has goes comes link there
+      abbrev passed_at : ℕ
+      passed_at = length (of_link link s.front)
+
+      r : IsRoundOn sited.site due_at flowing between these link
+      r = round_on laws.link sited station once sections due_at flowing come (all_due flowing.state flowing.passed s) between these work has goes comes link there
+
+      as_timed : (who : Role) (calls : List Call) → IsWorkAt who (due_at who link) calls → IsWorkAt who (due_to who (these.time + 10000) (of_link link due_in_all)) calls
+      as_timed who calls is_work = subst (λ (t : ℕ). IsWorkAt who (due_to who (t + 10000) (of_link link due_in_all)) calls) (sym has.are.time_is) is_work
+
+      one : IsFirstAtWork (names_at sited.site link) (flow_of link passed_at these) (calls_on link between flowing these)
+      one = record {
+        due = of_link link due_in_all;
+        were_sent = subst (λ (l : List OnLink). WereSent (of_link link l) (of_link link due_in_all)) (sym has.are.sent_is)
+            (all_sent sited.site time world.sent mid.run.sent link more tried);
+        may = r.may;
+        only = r.only;
+        client = as_timed role.Client (calls_in role.Client (calls_on link between flowing these)) r.client;
+        server = as_timed role.Server (calls_in role.Server (calls_on link between flowing these)) r.server;
+      }
 
       abbrev next : Flowing Played
       next = all_tried between (round stations flowing)
 
       next_has : HasThese sited next.state (links_behind between flowing these)
       next_has = subst (λ (w : Played). HasThese sited w (links_behind between flowing these)) (sym (round_tried between flowing))
-          (all_has laws.link sited station once sections old flowing come (all_due flowing.state flowing.passed s) between these work has goes comes)
+          (has_behind laws.link sited station once sections due_at flowing come (all_due flowing.state flowing.passed s) between these work has goes comes)
 
       next_is : IsAt sited next.state
       next_is = work_reached laws.link.times.reach sited between (round stations flowing) (round_reached laws.link.times.reach sited flowing is)
 
   goes_through : (rounds : List (List Event)) → Each (Each IsWork) rounds → HasTime (length rounds) world
-      → RoundsOn sited.site link rounds (flow_of link (length (of_link link s.front)) these) flowing these
+      → RoundsOn true sited.site link rounds (flow_of link (length (of_link link s.front)) these) flowing these
   goes_through [] works can = record { after = these; are = has.are; work = tt; ends = refl; below = λ stay. tt; after_is = refl }
   goes_through (between ∷ later_rounds) (work, works) can =
       let able : Each CanGoOn (clocks_of world) = each_can (length later_rounds) (clocks_of world) can
-      in one_more laws sited station once is_table link there between later_rounds old flowing these work
-      (time_is laws.link sited station once sections flowing refl (goes able)) has.are (one able between work)
+      in one_before laws sited station once is_table link there true (length (of_link link s.front)) between later_rounds flowing these work
+      (time_is laws.link sited station once sections flowing refl (goes able)) has.are (r able between work).leads (λ later_work. (one able between work, later_work))
       (through laws sited station once is_table link there later_rounds flowing (next able between work) (leaves_fresh between flowing work) (links_behind between flowing these)
       (next_has able between work)
       (next_is able between work) works
@@ -221,6 +359,7 @@ module _ (laws : ComeUpLaws) (read : ReadIsIntact) (tested : IntactIsTested) (fl
     before = these;
     has = has;
     is = is;
+    any_first = true;
     is_run = laws.runs (links sited.site) (names_at sited.site) starts_at_zero standing.linked.events named standing.linked.may link there;
     goes = goes_through;
   }
@@ -230,11 +369,12 @@ pub come_up_from_the_first : ComeUpLaws → ReadIsIntact → IntactIsTested → 
     → IsStation flowing.state.sited.site → IsTableOf flowing.state.sited.site flowing.state.sited.table → IsReached flowing.state.sited.site flowing.state.sited.table flowing.state.run
     → Each IsWork between
     → Each (Each IsWork) later_rounds → HasTime (suc (length later_rounds)) flowing.state.run → link < links flowing.state.sited.site → first_link_rounds ≤ suc (length later_rounds)
-    → OldStaysAway flowing → StaysBelowLimit flowing.state.sited.site link (between ∷ later_rounds) flowing → IsUpOn link (good_rounds (between ∷ later_rounds) flowing).state.run
-come_up_from_the_first laws read tested between later_rounds flowing link once station is_table reached work works can there long away below =
+    → NoneIsSaidAgain flowing → StaysBelowLimit flowing.state.sited.site link (between ∷ later_rounds) flowing
+    → IsUpOn link (good_rounds (between ∷ later_rounds) flowing).state.run
+come_up_from_the_first laws read tested between later_rounds flowing link once station is_table reached work works can there long again below =
     let site_table = flowing.state.sited
-    in let start = begun_at_once laws read tested flowing link once station is_table reached there away
-    in let before_it = old laws read tested flowing link once station is_table reached there away
+    in let start = begun_at_once laws read tested flowing link once station is_table reached there again
+    in let before_it = old laws read tested flowing link once station is_table reached there again
     in let b = behind_at laws site_table station once is_table link there before_it flowing start (between ∷ later_rounds) (work, works) can
     in let many = lists_length link (between ∷ later_rounds) flowing start.before
     in up_on laws site_table station once is_table link there (good_rounds (between ∷ later_rounds) flowing).state.run b.after b.are
@@ -246,8 +386,8 @@ pub ready_from_the_first : ReadyLaws → ReadIsIntact → IntactIsTested → (be
     → IsStation flowing.state.sited.site → IsTableOf flowing.state.sited.site flowing.state.sited.table → IsReached flowing.state.sited.site flowing.state.sited.table flowing.state.run
     → Each IsWork between
     → Each (Each IsWork) later_rounds → HasTime (suc (length later_rounds)) flowing.state.run → link < links flowing.state.sited.site → first_ready_rounds ≤ suc (length later_rounds)
-    → OldStaysAway flowing → StaysBelowLimit flowing.state.sited.site link (between ∷ later_rounds) flowing
+    → NoneIsSaidAgain flowing → StaysBelowLimit flowing.state.sited.site link (between ∷ later_rounds) flowing
     → IsReadyOn flowing.state.sited.site link (good_rounds (between ∷ later_rounds) flowing).state.run
-ready_from_the_first laws read tested between later_rounds flowing link once station is_table reached work works can there long away below =
-    ready_at laws flowing.state.sited station once is_table link there (old laws.up read tested flowing link once station is_table reached there away) flowing
-    (begun_at_once laws.up read tested flowing link once station is_table reached there away) (between ∷ later_rounds) (work, works) can long below
+ready_from_the_first laws read tested between later_rounds flowing link once station is_table reached work works can there long again below =
+    ready_at laws flowing.state.sited station once is_table link there (old laws.up read tested flowing link once station is_table reached there again) flowing
+    (begun_at_once laws.up read tested flowing link once station is_table reached there again) (between ∷ later_rounds) (work, works) can long below

@@ -40,7 +40,7 @@ among_each P datagram [] each among = absurd among
 among_each P datagram (first ∷ later) each (inl same) = subst P same each.0
 among_each P datagram (first ∷ later) each (inr among) = among_each P datagram later each.1 among
 
-same_pdu : {one other : Pdu} {word : Result Pdu PduFault} → word ≡ Ok one → word ≡ Ok other → one ≡ other
+pub same_pdu : {one other : Pdu} {word : Result Pdu PduFault} → word ≡ Ok one → word ≡ Ok other → one ≡ other
 same_pdu e f = cc (e, f)
 
 pub is_inside : (l : LinkState) → is_open l.phase ≡ true → IsInside (standing l)

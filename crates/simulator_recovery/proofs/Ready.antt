@@ -1,6 +1,7 @@
 -- The links of a station are ready at both ends, as long as nothing closes them.
 use Rattle.std.proofs.Common.{◌≡◌, ℕ, zero, suc, ◌+◌, ◌-◌, ◌*◌, ◌<◌, ◌≤◌, List, [], ◌∷◌, ◌++◌, length, refl, sym, ap, subst, ◌∙◌, arith}
 use Rattle.rasta_core_recovery.specs.Rounds.{AreUp, Flow, flow_after}
+use Rattle.rasta_core_recovery.specs.FirstRound.{BeginAtWork}
 use Rattle.rasta_core_recovery.specs.Work.{AreAtWork, HandOver, HaveRoom, IsAtWork, LeavesOpen, StayBelow, recovery_rounds_at_work, work_round, work_rounds}
 use Rattle.ixl_table.specs.Table.{IsTableOf}
 use Rattle.simulator_run.specs.layout.Entries.{Site}
@@ -27,7 +28,7 @@ use Rattle.simulator_recovery.specs.LinkRounds.{StaysBelowLimit, calls_on, links
 use Rattle.simulator_recovery.specs.Ready.{HostIsAt, IsReadyOn, ready_rounds}
 use Rattle.simulator_recovery.specs.Rounds.{HasTime, IsWork, all_tried, clocks_of, good_rounds}
 use Rattle.simulator_recovery.proofs.AtLink.{AtLink, at_link, client_said, told_once}
-use Rattle.simulator_recovery.proofs.ComeUp.{BegunAt, BehindAt, Begun, ComeUpLaws, begun_at, begun_so, behind_at, flow_at, lists_length, lists_on, rounds_open, up_at, up_on}
+use Rattle.simulator_recovery.proofs.ComeUp.{BegunAt, BehindAt, Begun, ComeUpLaws, begins_so, begun_at, begun_so, behind_at, flow_at, lists_length, lists_on, rounds_open, up_at, up_on}
 use Rattle.simulator_recovery.proofs.LinkRounds.{are_links}
 use Rattle.simulator_recovery.proofs.Moments.{Moment, Passes, client_is_ready, host_is_ready, two_taken}
 use Rattle.simulator_recovery.proofs.Rounds.{rounds_reached}
@@ -65,6 +66,11 @@ pub work_front : (names : Names) (front : List (List LinkEvent)) (last : List Li
 work_front names [] last f work = (tt, work.0)
 work_front names (first ∷ front) last f work = let more = work_front names front last (work_round first f) work.1 in ((work.0, more.0), more.1)
 
+begin_front : (names : Names) (front : List (List LinkEvent)) (last : List LinkEvent) (f : Flow) → 1 ≤ length front → BeginAtWork names (front ++ last ∷ []) f
+    → BeginAtWork names front f × IsAtWork names (work_rounds front f) last
+begin_front names [] last f some work = absurd (omega (arith, some))
+begin_front names (first ∷ front) last f some work = let more = work_front names front last (work_round first f) work.1 in ((work.0, more.0), more.1)
+
 pub below_front : (front : List (List LinkEvent)) (last : List LinkEvent) (f : Flow) → StayBelow (front ++ last ∷ []) f → StayBelow front f × HaveRoom last (later 10000 10000 10000 (work_rounds front f).ends)
 below_front [] last f below = (tt, below.0)
 below_front (first ∷ front) last f below = let more = below_front front last (work_round first f) below.1 in ((below.0, more.0), more.1)
@@ -83,7 +89,8 @@ fewer_time n m (clock ∷ clocks) few each = (omega (arith, few, each.0), fewer_
 
 abbrev pub HandsOver : Type 0
 HandsOver = (names : Names) (start : Start) (events : List LinkEvent) (passed : ℕ) (rounds : List (List LinkEvent)) (calls : List LinkEvent) → AreNames names → MayRun names events (started names start)
-    → AreAtWork names rounds (flow_after names start events passed) → Each (Each LeavesOpen) rounds → StayBelow rounds (flow_after names start events passed) → recovery_rounds_at_work ≤ suc (length rounds)
+    → BeginAtWork names rounds (flow_after names start events passed) → Each (Each LeavesOpen) rounds → StayBelow rounds (flow_after names start events passed)
+    → recovery_rounds_at_work ≤ suc (length rounds)
     → IsAtWork names (work_rounds rounds (flow_after names start events passed)) calls → Each LeavesOpen calls → HaveRoom calls (later 10000 10000 10000 (work_rounds rounds (flow_after names start events passed)).ends)
     → HandOver (work_rounds rounds (flow_after names start events passed)).ends (work_round calls (work_rounds rounds (flow_after names start events passed))).ends
 
@@ -152,8 +159,10 @@ module _ (laws : ReadyLaws) (sited : SitedTable) (station : IsStation sited.site
       calls : (calls : List LinkEvent) × (lists (front ++ last ∷ []) ≡ lists front ++ calls ∷ [])
       calls = lists_front link front last next start.before
 
-      work : AreAtWork (names_at sited.site link) (lists front) flow × IsAtWork (names_at sited.site link) (work_rounds (lists front) flow) calls.0
-      work = work_front (names_at sited.site link) (lists front) calls.0 flow (subst (λ (l : List (List LinkEvent)). AreAtWork (names_at sited.site link) l flow) calls.1 t.behind.work)
+      work : BeginAtWork (names_at sited.site link) (lists front) flow × IsAtWork (names_at sited.site link) (work_rounds (lists front) flow) calls.0
+      work = begin_front (names_at sited.site link) (lists front) calls.0 flow (let l = s.long in omega (arith, l, many front))
+          (subst (λ (l : List (List LinkEvent)). BeginAtWork (names_at sited.site link) l flow) calls.1
+          (begins_so start.any_first (names_at sited.site link) (lists (front ++ last ∷ [])) flow t.behind.work))
 
       opened : Each (Each LeavesOpen) (lists front) × Each LeavesOpen calls.0
       opened = each_front (Each LeavesOpen) (lists front) calls.0 (subst (Each (Each LeavesOpen)) calls.1 t.opens)

@@ -22,7 +22,7 @@ use Rattle.simulator_run.specs.Tried.{Played}
 use Rattle.simulator_recovery.specs.HandedOver.{HasConfirmed}
 use Rattle.simulator_recovery.specs.LinkRounds.{IsUpOn, StaysBelowLimit}
 use Rattle.simulator_recovery.specs.Rounds.{HasTime, IsWork, all_tried, good_rounds}
-use Rattle.simulator_recovery.proofs.ComeUp.{Begun, behind_rounds, lists_length, lists_on, rounds_open, up_on}
+use Rattle.simulator_recovery.proofs.ComeUp.{Begun, behind_rounds, lists_length, lists_on, rounds_begin, rounds_open, up_on}
 use Rattle.simulator_recovery.proofs.ConfirmedLinks.{settled_confirmed}
 use Rattle.simulator_recovery.proofs.HandedOver.{client_is}
 use Rattle.simulator_recovery.proofs.LinkRounds.{are_links}
@@ -174,7 +174,7 @@ module _ (laws : ToldLaws) (sited : SitedTable) (station : IsStation sited.site)
 
     hands : (ends rounds).client.link.given ≤ (ends (rounds ++ last ∷ [])).server.link.taken
     hands =
-        let over = laws.ready.over names (start_of link starts_at_zero) start.is_run.events passed (lists rounds) calls.0 are_so start.is_run.may s.behind.work s.opens s.below
+        let over = laws.ready.over names (start_of link starts_at_zero) start.is_run.events passed (lists rounds) calls.0 are_so start.is_run.may (rounds_begin names (lists rounds) flow s.behind.work) s.opens s.below
         (let l = long_lists rounds s in omega (arith, l)) stays.work stays.opens stays.room
         in let more = over.to_server.counts
         in let is = ap (λ (f : Flow). f.ends.server.link.taken) then_at

@@ -1,6 +1,5 @@
--- The first of good rounds, where it is a round at work of each link: nothing old comes in it as a copy of what was said again.
+-- The first of good rounds, where nothing that is said in it comes in it in the place of something old.
 use Rattle.std.specs.Prelude.{◌≡◌, ℕ, ◌+◌, false, drop, None}
-use Rattle.rasta_core_recovery.specs.Rounds.{can_come}
 use Rattle.simulator_run.specs.rasta_core.Bag.{newest_copy}
 use Rattle.simulator_run.specs.rasta_core.Each.{Each}
 use Rattle.simulator_run.specs.rasta_core.Links.{OnLink}
@@ -8,17 +7,13 @@ use Rattle.simulator_run.specs.Flow.{Flowing, round, stations}
 use Rattle.simulator_run.specs.Network.{datagrams_of}
 use Rattle.simulator_run.specs.Tried.{Played}
 
--- it isn't lost, and is too old to come at this time
-pub record IsTooOld (time : ℕ) (one : OnLink) : Type 0 where
-  pub there : one.datagram.is_lost ≡ false
-  pub late : can_come time one.datagram ≡ false
-
--- Of what the flow hasn't gone past, that is too old to come in its first round stays away in it: of all that was sent till behind
--- this round, none that can come has the same bytes.
-abbrev pub OldStaysAway : Flowing Played → Type 0
-OldStaysAway flowing =
-    Each (λ (one : OnLink). IsTooOld (flowing.state.run.time + 10000) one → newest_copy (flowing.state.run.time + 10000) one.datagram.bytes
-    (datagrams_of (round stations flowing).state.run.sent) ≡ None)
+-- Of what the flow hasn't gone past, nothing is said again in its first round of which no copy can come as that begins. So whatever
+-- comes in this round was sent before it.
+abbrev pub NoneIsSaidAgain : Flowing Played → Type 0
+NoneIsSaidAgain flowing =
+    Each (λ (one : OnLink). one.datagram.is_lost ≡ false
+    → newest_copy (flowing.state.run.time + 10000) one.datagram.bytes (datagrams_of flowing.state.run.sent) ≡ None
+    → newest_copy (flowing.state.run.time + 10000) one.datagram.bytes (datagrams_of (round stations flowing).state.run.sent) ≡ None)
     (drop flowing.passed flowing.state.run.sent)
 
 -- from this good round on each link is up at both ends then: 15,610 ms after the good rounds began

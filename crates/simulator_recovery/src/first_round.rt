@@ -10,7 +10,7 @@ ghost use Rattle.simulator_run.specs.Flow.{Flowing};
 ghost use Rattle.simulator_run.specs.Nodes.{links};
 ghost use Rattle.simulator_run.specs.Tried.{Played};
 ghost use Rattle.simulator_headline.specs.Reached.{IsReached};
-ghost use Rattle.simulator_recovery.specs.FirstRound.{OldStaysAway, first_link_rounds, first_ready_rounds};
+ghost use Rattle.simulator_recovery.specs.FirstRound.{NoneIsSaidAgain, first_link_rounds, first_ready_rounds};
 ghost use Rattle.simulator_recovery.specs.LinkRounds.{IsUpOn, StaysBelowLimit};
 ghost use Rattle.simulator_recovery.specs.Ready.{IsReadyOn};
 ghost use Rattle.simulator_recovery.specs.Rounds.{HasTime, IsWork, good_rounds};
@@ -26,15 +26,16 @@ use simulator_run_links::{
     events_are_those_of_the_links, layouts_name_their_links, stations_have_links,
 };
 
-/// The links of a station come up a round earlier where what is too old to come stays away in the first good round: behind each
-/// good round from the 1561st on, so 15.61 s after they began, the link between the interlocking and each controller is up at both
-/// ends, whatever requests and occupancies come between the rounds. It stays away where nothing sent by the end of this round has
-/// the bytes of what was sent before it. And so it is where neither end comes to the limit of PDUs in a connection.
+/// The links of a station come up a round earlier where nothing that is said in the first good round comes in it: behind each good
+/// round from the 1561st on, so 15.61 s after they began, the link between the interlocking and each controller is up at both ends,
+/// whatever requests and occupancies come between the rounds. Copies of what was sent before may come in that round, in any order and
+/// again and again. What is said in it comes in it only in the place of a datagram of the same bytes that is too old itself, and of which
+/// no copy can come as the round begins. And so it is where neither end comes to the limit of PDUs in a connection.
 pub fn links_come_up_from_the_first_round()
     ensures { (between : List Event) (later : List (List Event)) (flowing : Flowing Played) (link : ℕ) → Once flowing.state.sited.site → IsStation flowing.state.sited.site
         → IsTableOf flowing.state.sited.site flowing.state.sited.table → IsReached flowing.state.sited.site flowing.state.sited.table flowing.state.run
         → Each IsWork between → Each (Each IsWork) later → HasTime (suc (length later)) flowing.state.run → link < links flowing.state.sited.site → first_link_rounds ≤ suc (length later)
-        → OldStaysAway flowing → StaysBelowLimit flowing.state.sited.site link (between ∷ later) flowing
+        → NoneIsSaidAgain flowing → StaysBelowLimit flowing.state.sited.site link (between ∷ later) flowing
         → IsUpOn link (good_rounds (between ∷ later) flowing).state.run }
 {
     events_close_no_link();
@@ -57,7 +58,7 @@ pub fn links_are_ready_from_the_first_round()
     ensures { (between : List Event) (later : List (List Event)) (flowing : Flowing Played) (link : ℕ) → Once flowing.state.sited.site → IsStation flowing.state.sited.site
         → IsTableOf flowing.state.sited.site flowing.state.sited.table → IsReached flowing.state.sited.site flowing.state.sited.table flowing.state.run
         → Each IsWork between → Each (Each IsWork) later → HasTime (suc (length later)) flowing.state.run → link < links flowing.state.sited.site → first_ready_rounds ≤ suc (length later)
-        → OldStaysAway flowing → StaysBelowLimit flowing.state.sited.site link (between ∷ later) flowing
+        → NoneIsSaidAgain flowing → StaysBelowLimit flowing.state.sited.site link (between ∷ later) flowing
         → IsReadyOn flowing.state.sited.site link (good_rounds (between ∷ later) flowing).state.run }
 {
     events_close_no_link();
