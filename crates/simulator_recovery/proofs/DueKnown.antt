@@ -136,7 +136,7 @@ pub record HearsNothing (done : ClientSoFar) : Type 0 where
   pub completed : done.client.stage ≡ stage.Completed
   pub none : done.heard ≡ []
 
-point_hears : (now : ℕ) (bytes : List ℕ) (client : ClientState) (outbox : OutboxState) → client.stage ≡ stage.Completed → client.peer.protocol ≡ protocols.Point
+pub point_hears : (now : ℕ) (bytes : List ℕ) (client : ClientState) (outbox : OutboxState) → client.stage ≡ stage.Completed → client.peer.protocol ≡ protocols.Point
     → is_outside (hearing now bytes (begun client outbox)).client.stage ≡ false → HearsNothing (hearing now bytes (begun client outbox))
 unfolding hearing fallen
 point_hears now bytes client outbox completed point = choose (is_up acted.client.link.phase) refl
@@ -168,7 +168,7 @@ known_inside point side ixl is known e inside =
     let same : is.0 ≡ known = same_Some is.0 known (sym is.1 ∙ e)
     in subst (λ (k : KnownPointState). (is_available k.client.stage ≡ true) × (k.side ≡ Some side)) same is.2
 
-is_completed : (s : Stage) → is_available s ≡ true → s ≡ stage.Completed
+pub is_completed : (s : Stage) → is_available s ≡ true → s ≡ stage.Completed
 is_completed stage.Outside e = absurd (false≢true e)
 is_completed stage.AwaitsAnswer e = absurd (false≢true e)
 is_completed stage.AwaitsStart e = absurd (false≢true e)
@@ -191,7 +191,7 @@ after_inside side moved client = choose (is_outside client.stage) refl
     choose true e inside = absurd (false≢true (sym inside ∙ e))
     choose false e inside = (refl, refl)
 
-still_clocked : (now : ℕ) (client : ClientState) → is_up (settled now client.link).phase ≡ true → (clocked now client).stage ≡ client.stage
+pub still_clocked : (now : ℕ) (client : ClientState) → is_up (settled now client.link).phase ≡ true → (clocked now client).stage ≡ client.stage
 unfolding clocked fallen
 still_clocked now client up = rw up refl
 
@@ -265,7 +265,7 @@ speak_stepped site table input world is = step_kept now SpeaksPoint SpeaksPoint 
 pub always_speak : (site : Site) (table : Table) (world : WorldState) → IsReached site table world → EachClient SpeaksPoint world.station.ixl
 always_speak site table = always_whole site table (EachClient SpeaksPoint) (new_speak site table) (speak_stepped site table)
 
-point_clocked : (now : ℕ) (ixl : IxlState) → EachClient SpeaksPoint ixl → (place : ℕ) (known : KnownPointState) → slice_get (all_clocked now ixl).known_points place ≡ Some known → known.client.peer.protocol ≡ protocols.Point
+pub point_clocked : (now : ℕ) (ixl : IxlState) → EachClient SpeaksPoint ixl → (place : ℕ) (known : KnownPointState) → slice_get (all_clocked now ixl).known_points place ≡ Some known → known.client.peer.protocol ≡ protocols.Point
 unfolding all_clocked
 point_clocked now ixl speak place known e =
     let found = mapped_at (clocked_known_point now) ixl.known_points place known e

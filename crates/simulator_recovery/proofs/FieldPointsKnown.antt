@@ -167,8 +167,8 @@ module _ (laws : FieldLaws) (site : Site) (table : Table) (world : WorldState) (
   module _ (none : moves_given point ≡ 0) where
     gave_few : length (network.ends link).client.given ≤ 2
     gave_few =
-        let it = fits site table world seen_in.machine seen_in.represented place side rests.stands rests.answers known there client_up available
-        in let alive = inside site table world seen_in.machine seen_in.represented place side rests.stands rests.answers known there client_up available
+        let it = fits site table world seen_in.machine seen_in.represented place known there client_up available
+        in let alive = inside site table world seen_in.machine seen_in.represented place known there client_up available
         in let moves = it.moves alive
         in let same = ap length (it.client.given alive)
         in let most = given_most known.client.peer known.client.stage it.commands
@@ -189,7 +189,7 @@ module _ (laws : FieldLaws) (site : Site) (table : Table) (world : WorldState) (
     made_so = (seen_in.represented.points.each place controller.0 controller.1).made
 
     one_made : length (reports_made point) ≡ 1
-    one_made = let all = count site table world seen_in.machine seen_in.represented place side rests.stands rests.answers known there client_up available in omega (arith, all, none)
+    one_made = let all = count site table world seen_in.machine seen_in.represented place known there client_up available in omega (arith, all, none)
 
     made_there : reports_made point ≡ reports_in (network.ends link).server.given
     made_there = made_so ∙ ap reports_in (none_made (server_of (seen link network)) (network.ends link).server.given (let one = one_made in let same = ap length made_so in omega (arith, one, same)))
@@ -200,12 +200,12 @@ module _ (laws : FieldLaws) (site : Site) (table : Table) (world : WorldState) (
         ∙ sym (seen_in.represented.points.each place controller.0 controller.1).position
 
   pub known_side : known.side ≡ Some side
-  known_side = choose (known_or site table world seen_in.machine seen_in.represented place side rests.stands rests.answers known there client_up available)
+  known_side = choose (known_or site table world seen_in.machine seen_in.represented place known there client_up available side rests.stands rests.answers)
     where
       choose : (known.side ≡ Some side) ⊎ ((known.side ≡ None) × (moves_given point ≡ 0)) → known.side ≡ Some side
       choose (inl side) = side
       choose (inr (nowhere, none)) = absurd (cc (sym (ap position_known nowhere)
-          ∙ (sym (last site table world seen_in.machine seen_in.represented place side rests.stands rests.answers known there client_up available)
+          ∙ (sym (last site table world seen_in.machine seen_in.represented place known there client_up available)
           ∙ (last_there none ∙ rests.stands))))
 
 pub rests_known : (laws : FieldLaws) (site : Site) (table : Table) (world : WorldState) (place : ℕ) (side : Side) (once : Once site) (station : IsStation site) (is_table : IsTableOf site table)

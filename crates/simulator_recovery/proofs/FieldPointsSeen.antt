@@ -130,9 +130,8 @@ module _ (site : Site) (table : Table) (world : WorldState) (machine : Machine) 
   pub authority_answers : Answers (side_seen need.side) (machine.points need.point)
   authority_answers = answer number need.point (side_seen need.side) held (required table number row need is.0 within)
 
--- where it stands at a side, and its moves are answered
-module _ (site : Site) (table : Table) (world : WorldState) (machine : Machine) (represented : Represents site table world machine) (place : ℕ) (side : Side)
-    (stands : (machine.points place).position ≡ Some (side_seen side)) (answers : Answers (side_seen side) (machine.points place))
+-- where it is available
+module _ (site : Site) (table : Table) (world : WorldState) (machine : Machine) (represented : Represents site table world machine) (place : ℕ)
     (known : KnownPointState) (there : slice_get world.station.ixl.known_points place ≡ Some known)
     (up : is_up (settled (reading_of world.station.clock) known.client.link).phase ≡ true) (available : is_available known.client.stage ≡ true) where
   abbrev now : ℕ
@@ -167,20 +166,26 @@ module _ (site : Site) (table : Table) (world : WorldState) (machine : Machine) 
   pub last : last_of None (reports_made point) ≡ position_seen known.side
   last = ap (last_of None) made ∙ fits.last inside
 
-  -- it is known at its side; or nowhere, and it was given no move in the connection
-  pub known_or : (known.side ≡ Some side) ⊎ ((known.side ≡ None) × (moves_given point ≡ 0))
-  known_or = by_side known.side refl
-    where
-      by_answer : known.side ≡ None → Answers (side_seen side) point → (known.side ≡ Some side) ⊎ ((known.side ≡ None) × (moves_given point ≡ 0))
-      by_answer e (inl none) = inr (e, none)
-      by_answer e (inr (all, at)) = absurd (cc (sym at ∙ (last ∙ ap position_seen e)))
+  -- one that is known at a side stands there
+  pub known_stands : (side : Side) → known.side ≡ Some side → point.position ≡ Some (side_seen side)
+  known_stands side at = sound.last count (side_seen side) (last ∙ ap position_seen at)
 
-      by_side : (s : Option Side) → known.side ≡ s → (known.side ≡ Some side) ⊎ ((known.side ≡ None) × (moves_given point ≡ 0))
-      by_side None e = by_answer e answers
-      by_side (Some s) e = inl (e ∙ ap Some (same_side s side (some_same (sym (sound.last count (side_seen s) (last ∙ ap position_seen e)) ∙ stands))))
-        where
-          some_same : {A : Type 0} {a b : A} → Some a ≡ Some b → a ≡ b
-          some_same f = cc f
+  -- where it stands at a side, and its moves are answered
+  module _ (side : Side) (stands : point.position ≡ Some (side_seen side)) (answers : Answers (side_seen side) point) where
+    -- it is known at its side; or nowhere, and it was given no move in the connection
+    pub known_or : (known.side ≡ Some side) ⊎ ((known.side ≡ None) × (moves_given point ≡ 0))
+    known_or = by_side known.side refl
+      where
+        by_answer : known.side ≡ None → Answers (side_seen side) point → (known.side ≡ Some side) ⊎ ((known.side ≡ None) × (moves_given point ≡ 0))
+        by_answer e (inl none) = inr (e, none)
+        by_answer e (inr (all, at)) = absurd (cc (sym at ∙ (last ∙ ap position_seen e)))
+
+        by_side : (s : Option Side) → known.side ≡ s → (known.side ≡ Some side) ⊎ ((known.side ≡ None) × (moves_given point ≡ 0))
+        by_side None e = by_answer e answers
+        by_side (Some s) e = inl (e ∙ ap Some (same_side s side (some_same (sym (known_stands s e) ∙ stands))))
+          where
+            some_same : {A : Type 0} {a b : A} → Some a ≡ Some b → a ≡ b
+            some_same f = cc f
 
 -- ---- a world that is reached
 

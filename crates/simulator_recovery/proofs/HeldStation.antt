@@ -145,10 +145,14 @@ module _ (clients : PointLaws) (talk : TalkLaws) (move : MoveLaw) (request : Req
     taken_is = took_behind_step talk site table is_table input connection world network step.can.named step.can.whole step.can.timely step.can.are
         step.comes step.may is.talking.stands is.talking.speaks is.talking.talk (Point place) b.there
 
-    step_outcome : IsHeldAt table done.ixl place side → (known : KnownPointState) → slice_get done.ixl.known_points place ≡ Some known → is_outside known.client.stage ≡ false
+    -- where it is known at this side behind what is heard, it is available behind the step
+    abbrev pub StaysAvailable : KnownPointState → Type 0
+    StaysAvailable known = KnownInside place side (known_in_step site table input world) → is_available known.client.stage ≡ true
+
+    pub outcome_where : (known : KnownPointState) → slice_get done.ixl.known_points place ≡ Some known → is_outside known.client.stage ≡ false → StaysAvailable known
         → Outcome side was had known (took (run_links (interlocking_events site table input connection world.station) network) at)
     unfolding interlocking_stepped
-    step_outcome held known e inside = record {
+    outcome_where known e inside stays = record {
       more = t.more;
       are = taken_is ∙ (l.taken_is ∙ (t.are ∙ ap (λ (list : List (List ℕ)). list ++ t.more) is.had_is));
       awaited = λ awaits. by_heard (t.awaited (ap (λ (k : KnownPointState). k.client.stage) was_clocked ∙ ((clocked_side now was is.up within).0 ∙ awaits)));
@@ -172,12 +176,17 @@ module _ (clients : PointLaws) (talk : TalkLaws) (move : MoveLaw) (request : Req
 
         by_heard : HearsOne g.was.client.stage t.more → ReportOnce side known t.more
         by_heard (nothing a none) = waits (l.awaits a) none
-        by_heard (report completed one) = comes one (λ at_side. (heard_known move request site table is_table world is.reached place side input (known_then at_side) held known e inside).0)
+        by_heard (report completed one) = comes one (λ at_side. stays (known_then at_side))
           where
             known_then : known.side ≡ Some side → KnownInside place side (known_in_step site table input world)
             known_then at_side other f inside_then =
                 let same : other ≡ g.was = same_Some other g.was (sym f ∙ g.there)
                 in (ap (λ (k : KnownPointState). is_available k.client.stage) same ∙ ap is_available completed, ap (λ (k : KnownPointState). k.side) same ∙ (sym l.side ∙ at_side))
+
+    step_outcome : IsHeldAt table done.ixl place side → (known : KnownPointState) → slice_get done.ixl.known_points place ≡ Some known → is_outside known.client.stage ≡ false
+        → Outcome side was had known (took (run_links (interlocking_events site table input connection world.station) network) at)
+    unfolding interlocking_stepped
+    step_outcome held known e inside = outcome_where known e inside (λ heard. (heard_known move request site table is_table world is.reached place side input heard held known e inside).0)
 
   -- ---- any event
 

@@ -1,4 +1,17 @@
 mod Lists
+mod QuietRules
+mod QuietHears
+mod QuietSteps
+mod QuietTaken
+mod QuietSections
+mod QuietWalk
+mod QuietRest
+mod QuietStart
+mod QuietBase
+mod QuietRounds
+mod QuietOut
+mod QuietLies
+mod QuietCome
 mod Tests
 mod HostCalls
 mod ClientCalls

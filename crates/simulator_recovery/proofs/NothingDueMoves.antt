@@ -89,7 +89,7 @@ moved_point now point side part = one_else (λ (q : StepSoFar). IsAvailable q.ix
 -- ---- what is due
 
 -- a move that is due behind a change was due before it, where routes, the point and the detectors are the same
-move_before : (table : Table) (old new : IxlState) (number : ℕ) (route : RouteState) (need : Need) → (IsHeldWithAuthority table old need.point → IsHeldWithAuthority table new need.point) → new.detectors ≡ old.detectors
+pub move_before : (table : Table) (old new : IxlState) (number : ℕ) (route : RouteState) (need : Need) → (IsHeldWithAuthority table old need.point → IsHeldWithAuthority table new need.point) → new.detectors ≡ old.detectors
     → slice_get new.known_points need.point ≡ slice_get old.known_points need.point → MoveDue table new number route need → MoveDue table old number route need
 move_before table old new number route need held detectors point due = record {
   waits = due.waits;
@@ -101,7 +101,7 @@ move_before table old new number route need held detectors point due = record {
   once = (due.once.0, sym point ∙ due.once.1, due.once.2);
 }
 
-same_routes_hold : (table : Table) (old new : IxlState) (point : ℕ) → new.routes ≡ old.routes → IsHeldWithAuthority table old point → IsHeldWithAuthority table new point
+pub same_routes_hold : (table : Table) (old new : IxlState) (point : ℕ) → new.routes ≡ old.routes → IsHeldWithAuthority table old point → IsHeldWithAuthority table new point
 same_routes_hold table old new point routes held = subst (λ (rs : List RouteState). IsHeldWithAuthority table (record new { routes = rs }) point) (sym routes) held
 
 abbrev pub NoMove : Table → ℕ → Need → IxlState → Type 0

@@ -108,16 +108,16 @@ module _ (laws : ReportLaws) (between : List Event) (flowing : Flowing Played) (
   there : IsReportedIn site.detectors section reporter
   there = is_table.reporters.their section reporter reported
 
-  inside : reporter.0 < length site.detectors
+  pub inside : reporter.0 < length site.detectors
   inside = slice_get_within site.detectors reporter.0 there.0 there.1
 
-  below_links : link < links site
+  pub below_links : link < links site
   below_links = let a = inside in omega (arith, a)
 
   abbrev speaking : SpeakLaws
   speaking = record { ready = laws.rounds.ready; speak = laws.speak }
 
-  abbrev IsGood : List (List Event) → Type 0
+  abbrev pub IsGood : List (List Event) → Type 0
   IsGood = Good speaking between flowing reporter.0 once station is_table reached work inside
 
   abbrev flow_at : List (List Event) → Flowing Played
@@ -126,13 +126,13 @@ module _ (laws : ReportLaws) (between : List Event) (flowing : Flowing Played) (
   abbrev world_at : List (List Event) → WorldState
   world_at rounds = (flow_at rounds).state.run
 
-  is_at : (rounds : List (List Event)) → IsAt flowing.state.sited (flow_at rounds).state
+  pub is_at : (rounds : List (List Event)) → IsAt flowing.state.sited (flow_at rounds).state
   is_at rounds = rounds_reached laws.rounds.ready.up.link.times.reach flowing.state.sited (between ∷ rounds) flowing (record { same = refl; reached = reached })
 
-  front : (one other : List (List Event)) → ready_rounds ≤ suc (length one) → IsGood (one ++ other) → IsGood one
+  pub front : (one other : List (List Event)) → ready_rounds ≤ suc (length one) → IsGood (one ++ other) → IsGood one
   front = good_two speaking between flowing reporter.0 once station is_table reached work inside
 
-  ready : (rounds : List (List Event)) → IsGood rounds → IsReadyOn site link (world_at rounds)
+  pub ready : (rounds : List (List Event)) → IsGood rounds → IsReadyOn site link (world_at rounds)
   ready = ready_at speaking between flowing reporter.0 once station is_table reached work inside
 
   -- ---- a section that is left as it is
@@ -140,7 +140,7 @@ module _ (laws : ReportLaws) (between : List Event) (flowing : Flowing Played) (
   abbrev Leaves : Event → Type 0
   Leaves = LeavesSection site table section
 
-  leaves_it : HoldsOfRounds Leaves
+  pub leaves_it : HoldsOfRounds Leaves
   leaves_it = record { times = λ s. tt; comes = λ node bytes. tt; ticks = λ node. tt; reaches = λ point position. tt }
 
   abbrev IsCalm : Event → Type 0
@@ -149,7 +149,7 @@ module _ (laws : ReportLaws) (between : List Event) (flowing : Flowing Played) (
   calm_there : HoldsOfRounds IsCalm
   calm_there = record { times = λ s. (tt, tt); comes = λ node bytes. (tt, tt); ticks = λ node. (tt, tt); reaches = λ point position. (tt, tt) }
 
-  next_leads : (P : Event → Type 0) → HoldsOfRounds P → (rounds : List (List Event)) (last : List Event) → Each P last → LeadsBy site table P (world_at rounds) (world_at (rounds ++ last ∷ []))
+  pub next_leads : (P : Event → Type 0) → HoldsOfRounds P → (rounds : List (List Event)) (last : List Event) → Each P last → LeadsBy site table P (world_at rounds) (world_at (rounds ++ last ∷ []))
   next_leads P holds rounds last each = subst (λ (f : Flowing Played). LeadsBy site table P (world_at rounds) f.state.run) (sym (last_round (between ∷ rounds) last flowing))
       (round_leads flowing.state.sited P holds (flow_at rounds) (is_at rounds).same last each)
 
@@ -159,7 +159,7 @@ module _ (laws : ReportLaws) (between : List Event) (flowing : Flowing Played) (
   none_next : (rounds : List (List Event)) (last : List Event) → IsGood rounds → Each Leaves last → OwesNone table (world_at rounds) section → OwesNone table (world_at (rounds ++ last ∷ [])) section
   none_next rounds last good each none = none_on (world_at rounds) (world_at (rounds ++ last ∷ [])) (next_leads Leaves leaves_it rounds last each) (is_at rounds).reached (ready rounds good) none
 
-  none_later : (rounds more : List (List Event)) → ready_rounds ≤ suc (length rounds) → IsGood (rounds ++ more) → Each (Each Leaves) more → OwesNone table (world_at rounds) section
+  pub none_later : (rounds more : List (List Event)) → ready_rounds ≤ suc (length rounds) → IsGood (rounds ++ more) → Each (Each Leaves) more → OwesNone table (world_at rounds) section
       → OwesNone table (world_at (rounds ++ more)) section
   none_later rounds [] long good each none = subst (λ (r : List (List Event)). OwesNone table (world_at r) section) (sym (append-nil rounds)) none
   none_later rounds (first ∷ more) long good each none = subst (λ (r : List (List Event)). OwesNone table (world_at r) section) same
@@ -252,7 +252,7 @@ module _ (laws : ReportLaws) (between : List Event) (flowing : Flowing Played) (
   -- ---- 32 rounds
 
   -- 31 rounds behind its last change no report of it is owed
-  none_in_time : (rounds : List (List Event)) (one : List Event) (more : List (List Event)) (last : List Event) → ready_rounds ≤ suc (suc (length rounds)) → speaking_rounds ≤ length more
+  pub none_in_time : (rounds : List (List Event)) (one : List Event) (more : List (List Event)) (last : List Event) → ready_rounds ≤ suc (suc (length rounds)) → speaking_rounds ≤ length more
       → IsGood ((rounds ++ one ∷ []) ++ (more ++ last ∷ [])) → Each (Each Leaves) (more ++ last ∷ [])
       → OwesNone table (world_at ((rounds ++ one ∷ []) ++ (more ++ last ∷ []))) section
   none_in_time rounds one more last long enough good each = by_spoken

@@ -274,7 +274,7 @@ module _ (laws : SectionLaws) (site : Site) (table : Table) (station : IsStation
     named : AreLinks (links site) (names_at site)
     named = laws.expected.talked.links.named site station once
 
-    over_on : (happening : Event) (world : WorldState) (network : Links) → refusal site happening world ≡ None → LeavesSection site table section happening → Over world network → Over (happens site table happening world) (run_links (events_of site table happening world) network)
+    pub over_on : (happening : Event) (world : WorldState) (network : Links) → refusal site happening world ≡ None → LeavesSection site table section happening → Over world network → Over (happens site table happening world) (run_links (events_of site table happening world) network)
     over_on happening world network may leaves o =
         let whole = o.reporting.stands.whole
         in let follows = laws.expected.talked.links.exactly site table happening world network named whole o.timely o.are may
@@ -353,10 +353,10 @@ module _ (laws : SectionLaws) (site : Site) (table : Table) (station : IsStation
         told_so = r.telling.of_detectors reporter.0 c e entry there
 
     -- what its client knows
-    known : (k : KnownDetectorState) × (slice_get world.station.ixl.detectors reporter.0 ≡ Some k)
+    pub known : (k : KnownDetectorState) × (slice_get world.station.ixl.detectors reporter.0 ≡ Some k)
     known = at_place world.station.ixl.detectors reporter.0 (let a = within in let b = r.stands.whole.clients.detectors in omega (arith, a, b))
 
-    client_same : (client : ClientState) → slice_get (client_states world.station.ixl) link ≡ Some client → client ≡ known.0.client
+    pub client_same : (client : ClientState) → slice_get (client_states world.station.ixl) link ≡ Some client → client ≡ known.0.client
     client_same client e = same_Some client known.0.client (sym e ∙ of_third _ _ _ (length site.signals) (length site.points) reporter.0 known.0.client
         (map_length (λ (k : KnownSignalState). k.client) world.station.ixl.known_signals ∙ r.stands.whole.clients.known_signals)
         (map_length (λ (k : KnownPointState). k.client) world.station.ixl.known_points ∙ r.stands.whole.clients.known_points) (mapped (λ (k : KnownDetectorState). k.client) world.station.ixl.detectors reporter.0 known.0 known.1))
@@ -366,7 +366,7 @@ module _ (laws : SectionLaws) (site : Site) (table : Table) (station : IsStation
         (length site.signals) (length site.points) reporter.0 known.0.client.link (map_length _ world.station.ixl.known_signals ∙ r.stands.whole.clients.known_signals) (map_length _ world.station.ixl.known_points ∙ r.stands.whole.clients.known_points)
         (mapped (λ (k : KnownDetectorState). k.client.link) world.station.ixl.detectors reporter.0 known.0 known.1))
 
-    known_up : is_up (settled (reading_of world.station.clock) known.0.client.link).phase ≡ true
+    pub known_up : is_up (settled (reading_of world.station.clock) known.0.client.link).phase ≡ true
     known_up = ap (λ (l : LinkState). is_up (settled (reading_of world.station.clock) l).phase) (sym link_same) ∙ up.client_up
 
     was_up : is_up known.0.client.link.phase ≡ true
@@ -375,10 +375,10 @@ module _ (laws : SectionLaws) (site : Site) (table : Table) (station : IsStation
     knows : KnowsByReports (reading_of world.station.clock) known.0 (network.ends link).client.taken
     knows = knows_by laws site table station once is_table world network timely are r reporter.0 known.0 known.1
 
-    peer_here : known.0.client.peer ≡ peer_for protocols.TrainDetection site entry.name (section_names site entry)
+    pub peer_here : known.0.client.peer ≡ peer_for protocols.TrainDetection site entry.name (section_names site entry)
     peer_here = r.stands.talking.matching.clients.detectors reporter.0 known.0 known.1 entry there
 
-    place_inside : reporter.1 < length known.0.client.peer.objects
+    pub place_inside : reporter.1 < length known.0.client.peer.objects
     place_inside =
         let same = ap (λ (p : PeerState). length p.objects) peer_here
         in let names = map_length (λ (s : SectionId). slice_index_or site.sections s.0 []) entry.sections

@@ -30,3 +30,4 @@ pub mod Withdrawn
 pub mod UnheldPoints
 pub mod Answered
 pub mod OnceMoved
+pub mod Quiet

@@ -1,0 +1,21 @@
+-- Where nothing comes by which a point could be moved.
+use Rattle.std.specs.Prelude.{◌≢◌, ◌≤◌, ◌⊎◌, ℕ, suc, List, ◌∷◌, length}
+use Rattle.simulator_run.specs.ixl_rules.Table.{Table}
+use Rattle.simulator_run.specs.simulator_event.declared.event.Event.{Event}
+use Rattle.simulator_run.specs.simulator_event.declared.event.Event.TheVariants as event
+use Rattle.simulator_run.specs.Flow.{Flowing}
+use Rattle.simulator_run.specs.Tried.{Played}
+use Rattle.simulator_recovery.specs.Ready.{ready_rounds}
+use Rattle.simulator_recovery.specs.Rounds.{good_rounds}
+use Rattle.simulator_recovery.specs.SectionsReported.{HasRoomToReport, section_rounds}
+
+-- a section is occupied, or left, and isn't this one
+abbrev pub IsOccupancyElsewhere : ℕ → Event → Type 0
+IsOccupancyElsewhere section (event.Occupy other occupancy) = other.0 ≢ section
+IsOccupancyElsewhere section _ = ⊥
+
+-- The rounds behind some first ones are enough for what was told of a section by then: 32, where links are ready from the first of them on; or one,
+-- in which they become ready, where the window of its detector's link had room before it.
+abbrev pub IsTimeToReport : Table → ℕ → List Event → List (List Event) → List (List Event) → Flowing Played → Type 0
+IsTimeToReport table section between later more flowing = (ready_rounds ≤ suc (length later) × section_rounds ≤ length more)
+    ⊎ (ready_rounds ≤ suc (suc (length later)) × (1 ≤ length more × HasRoomToReport table (good_rounds (between ∷ later) flowing).state.run section))
