@@ -34,7 +34,7 @@ use Rattle.simulator_pair_recovery.specs.Recovery.{GivesItem, HasTime, StayBelow
 use Rattle.simulator_pair_recovery.proofs.Alike.{alike_same}
 use Rattle.simulator_pair_recovery.proofs.FirstRoundShort.{IsShort, IsWhole, ReadIsIntact, reached_short, reached_whole}
 use Rattle.simulator_pair_recovery.proofs.Fresh.{Adds, HandsOut, WrittenIsShort, adds_none, each_append}
-use Rattle.simulator_pair_recovery.proofs.Reached.{Laws, Reached, are_names, arriving_from_reached, events_reached, key_of, never_sent, new_reached, reached_timely, start, tried_reached}
+use Rattle.simulator_pair_recovery.proofs.Reached.{Laws, Reached, are_names, events_reached, key_of, never_sent, new_reached, reached_timely, start, tried_reached}
 use Rattle.simulator_pair_recovery.proofs.Recovers.{Both, CanGo, Goes, LawsHere, all_go, arriving_adds, arriving_from_adds, found_first, found_later, get_after, goes_from, later_is, one_comes, own_work_done, round_ends, rounds_first, run_both, time_passes}
 
 -- ---- the copy that is found
@@ -311,19 +311,19 @@ each_among P [] c each is = absurd is
 each_among P (x ∷ xs) c each (inl same) = subst P same each.0
 each_among P (x ∷ xs) c each (inr is) = each_among P xs c each.1 is
 
-each_tried : (times : Times) (time : ℕ) (sent last more : List Sent) → Each (InFlight names times) sent → (ds : List Sent) → Each IsShort ds → Each IsWhole ds
+each_tried : (times : Times) (time : ℕ) (sent last : List Sent) → Each (InFlight names times) sent → (ds : List Sent) → Each IsShort ds → Each IsWhole ds
     → Each (InFlight names times) ds
-    → Each (λ (d : Sent). d.is_lost ≡ false → newest_copy time d.bytes sent ≡ None → newest_copy time d.bytes (last ++ more) ≡ None) ds → Each (IsTried time sent last) ds
-each_tried times time sent last more flights [] short whole flying again = tt
-each_tried times time sent last more flights (d ∷ ds) short whole flying again = (
+    → Each (λ (d : Sent). d.is_lost ≡ false → newest_copy time d.bytes sent ≡ None → newest_copy time d.bytes last ≡ None) ds → Each (IsTried time sent last) ds
+each_tried times time sent last flights [] short whole flying again = tt
+each_tried times time sent last flights (d ∷ ds) short whole flying again = (
   record {
     short = short.0;
     whole = whole.0;
-    gone = λ there none. none_before time d.bytes last more (again.0 there none);
+    gone = again.0;
     of_sender = λ c found. let is = found_is time d.bytes sent c found in
         same_sender times c d (each_among (InFlight names times) sent c flights is.among) flying.0 (alive_comes time d.bytes c is.alive).1;
   },
-  each_tried times time sent last more flights ds short.1 whole.1 flying.1 again.1,
+  each_tried times time sent last flights ds short.1 whole.1 flying.1 again.1,
 )
 
 -- ---- the first round
@@ -373,26 +373,17 @@ module _ (law : LawsHere) (read : ReadIsIntact) (n : ℕ) (first : Flowing) (can
   unfolding mid
   same_mid = same_arrive first.passed sent s p0
 
-  mid_reached : Reached mid.ends
-  mid_reached = subst (λ (p : PairState). Reached p.ends) (sym same_mid) (arriving_from_reached law.laws first.passed (length sent - first.passed) p0 begins.reached)
-
-  -- what the ends send of their own behind the deliveries
-  own : Adds mid.ends (round first).pair.ends
-  unfolding p0
-  own = subst (Adds mid.ends) (sym (round_ends first))
-      (subst (λ (p : PairState). Adds mid.ends (called role.Server Ticks (called role.Client Opens (called role.Client Ticks p.ends)))) same_mid
-      (own_work_done law time mid.ends mid.ends mid.ends (record { reached = mid_reached; alike = alike_same mid.ends; adds = adds_none mid.ends })).adds)
-
   timely : Timely names first.pair.ends
   timely = reached_timely law.laws first.pair.ends is
 
   each : Each (IsTried (time + 10000) sent mid.ends.sent) ds
-  each = each_tried (times_of first.pair.ends timely.of_client timely.of_server timely.newest) (time + 10000) sent mid.ends.sent own.more timely.datagrams ds
+  unfolding p0
+  each = each_tried (times_of first.pair.ends timely.of_client timely.of_server timely.newest) (time + 10000) sent mid.ends.sent timely.datagrams ds
       (each_drop IsShort first.passed sent (reached_short law first.pair.ends is))
       (each_drop IsWhole first.passed sent (reached_whole law.laws read first.pair.ends is))
       (each_drop (InFlight names (times_of first.pair.ends timely.of_client timely.of_server timely.newest)) first.passed sent timely.datagrams)
-      (subst (λ (xs : List Sent). Each (λ (d : Sent). d.is_lost ≡ false → newest_copy (time + 10000) d.bytes sent ≡ None
-      → newest_copy (time + 10000) d.bytes xs ≡ None) ds) own.sent again)
+      (subst (λ (pair : PairState). Each (λ (d : Sent). d.is_lost ≡ false → newest_copy (time + 10000) d.bytes sent ≡ None
+      → newest_copy (time + 10000) d.bytes pair.ends.sent ≡ None) ds) (sym same_mid) again)
 
   sent_is : p0.ends.sent ≡ s.front ++ (ds ++ [])
   sent_is = ap (λ (x : Ends). x.sent) passes ∙ (later_is first.pair.ends).1 ∙ s.are ∙ ap (λ (xs : List Sent). s.front ++ xs) (sym (append-nil ds))

@@ -15,8 +15,9 @@ use rasta_pdu::intact_is_tested;
 
 /// A pair comes up a round earlier where nothing that is said in the first round comes in it: after each round of `flow` from the
 /// 1561st on both its ends are up, so for good 15.61 s after the flow began. Copies of what was sent before may come, in any order
-/// and again and again. What is said in the round comes in it only where the flow finds the same bytes in its place: those of a
-/// datagram that is too old itself, and of which no copy can come as the round begins.
+/// and again and again. What an end says as something comes to it, so an answer, comes in the same round only where the flow finds the
+/// same bytes in its place: those of a datagram that is too old itself, and of which no copy can come as the round begins. What the
+/// ends say as they tick comes in the next round.
 pub fn a_pair_comes_up_from_the_first_round()
     ensures { (events : List PairEvent) (passed n : ℕ) → Each GivesItem events → first_recovery_rounds ≤ n
         → HasTime n (flow_after events passed) → StayBelowLimit n (flow_after events passed) → NoneIsSaidAgain (flow_after events passed)

@@ -1,12 +1,12 @@
--- What comes in the first of good rounds, where nothing old is said again in it: copies of what was sent before.
-use Rattle.std.proofs.Common.{◌≡◌, ℕ, zero, suc, inl, inr, ◌∙◌, ◌+◌, Bool, true, false, ◌&&◌, not, nat_le, List, [], ◌∷◌, ◌++◌, append_assoc, length, map, if◌then◌else◌, Option, Some, None, refl, sym, ap, subst, arith}
+-- What comes on a link in the first of good rounds, where nothing old of it is said again in it: copies of what was sent before.
+use Rattle.std.proofs.Common.{◌≡◌, ℕ, zero, suc, ◌⊎◌, inl, inr, ◌∙◌, ◌+◌, Bool, true, false, ◌&&◌, not, nat_le, List, [], ◌∷◌, ◌++◌, append_assoc, length, map, if◌then◌else◌, Option, Some, None, refl, sym, ap, subst, arith}
 use Rattle.std.specs.Prelude.{◌==◌, slice_get}
 use Rattle.std.specs.Str.{bytes_eq}
 use Rattle.std.proofs.lemmas.Bool.Decides.{nat_tests}
 use Rattle.std.proofs.lemmas.Slice.Eq.{bytes_eq-Decides}
 use Rattle.rasta_core_recovery.specs.FirstRound.{WereSent}
 use Rattle.rasta_core_recovery.specs.Rounds.{can_come}
-use Rattle.rasta_core_recovery.specs.Work.{due_to}
+use Rattle.rasta_core_recovery.specs.Work.{IsBeforeTick, due_to}
 use Rattle.simulator_run.specs.layout.Entries.{Site}
 use Rattle.simulator_run.specs.layout.Once.{Once}
 use Rattle.simulator_run.specs.layout.Station.{IsStation}
@@ -175,6 +175,10 @@ pub record IsTried (site : Site) (time : ℕ) (sent last : List OnLink) (one : O
   pub of_link : (c : Sent) → newest_copy time one.datagram.bytes (datagrams_of sent) ≡ Some c → IsAmongAll (record { link = one.link; datagram = c }) sent
   pub of_sender : (c : Sent) → newest_copy time one.datagram.bytes (datagrams_of sent) ≡ Some c → c.sender ≡ one.datagram.sender
 
+-- and so where it is of this link
+abbrev pub IsTriedOn : ℕ → Site → ℕ → List OnLink → List OnLink → OnLink → Type 0
+IsTriedOn link site time sent last one = one.link ≡ link → IsTried site time sent last one
+
 -- ---- so only what was sent before comes
 
 each_append : {X : Type 0} (P : X → Type 0) (xs ys : List X) → Each P xs → Each P ys → Each P (xs ++ ys)
@@ -183,6 +187,22 @@ each_append P (x ∷ xs) ys a b = (a.0, each_append P xs ys a.1 b)
 
 same_number : (a b : ℕ) → (a == b) ≡ true → a ≡ b
 same_number a b e = grind (arith, nat_tests)
+
+other_number : (a b : ℕ) → (a == b) ≡ false → (b == a) ≡ false
+other_number a b e = grind (arith, nat_tests)
+
+-- what comes in the place of a datagram of another link is none of this one
+other_link : (link time : ℕ) (sent rest : List OnLink) (one : OnLink) → (one.link == link) ≡ false
+    → of_link link (in_place_of time sent one ++ rest) ≡ of_link link rest
+other_link link time sent rest one other = by_lost one.datagram.is_lost
+  where
+    by_copy : (o : Option Sent) → of_link link (in_place one o ++ rest) ≡ of_link link rest
+    by_copy None = refl
+    by_copy (Some c) = rw other refl
+
+    by_lost : (b : Bool) → of_link link ((if b then [] else in_place one (newest_copy time one.datagram.bytes (datagrams_of sent))) ++ rest) ≡ of_link link rest
+    by_lost true = refl
+    by_lost false = by_copy (newest_copy time one.datagram.bytes (datagrams_of sent))
 
 is_number : (a : ℕ) → (a == a) ≡ true
 is_number a = grind (arith, nat_tests)
@@ -198,14 +218,14 @@ among_link link (x ∷ sent) d (inr is) = choose (x.link == link) (among_link li
     choose false among = among
 
 module _ (site : Site) (time : ℕ) (sent last : List OnLink) (link : ℕ) where
-  one_sent : (one : OnLink) → IsTried site time sent last one → WereSent (of_link link sent) (of_link link (in_place_of time sent one))
+  one_sent : (one : OnLink) → IsTriedOn link site time sent last one → WereSent (of_link link sent) (of_link link (in_place_of time sent one))
   one_sent one tried = by_lost one.datagram.is_lost
     where
       on_link : (c : Sent) → newest_copy time one.datagram.bytes (datagrams_of sent) ≡ Some c → (b : Bool) → (one.link == link) ≡ b
           → WereSent (of_link link sent) (if b then c ∷ [] else [])
       on_link c e true same = (
         among_link link sent c (subst (λ (n : ℕ). IsAmongAll (record { link = n; datagram = c }) sent) (same_number one.link link same)
-            (tried.of_link c e)),
+            ((tried (same_number one.link link same)).of_link c e)),
         tt,
       )
       on_link c e false other = tt
@@ -218,13 +238,68 @@ module _ (site : Site) (time : ℕ) (sent last : List OnLink) (link : ℕ) where
       by_lost true = tt
       by_lost false = found (newest_copy time one.datagram.bytes (datagrams_of sent)) refl
 
-  pub all_sent : (more : List OnLink) → Each (IsTried site time sent last) more → WereSent (of_link link sent) (of_link link (all_in_place time sent more))
+  pub all_sent : (more : List OnLink) → Each (IsTriedOn link site time sent last) more → WereSent (of_link link sent) (of_link link (all_in_place time sent more))
   all_sent [] tried = tt
   all_sent (one ∷ more) tried = subst (WereSent (of_link link sent)) (sym (of_both link (in_place_of time sent one) (all_in_place time sent more)))
       (each_append (λ (d : Sent). IsAmong d (of_link link sent)) (of_link link (in_place_of time sent one)) (of_link link (all_in_place time sent more)) (one_sent one tried.0)
       (all_sent more tried.1))
 
 -- ---- and it comes
+
+module _ (laws : LinkLaws) (sited : SitedTable) (station : IsStation sited.site) (once : Once sited.site) (sections : length sited.table.detectors ≡ length sited.site.detectors)
+    (who : Role) (link : ℕ) where
+  -- one that is tried comes, or nothing does
+  tried_front : (one : OnLink) (world : Played) (before : Links) → HasThese sited world before → IsFrom sited.site one
+      → (due : List (List ℕ)) × ((due ≡ due_one who link one) ⊎ (due ≡ [])) × IsFront due (all_called_at who link (events_tried (deliver one) world))
+  tried_front one world before has from = by_refusal (refusal_of (deliver one) world) refl
+    where
+      by_refusal : (why : Option Refused) → refusal_of (deliver one) world ≡ why
+          → (due : List (List ℕ)) × ((due ≡ due_one who link one) ⊎ (due ≡ [])) × IsFront due (all_called_at who link (events_tried (deliver one) world))
+      by_refusal None e = (
+        due_one who link one,
+        inl refl,
+        comes_front who link one (events_tried (deliver one) world) (comes_at laws sited station once sections one world before has from e),
+      )
+      by_refusal (Some why) e = ([], inr refl, subst (λ (events : List LinksEvent). IsFront [] (all_called_at who link events)) (sym none) (front_said [] tt))
+        where
+          none : events_tried (deliver one) world ≡ []
+          none = ap (λ (o : Option Refused). events_where o (events_of world.sited.site world.sited.table (deliver one) world.run)) e
+
+  -- one of another link comes to none of this one
+  tried_elsewhere : (one : OnLink) (world : Played) (before : Links) → HasThese sited world before → IsFrom sited.site one → (one.link == link) ≡ false
+      → IsFront [] (all_called_at who link (events_tried (deliver one) world))
+  tried_elsewhere one world before has from other = let front = tried_front one world before has from in
+      subst (λ (due : List (List ℕ)). IsFront due (all_called_at who link (events_tried (deliver one) world))) (none front.0 front.1) front.2
+    where
+      not_due : due_one who link one ≡ []
+      not_due = rw (other_number one.link link other) refl
+
+      none : (due : List (List ℕ)) → (due ≡ due_one who link one) ⊎ (due ≡ []) → due ≡ []
+      none due (inl e) = e ∙ not_due
+      none due (inr e) = e
+
+  -- whatever comes, all that an end is called to is before its tick
+  pub all_before : (place : ℕ) (more : List OnLink) (world : Played) (before : Links) → HasThese sited world before → Each (IsFrom sited.site) more
+      → Each IsBeforeTick (all_called_at who link (all_events_tried (map event_of (arrivals_there place more)) world))
+  all_before place [] world before has from = tt
+  all_before place (one ∷ more) world before has from = by_lost (all_before (suc place) more world before has from.1)
+      (all_before (suc place) more (after world (deliver one)) (run_links (events_tried (deliver one) world) before)
+      (tried_followed laws sited station once (deliver one) world before has).has from.1)
+      one.datagram.is_lost
+    where
+      others : List Event
+      others = map event_of (arrivals_there (suc place) more)
+
+      by_lost : Each IsBeforeTick (all_called_at who link (all_events_tried others world))
+          → Each IsBeforeTick (all_called_at who link (all_events_tried others (after world (deliver one))))
+          → (b : Bool)
+          → Each IsBeforeTick (all_called_at who link (all_events_tried (map event_of (arrival_at place b one ++ arrivals_there (suc place) more)) world))
+      by_lost here next true = here
+      by_lost here next false = subst (Each IsBeforeTick)
+          (sym (called_both who link (events_tried (deliver one) world) (all_events_tried others (after world (deliver one)))))
+          (each_append IsBeforeTick (all_called_at who link (events_tried (deliver one) world))
+          (all_called_at who link (all_events_tried others (after world (deliver one))))
+          (tried_front one world before has from.0).2.before next)
 
 module _ (laws : LinkLaws) (sited : SitedTable) (station : IsStation sited.site) (once : Once sited.site) (sections : length sited.table.detectors ≡ length sited.site.detectors)
     (who : Role) (link time : ℕ) (sent last : List OnLink) where
@@ -237,14 +312,14 @@ module _ (laws : LinkLaws) (sited : SitedTable) (station : IsStation sited.site)
 
   pub first_arrive : (place : ℕ) (more so_far : List OnLink) (world : Played) (before : Links) → HasThese sited world before → world.run.time ≡ time
       → world.run.sent ≡ sent ++ so_far
-      → Each (IsFrom sited.site) more → Each (IsTried sited.site time sent last) more → sent_behind (map event_of (arrivals_there place more)) world ≡ last
+      → Each (IsFrom sited.site) more → Each (IsTriedOn link sited.site time sent last) more → sent_behind (map event_of (arrivals_there place more)) world ≡ last
       → Come (all_in_place time sent more) (map event_of (arrivals_there place more)) world
   first_arrive place [] so_far world before has now grown from tried is_last = front_said [] tt
   first_arrive place (one ∷ more) so_far world before has now grown from tried is_last =
-      by_lost (λ l. first_arrive (suc place) more so_far world before has now grown from.1 tried.1 l)
+      by_link (λ l. first_arrive (suc place) more so_far world before has now grown from.1 tried.1 l)
       (λ l. first_arrive (suc place) more (so_far ++ added.more) (after world (deliver one)) (run_links (events_tried (deliver one) world) before)
       (tried_followed laws sited station once (deliver one) world before has).has (added.time ∙ now) then_grown from.1 tried.1 l)
-      one.datagram.is_lost refl
+      (one.link == link) refl
     where
       others : List Event
       others = map event_of (arrivals_there (suc place) more)
@@ -267,13 +342,17 @@ module _ (laws : LinkLaws) (sited : SitedTable) (station : IsStation sited.site)
       all_of_it : HasAdded world.run (after_each (deliver one ∷ others) world)
       all_of_it = all_add world.run (deliver one ∷ others) world (tt, arrivals_calm (suc place) more) (record { is = adds_none world.run })
 
-      refused : one.datagram.is_lost ≡ false → newest_copy time one.datagram.bytes (datagrams_of sent) ≡ None → sent_behind (deliver one ∷ others) world ≡ last
+      refused : IsTried sited.site time sent last one → one.datagram.is_lost ≡ false
+          → newest_copy time one.datagram.bytes (datagrams_of sent) ≡ None → sent_behind (deliver one ∷ others) world ≡ last
           → refusal_of (deliver one) world ≡ Some NeverSent
-      refused not_lost none l = old_refused world.sited.site (receiver one.datagram.sender one.link) one.datagram.bytes world.run there
+      refused it not_lost none l = old_refused world.sited.site (receiver one.datagram.sender one.link) one.datagram.bytes world.run there
           (ap (λ (t : ℕ). newest_copy t one.datagram.bytes (datagrams_of world.run.sent)) now
           ∙ none_before time one.datagram.bytes world.run.sent all_of_it.is.more
-          (subst (λ (all : List OnLink). newest_copy time one.datagram.bytes (datagrams_of all) ≡ None) (sym l ∙ all_of_it.is.sent) (tried.0.gone not_lost none)))
-          (subst (λ (s : SitedTable). intact (key_of s.site) one.datagram.bytes ≡ true) (sym has.same) tried.0.whole)
+          (subst (λ (all : List OnLink). newest_copy time one.datagram.bytes (datagrams_of all) ≡ None) (sym l ∙ all_of_it.is.sent) (it.gone not_lost none)))
+          (subst (λ (s : SitedTable). intact (key_of s.site) one.datagram.bytes ≡ true) (sym has.same) it.whole)
+
+      Here : Type 0
+      Here = sent_behind others world ≡ last → Come (all_in_place time sent more) others world
 
       Next : Type 0
       Next = sent_behind others (after world (deliver one)) ≡ last → Come (all_in_place time sent more) others (after world (deliver one))
@@ -282,8 +361,9 @@ module _ (laws : LinkLaws) (sited : SitedTable) (station : IsStation sited.site)
       copied : Sent → OnLink
       copied c = record { link = one.link; datagram = c }
 
-      due_same : (c : Sent) → newest_copy time one.datagram.bytes (datagrams_of sent) ≡ Some c → due_one who link one ≡ due_one who link (copied c)
-      due_same c e = two (tried.0.of_sender c e) (alive_comes time one.datagram.bytes c (found_is time one.datagram.bytes sent c e).alive).1
+      due_same : IsTried sited.site time sent last one → (c : Sent) → newest_copy time one.datagram.bytes (datagrams_of sent) ≡ Some c
+          → due_one who link one ≡ due_one who link (copied c)
+      due_same it c e = two (it.of_sender c e) (alive_comes time one.datagram.bytes c (found_is time one.datagram.bytes sent c e).alive).1
         where
           due_as : Role → List ℕ → List (List ℕ)
           due_as sender bytes = if link == one.link then (if is_same (partner_of sender) who then bytes ∷ [] else []) else []
@@ -291,27 +371,27 @@ module _ (laws : LinkLaws) (sited : SitedTable) (station : IsStation sited.site)
           two : c.sender ≡ one.datagram.sender → c.bytes ≡ one.datagram.bytes → due_as one.datagram.sender one.datagram.bytes ≡ due_as c.sender c.bytes
           two f g = cc (f, g)
 
-      by_copy : Next → one.datagram.is_lost ≡ false → sent_behind (deliver one ∷ others) world ≡ last → (o : Option Sent)
+      by_copy : IsTried sited.site time sent last one → Next → one.datagram.is_lost ≡ false → sent_behind (deliver one ∷ others) world ≡ last → (o : Option Sent)
           → newest_copy time one.datagram.bytes (datagrams_of sent) ≡ o
           → Come (in_place one o ++ all_in_place time sent more) (deliver one ∷ others) world
-      by_copy next not_lost l (Some c) e = subst (λ (due : List (List ℕ)). IsFront due (all_called_at who link (all_events_tried (deliver one ∷ others) world)))
-          (ap (λ (d : List (List ℕ)). d ++ due_to who time (of_link link (all_in_place time sent more))) (due_same c e)
+      by_copy it next not_lost l (Some c) e = subst (λ (due : List (List ℕ)). IsFront due (all_called_at who link (all_events_tried (deliver one ∷ others) world)))
+          (ap (λ (d : List (List ℕ)). d ++ due_to who time (of_link link (all_in_place time sent more))) (due_same it c e)
           ∙ sym (due_here who link time (copied c) (all_in_place time sent more) (alive_comes time one.datagram.bytes c (found_is time one.datagram.bytes sent c e).alive).0))
           (subst (IsFront (due_one who link one ++ due_to who time (of_link link (all_in_place time sent more))))
           (sym (called_both who link (events_tried (deliver one) world) (all_events_tried others (after world (deliver one)))))
           (front_then (due_one who link one) (due_to who time (of_link link (all_in_place time sent more))) (all_called_at who link (events_tried (deliver one) world))
           (all_called_at who link (all_events_tried others (after world (deliver one))))
           (comes_front who link one (events_tried (deliver one) world) (comes_at laws sited station once sections one world before has from.0 (goes c e))) (next l)))
-      by_copy next not_lost l None e = subst (λ (events : List LinksEvent). IsFront (due_to who time (of_link link (all_in_place time sent more)))
+      by_copy it next not_lost l None e = subst (λ (events : List LinksEvent). IsFront (due_to who time (of_link link (all_in_place time sent more)))
           (all_called_at who link (events ++ all_events_tried others (after world (deliver one)))))
           (sym none) (next l)
         where
           none : events_tried (deliver one) world ≡ []
-          none = ap (λ (why : Option Refused). events_where why (events_of world.sited.site world.sited.table (deliver one) world.run)) (refused not_lost e l)
+          none = ap (λ (why : Option Refused). events_where why (events_of world.sited.site world.sited.table (deliver one) world.run)) (refused it not_lost e l)
 
-      by_lost : (sent_behind others world ≡ last → Come (all_in_place time sent more) others world) → Next → (b : Bool) → one.datagram.is_lost ≡ b
+      by_lost : IsTried sited.site time sent last one → Here → Next → (b : Bool) → one.datagram.is_lost ≡ b
           → Come (all_in_place time sent (one ∷ more)) (map event_of (arrivals_there place (one ∷ more))) world
-      by_lost here next b e =
+      by_lost it here next b e =
           subst (λ (c : Bool). Come ((if c then [] else in_place one (newest_copy time one.datagram.bytes (datagrams_of sent))) ++ all_in_place time sent more)
           (map event_of (arrival_at place c one ++ arrivals_there (suc place) more)) world) (sym e)
           (so b e (subst (λ (c : Bool). sent_behind (map event_of (arrival_at place c one ++ arrivals_there (suc place) more)) world ≡ last) e is_last))
@@ -320,4 +400,27 @@ module _ (laws : LinkLaws) (sited : SitedTable) (station : IsStation sited.site)
               → Come ((if c then [] else in_place one (newest_copy time one.datagram.bytes (datagrams_of sent))) ++ all_in_place time sent more)
               (map event_of (arrival_at place c one ++ arrivals_there (suc place) more)) world
           so true lost l = here l
-          so false not_lost l = by_copy next not_lost l (newest_copy time one.datagram.bytes (datagrams_of sent)) refl
+          so false not_lost l = by_copy it next not_lost l (newest_copy time one.datagram.bytes (datagrams_of sent)) refl
+
+      by_other : (one.link == link) ≡ false → Here → Next → (b : Bool) → one.datagram.is_lost ≡ b
+          → Come (all_in_place time sent (one ∷ more)) (map event_of (arrivals_there place (one ∷ more))) world
+      by_other other here next b e =
+          subst (λ (list : List Sent). IsFront (due_to who time list)
+          (all_called_at who link (all_events_tried (map event_of (arrivals_there place (one ∷ more))) world)))
+          (sym (other_link link time sent (all_in_place time sent more) one other))
+          (subst (λ (c : Bool). Come (all_in_place time sent more) (map event_of (arrival_at place c one ++ arrivals_there (suc place) more)) world) (sym e)
+          (so b (subst (λ (c : Bool). sent_behind (map event_of (arrival_at place c one ++ arrivals_there (suc place) more)) world ≡ last) e is_last)))
+        where
+          so : (c : Bool) → sent_behind (map event_of (arrival_at place c one ++ arrivals_there (suc place) more)) world ≡ last
+              → Come (all_in_place time sent more) (map event_of (arrival_at place c one ++ arrivals_there (suc place) more)) world
+          so true l = here l
+          so false l = subst (IsFront (due_to who time (of_link link (all_in_place time sent more))))
+              (sym (called_both who link (events_tried (deliver one) world) (all_events_tried others (after world (deliver one)))))
+              (front_then [] (due_to who time (of_link link (all_in_place time sent more))) (all_called_at who link (events_tried (deliver one) world))
+              (all_called_at who link (all_events_tried others (after world (deliver one))))
+              (tried_elsewhere laws sited station once sections who link one world before has from.0 other) (next l))
+
+      by_link : Here → Next → (b : Bool) → (one.link == link) ≡ b
+          → Come (all_in_place time sent (one ∷ more)) (map event_of (arrivals_there place (one ∷ more))) world
+      by_link here next true same = by_lost (tried.0 (same_number one.link link same)) here next one.datagram.is_lost refl
+      by_link here next false other = by_other other here next one.datagram.is_lost refl

@@ -1,9 +1,9 @@
--- The links of a station come up from the first of good rounds on, where nothing old is said again in it.
-use Rattle.std.proofs.Common.{◌≡◌, ◌≢◌, ℕ, zero, suc, ◌⊎◌, inl, inr, ◌∙◌, ◌+◌, ◌*◌, ◌<◌, ◌≤◌, ◌==◌, Bool, true, false, List, [], ◌∷◌, ◌++◌, append_assoc, append-nil, length, map, drop, Some, None, Ok, refl, sym, ap, subst, arith}
+-- A link of a station comes up from the first of good rounds on, where nothing old of it is said again in that.
+use Rattle.std.proofs.Common.{◌≡◌, ◌≢◌, ℕ, zero, suc, ◌⊎◌, inl, inr, ◌∙◌, ◌+◌, ◌*◌, ◌<◌, ◌≤◌, ◌==◌, Bool, true, false, List, [], ◌∷◌, ◌++◌, append-nil, length, map, drop, Some, None, Ok, refl, sym, ap, subst, arith}
 use Rattle.std.proofs.lemmas.Bool.Decides.{nat_tests}
 use Rattle.std.specs.Prelude.{◌↔◌, IsTrue, ◌-◌}
 use Rattle.rasta_core_recovery.specs.FirstRound.{IsFirstAtWork, WereSent}
-use Rattle.rasta_core_recovery.specs.Work.{IsWorkAt, calls_in, due_to}
+use Rattle.rasta_core_recovery.specs.Work.{IsWorkAt, all_coming, calls_in, due_to}
 use Rattle.ixl_table.specs.Table.{IsTableOf}
 use Rattle.simulator_run.specs.layout.Entries.{Site}
 use Rattle.simulator_run.specs.layout.Once.{Once}
@@ -24,30 +24,29 @@ use Rattle.simulator_run.specs.rasta_core.identity.Role.{Role}
 use Rattle.simulator_run.specs.rasta_core.identity.Role.TheVariants as role
 use Rattle.simulator_run.specs.simulator_event.declared.event.Event.{Event}
 use Rattle.simulator_run.specs.declared.round.RoundEvent.{RoundEvent}
-use Rattle.simulator_run.specs.Flow.{Flowing, deliveries, reaches, round, round_of_time, stations, ticks}
+use Rattle.simulator_run.specs.Flow.{Flowing, deliveries, round, round_of_time, stations}
 use Rattle.simulator_run.specs.Links.{names_at, starts_at_zero}
 use Rattle.simulator_run.specs.Network.{datagrams_of}
-use Rattle.simulator_run.specs.Nodes.{key_of, links, nodes}
+use Rattle.simulator_run.specs.Nodes.{key_of, links}
 use Rattle.simulator_run.specs.State.{WorldState}
 use Rattle.simulator_run.specs.Tried.{Played, after, refusal_of}
 use Rattle.simulator_run_links.specs.HasLinks.{IsStanding}
 use Rattle.simulator_headline.specs.Reached.{IsReached}
-use Rattle.simulator_recovery.specs.FirstRound.{NoneIsSaidAgain, first_link_rounds, first_ready_rounds}
+use Rattle.simulator_recovery.specs.FirstRound.{NoneIsSaidAgain, behind_arrivals, first_link_rounds, first_ready_rounds}
 use Rattle.simulator_recovery.specs.LinkRounds.{IsUpOn, StaysBelowLimit, all_events_tried, calls_on, event_of, flow_of, links_behind}
 use Rattle.simulator_recovery.specs.Ready.{IsReadyOn}
 use Rattle.simulator_recovery.specs.Rounds.{HasTime, IsWork, all_tried, clocks_of, good_rounds}
 use Rattle.simulator_recovery.proofs.Arrives.{passed_time}
 use Rattle.simulator_recovery.proofs.AtWork.{IsFrom, IsRoundOn, all_from, each_by_link, has_behind, round_on, table_sections, time_followed, time_is}
-use Rattle.simulator_recovery.proofs.Clocks.{CanGoOn, HasAll, IsCalm, time_may_pass}
+use Rattle.simulator_recovery.proofs.Clocks.{CanGoOn, HasAll, time_may_pass}
 use Rattle.simulator_recovery.proofs.ComeUp.{BegunAt, ComeUpLaws, RoundsOn, behind_at, lists_length, one_before, rounds_open, through, up_at, up_on}
 use Rattle.simulator_recovery.proofs.EndCalls.{IsFront, all_called_at}
-use Rattle.simulator_recovery.proofs.FirstRoundArrives.{IsFound, IsTried, alive_comes, all_add, all_in_place, all_sent, all_there, arrivals_there, first_arrive, found_is, none_before}
+use Rattle.simulator_recovery.proofs.FirstRoundArrives.{IsFound, IsTriedOn, alive_comes, all_before, all_in_place, all_sent, all_there, arrivals_there, first_arrive, found_is}
 use Rattle.simulator_recovery.proofs.Fresh.{same_pdu}
-use Rattle.simulator_recovery.proofs.LinkRounds.{HasThese, after_both, after_each, are_links, calm_events, round_tried}
-use Rattle.simulator_recovery.proofs.Lists.{each_both, map_both}
+use Rattle.simulator_recovery.proofs.LinkRounds.{HasThese, after_each, are_links, round_tried, tried_each}
 use Rattle.simulator_recovery.proofs.Ready.{ReadyLaws, ready_at}
-use Rattle.simulator_recovery.proofs.Rounds.{IsAt, calm_joined, each_can, each_later, has_all, one_round, reaches_calm, round_reached, ticks_calm, time_happens, tried_happens, work_reached}
-use Rattle.simulator_recovery.proofs.Sends.{HasAdded, adds_none, leaves_fresh, time_sends_none}
+use Rattle.simulator_recovery.proofs.Rounds.{IsAt, each_can, each_later, has_all, one_round, round_reached, time_happens, tried_happens, work_reached}
+use Rattle.simulator_recovery.proofs.Sends.{leaves_fresh, time_sends_none}
 use Rattle.simulator_recovery.proofs.StaysOpen.{rounds_stay}
 
 abbrev pub ReadIsIntact : Type 0
@@ -183,19 +182,19 @@ module _ (read : ReadIsIntact) (tested : IntactIsTested) (site : Site) (are : Ar
       same = same_as site are one f.one is (each_among (IsSpelled site) sent f.one spelled f.among)
           (ap (λ (d : Sent). d.bytes) f.is ∙ (alive_comes time one.datagram.bytes c f.alive).1)
 
-  each_tried : (more list : List OnLink) → Each (IsSpelled site) list
-      → Each (λ (one : OnLink). one.datagram.is_lost ≡ false → newest_copy time one.datagram.bytes (datagrams_of sent) ≡ None
-      → newest_copy time one.datagram.bytes (datagrams_of (last ++ more)) ≡ None) list
-      → Each (IsTried site time sent last) list
-  each_tried more [] from again = tt
-  each_tried more (one ∷ list) from again = (
-    record {
+  each_tried : (link : ℕ) (list : List OnLink) → Each (IsSpelled site) list
+      → Each (λ (one : OnLink). one.link ≡ link → one.datagram.is_lost ≡ false → newest_copy time one.datagram.bytes (datagrams_of sent) ≡ None
+      → newest_copy time one.datagram.bytes (datagrams_of last) ≡ None) list
+      → Each (IsTriedOn link site time sent last) list
+  each_tried link [] from again = tt
+  each_tried link (one ∷ list) from again = (
+    λ same. record {
       whole = (tested (key_of site) one.datagram.bytes).1 (read (key_of site) one.datagram.bytes from.0.pdu from.0.read);
-      gone = λ there none. none_before time one.datagram.bytes last more (again.0 there none);
+      gone = again.0 same;
       of_link = λ c e. (copy_of_it one c from.0 e).0;
       of_sender = λ c e. (copy_of_it one c from.0 e).1;
     },
-    each_tried more list from.1 again.1,
+    each_tried link list from.1 again.1,
   )
 
 each_front : {X : Type 0} (P : X → Type 0) (xs ys : List X) → Each P (xs ++ ys) → Each P ys
@@ -206,7 +205,7 @@ each_front P (x ∷ xs) ys each = each_front P xs ys each.1
 
 module _ (laws : ComeUpLaws) (read : ReadIsIntact) (tested : IntactIsTested) (flowing : Flowing Played) (link : ℕ) (once : Once flowing.state.sited.site) (station : IsStation flowing.state.sited.site)
     (is_table : IsTableOf flowing.state.sited.site flowing.state.sited.table) (reached : IsReached flowing.state.sited.site flowing.state.sited.table flowing.state.run)
-    (there : link < links flowing.state.sited.site) (again : NoneIsSaidAgain flowing) where
+    (there : link < links flowing.state.sited.site) (again : NoneIsSaidAgain link flowing) where
   abbrev pub sited : SitedTable
   sited = flowing.state.sited
 
@@ -263,22 +262,10 @@ module _ (laws : ComeUpLaws) (read : ReadIsIntact) (tested : IntactIsTested) (fl
   abbrev mid : Played
   mid = after_each (map event_of come) behind_it
 
-  -- what is sent behind the deliveries
-  abbrev tail : List RoundEvent
-  tail = ticks (length world.sent) 0 (nodes sited.site) ++ reaches (length world.sent) 0 flowing.drives
-
-  parts : map event_of (deliveries (stations.arrival flowing.state) flowing.passed (length world.sent - flowing.passed) ++ tail) ++ [] ≡ map event_of come ++ (map event_of tail ++ [])
-  parts = ap (λ (l : List RoundEvent). map event_of (l ++ tail) ++ []) (all_due flowing.state flowing.passed s)
-      ∙ ap (λ (l : List Event). l ++ []) (map_both event_of come tail) ∙ append_assoc (map event_of come) (map event_of tail) []
-
-  tail_calm : Each IsCalm (map event_of tail ++ [])
-  tail_calm = each_both IsCalm (map event_of tail) []
-      (calm_events tail (calm_joined (ticks (length world.sent) 0 (nodes sited.site)) (reaches (length world.sent) 0 flowing.drives)
-      (ticks_calm (length world.sent) 0 (nodes sited.site)) (reaches_calm (length world.sent) 0 flowing.drives))) tt
-
-  own : HasAdded mid.run (round stations flowing).state
-  own = subst (HasAdded mid.run) (sym (round_tried [] flowing ∙ ap (λ (l : List Event). after_each l behind_it) parts ∙ after_both (map event_of come) (map event_of tail ++ []) behind_it))
-      (all_add mid.run (map event_of tail ++ []) mid tail_calm (record { is = adds_none mid.run }))
+  mid_is : behind_arrivals flowing ≡ mid
+  mid_is = tried_each (map event_of (deliveries (stations.arrival flowing.state) flowing.passed (length world.sent - flowing.passed)))
+      (record flowing { state = behind_it })
+      ∙ ap (λ (l : List RoundEvent). after_each (map event_of l) behind_it) (all_due flowing.state flowing.passed s)
 
   from : Each (IsFrom sited.site) more
   from = all_from sited.site these s.front more these_timely (has.are.sent_is ∙ s.are)
@@ -286,18 +273,20 @@ module _ (laws : ComeUpLaws) (read : ReadIsIntact) (tested : IntactIsTested) (fl
   spelled : Each (IsSpelled sited.site) world.sent
   spelled = subst (Each (IsSpelled sited.site)) has.are.sent_is (all_spelled sited.site these these_timely)
 
-  tried : Each (IsTried sited.site time world.sent mid.run.sent) more
-  tried = each_tried read tested sited.site named time world.sent mid.run.sent spelled own.is.more more
+  tried : Each (IsTriedOn link sited.site time world.sent mid.run.sent) more
+  tried = each_tried read tested sited.site named time world.sent mid.run.sent spelled link more
       (each_front (IsSpelled sited.site) s.front more (subst (Each (IsSpelled sited.site)) s.are spelled))
-      (subst (λ (l : List OnLink). Each (λ (one : OnLink). one.datagram.is_lost ≡ false → newest_copy time one.datagram.bytes (datagrams_of world.sent) ≡ None
-      → newest_copy time one.datagram.bytes (datagrams_of l) ≡ None) more) own.is.sent again)
+      (subst (λ (l : List OnLink). Each (λ (one : OnLink). one.link ≡ link → one.datagram.is_lost ≡ false
+      → newest_copy time one.datagram.bytes (datagrams_of world.sent) ≡ None
+      → newest_copy time one.datagram.bytes (datagrams_of l) ≡ None) more) (ap (λ (w : Played). w.run.sent) mid_is) again)
 
-  -- what comes in it
+  -- what comes in the places of what is tried in it, on this link
   abbrev due_in_all : List OnLink
   due_in_all = all_in_place time world.sent more
 
+  -- what comes in it, at each end of each link
   abbrev due_at : Role → ℕ → List (List ℕ)
-  due_at who on_link = due_to who time (of_link on_link due_in_all)
+  due_at who on_link = all_coming (all_called_at who on_link (all_events_tried (map event_of come) behind_it))
 
   module _ (able : Each CanGoOn (clocks_of world)) where
     goes : refusal_of (round_of_time sited.site) flowing.state ≡ None
@@ -308,8 +297,15 @@ module _ (laws : ComeUpLaws) (read : ReadIsIntact) (tested : IntactIsTested) (fl
         ∙ passed_time 10000 _ world
 
     comes : (who : Role) (on_link : ℕ) → IsFront (due_at who on_link) (all_called_at who on_link (all_events_tried (map event_of come) behind_it))
-    comes who on_link = first_arrive laws.link sited station once sections who on_link time world.sent mid.run.sent flowing.passed more [] behind_it _
-        (time_followed laws.link sited station once sections flowing these has).has now now_sent from tried refl
+    comes who on_link = record {
+      comes = refl;
+      before = all_before laws.link sited station once sections who on_link flowing.passed more behind_it _
+          (time_followed laws.link sited station once sections flowing these has).has from;
+    }
+
+    due_is : (who : Role) → due_at who link ≡ due_to who time (of_link link due_in_all)
+    due_is who = (first_arrive laws.link sited station once sections who link time world.sent mid.run.sent flowing.passed more [] behind_it _
+        (time_followed laws.link sited station once sections flowing these has).has now now_sent from tried refl).comes
 
     module _ (between : List Event) (work : Each IsWork between) where
       abbrev passed_at : ℕ
@@ -319,7 +315,8 @@ module _ (laws : ComeUpLaws) (read : ReadIsIntact) (tested : IntactIsTested) (fl
       r = round_on laws.link sited station once sections due_at flowing come (all_due flowing.state flowing.passed s) between these work has goes comes link there
 
       as_timed : (who : Role) (calls : List Call) → IsWorkAt who (due_at who link) calls → IsWorkAt who (due_to who (these.time + 10000) (of_link link due_in_all)) calls
-      as_timed who calls is_work = subst (λ (t : ℕ). IsWorkAt who (due_to who (t + 10000) (of_link link due_in_all)) calls) (sym has.are.time_is) is_work
+      as_timed who calls is_work = subst (λ (t : ℕ). IsWorkAt who (due_to who (t + 10000) (of_link link due_in_all)) calls) (sym has.are.time_is)
+          (subst (λ (due : List (List ℕ)). IsWorkAt who due calls) (due_is who) is_work)
 
       one : IsFirstAtWork (names_at sited.site link) (flow_of link passed_at these) (calls_on link between flowing these)
       one = record {
@@ -369,7 +366,7 @@ pub come_up_from_the_first : ComeUpLaws → ReadIsIntact → IntactIsTested → 
     → IsStation flowing.state.sited.site → IsTableOf flowing.state.sited.site flowing.state.sited.table → IsReached flowing.state.sited.site flowing.state.sited.table flowing.state.run
     → Each IsWork between
     → Each (Each IsWork) later_rounds → HasTime (suc (length later_rounds)) flowing.state.run → link < links flowing.state.sited.site → first_link_rounds ≤ suc (length later_rounds)
-    → NoneIsSaidAgain flowing → StaysBelowLimit flowing.state.sited.site link (between ∷ later_rounds) flowing
+    → NoneIsSaidAgain link flowing → StaysBelowLimit flowing.state.sited.site link (between ∷ later_rounds) flowing
     → IsUpOn link (good_rounds (between ∷ later_rounds) flowing).state.run
 come_up_from_the_first laws read tested between later_rounds flowing link once station is_table reached work works can there long again below =
     let site_table = flowing.state.sited
@@ -386,7 +383,7 @@ pub ready_from_the_first : ReadyLaws → ReadIsIntact → IntactIsTested → (be
     → IsStation flowing.state.sited.site → IsTableOf flowing.state.sited.site flowing.state.sited.table → IsReached flowing.state.sited.site flowing.state.sited.table flowing.state.run
     → Each IsWork between
     → Each (Each IsWork) later_rounds → HasTime (suc (length later_rounds)) flowing.state.run → link < links flowing.state.sited.site → first_ready_rounds ≤ suc (length later_rounds)
-    → NoneIsSaidAgain flowing → StaysBelowLimit flowing.state.sited.site link (between ∷ later_rounds) flowing
+    → NoneIsSaidAgain link flowing → StaysBelowLimit flowing.state.sited.site link (between ∷ later_rounds) flowing
     → IsReadyOn flowing.state.sited.site link (good_rounds (between ∷ later_rounds) flowing).state.run
 ready_from_the_first laws read tested between later_rounds flowing link once station is_table reached work works can there long again below =
     ready_at laws flowing.state.sited station once is_table link there (old laws.up read tested flowing link once station is_table reached there again) flowing

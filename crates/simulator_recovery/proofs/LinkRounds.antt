@@ -105,7 +105,7 @@ unfolding all_did
 did_each [] flowing = refl
 did_each (first ∷ others) flowing = did_each others (did stations first flowing)
 
-tried_each : (between : List Event) (flowing : Flowing Played) → (all_tried between flowing).state ≡ after_each between flowing.state
+pub tried_each : (between : List Event) (flowing : Flowing Played) → (all_tried between flowing).state ≡ after_each between flowing.state
 tried_each [] flowing = refl
 tried_each (first ∷ others) flowing = tried_each others (record flowing { state = after flowing.state first })
 

@@ -26,16 +26,17 @@ use simulator_run_links::{
     events_are_those_of_the_links, layouts_name_their_links, stations_have_links,
 };
 
-/// The links of a station come up a round earlier where nothing that is said in the first good round comes in it: behind each good
-/// round from the 1561st on, so 15.61 s after they began, the link between the interlocking and each controller is up at both ends,
-/// whatever requests and occupancies come between the rounds. Copies of what was sent before may come in that round, in any order and
-/// again and again. What is said in it comes in it only in the place of a datagram of the same bytes that is too old itself, and of which
-/// no copy can come as the round begins. And so it is where neither end comes to the limit of PDUs in a connection.
+/// A link of a station comes up a round earlier where nothing that is said on it in the first good round comes in it: behind each good
+/// round from the 1561st on, so 15.61 s after they began, the link between the interlocking and a controller is up at both ends,
+/// whatever requests and occupancies come between the rounds, and whatever comes on the others. Copies of what was sent before may come
+/// in that round, in any order and again and again. What a node says as something comes to it comes in the same round only in the place
+/// of a datagram of the same bytes that is too old itself, and of which no copy can come as the round begins; what nodes say as they tick
+/// comes in the next. And so it is where neither end comes to the limit of PDUs in a connection.
 pub fn links_come_up_from_the_first_round()
     ensures { (between : List Event) (later : List (List Event)) (flowing : Flowing Played) (link : ℕ) → Once flowing.state.sited.site → IsStation flowing.state.sited.site
         → IsTableOf flowing.state.sited.site flowing.state.sited.table → IsReached flowing.state.sited.site flowing.state.sited.table flowing.state.run
         → Each IsWork between → Each (Each IsWork) later → HasTime (suc (length later)) flowing.state.run → link < links flowing.state.sited.site → first_link_rounds ≤ suc (length later)
-        → NoneIsSaidAgain flowing → StaysBelowLimit flowing.state.sited.site link (between ∷ later) flowing
+        → NoneIsSaidAgain link flowing → StaysBelowLimit flowing.state.sited.site link (between ∷ later) flowing
         → IsUpOn link (good_rounds (between ∷ later) flowing).state.run }
 {
     events_close_no_link();
@@ -51,14 +52,14 @@ pub fn links_come_up_from_the_first_round()
     intact_is_tested();
 }
 
-/// And so they are ready a round earlier: behind each good round from the 1564th on, so 15.64 s after they began, the link between the
-/// interlocking and each controller is ready at both ends: both are up, and the initialisation of their connection is completed at
+/// And so it is ready a round earlier: behind each good round from the 1564th on, so 15.64 s after they began, the link between the
+/// interlocking and a controller is ready at both ends: both are up, and the initialisation of their connection is completed at
 /// both. The premises are those of `links_come_up_from_the_first_round`.
 pub fn links_are_ready_from_the_first_round()
     ensures { (between : List Event) (later : List (List Event)) (flowing : Flowing Played) (link : ℕ) → Once flowing.state.sited.site → IsStation flowing.state.sited.site
         → IsTableOf flowing.state.sited.site flowing.state.sited.table → IsReached flowing.state.sited.site flowing.state.sited.table flowing.state.run
         → Each IsWork between → Each (Each IsWork) later → HasTime (suc (length later)) flowing.state.run → link < links flowing.state.sited.site → first_ready_rounds ≤ suc (length later)
-        → NoneIsSaidAgain flowing → StaysBelowLimit flowing.state.sited.site link (between ∷ later) flowing
+        → NoneIsSaidAgain link flowing → StaysBelowLimit flowing.state.sited.site link (between ∷ later) flowing
         → IsReadyOn flowing.state.sited.site link (good_rounds (between ∷ later) flowing).state.run }
 {
     events_close_no_link();
