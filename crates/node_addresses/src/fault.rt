@@ -1,6 +1,7 @@
 //! What is wrong with an addresses file.
 
 ghost use Rattle.std.specs.Prelude.{◌≡◌, Some};
+ghost use Rattle.node_addresses.specs.Messages.{node_of, title};
 ghost use Rattle.node_addresses.specs.declared.fault.AddressesFault.TheVariants.{OutOfMemory};
 
 use ixl_rules::control_table::sci_telegram::Name;
@@ -10,7 +11,7 @@ use std::fmt;
 
 /// Why a text is no addresses file of a station. First the text is read as TOML, then the nodes are looked for in the order of
 /// the layout, and then the keys in the order of their bytes. The first fault is told.
-#[derive(Clone, Copy, Debug, PartialEq, Eq)]
+#[derive(Clone, Copy, Debug)]
 pub enum AddressesFault {
     /// The text is no TOML.
     Toml,
@@ -34,31 +35,46 @@ impl fmt::Display for AddressesFault {
     ghost output = { λ fault. Some (fault_text fault) };
 
     fn fmt<W: fmt::Write>(&self, f: &mut fmt::Formatter<W>) -> fmt::Result {
-        match self {
-            AddressesFault::Toml => write!(f, "1 Toml"),
-            AddressesFault::MissingNode(name) => {
+        let title = title(*self);
+        match node_of(*self) {
+            Some(name) => {
                 let name = name.as_str();
-                write!(f, "2 MissingNode at {name}")
+                write!(f, "{title} at {name}")
             }
-            AddressesFault::WrongAddress(name) => {
-                let name = name.as_str();
-                write!(f, "3 WrongAddress at {name}")
-            }
-            AddressesFault::DoubleAddress(name) => {
-                let name = name.as_str();
-                write!(f, "4 DoubleAddress at {name}")
-            }
-            AddressesFault::UnknownNode(name) => {
-                let name = name.as_str();
-                write!(f, "5 UnknownNode at {name}")
-            }
-            AddressesFault::WrongName => write!(f, "6 WrongName"),
-            AddressesFault::OutOfMemory => write!(f, "7 OutOfMemory"),
+            None => write!(f, "{title}"),
         }
     }
 }
 
 impl Error for AddressesFault {}
+
+/// The number and the name of a fault.
+fn title(fault: AddressesFault) -> &'static str
+    ensures { result.now ≡ title fault }
+{
+    match fault {
+        AddressesFault::Toml => "1 Toml",
+        AddressesFault::MissingNode(_) => "2 MissingNode",
+        AddressesFault::WrongAddress(_) => "3 WrongAddress",
+        AddressesFault::DoubleAddress(_) => "4 DoubleAddress",
+        AddressesFault::UnknownNode(_) => "5 UnknownNode",
+        AddressesFault::WrongName => "6 WrongName",
+        AddressesFault::OutOfMemory => "7 OutOfMemory",
+    }
+}
+
+/// The node that a fault names.
+fn node_of(fault: AddressesFault) -> Option<Name>
+    ensures { result ≡ node_of fault }
+{
+    match fault {
+        AddressesFault::MissingNode(name)
+        | AddressesFault::WrongAddress(name)
+        | AddressesFault::DoubleAddress(name)
+        | AddressesFault::UnknownNode(name) => Some(name),
+        _ => None,
+    }
+}
 
 impl From<AllocError> for AddressesFault {
     ghost from_gives = { λ _ e. e ≡ OutOfMemory };

@@ -14,7 +14,7 @@ pub struct Outgoing {
 }
 
 /// What a line tells a node.
-#[derive(Clone, Copy, Debug)]
+#[derive(Clone, Copy)]
 pub enum LineMeaning {
     /// The order of this number is in force.
     InForce(u64),

@@ -1,5 +1,6 @@
 -- The node behind a step.
-use Rattle.std.proofs.Common.{◌≡◌, ◌∙◌, ◌++◌, ℕ, List, ap, Option}
+use Rattle.std.proofs.Common.{◌≡◌, ◌∙◌, ◌++◌, ℕ, List, ap, Option, Result, Ok, Err}
+use Rattle.std.specs.Prelude.{OnOk}
 use Rattle.simulator_run.specs.ixl_rules.Step as ixl
 use Rattle.node_drive.specs.node_lines.declared.operator_line.Known.{Known}
 use Rattle.node_drive.specs.Kinds.{NodeState, node_after}
@@ -37,3 +38,8 @@ node_stepped now input old then new old_told told old_said said answers old_left
     ∙ ap (λ t. view_of after t said left) told_so
     ∙ ap (λ x. view_of after all x left) said_so
     ∙ ap (λ l. view_of after all (answered ++ changes site old_told all) l) left_is
+
+-- what follows from two facts of a call that is answered
+pub both_ok : {A E P Q R : Type 0} (result : Result A E) → (P → Q → R) → OnOk result P → OnOk result Q → OnOk result R
+both_ok (Ok x) f p q = f p q
+both_ok (Err e) f p q = tt

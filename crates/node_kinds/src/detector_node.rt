@@ -54,6 +54,7 @@ impl<'a> DetectorNode<'a> {
         let entry = &layout.detectors()[place];
         let own = entry.sections();
         let named = named(alloc, layout, own, sensed)?;
+        let last = sensed.to_vec(alloc)?;
         let stepped = Stepped::new(
             alloc,
             table,
@@ -63,7 +64,6 @@ impl<'a> DetectorNode<'a> {
             reading,
             first_sequence_number,
         )?;
-        let last = sensed.to_vec(alloc)?;
         Ok(DetectorNode {
             layout,
             own,

@@ -113,15 +113,13 @@ impl Node for InterlockingNode {
     fn hear(&mut self, alloc: Global, reading: u64, bytes: &[u8]) -> Result<(), AllocError> {
         self.said.clear();
         self.stepped.step(reading, Input::Datagram(bytes));
-        self.tell(alloc, reading)?;
-        Ok(())
+        self.tell(alloc, reading)
     }
 
     fn tick(&mut self, alloc: Global, reading: u64) -> Result<(), AllocError> {
         self.said.clear();
         self.stepped.step(reading, Input::Tick);
-        self.tell(alloc, reading)?;
-        Ok(())
+        self.tell(alloc, reading)
     }
 
     fn take_line(

@@ -1,3 +1,4 @@
 pub mod ReadAgain
 pub mod WorkedLines
 pub mod AuthorityTold
+pub mod OrderWords

@@ -12,6 +12,7 @@ use Rattle.replay_words.specs.declared.fault.Fault.TheVariants.{Words}
 use Rattle.replay_words.specs.Fault.{◌>>=◌}
 use Rattle.replay_words.specs.Read.{decimal}
 use Rattle.ixl_rules.specs.layout.Entries.{Site}
+use Rattle.ixl_rules.specs.sci_telegram.declared.message.Occupancy.{Occupancy}
 use Rattle.ixl_rules.specs.sci_telegram.declared.message.Occupancy.TheVariants as occupancy
 use Rattle.replay_lines.specs.Events.{position_named}
 use Rattle.replay_lines.specs.Names.{section_named, section_word}
@@ -37,17 +38,11 @@ done (word ∷ []) = do
   Ok (Done number)
 done other = Err Words
 
-abbrev pub occupy : Site → List (List ℕ) → Result FieldReport Fault
-occupy site (word ∷ []) = do
+abbrev pub contact : Site → Occupancy → List (List ℕ) → Result FieldReport Fault
+contact site told (word ∷ []) = do
   of ← section_named site word
-  Ok (Section of occupancy.Occupied)
-occupy site other = Err Words
-
-abbrev pub clear : Site → List (List ℕ) → Result FieldReport Fault
-clear site (word ∷ []) = do
-  of ← section_named site word
-  Ok (Section of occupancy.Clear)
-clear site other = Err Words
+  Ok (Section of told)
+contact site told other = Err Words
 
 abbrev pub reach : List (List ℕ) → Result FieldReport Fault
 reach (word ∷ []) = do
@@ -59,8 +54,8 @@ reach other = Err Words
 abbrev pub report_said : Site → List (List ℕ) → Result FieldReport Fault
 report_said site (first ∷ rest) =
     if bytes_eq first (codes "done") then done rest
-    else if bytes_eq first (codes "occupy") then occupy site rest
-    else if bytes_eq first (codes "clear") then clear site rest
+    else if bytes_eq first (codes "occupy") then contact site occupancy.Occupied rest
+    else if bytes_eq first (codes "clear") then contact site occupancy.Clear rest
     else if bytes_eq first (codes "reach") then reach rest
     else Err Words
 report_said site [] = Err Words

@@ -11,7 +11,7 @@ use replay_words::{Fault, Words};
 use std::fmt;
 
 /// What an operator asks for.
-#[derive(Clone, Copy, Debug)]
+#[derive(Clone, Copy)]
 pub enum OperatorCommand {
     /// One command to the interlocking.
     One(Command),

@@ -14,7 +14,7 @@ use simulator_event::{Answer, NodeId};
 use std::fmt;
 
 /// Whether the link to a controller carries commands and reports.
-#[derive(Clone, Copy, Debug, PartialEq, Eq)]
+#[derive(Clone, Copy)]
 pub enum LinkState {
     /// It is up, and the initialisation is completed.
     Ready,
@@ -22,7 +22,7 @@ pub enum LinkState {
 }
 
 /// The authority that was given at a signal.
-#[derive(Clone, Copy, Debug, PartialEq, Eq)]
+#[derive(Clone, Copy)]
 pub struct Authority {
     /// The aspect that the signal was told to show.
     pub aspect: Aspect,
@@ -31,7 +31,7 @@ pub struct Authority {
 }
 
 /// What an interlocking knows of one thing.
-#[derive(Clone, Copy, Debug, PartialEq, Eq)]
+#[derive(Clone, Copy)]
 pub enum Known {
     /// The link of a controller.
     Link {
@@ -70,7 +70,7 @@ pub enum Known {
 }
 
 /// A line to the operator.
-#[derive(Clone, Copy, Debug, PartialEq, Eq)]
+#[derive(Clone, Copy)]
 pub enum OperatorLine {
     /// The interlocking took the command.
     Accepted,

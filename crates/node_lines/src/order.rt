@@ -6,7 +6,7 @@ use std::fmt;
 
 /// What field equipment is told to do. All moments are readings of the node's clock, in milliseconds. From the moment behind
 /// *until* on the equipment shows stop, or doesn't drive, by itself.
-#[derive(Clone, Copy, Debug, PartialEq, Eq)]
+#[derive(Clone, Copy)]
 pub enum Order {
     /// The signal shows stop.
     ShowStop,
@@ -20,8 +20,29 @@ pub enum Order {
     Drive { side: Side, until: u64 },
 }
 
+impl fmt::Display for Order {
+    ghost use Rattle.std.specs.Prelude.{Some};
+    ghost use Rattle.std.specs.List.{join_with_byte};
+    ghost use Rattle.node_lines.specs.Orders.{order_words};
+
+    ghost output = { λ order. Some (join_with_byte 32 (order_words order)) };
+
+    fn fmt<W: fmt::Write>(&self, f: &mut fmt::Formatter<W>) -> fmt::Result {
+        match *self {
+            Order::ShowStop => write!(f, "show stop"),
+            Order::ShowProceed { until } => write!(f, "show proceed until {until}"),
+            Order::ShowSlow { until } => write!(f, "show slow until {until}"),
+            Order::DriveNone => write!(f, "drive none"),
+            Order::Drive { side, until } => {
+                let side = side_word(side);
+                write!(f, "drive {side} until {until}")
+            }
+        }
+    }
+}
+
 /// An order as its line tells it.
-#[derive(Clone, Copy, Debug, PartialEq, Eq)]
+#[derive(Clone, Copy)]
 pub struct OrderLine {
     /// The number of the line, by which the equipment answers.
     pub number: u64,
@@ -36,22 +57,13 @@ impl fmt::Display for OrderLine {
 
     ghost output = { λ line. Some (order_text line) };
 
+    #[tactic(auto, using(crate::proofs::OrderWords::order_behind))]
     fn fmt<W: fmt::Write>(&self, f: &mut fmt::Formatter<W>) -> fmt::Result {
-        let number = self.number;
-        let reading = self.reading;
-        match self.order {
-            Order::ShowStop => write!(f, "{number} at {reading} show stop"),
-            Order::ShowProceed { until } => {
-                write!(f, "{number} at {reading} show proceed until {until}")
-            }
-            Order::ShowSlow { until } => {
-                write!(f, "{number} at {reading} show slow until {until}")
-            }
-            Order::DriveNone => write!(f, "{number} at {reading} drive none"),
-            Order::Drive { side, until } => {
-                let side = side_word(side);
-                write!(f, "{number} at {reading} drive {side} until {until}")
-            }
-        }
+        let OrderLine {
+            number,
+            reading,
+            order,
+        } = *self;
+        write!(f, "{number} at {reading} {order}")
     }
 }

@@ -3,7 +3,7 @@
 ghost use Rattle.std.specs.Prelude.{◌≡◌};
 ghost use Rattle.replay_lines.specs.Events.{position_named};
 ghost use Rattle.replay_words.specs.Cut.{words};
-ghost use Rattle.node_lines.specs.Reports.{clear, done, occupy, reach, report_said};
+ghost use Rattle.node_lines.specs.Reports.{contact, done, reach, report_said};
 
 use crate::word_table::{occupancy_word, position_word};
 use ixl_rules::control_table::layout::{Layout, SectionId};
@@ -13,7 +13,7 @@ use replay_words::{Fault, Words, decimal};
 use std::fmt;
 
 /// What field equipment tells.
-#[derive(Clone, Copy, Debug, PartialEq, Eq)]
+#[derive(Clone, Copy)]
 pub enum FieldReport {
     /// The order of this number is in force.
     Done {
@@ -64,8 +64,8 @@ pub fn read_report(layout: &Layout, line: &str) -> Result<FieldReport, Fault>
     let mut words = Words::of(line);
     match words.next() {
         Some("done") => done(words),
-        Some("occupy") => occupy(layout, words),
-        Some("clear") => clear(layout, words),
+        Some("occupy") => contact(layout, Occupancy::Occupied, words),
+        Some("clear") => contact(layout, Occupancy::Clear, words),
         Some("reach") => reach(words),
         _ => Err(Fault::Words),
     }
@@ -82,27 +82,20 @@ fn done(mut words: Words<'_>) -> Result<FieldReport, Fault>
     })
 }
 
-fn occupy(layout: &Layout, mut words: Words<'_>) -> Result<FieldReport, Fault>
-    ensures { result ≡ occupy layout.now words.entry }
+// The contact of a section, which tells so.
+fn contact(
+    layout: &Layout,
+    occupancy: Occupancy,
+    mut words: Words<'_>,
+) -> Result<FieldReport, Fault>
+    ensures { result ≡ contact layout.now occupancy words.entry }
 {
     let (Some(section), None) = (words.next(), words.next()) else {
         return Err(Fault::Words);
     };
     Ok(FieldReport::Section {
         section: section_named(layout, section)?,
-        occupancy: Occupancy::Occupied,
-    })
-}
-
-fn clear(layout: &Layout, mut words: Words<'_>) -> Result<FieldReport, Fault>
-    ensures { result ≡ clear layout.now words.entry }
-{
-    let (Some(section), None) = (words.next(), words.next()) else {
-        return Err(Fault::Words);
-    };
-    Ok(FieldReport::Section {
-        section: section_named(layout, section)?,
-        occupancy: Occupancy::Clear,
+        occupancy,
     })
 }
 

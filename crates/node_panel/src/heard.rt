@@ -16,7 +16,7 @@ use std::marker::Model;
 
 /// What an interlocking's node has told since its operator's connection began, of each thing the last, and the commands that it didn't
 /// answer yet.
-#[derive(Debug, Drop)]
+#[derive(Drop)]
 pub struct Heard {
     pub(crate) millis: u64,
     pub(crate) joined: bool,

@@ -10,7 +10,7 @@ use panel_desk::node_lines::ixl_rules::control_table::layout::Layout;
 use panel_desk::node_lines::replay_words::{Fault, Words};
 
 /// What a line of an interlocking's node tells its operator.
-#[derive(Clone, Copy, Debug, PartialEq, Eq)]
+#[derive(Clone, Copy)]
 pub enum Told {
     /// The answer to the oldest command that isn't answered yet.
     Answer,

@@ -2,6 +2,8 @@
 use Rattle.std.proofs.Common.{◌≡◌, ℕ, List, Result, Ok, Err, map, subst}
 use Rattle.std.specs.Prelude.{IfOk}
 use Rattle.control_table.specs.layout.Entries.{Site}
+use Rattle.drawing.specs.Svg.{svg_text}
+use Rattle.drawing.specs.declared.picture.Picture.{Picture}
 use Rattle.node_record.specs.ChartedRecord.{IsChartBy, IsRecordChart, IsTextOf}
 use Rattle.node_record.specs.NodeChanges.{IsStoryOf}
 use Rattle.node_record.specs.RecordLines.{told}
@@ -12,21 +14,27 @@ use Rattle.node_record.specs.declared.record.Record.{Record}
 use Rattle.node_record.specs.declared.role.Role.{Role}
 use Rattle.node_record.specs.inside.SoundTexts.{AreTexts}
 
--- the text of a story is the chart of its record
-pub chart_told : {F E : Type 0} (items : F → List ℕ) (l : Site) (node : ℕ) (role : Role) (recording : List ℕ) (cut : Cut) (story : NodeStory) (tried : Result F E) → IsStoryOf l node recording story
-    → role ≡ role_of l node → IfOk tried (λ text. IsTextOf l role cut story (items text)) → IfOk tried (λ text. IsChartBy l node recording cut (items text))
-chart_told items l node role recording cut story (Ok text) happens is drawn =
-    record { story = story; told = happens; is = subst (λ (of : Role). IsTextOf l of cut story (items text)) is drawn }
-chart_told items l node role recording cut story (Err why) happens is drawn = tt
+-- the text of a picture is the chart of a story
+pub text_told : {F E : Type 0} (items : F → List ℕ) (l : Site) (role : Role) (cut : Cut) (story : NodeStory) (picture : Picture) (tried : Result F E)
+    → ((text : List ℕ) → text ≡ svg_text picture → IsTextOf l role cut story text) → IfOk tried (λ text. items text ≡ svg_text picture) → IfOk tried (λ text. IsTextOf l role cut story (items text))
+text_told items l role cut story picture (Ok text) told is = told (items text) is
+text_told items l role cut story picture (Err why) told is = tt
+
+-- it is that of the story's record
+pub chart_told : (l : Site) (node : ℕ) (role : Role) (recording : List ℕ) (cut : Cut) (story : NodeStory) (text : List ℕ) → IsStoryOf l node recording story → role ≡ role_of l node
+    → IsTextOf l role cut story text → IsChartBy l node recording cut text
+chart_told l node role recording cut story text happens is drawn =
+    record { story = story; told = happens; is = subst (λ (of : Role). IsTextOf l of cut story text) is drawn }
 
 -- so it is of texts without a fault
-pub record_told : (layout name text : List ℕ) (site drawn : Site) (read : Record) (cut : Cut) (chart : List ℕ) → AreTexts layout name text site read → drawn ≡ site
-    → IsChartBy drawn read.head.node text cut chart → IsRecordChart layout name text cut chart
-record_told layout name text site drawn read cut chart are same is = record {
+pub record_told : {F E : Type 0} (items : F → List ℕ) (layout name text : List ℕ) (site drawn : Site) (read : Record) (cut : Cut) (tried : Result F E) → AreTexts layout name text site read → drawn ≡ site
+    → IfOk tried (λ chart. IsChartBy drawn read.head.node text cut (items chart)) → IfOk tried (λ chart. IsRecordChart layout name text cut (items chart))
+record_told items layout name text site drawn read cut (Ok chart) are same is = record {
   site = site;
   sound = are.sound;
   head = read.head;
   lines = map told read.lines.items;
   says = are.says;
-  is = subst (λ (s : Site). IsChartBy s read.head.node text cut chart) same is;
+  is = subst (λ (s : Site). IsChartBy s read.head.node text cut (items chart)) same is;
 }
+record_told items layout name text site drawn read cut (Err why) are same is = tt

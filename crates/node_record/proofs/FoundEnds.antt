@@ -1,18 +1,17 @@
 -- Ends of addresses, one after the other.
-use Rattle.std.proofs.Common.{◌≡◌, ◌∙◌, ℕ, ◌+◌, ◌<◌, ◌≤◌, List, [], ◌∷◌, ◌++◌, length, map, take, get_or, slice_get, Some, Result, Ok, Err, ap, sym, subst}
+use Rattle.std.proofs.Common.{◌≡◌, ◌∙◌, ℕ, ◌+◌, ◌<◌, ◌≤◌, List, [], ◌∷◌, ◌++◌, length, map, take, get_or, Some, Result, Ok, Err, ap, sym, subst}
 use Rattle.std.specs.Prelude.{IfErr, IfOk}
 use Rattle.std.proofs.lemmas.List.{map-append, take_all, take_more}
 use Rattle.std.specs.declared.net.socket_addr.SocketAddr.{SocketAddr}
 use Rattle.capture_file.specs.declared.journey.Endpoint.{Endpoint}
 use Rattle.control_table.specs.layout.Entries.{Site}
 use Rattle.node_addresses.specs.Addresses.{IsSound as AreAddresses}
-use Rattle.replay_lines.specs.Names.{node_names}
 use Rattle.station_check.specs.Report.{IsSound}
 use Rattle.station_check.specs.declared.failure.Failure.TheVariants.{Layout, Table, Line, OutOfMemory, NotWritten}
 use Rattle.node_record.specs.GivenEnds.{AreEnds, Explains, end_at}
 use Rattle.node_record.specs.declared.ends_failure.EndsFailure.{EndsFailure}
 use Rattle.node_record.specs.declared.ends_failure.EndsFailure.TheVariants.{Station, Addresses, NoIpv4}
-use Rattle.node_record.specs.inside.EndsSoFar.{IsNoEnd}
+use Rattle.node_record.specs.inside.EndsSoFar.{ExplainsOf, HasEnds, HasNoEnd, IsNoEnd}
 
 -- one more
 pub grows : (all : List SocketAddr) (place : ℕ) (one : SocketAddr) (old new : List Endpoint) → place < length all → one ≡ get_or all place one
@@ -28,34 +27,51 @@ ends all count place found counted past is = ap (λ l. map end_at l) (sym (take_
 
 -- ---- of a text
 
-pub are_ends : {F E : Type 0} (items : F → List Endpoint) (layout text : List ℕ) (site drawn : Site) (addresses lent : List SocketAddr) (tried : Result F E) → IsSound layout site → drawn ≡ site
-    → AreAddresses drawn text addresses → lent ≡ addresses → IfOk tried (λ found. map end_at lent ≡ map (λ (end : Endpoint). Some end) (items found)) → IfOk tried (λ found. AreEnds layout text (items found))
-are_ends items layout text site drawn addresses lent (Ok found) sound same are all is = record {
-  site = site;
-  sound = sound;
-  addresses = addresses;
-  are = subst (λ (s : Site). AreAddresses s text addresses) same are;
-  ends_are = ap (λ l. map end_at l) (sym all) ∙ is;
-}
-are_ends items layout text site drawn addresses lent (Err why) sound same are all is = tt
+pub have_ends : {F E : Type 0} (items : F → List Endpoint) (site : Site) (text : List ℕ) (addresses lent : List SocketAddr) (tried : Result F E) → AreAddresses site text addresses → lent ≡ addresses
+    → IfOk tried (λ found. map end_at lent ≡ map (λ (end : Endpoint). Some end) (items found)) → IfOk tried (λ found. HasEnds site text (items found))
+have_ends items site text addresses lent (Ok found) are all is = record { addresses = addresses; are = are; ends_are = ap (λ l. map end_at l) (sym all) ∙ is }
+have_ends items site text addresses lent (Err why) are all is = tt
 
-pub no_ends : {F : Type 0} (layout text : List ℕ) (site drawn again : Site) (addresses lent : List SocketAddr) (tried : Result F EndsFailure) → IsSound layout site → drawn ≡ site → again ≡ site
-    → AreAddresses drawn text addresses → lent ≡ addresses → IfErr tried (IsNoEnd again lent) → IfErr tried (Explains layout text)
-no_ends layout text site drawn again addresses lent (Ok found) sound same once_more are all so = tt
-no_ends layout text site drawn again addresses lent (Err (Station (Layout fault))) sound same once_more are all so = absurd so
-no_ends layout text site drawn again addresses lent (Err (Station (Table fault))) sound same once_more are all so = absurd so
-no_ends layout text site drawn again addresses lent (Err (Station (Line fault))) sound same once_more are all so = absurd so
-no_ends layout text site drawn again addresses lent (Err (Station OutOfMemory)) sound same once_more are all so = tt
-no_ends layout text site drawn again addresses lent (Err (Station NotWritten)) sound same once_more are all so = absurd so
-no_ends layout text site drawn again addresses lent (Err (Addresses fault)) sound same once_more are all so = absurd so
-no_ends layout text site drawn again addresses lent (Err (NoIpv4 name)) sound same once_more are all so = record {
+pub lack_end : {F : Type 0} (site : Site) (text : List ℕ) (addresses lent : List SocketAddr) (tried : Result F EndsFailure) → AreAddresses site text addresses → lent ≡ addresses
+    → IfErr tried (IsNoEnd site lent) → IfErr tried (ExplainsOf site text)
+lack_end site text addresses lent (Ok found) are all so = tt
+lack_end site text addresses lent (Err (Station (Layout fault))) are all so = absurd so
+lack_end site text addresses lent (Err (Station (Table fault))) are all so = absurd so
+lack_end site text addresses lent (Err (Station (Line fault))) are all so = absurd so
+lack_end site text addresses lent (Err (Station OutOfMemory)) are all so = tt
+lack_end site text addresses lent (Err (Station NotWritten)) are all so = absurd so
+lack_end site text addresses lent (Err (Addresses fault)) are all so = absurd so
+lack_end site text addresses lent (Err (NoIpv4 name)) are all so = record { addresses = addresses; are = are; lacks = subst (λ l. HasNoEnd site l name) all so }
+
+-- ---- of a layout's text
+
+pub are_ends : {F E : Type 0} (items : F → List Endpoint) (layout text : List ℕ) (site drawn : Site) (tried : Result F E) → IsSound layout site → drawn ≡ site
+    → IfOk tried (λ found. HasEnds drawn text (items found)) → IfOk tried (λ found. AreEnds layout text (items found))
+are_ends items layout text site drawn (Ok found) sound same has =
+    let have : HasEnds site text (items found) = subst (λ (s : Site). HasEnds s text (items found)) same has
+    in record { site = site; sound = sound; addresses = have.addresses; are = have.are; ends_are = have.ends_are }
+are_ends items layout text site drawn (Err why) sound same has = tt
+
+explained : (layout text : List ℕ) (site : Site) (why : EndsFailure) → IsSound layout site → ExplainsOf site text why → Explains layout text why
+explained layout text site (Station (Layout fault)) sound so = absurd so
+explained layout text site (Station (Table fault)) sound so = absurd so
+explained layout text site (Station (Line fault)) sound so = absurd so
+explained layout text site (Station OutOfMemory) sound so = tt
+explained layout text site (Station NotWritten) sound so = absurd so
+explained layout text site (Addresses fault) sound so = (site, sound, so)
+explained layout text site (NoIpv4 name) sound so = record {
   site = site;
   sound = sound;
-  addresses = addresses;
-  are = subst (λ (s : Site). AreAddresses s text addresses) same are;
-  place = so.place;
-  address = so.address;
-  there = subst (λ l. slice_get l so.place ≡ Some so.address) all so.there;
-  named = subst (λ (s : Site). slice_get (node_names s) so.place ≡ Some name) once_more so.named;
-  none = so.none;
+  addresses = so.addresses;
+  are = so.are;
+  place = so.lacks.place;
+  address = so.lacks.address;
+  there = so.lacks.there;
+  named = so.lacks.named;
+  none = so.lacks.none;
 }
+
+pub no_ends : {F : Type 0} (layout text : List ℕ) (site drawn : Site) (tried : Result F EndsFailure) → IsSound layout site → drawn ≡ site → IfErr tried (ExplainsOf drawn text)
+    → IfErr tried (Explains layout text)
+no_ends layout text site drawn (Ok found) sound same so = tt
+no_ends layout text site drawn (Err why) sound same so = explained layout text site why sound (subst (λ (s : Site). ExplainsOf s text why) same so)

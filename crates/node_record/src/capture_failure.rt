@@ -10,7 +10,7 @@ use std::alloc::AllocError;
 use std::io::Write;
 
 /// Why there is no capture of a record.
-#[derive(Debug, Drop)]
+#[derive(Drop)]
 pub enum CaptureFailure {
     /// A text is faulty, or memory is lacking.
     Station(Failure),

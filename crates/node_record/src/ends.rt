@@ -4,7 +4,7 @@ ghost use Rattle.std.specs.Prelude.{◌≡◌, ◌<◌, ◌∷◌, ◌++◌, [],
 ghost use Rattle.replay_lines.specs.Names.{node_names};
 ghost use Rattle.node_record.specs.GivenEnds.{AreEnds, Explained, Explains, end_at};
 ghost use Rattle.node_record.specs.declared.ends_failure.EndsFailure.TheVariants.{NoIpv4};
-ghost use Rattle.node_record.specs.inside.EndsSoFar.{IsNoEnd, IsNoEndOf};
+ghost use Rattle.node_record.specs.inside.EndsSoFar.{ExplainsOf, HasEnds, IsNoEnd, IsNoEndOf};
 
 use crate::ends_failure::{EndsFailure, tell_ends_failure};
 use capture_file::Endpoint;
@@ -46,8 +46,16 @@ fn ends(alloc: Global, layout: &str, addresses: &str) -> Result<Vec<Endpoint>, E
     ensures explains { IfErr result (Explains layout.now addresses.now) }
 {
     let table = table_of(alloc, layout)?;
-    let addresses = read_addresses(alloc, table.layout(), addresses)?;
-    ends_of(alloc, table.layout(), &addresses)
+    ends_in(alloc, table.layout(), addresses)
+}
+
+/// The ends of the nodes of this layout, by the text of an addresses file.
+fn ends_in(alloc: Global, layout: &Layout, addresses: &str) -> Result<Vec<Endpoint>, EndsFailure>
+    ensures found { IfOk result (λ ends. HasEnds layout.now addresses.now ends.items) }
+    ensures explains { IfErr result (ExplainsOf layout.now addresses.now) }
+{
+    let addresses = read_addresses(alloc, layout, addresses)?;
+    ends_of(alloc, layout, &addresses)
 }
 
 /// The ends of these addresses.

@@ -3,6 +3,7 @@
 ghost use Rattle.std.specs.Prelude.{◌≡◌, ◌≤◌, IsErr, IfErr, IfOk, OnOk};
 ghost use Rattle.node_record.specs.ChartedRecord.{Explained, IsChartBy, IsCharted, IsRecordChart, IsTextOf, Leaves, micros_or, window_of};
 ghost use Rattle.node_record.specs.DecodedRecord.{CanRead, ExplainsRecord};
+ghost use Rattle.node_record.specs.inside.SoundTexts.{IsLate};
 
 use crate::node_rows::node_rows;
 use crate::node_story::{NodeStory, story_of};
@@ -20,7 +21,7 @@ const MICROS: u64 = 1000;
 
 /// Which part of a record is drawn, in milliseconds of the node's clock. Without them it begins with its first reading, and it
 /// ends with its last one at the latest.
-#[derive(Clone, Copy, Debug)]
+#[derive(Clone, Copy)]
 pub struct Cut {
     /// Where it begins.
     pub from: Option<u64>,
@@ -88,14 +89,13 @@ fn record_chart(
     ensures explains { IfErr result (ExplainsRecord layout.now name.now recording.now) }
 {
     let texts = read_texts(alloc, layout, name, recording)?;
-    let text = chart_of(
+    chart_of(
         alloc,
         texts.table.layout(),
         texts.read.head.node,
         recording,
         cut,
-    )?;
-    Ok(text)
+    )
 }
 
 /// The chart of the record of the node of this number.
@@ -105,11 +105,13 @@ fn chart_of(
     node: usize,
     recording: &str,
     cut: Cut,
-) -> Result<Vec<u8>, AllocError>
-    ensures { IfOk result (λ text. IsChartBy layout.now node recording.now cut text.items) }
+) -> Result<Vec<u8>, Failure>
+    ensures drawn { IfOk result (λ text. IsChartBy layout.now node recording.now cut text.items) }
+    ensures failed { IfErr result IsLate }
 {
     let story = story_of(alloc, layout, node, recording)?;
-    text_of(alloc, layout, role_of(layout, node), cut, &story)
+    let text = text_of(alloc, layout, role_of(layout, node), cut, &story)?;
+    Ok(text)
 }
 
 /// A time in microseconds, or another one where none is given.
@@ -145,6 +147,5 @@ fn text_of(
     let window = window_of(cut, story.begin, story.end);
     let rows = node_rows(alloc, layout, role, window, &story.changes)?;
     let picture = chart(alloc, layout, window, &rows, &story.happenings)?;
-    let text = svg(alloc, &picture)?;
-    Ok(text)
+    svg(alloc, &picture)
 }

@@ -12,7 +12,7 @@ use std::io::Write;
 
 /// What `station capture` is asked of a node's record: the texts of the layout and of the record, the name of the node, where the
 /// nodes are found, where the capture goes, and whether a file that is there is written over.
-#[derive(Clone, Copy, Debug)]
+#[derive(Clone, Copy)]
 pub struct Asked<'a> {
     pub layout: &'a str,
     pub name: &'a str,

@@ -25,7 +25,7 @@ pub enum Mode {
 }
 
 /// What is told of one thing.
-#[derive(Clone, Copy, Debug, PartialEq, Eq)]
+#[derive(Clone, Copy)]
 pub enum PanelLine {
     /// True time.
     Time {

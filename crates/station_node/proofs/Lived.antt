@@ -37,15 +37,15 @@ map_err (Err e) f p = f p
 
 module _ {State Input : Type 0} (kind : Kind State Input) (made : ℕ → State) (for_ms begins now left : ℕ) (before : CourseState) (first : State) (old read new : Told)
     (left_is : left ≡ left_of for_ms begins now) (reads : ReadsAt now old read) (first_is : first ≡ made now) where
-  pub it_lives : (after : CourseState) (state : State) → (ticks : ℕ) × Ran kind left now ticks (standing first before) (standing state after) read new → Lives kind made for_ms begins before after old new
-  it_lives after state ran = record {
+  pub it_lives : (after : CourseState) → (ticks : ℕ) × (state : State) × Ran kind left now ticks (standing first before) (standing state after) read new → Lives kind made for_ms begins before after old new
+  it_lives after ran = record {
     now = now;
     read = read;
     reads = reads;
     ticks = ran.0;
-    state = state;
-    ran = subst (λ l. Ran kind l now ran.0 (standing (made now) before) (standing state after) read new) left_is
-        (subst (λ s. Ran kind left now ran.0 (standing s before) (standing state after) read new) first_is ran.1);
+    state = ran.1;
+    ran = subst (λ l. Ran kind l now ran.0 (standing (made now) before) (standing ran.1 after) read new) left_is
+        (subst (λ s. Ran kind left now ran.0 (standing s before) (standing ran.1 after) read new) first_is ran.2);
   }
 
   pub it_is_cut : CutOff kind left now (standing first before) read new → LifeCut kind made for_ms begins before old new
@@ -63,12 +63,13 @@ module _ (site : Site) (first for_ms begins now left : ℕ) (before : CourseStat
   table_is : IsTableOf site node.table
   table_is = subst (λ s. IsTableOf s node.table) site_is is_table
 
-  pub station_runs : (after : CourseState) (state : InterlockingNode) → (ticks : ℕ) × Ran interlocking_kind left now ticks (standing node before) (standing state after) read new → StationRuns site first for_ms begins after old new
-  station_runs after state ran = record {
+  pub station_runs : (after : CourseState) → (ticks : ℕ) × (state : InterlockingNode) × Ran interlocking_kind left now ticks (standing node before) (standing state after) read new
+      → StationRuns site first for_ms begins after old new
+  station_runs after ran = record {
     table = node.table;
     is_table = table_is;
     lives = subst (λ b. Lives interlocking_kind (interlocking_made site first node.table) for_ms begins b after old new) before_is
-        (it_lives interlocking_kind (interlocking_made site first node.table) for_ms begins now left before node old read new left_is reads made_is after state ran);
+        (it_lives interlocking_kind (interlocking_made site first node.table) for_ms begins now left before node old read new left_is reads made_is after ran);
   }
 
   pub station_is_cut : CutOff interlocking_kind left now (standing node before) read new → StationCut site first for_ms begins old new
@@ -83,9 +84,9 @@ module _ {State Input Contacts : Type 0} (kind : Kind State Input) (site : Site)
     (opening : Opening) (before : CourseState) (old then : Told) (opens : Opens site equipment for_ms begins opening before old then) where
   module _ (contacts : Contacts) (told_is : told opening ≡ Some contacts) (now left : ℕ) (first : State) (read new : Told)
       (left_is : left ≡ left_of for_ms begins now) (reads : ReadsAt now then read) where
-    pub controls : first ≡ made contacts now → (after : CourseState) (state : State) → (ticks : ℕ) × Ran kind left now ticks (standing first before) (standing state after) read new
+    pub controls : first ≡ made contacts now → (after : CourseState) → (ticks : ℕ) × (state : State) × Ran kind left now ticks (standing first before) (standing state after) read new
         → Controls kind site equipment told made for_ms begins after old new
-    controls first_is after state ran = lived opens told_is (it_lives kind (made contacts) for_ms begins now left before first then read new left_is reads first_is after state ran)
+    controls first_is after ran = lived opens told_is (it_lives kind (made contacts) for_ms begins now left before first then read new left_is reads first_is after ran)
 
     pub controls_cut : first ≡ made contacts now → CutOff kind left now (standing first before) read new → ControlsCut kind site equipment told made for_ms begins old new
     controls_cut first_is stopped = living opens told_is (it_is_cut kind (made contacts) for_ms begins now left before first then read new left_is reads first_is stopped)

@@ -16,7 +16,7 @@ use node_network::{Lines, Machine, NodeClock, NodeSocket, Recorded};
 use station_check::{table_of, tell};
 use std::fs;
 use std::fs::Files;
-use std::io::{Eprint, Read, Write};
+use std::io::{self, Eprint, Read, Write};
 use std::net::{Net, SocketAddr};
 use std::random::RandomSource;
 use std::time::Clock as Timer;
@@ -82,12 +82,29 @@ fn begin<
     output: O,
     complaints: E,
 ) -> Result<(), NodeFailure> {
-    let own = judge(rt, table.layout(), asked)?;
-    let machine = open(rt, asked, &own, input, output, complaints)?;
+    let place = judge(rt, table, asked)?;
+    let machine = open(rt, asked, &place.own, input, output, complaints)?;
+    run_asked(rt, asked, place, machine)
+}
+
+/// Runs a node, with a record of it where one is asked for.
+fn run_asked<R: Files + Eprint + AllocGlobal, O: Outside + Drop>(
+    rt: &R,
+    asked: &Asked<'_>,
+    place: Place,
+    outside: O,
+) -> Result<(), NodeFailure> {
     match asked.record {
-        Some(path) => run_recorded(rt, asked, table, own, machine, path),
-        None => run_unrecorded(rt, asked, table, own, machine),
+        Some(path) => run_recorded(rt, asked, place, outside, path),
+        None => run_over(rt, asked, place, outside),
     }
+}
+
+/// The table of a station, and a process in it.
+#[derive(Drop)]
+struct Place {
+    table: Checked,
+    own: Own,
 }
 
 /// What a process is of its own: which node it is, where all nodes are, and the number of its first PDU.
@@ -98,8 +115,18 @@ struct Own {
     first: u32,
 }
 
-/// Judges the name and the addresses, and draws the number of the first PDU.
+/// Judges the name and the addresses in the station of this table.
 fn judge<R: RandomSource + AllocGlobal>(
+    rt: &R,
+    table: Checked,
+    asked: &Asked<'_>,
+) -> Result<Place, NodeFailure> {
+    let own = own_of(rt, table.layout(), asked)?;
+    Ok(Place { table, own })
+}
+
+/// Judges the name and the addresses, and draws the number of the first PDU.
+fn own_of<R: RandomSource + AllocGlobal>(
     rt: &R,
     layout: &Layout,
     asked: &Asked<'_>,
@@ -116,7 +143,7 @@ fn judge<R: RandomSource + AllocGlobal>(
     })
 }
 
-/// Opens what a process has outside, and tells the digest of the layout.
+/// Opens what a process has outside: its lines first.
 fn open<
     'a,
     R: Net + Timer + Eprint + AllocGlobal,
@@ -132,21 +159,31 @@ fn open<
     complaints: E,
 ) -> Result<Machine<'a, R, I, O, E>, NodeFailure> {
     let lines = lines_of(rt, asked.operator, own.node, input, output)?;
-    let socket = NodeSocket::open(rt, rt.alloc(), &own.addresses, own.node)?;
-    let clock = NodeClock::start(rt, asked.clock)?;
-    tell_digest(rt, asked.layout)?;
+    let (socket, clock) = open_socket(rt, asked, own)?;
     Ok(Machine::new(rt.alloc(), clock, socket, lines, complaints))
 }
 
-/// Runs a node of which no record is kept.
-fn run_unrecorded<R: AllocGlobal, O: Outside + Drop>(
+/// Opens the socket of a node, starts its clock, and tells the digest of the layout.
+fn open_socket<'a, R: Net + Timer + Eprint + AllocGlobal>(
+    rt: &'a R,
+    asked: &Asked<'_>,
+    own: &Own,
+) -> Result<(NodeSocket, NodeClock<'a, R>), NodeFailure> {
+    let socket = NodeSocket::open(rt, rt.alloc(), &own.addresses, own.node)?;
+    let clock = NodeClock::start(rt, asked.clock)?;
+    tell_digest(rt, asked.layout)?;
+    Ok((socket, clock))
+}
+
+/// Runs a node over what it has outside.
+fn run_over<R: AllocGlobal, O: Outside + Drop>(
     rt: &R,
     asked: &Asked<'_>,
-    table: Checked,
-    own: Own,
+    place: Place,
     outside: O,
 ) -> Result<(), NodeFailure> {
     let mut outside = outside;
+    let Place { table, own } = place;
     let for_ms = time(asked);
     run_node(rt.alloc(), table, own.node, own.first, for_ms, &mut outside)?;
     Ok(())
@@ -156,24 +193,26 @@ fn run_unrecorded<R: AllocGlobal, O: Outside + Drop>(
 fn run_recorded<R: Files + Eprint + AllocGlobal, O: Outside + Drop>(
     rt: &R,
     asked: &Asked<'_>,
-    table: Checked,
-    own: Own,
+    place: Place,
     outside: O,
     path: &str,
 ) -> Result<(), NodeFailure> {
-    let layout = table.copy(rt.alloc())?;
-    let recorder = begin_record(rt, asked, own.first, path)?;
-    let mut recorded = Recorded::new(rt.alloc(), layout.layout(), outside, recorder, rt);
-    let for_ms = time(asked);
-    run_node(
-        rt.alloc(),
-        table,
-        own.node,
-        own.first,
-        for_ms,
-        &mut recorded,
-    )?;
-    Ok(())
+    let copy = place.table.copy(rt.alloc())?;
+    run_noted(rt, asked, copy.layout(), place, outside, path)
+}
+
+/// The same; the record speaks of this layout.
+fn run_noted<R: Files + Eprint + AllocGlobal, O: Outside + Drop>(
+    rt: &R,
+    asked: &Asked<'_>,
+    layout: &Layout,
+    place: Place,
+    outside: O,
+    path: &str,
+) -> Result<(), NodeFailure> {
+    let recorder = begin_record(rt, asked, place.own.first, path)?;
+    let recorded = Recorded::new(rt.alloc(), layout, outside, recorder, rt);
+    run_over(rt, asked, place, recorded)
 }
 
 /// Makes a record, with its first line.
@@ -186,14 +225,18 @@ fn begin_record<R: Files>(
     let Ok(mut recorder) = fs::create(rt, path) else {
         return Err(NodeFailure::NoRecord);
     };
-    let name = asked.name;
-    let written = match asked.for_ms {
-        Some(for_ms) => recorder.writeln(format_args!("node {name} first {first} for {for_ms}")),
-        None => recorder.writeln(format_args!("node {name} first {first}")),
-    };
-    match written {
+    match write_head(asked, first, &mut recorder) {
         Ok(()) => Ok(recorder),
         Err(_) => Err(NodeFailure::NoRecord),
+    }
+}
+
+/// Writes the first line of a record.
+fn write_head<W: Write>(asked: &Asked<'_>, first: u32, recorder: &mut W) -> io::Result<()> {
+    let name = asked.name;
+    match asked.for_ms {
+        Some(for_ms) => recorder.writeln(format_args!("node {name} first {first} for {for_ms}")),
+        None => recorder.writeln(format_args!("node {name} first {first}")),
     }
 }
 

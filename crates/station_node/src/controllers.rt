@@ -29,9 +29,9 @@ pub(crate) fn run_signal<O: Outside>(
 {
     let _opening = open(alloc, told, Equipment::Lamp, course, outside)?;
     let now = outside.read_clock();
-    let mut node = SignalNode::new(alloc, told.table, place, now, told.first)?;
+    let node = SignalNode::new(alloc, told.table, place, now, told.first)?;
     let for_ms = left(told.for_ms, told.begins, now);
-    live(alloc, &mut node, course, outside, now, for_ms)
+    live(alloc, node, course, outside, now, for_ms)
 }
 
 /// The process of the point at this place.
@@ -52,9 +52,9 @@ pub(crate) fn run_point<O: Outside>(
         return Ok(());
     };
     let now = outside.read_clock();
-    let mut node = PointNode::new(alloc, told.table, place, lies, now, told.first)?;
+    let node = PointNode::new(alloc, told.table, place, lies, now, told.first)?;
     let for_ms = left(told.for_ms, told.begins, now);
-    live(alloc, &mut node, course, outside, now, for_ms)
+    live(alloc, node, course, outside, now, for_ms)
 }
 
 /// The process of the detector at this place.
@@ -76,7 +76,7 @@ pub(crate) fn run_detector<O: Outside>(
         return Ok(());
     };
     let now = outside.read_clock();
-    let mut node = DetectorNode::new(alloc, told.table, place, &sensed, now, told.first)?;
+    let node = DetectorNode::new(alloc, told.table, place, &sensed, now, told.first)?;
     let for_ms = left(told.for_ms, told.begins, now);
-    live(alloc, &mut node, course, outside, now, for_ms)
+    live(alloc, node, course, outside, now, for_ms)
 }

@@ -55,19 +55,20 @@ pub(crate) fn open<'a, O: Outside>(
     Ok(opening)
 }
 
-/// The node lives, from the reading at which it was made, for so many milliseconds.
-pub(crate) fn live<N: Node, O: Outside>(
+/// The node lives, from the reading at which it was made, for so many milliseconds. Then it is gone.
+pub(crate) fn live<N: Node + Drop, O: Outside>(
     alloc: Global,
-    node: &mut N,
+    node: N,
     course: &mut Course,
     outside: &mut O,
     now: u64,
     for_ms: u64,
 ) -> Result<(), NodeFault>
-    requires { (N.node node.old).reached ≤ (O.told outside.old).latest }
-    ensures done { OnOk result ((ticks : ℕ) × Ran N.does for_ms now ticks (standing_of (N.node node.old) course.old) (standing_of (N.node node.new) course.new) (O.told outside.old) (O.told outside.new)) }
-    ensures stopped { OnErr result (CutOff N.does for_ms now (standing_of (N.node node.old) course.old) (O.told outside.old) (O.told outside.new)) }
+    requires { (N.node node).reached ≤ (O.told outside.old).latest }
+    ensures done { OnOk result ((ticks : ℕ) × (state : N.State) × Ran N.does for_ms now ticks (standing_of (N.node node) course.old) (standing state course.new) (O.told outside.old) (O.told outside.new)) }
+    ensures stopped { OnErr result (CutOff N.does for_ms now (standing_of (N.node node) course.old) (O.told outside.old) (O.told outside.new)) }
 {
-    drive(alloc, node, course, outside, now, for_ms)?;
+    let mut node = node;
+    drive(alloc, &mut node, course, outside, now, for_ms)?;
     Ok(())
 }

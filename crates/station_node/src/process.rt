@@ -91,9 +91,9 @@ fn run_station<O: Outside>(
     ensures stopped { OnErr result (StationCut checked first for_ms begins (O.told outside.old) (O.told outside.new)) }
 {
     let now = outside.read_clock();
-    let mut station = InterlockingNode::new(alloc, checked, now, first)?;
+    let station = InterlockingNode::new(alloc, checked, now, first)?;
     let for_ms = left(for_ms, begins, now);
-    live(alloc, &mut station, course, outside, now, for_ms)
+    live(alloc, station, course, outside, now, for_ms)
 }
 
 /// Runs the controller of a link.

@@ -5,6 +5,7 @@ ghost use Rattle.std.specs.Prelude.{◌≡◌, ◌⊎◌};
 use crate::process::run_node;
 use node_kinds::node_drive::node_lines::replay_lines::{SessionFault, node_named};
 use node_kinds::node_drive::node_lines::replay_words::{Fault, Lines, Words, decimal};
+use node_kinds::simulator_run::ixl_rules::control_table::Checked;
 use node_kinds::simulator_run::ixl_rules::control_table::layout::Layout;
 use node_kinds::simulator_run::simulator_event::NodeId;
 use node_network::Replayed;
@@ -51,9 +52,38 @@ fn verdict<W: Write>(
     record: &str,
     out: &mut W,
 ) -> Result<Option<u64>, Failure> {
+    let differs = difference(alloc, layout, name, record)?;
+    match differs {
+        Some(line) => out.writeln(format_args!("differs at line {line}"))?,
+        None => out.writeln("same")?,
+    }
+    out.flush()?;
+    Ok(differs)
+}
+
+/// Judges the texts, the layout first, and applies the record.
+fn difference(
+    alloc: Global,
+    layout: &str,
+    name: &str,
+    record: &str,
+) -> Result<Option<u64>, Failure> {
     let table = table_of(alloc, layout)?;
+    difference_of(alloc, &table, name, record)
+}
+
+/// Applies the record of a node of this station.
+fn difference_of(
+    alloc: Global,
+    table: &Checked,
+    name: &str,
+    record: &str,
+) -> Result<Option<u64>, Failure> {
     let mut lines = Lines::of(whole_lines(record));
-    let first = lines.next().map(|line| line.1).unwrap_or("");
+    let first = match lines.next() {
+        Some((_, line)) => line,
+        None => "",
+    };
     let (node, head) = match begun(table.layout(), name, first) {
         Ok(read) => read,
         Err(fault) => return Err(Failure::Line(at_first_line(fault))),
@@ -65,13 +95,7 @@ fn verdict<W: Write>(
     if !replayed.is_whole() {
         return Err(Failure::OutOfMemory);
     }
-    let differs = replayed.difference();
-    match differs {
-        Some(line) => out.writeln(format_args!("differs at line {line}"))?,
-        None => out.writeln("same")?,
-    }
-    out.flush()?;
-    Ok(differs)
+    Ok(replayed.difference())
 }
 
 /// A record up to its last line feed: a line that isn't whole is none.
@@ -93,6 +117,12 @@ fn at_first_line(fault: Fault) -> SessionFault {
 /// What the first line of a record says of the node of this name.
 fn begun(layout: &Layout, name: &str, line: &str) -> Result<(NodeId, Head), Fault> {
     let node = node_named(layout, name)?;
+    let head = head_said(name, line)?;
+    Ok((node, head))
+}
+
+/// What it says, where it names this node.
+fn head_said(name: &str, line: &str) -> Result<Head, Fault> {
     let mut words = Words::of(line);
     let (Some("node"), Some(word), Some("first"), Some(first)) = (
         words.next(),
@@ -105,9 +135,16 @@ fn begun(layout: &Layout, name: &str, line: &str) -> Result<(NodeId, Head), Faul
     if word != name {
         return Err(Fault::Name);
     }
-    let first = u32::try_from(decimal(first)?).map_err(|_| Fault::Number)?;
-    let for_ms = time(words)?;
-    Ok((node, Head { first, for_ms }))
+    numbers_said(first, words)
+}
+
+/// The numbers in it.
+fn numbers_said(first: &str, more: Words<'_>) -> Result<Head, Fault> {
+    let Ok(first) = u32::try_from(decimal(first)?) else {
+        return Err(Fault::Number);
+    };
+    let for_ms = time(more)?;
+    Ok(Head { first, for_ms })
 }
 
 /// For how many milliseconds a process was to run, or for ever.

@@ -20,7 +20,7 @@ returns-clause-done g c = map_ok c.live.result (λ ran (entry : PointEntry) ther
     controls point_kind c.args.told.table.now Motor told_position (point_made c.args.told.table.now c.args.told.first entry) c.args.told.for_ms c.args.told.begins
     (opening_now c.in_ok-opening.opening).state c.open.new.course (g.O.Outside.told c.args.outside.now) (g.O.Outside.told c.open.new.outside) c.in_ok-opening.ensures.done c.in-Some.lies (sym c.position.ensures ∙ c.in-Some.is) c.read_clock-now.result c.left-for_ms.result
     (point_now c.in_ok-node.node).state (g.O.Outside.told c.read_clock-now.new.self) (g.O.Outside.told c.live.new.outside) c.left-for_ms.ensures c.read_clock-now.ensures
-    (ap (λ n. n.state) (c.in_ok-node.ensures.made entry there)) c.live.new.course (point_now c.live.new.node).state ran) c.live.ensures.done
+    (ap (λ n. n.state) (c.in_ok-node.ensures.made entry there)) c.live.new.course ran) c.live.ensures.done
 
 pub returns-clause-stopped : goal.returns-clause-stopped
 returns-clause-stopped g c = map_err c.live.result (λ stopped (entry : PointEntry) there.

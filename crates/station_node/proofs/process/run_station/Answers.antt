@@ -14,7 +14,7 @@ returns-clause-done g c =
     (station_runs c.args.checked c.args.first c.args.for_ms c.args.begins c.read_clock-now.result c.left-for_ms.result c.args.course.now
     (g.O.Outside.told c.args.outside.now) (g.O.Outside.told c.read_clock-now.new.self) (g.O.Outside.told c.live.new.outside) node.state
     c.in_ok-station.ensures.site c.in_ok-station.ensures.table (ap (λ n. n.state) c.in_ok-station.ensures.node) c.requires c.left-for_ms.ensures c.read_clock-now.ensures
-    c.live.new.course (seen c.live.new.node).state)
+    c.live.new.course)
     c.live.ensures.done
 
 pub returns-clause-stopped : goal.returns-clause-stopped
