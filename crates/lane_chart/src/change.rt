@@ -3,7 +3,7 @@
 use crate::lane::{Lane, Seen};
 
 /// A lane begins to show something.
-#[derive(Clone, Copy, Debug)]
+#[derive(Clone, Copy)]
 pub struct Change {
     /// The line of the session whose event changed it, counted from 1; 0 for what it shows at first.
     pub line: usize,
@@ -16,7 +16,7 @@ pub struct Change {
 }
 
 /// A command is given, or a node is made anew.
-#[derive(Debug, Drop)]
+#[derive(Drop)]
 pub struct Happening {
     /// The line of the session, counted from 1.
     pub line: usize,

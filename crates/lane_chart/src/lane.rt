@@ -4,7 +4,7 @@ use control_table::layout::RouteId;
 use control_table::sci_telegram::{Aspect, Occupancy, Position, Side};
 
 /// What is followed of signals, points, sections, routes and links.
-#[derive(Clone, Copy, Debug)]
+#[derive(Clone, Copy)]
 pub enum Kind {
     /// What a signal shows.
     Aspect,
@@ -27,14 +27,14 @@ pub enum Kind {
 }
 
 /// What is followed through a session: of a signal, a point, a section, a route or a link, by its place in the layout.
-#[derive(Clone, Copy, Debug)]
+#[derive(Clone, Copy)]
 pub struct Lane {
     pub kind: Kind,
     pub place: usize,
 }
 
 /// How far a route is.
-#[derive(Clone, Copy, Debug, PartialEq, Eq)]
+#[derive(Clone, Copy, PartialEq, Eq)]
 pub enum Progress {
     /// It isn't set.
     Free,
@@ -49,7 +49,7 @@ pub enum Progress {
 }
 
 /// How far a link is.
-#[derive(Clone, Copy, Debug, PartialEq, Eq)]
+#[derive(Clone, Copy, PartialEq, Eq)]
 pub enum Readiness {
     /// It is in no connection.
     Down,
@@ -60,7 +60,7 @@ pub enum Readiness {
 }
 
 /// What is seen of a lane. There is nothing to see of what a station lacks.
-#[derive(Clone, Copy, Debug, PartialEq, Eq)]
+#[derive(Clone, Copy, PartialEq, Eq)]
 pub enum Seen {
     /// The aspect of a signal.
     Aspect(Option<Aspect>),

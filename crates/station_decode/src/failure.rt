@@ -14,7 +14,7 @@ use std::io::Write;
 const HEX: &str = "hex fault 4 Hexadecimal\n";
 
 /// Why nothing is decoded.
-#[derive(Debug, Drop)]
+#[derive(Drop)]
 pub(crate) enum Failure {
     /// The layout's text is faulty, memory is lacking, or the line couldn't be written.
     Station(station_check::Failure),

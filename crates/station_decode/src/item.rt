@@ -13,7 +13,7 @@ use ixl_rules::rasta_pdu::{Item, Items};
 use std::alloc::{AllocError, Global};
 
 /// By which words a PDU calls its sender and its receiver.
-#[derive(Clone, Copy, Debug)]
+#[derive(Clone, Copy)]
 pub(crate) struct Ends<'a> {
     pub(crate) sender: &'a str,
     pub(crate) receiver: &'a str,
@@ -33,8 +33,7 @@ pub(crate) fn push_items(
     };
     text.push_str(": ")?;
     push_item(alloc, text, ends, first)?;
-    push_others(alloc, text, ends, others)?;
-    Ok(())
+    push_others(alloc, text, ends, others)
 }
 
 /// Adds the items behind the first.
@@ -62,8 +61,7 @@ fn push_other(
     ensures { OnOk result (string_bytes text.new ≡ string_bytes text.old ++ other_text ends.entry.sender.now ends.entry.receiver.now item.now) }
 {
     text.push_str("; ")?;
-    push_item(alloc, text, ends, item)?;
-    Ok(())
+    push_item(alloc, text, ends, item)
 }
 
 /// Adds what an item says.

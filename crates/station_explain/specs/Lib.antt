@@ -18,3 +18,4 @@ pub mod RouteDetails
 pub mod DetailWords
 pub mod Advice
 pub mod AdviceTold
+pub mod inside

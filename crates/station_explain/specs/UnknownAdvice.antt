@@ -1,9 +1,10 @@
 -- Which name of an entry isn't that of an entry of the kind that is wanted: the first one in the order in which names are resolved.
 use Rattle.std.specs.Prelude.{ℕ, ◌-◌, ◌||◌, Bool, false, List, [], ◌∷◌, Option, Some, None, is_some, slice_get, option_and_then, if◌then◌else◌}
-use Rattle.std.specs.Option.{option_or}
+use Rattle.std.specs.Option.{option_map, option_or}
 use Rattle.layout_text.specs.Written.{LayoutText, RouteText}
 use Rattle.layout_text.specs.declared.entries.End.{End}
 use Rattle.layout_text.specs.declared.entries.End.TheVariants as end
+use Rattle.layout_text.specs.declared.entries.WrittenJoint.{WrittenJoint}
 use Rattle.layout_text.specs.declared.fault.Place.{Place}
 use Rattle.layout_text.specs.declared.fault.TableName.{TableName}
 use Rattle.layout_text.specs.declared.fault.TableName.TheVariants as named
@@ -80,17 +81,25 @@ module _ (w : LayoutText) where
       (option_or (first_missed place key.Approach (λ name. missing.Section name) 0 r.approach)
       (first_missed place key.Extra (λ name. missing.Route name) 0 r.extra)))))
 
-  -- Of a section it is its own name, since no detection controller reports it.
+  abbrev pub joint_missed : Place → WrittenJoint → Option Advice
+  joint_missed place joint = option_or (missed (Entry place) (missing.Port joint.first)) (missed (Entry place) (missing.Port joint.second))
+
+  abbrev pub detector_missed : Place → ℕ → Option Advice
+  detector_missed place n = option_and_then (λ d. first_missed place key.Sections (λ name. missing.Section name) 0 d.sections) (slice_get w.detectors n)
+
+  -- what an entry names that names one thing; of a section its own name, since no detection controller reports it
+  abbrev pub named_by : TableName → ℕ → Option Missed
+  named_by named.Section n = option_map (λ name. missing.Unreported name) (slice_get w.sections n)
+  named_by named.Track n = option_map (λ track. missing.Section track.section) (slice_get w.tracks n)
+  named_by named.Point n = option_map (λ point. missing.Section point.section) (slice_get w.points n)
+  named_by named.Signal n = option_map (λ signal. missing.Port signal.at) (slice_get w.signals n)
+  named_by _ n = None
+
   abbrev pub unknown_in : Place → TableName → ℕ → Option Advice
-  unknown_in place named.Section n = option_and_then (λ name. missed (Entry place) (missing.Unreported name)) (slice_get w.sections n)
-  unknown_in place named.Track n = option_and_then (λ track. missed (Entry place) (missing.Section track.section)) (slice_get w.tracks n)
-  unknown_in place named.Point n = option_and_then (λ point. missed (Entry place) (missing.Section point.section)) (slice_get w.points n)
-  unknown_in place named.Joint n =
-      option_and_then (λ joint. option_or (missed (Entry place) (missing.Port joint.first)) (missed (Entry place) (missing.Port joint.second))) (slice_get w.joints n)
-  unknown_in place named.Signal n = option_and_then (λ signal. missed (Entry place) (missing.Port signal.at)) (slice_get w.signals n)
-  unknown_in place named.Detector n = option_and_then (λ d. first_missed place key.Sections (λ name. missing.Section name) 0 d.sections) (slice_get w.detectors n)
+  unknown_in place named.Joint n = option_and_then (joint_missed place) (slice_get w.joints n)
+  unknown_in place named.Detector n = detector_missed place n
   unknown_in place named.Route n = option_and_then (route_missed place) (slice_get w.routes n)
-  unknown_in place _ n = None
+  unknown_in place table n = option_and_then (missed (Entry place)) (named_by table n)
 
   -- The advice where an entry names something that isn't there, or is of another kind.
   abbrev pub unknown_told : Place → Option Advice

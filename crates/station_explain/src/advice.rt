@@ -4,10 +4,10 @@ ghost use Rattle.std.specs.Prelude.{◌≡◌, IfOk, Some};
 ghost use Rattle.station_explain.specs.Advice.{advice_line};
 
 use crate::detail::{PathDetail, PointDetail};
-use crate::entry_words::Form;
+use crate::entry_words::PlaceWords;
+use crate::fault_words::{layout_sentence, table_sentence};
 use crate::field_key::{FieldKey, Kind};
 use crate::text_place::TextPlace;
-use crate::words::Words;
 use arrayvec::ArrayString;
 use control_table::layout::{LayoutFault, Place, TableName};
 use control_table::sci_telegram::Name;
@@ -112,28 +112,42 @@ impl fmt::Display for Advice {
             }
             Advice::Absent(table) => write!(f, "the key `{table}` is missing\n"),
             Advice::Missing(place, key) => {
-                let at = Words(*place);
-                let wanted = Form(Spot::Entry(*place));
+                let at = PlaceWords(*place);
+                let key = key.word();
+                let wanted = Spot::Entry(*place).form();
                 write!(f, "{at} has no `{key}`: it has to be {wanted}\n")
             }
-            Advice::Wrong(at, kind) => {
-                let wanted = Form(*at);
+            Advice::Wrong(spot, kind) => {
+                let at = spot.sentence();
+                let kind = kind.sentence();
+                let wanted = spot.form();
                 write!(f, "{at} is {kind}, and has to be {wanted}\n")
             }
             Advice::Shared(place, common, first) => {
-                let at = Words(*place);
-                let first = Words(*first);
+                let at = PlaceWords(*place);
+                let common = common.sentence();
+                let first = PlaceWords(*first);
                 write!(f, "{at} {common} {first}\n")
             }
-            Advice::Unknown(at, missed) => write!(f, "{at} {missed}\n"),
+            Advice::Unknown(spot, missed) => {
+                let at = spot.sentence();
+                let missed = missed.sentence();
+                write!(f, "{at} {missed}\n")
+            }
             Advice::Layout(fault) => {
-                let words = Words(*fault);
+                let words = layout_sentence(*fault);
                 write!(f, "{words}\n")
             }
-            Advice::Path(route, detail) => write!(f, "the path of {route} {detail}\n"),
-            Advice::Points(route, detail) => write!(f, "{route} {detail}\n"),
+            Advice::Path(route, detail) => {
+                let detail = detail.sentence();
+                write!(f, "the path of {route} {detail}\n")
+            }
+            Advice::Points(route, detail) => {
+                let detail = detail.sentence();
+                write!(f, "{route} {detail}\n")
+            }
             Advice::Unwritten(route, point) => {
-                let point = Words(*point);
+                let point = point.as_str();
                 write!(
                     f,
                     "point {point} lies on the path of {route} and isn't written under its `points`\n"
@@ -141,14 +155,14 @@ impl fmt::Display for Advice {
             }
             Advice::WithItself(route) => write!(f, "under `extra` {route} lists itself\n"),
             Advice::Unanswered(route, other) => {
-                let other = Words(*other);
+                let other = other.as_str();
                 write!(
                     f,
                     "under `extra` {route} lists route {other}, which doesn't list it\n"
                 )
             }
             Advice::Table(fault) => {
-                let words = Words(*fault);
+                let words = table_sentence(fault);
                 write!(f, "{words}\n")
             }
             Advice::Nothing => Ok(()),

@@ -1,109 +1,118 @@
 //! What is wrong with a route, in words.
 
-ghost use Rattle.std.specs.Prelude.{Some};
+ghost use Rattle.std.specs.Prelude.{◌≡◌};
 ghost use Rattle.station_explain.specs.DetailWords.{path_words, point_words};
+ghost use Rattle.station_explain.specs.inside.Sentences.{sentence_words};
 
 use crate::detail::{PathDetail, PointDetail};
 use crate::route_sides::other;
-use crate::words::{Words, write_name, write_port};
-use std::fmt;
+use crate::sentence::{Part, Sentence, bare, four, one, to_three, two};
 
-impl fmt::Display for PathDetail {
-    ghost output = { λ detail. Some (path_words detail) };
-
-    #[tactic(auto, unfolding(crate::specs::DetailWords::path_words))]
-    fn fmt<W: fmt::Write>(&self, f: &mut fmt::Formatter<W>) -> fmt::Result {
+impl PathDetail {
+    /// What is wrong, behind the path of its route.
+    #[tactic(auto, unfolding(crate::specs::DetailWords::path_words, crate::specs::inside::Sentences::part_words))]
+    pub(crate) fn sentence(&self) -> Sentence
+        ensures { sentence_words result ≡ path_words self.now }
+    {
         match self {
-            PathDetail::Empty => f.write_str("is empty"),
-            PathDetail::DeadEnd(port) => {
-                write_port(f, "breaks at ", *port, ": nothing is joined to it")
-            }
-            PathDetail::Astray(before, entered, left) => {
-                let before = Words(*before);
-                let entered = Words(*entered);
-                let left = Words(*left);
-                write!(
-                    f,
-                    "breaks at {before}: it is joined to {entered}, from where no train leaves by {left}"
-                )
-            }
-            PathDetail::Twice(name) => write_name(f, "leads over ", *name, " twice"),
-            PathDetail::ComesBack(section) => {
-                write_name(f, "comes back to section ", *section, ", which it left")
-            }
-            PathDetail::OpenLeg(leg, from) => {
-                let leg = Words(*leg);
-                let from = Words(*from);
-                write!(
-                    f,
-                    "doesn't use {leg}, which is open: no signal stands at {from}, to which it is joined"
-                )
-            }
-            PathDetail::FlankLacks(leg, from, side) => {
-                let leg = Words(*leg);
-                let name = Words(from.element);
-                let from = Words(*from);
-                let side = Words(*side);
-                write!(
-                    f,
-                    "doesn't use {leg}, which is joined to {from}: point {name} has to be written {side} under `flank`"
-                )
-            }
-            PathDetail::EndsElsewhere(port, exit) => {
-                let port = Words(*port);
-                let exit = Words(*exit);
-                write!(f, "ends at {port}, where its exit {exit} isn't")
-            }
-            PathDetail::EndsAtEntry(entry) => {
-                write_name(f, "has its entry signal ", *entry, " for its exit")
-            }
-            PathDetail::InTheWay(name, port) => {
-                let name = Words(*name);
-                let port = Words(*port);
-                write!(f, "passes {port}, where signal {name} stands in the way")
-            }
+            PathDetail::Empty => bare("is empty"),
+            PathDetail::DeadEnd(port) => one(
+                "breaks at ",
+                Part::Port(*port),
+                ": nothing is joined to it",
+            ),
+            PathDetail::Astray(before, entered, left) => to_three(
+                "breaks at ",
+                Part::Port(*before),
+                ": it is joined to ",
+                Part::Port(*entered),
+                ", from where no train leaves by ",
+                Part::Port(*left),
+            ),
+            PathDetail::Twice(name) => { one("leads over ", Part::Name(*name), " twice") }
+            PathDetail::ComesBack(section) => one(
+                "comes back to section ",
+                Part::Name(*section),
+                ", which it left",
+            ),
+            PathDetail::OpenLeg(leg, from) => two(
+                "doesn't use ",
+                Part::Port(*leg),
+                ", which is open: no signal stands at ",
+                Part::Port(*from),
+                ", to which it is joined",
+            ),
+            PathDetail::FlankLacks(leg, from, side) => four(
+                "doesn't use ",
+                Part::Port(*leg),
+                ", which is joined to ",
+                Part::Port(*from),
+                ": point ",
+                Part::Name(from.element),
+                " has to be written ",
+                Part::Side(*side),
+                " under `flank`",
+            ),
+            PathDetail::EndsElsewhere(port, exit) => two(
+                "ends at ",
+                Part::Port(*port),
+                ", where its exit ",
+                Part::Name(*exit),
+                " isn't",
+            ),
+            PathDetail::EndsAtEntry(entry) => one(
+                "has its entry signal ",
+                Part::Name(*entry),
+                " for its exit",
+            ),
+            PathDetail::InTheWay(name, port) => two(
+                "passes ",
+                Part::Port(*port),
+                ", where signal ",
+                Part::Name(*name),
+                " stands in the way",
+            ),
         }
     }
 }
 
-impl fmt::Display for PointDetail {
-    ghost output = { λ detail. Some (point_words detail) };
-
-    #[tactic(auto, unfolding(crate::specs::DetailWords::point_words))]
-    fn fmt<W: fmt::Write>(&self, f: &mut fmt::Formatter<W>) -> fmt::Result {
+impl PointDetail {
+    /// What is wrong, behind the route.
+    #[tactic(auto, unfolding(crate::specs::DetailWords::point_words, crate::specs::inside::Sentences::part_words))]
+    pub(crate) fn sentence(&self) -> Sentence
+        ensures { sentence_words result ≡ point_words self.now }
+    {
         match self {
-            PointDetail::OffPath(name) => write_name(
-                f,
+            PointDetail::OffPath(name) => one(
                 "writes point ",
-                *name,
+                Part::Name(*name),
                 " under `points`, and its path doesn't lead over it",
             ),
-            PointDetail::PointAt(name, side) => {
-                let name = Words(*name);
-                let wanted = Words(other(*side));
-                let side = Words(*side);
-                write!(
-                    f,
-                    "writes point {name} {side} under `points`, and requires it {wanted}"
-                )
-            }
-            PointDetail::OnPath(name) => write_name(
-                f,
+            PointDetail::PointAt(name, side) => to_three(
                 "writes point ",
-                *name,
+                Part::Name(*name),
+                " ",
+                Part::Side(*side),
+                " under `points`, and requires it ",
+                Part::Side(other(*side)),
+            ),
+            PointDetail::OnPath(name) => one(
+                "writes point ",
+                Part::Name(*name),
                 " under `flank`, and its path leads over it",
             ),
-            PointDetail::FlankAt(name, side) => {
-                let name = Words(*name);
-                let side = Words(*side);
-                write!(
-                    f,
-                    "writes point {name} {side} under `flank`, and doesn't require it so"
-                )
-            }
-            PointDetail::BothSides(name) => {
-                write_name(f, "requires point ", *name, " at both sides")
-            }
+            PointDetail::FlankAt(name, side) => two(
+                "writes point ",
+                Part::Name(*name),
+                " ",
+                Part::Side(*side),
+                " under `flank`, and doesn't require it so",
+            ),
+            PointDetail::BothSides(name) => one(
+                "requires point ",
+                Part::Name(*name),
+                " at both sides",
+            ),
         }
     }
 }

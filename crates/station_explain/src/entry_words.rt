@@ -2,15 +2,19 @@
 
 ghost use Rattle.std.specs.Prelude.{◌≡◌, Some};
 ghost use Rattle.station_explain.specs.EntryWords.{common_words, entry_form, missed_words, place_words, spot_form, spot_words};
+ghost use Rattle.station_explain.specs.inside.Sentences.{sentence_words};
 
 use crate::advice::{Common, Missed, Spot};
 use crate::field_key::FieldKey;
-use crate::words::{Words, write_name, write_port};
+use crate::sentence::{Part, Sentence, one, to_four, to_one, to_three};
 use layout_text::{Place, TableName};
 use std::fmt;
 
-// An entry of a layout, or the key of its entries.
-impl fmt::Display for Words<Place> {
+/// The words for an entry of a layout, or for the key of its entries.
+#[derive(Clone, Copy)]
+pub(crate) struct PlaceWords(pub(crate) Place);
+
+impl fmt::Display for PlaceWords {
     ghost output = { λ place. Some (place_words place.0) };
 
     #[tactic(auto, unfolding(crate::specs::EntryWords::place_words))]
@@ -47,22 +51,10 @@ fn entry_form(place: Place) -> &'static str
     }
 }
 
-/// What has to stand somewhere.
-#[derive(Clone, Copy)]
-pub(crate) struct Form(pub(crate) Spot);
-
-impl fmt::Display for Form {
-    ghost output = { λ form. Some (spot_form form.0) };
-
-    fn fmt<W: fmt::Write>(&self, f: &mut fmt::Formatter<W>) -> fmt::Result {
-        f.write_str(self.0.form())
-    }
-}
-
 impl Spot {
     /// What has to stand there.
     #[tactic(auto, unfolding(crate::specs::EntryWords::spot_form))]
-    fn form(&self) -> &'static str
+    pub(crate) fn form(&self) -> &'static str
         ensures { result.now ≡ spot_form self.now }
     {
         match self {
@@ -74,65 +66,83 @@ impl Spot {
             },
         }
     }
-}
 
-impl fmt::Display for Spot {
-    ghost output = { λ spot. Some (spot_words spot) };
-
-    #[tactic(auto, unfolding(crate::specs::EntryWords::spot_words))]
-    fn fmt<W: fmt::Write>(&self, f: &mut fmt::Formatter<W>) -> fmt::Result {
+    /// Where it is.
+    #[tactic(auto, unfolding(crate::specs::EntryWords::spot_words, crate::specs::inside::Sentences::part_words))]
+    pub(crate) fn sentence(&self) -> Sentence
+        ensures { sentence_words result ≡ spot_words self.now }
+    {
         match self {
-            Spot::Entry(place) => {
-                let at = Words(*place);
-                write!(f, "{at}")
-            }
-            Spot::Field(place, key) => {
-                let at = Words(*place);
-                write!(f, "`{key}` of {at}")
-            }
-            Spot::Item(place, key, item) => {
-                let at = Words(*place);
-                write!(f, "item {item} of `{key}` of {at}")
-            }
+            Spot::Entry(place) => to_one("", Part::Place(*place)),
+            Spot::Field(place, key) => to_three(
+                "`",
+                Part::Nothing,
+                key.word(),
+                Part::Nothing,
+                "` of ",
+                Part::Place(*place),
+            ),
+            Spot::Item(place, key, item) => to_four(
+                "item ",
+                Part::Number(*item),
+                " of `",
+                Part::Nothing,
+                key.word(),
+                Part::Nothing,
+                "` of ",
+                Part::Place(*place),
+            ),
         }
     }
 }
 
-impl fmt::Display for Common {
-    ghost output = { λ common. Some (common_words common) };
-
-    #[tactic(auto, unfolding(crate::specs::EntryWords::common_words))]
-    fn fmt<W: fmt::Write>(&self, f: &mut fmt::Formatter<W>) -> fmt::Result {
-        match self {
-            Common::Name(name) => write_name(f, "has the name ", *name, ", as"),
-            Common::Id(id) => write!(f, "has the id {id}, as"),
-            Common::Section(section) => write_name(f, "reports the section ", *section, ", as"),
-            Common::Joint(port) => write_port(f, "joins ", *port, ", as"),
-            Common::Signal(port) => write_port(f, "stands at ", *port, ", as"),
-        }
+impl Common {
+    /// That an entry has it, as another one.
+    #[tactic(auto, unfolding(crate::specs::EntryWords::common_words, crate::specs::inside::Sentences::part_words))]
+    pub(crate) fn sentence(&self) -> Sentence
+        ensures { sentence_words result ≡ common_words self.now }
+    {
+        let (begin, part) = match self {
+            Common::Name(name) => ("has the name ", Part::Name(*name)),
+            Common::Id(id) => ("has the id ", Part::Id(*id)),
+            Common::Section(section) => ("reports the section ", Part::Name(*section)),
+            Common::Joint(port) => ("joins ", Part::Port(*port)),
+            Common::Signal(port) => ("stands at ", Part::Port(*port)),
+        };
+        one(begin, part, ", as")
     }
 }
 
-impl fmt::Display for Missed {
-    ghost output = { λ missed. Some (missed_words missed) };
-
-    #[tactic(auto, unfolding(crate::specs::EntryWords::missed_words))]
-    fn fmt<W: fmt::Write>(&self, f: &mut fmt::Formatter<W>) -> fmt::Result {
+impl Missed {
+    /// That an entry names it, and what is wanted.
+    #[tactic(auto, unfolding(crate::specs::EntryWords::missed_words, crate::specs::inside::Sentences::part_words))]
+    pub(crate) fn sentence(&self) -> Sentence
+        ensures { sentence_words result ≡ missed_words self.now }
+    {
         match self {
-            Missed::Section(name) => write_name(f, "names ", *name, ", where a section is wanted"),
-            Missed::Port(port) => write_port(
-                f,
+            Missed::Section(name) => one(
                 "names ",
-                *port,
+                Part::Name(*name),
+                ", where a section is wanted",
+            ),
+            Missed::Port(port) => one(
+                "names ",
+                Part::Port(*port),
                 ", where a port of a track, a point or a border is wanted",
             ),
-            Missed::Point(name) => write_name(f, "names ", *name, ", where a point is wanted"),
-            Missed::Signal(name) => write_name(f, "names ", *name, ", where a signal is wanted"),
-            Missed::Exit(name) => {
-                write_name(f, "names ", *name, ", where a signal or a border is wanted")
-            }
-            Missed::Route(name) => write_name(f, "names ", *name, ", where a route is wanted"),
-            Missed::Unreported(name) => write_name(f, "is ", *name, ", which no detector reports"),
+            Missed::Point(name) => one("names ", Part::Name(*name), ", where a point is wanted"),
+            Missed::Signal(name) => one("names ", Part::Name(*name), ", where a signal is wanted"),
+            Missed::Exit(name) => one(
+                "names ",
+                Part::Name(*name),
+                ", where a signal or a border is wanted",
+            ),
+            Missed::Route(name) => one("names ", Part::Name(*name), ", where a route is wanted"),
+            Missed::Unreported(name) => one(
+                "is ",
+                Part::Name(*name),
+                ", which no detector reports",
+            ),
         }
     }
 }

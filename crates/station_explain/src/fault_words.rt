@@ -1,13 +1,13 @@
 //! What the faults mean whose place alone is told.
 
-ghost use Rattle.std.specs.Prelude.{◌≡◌, Some};
+ghost use Rattle.std.specs.Prelude.{◌≡◌};
 ghost use Rattle.station_explain.specs.FaultWords.{layout_words, limit_words, most, route_words, table_words};
+ghost use Rattle.station_explain.specs.inside.Sentences.{sentence_words};
 
 use crate::route_detail::route_at_fault;
-use crate::words::Words;
+use crate::sentence::{Part, Sentence, bare, one, to_one, two};
 use control_table::TableFault;
 use layout_text::{LayoutFault, Place, TableName};
-use std::fmt;
 
 /// How many entries a station may have.
 fn most(table: TableName) -> usize
@@ -42,40 +42,33 @@ fn limit_words(place: Place) -> &'static str
     }
 }
 
-impl fmt::Display for Words<LayoutFault> {
-    ghost output = { λ words. Some (layout_words words.0) };
-
-    #[tactic(auto, unfolding(crate::specs::FaultWords::layout_words))]
-    fn fmt<W: fmt::Write>(&self, f: &mut fmt::Formatter<W>) -> fmt::Result {
-        match self.0 {
-            LayoutFault::Toml => f.write_str("the text is no TOML"),
-            LayoutFault::MissingKey(place) => {
-                let at = Words(place);
-                write!(f, "a key is missing at {at}")
-            }
-            LayoutFault::WrongKind(place) => {
-                let at = Words(place);
-                write!(f, "a value is of another kind or form at {at}")
-            }
-            LayoutFault::UnknownName(place) => {
-                let at = Words(place);
-                write!(f, "{at} names something that isn't there")
-            }
-            LayoutFault::DoubleName(place) => {
-                let at = Words(place);
-                write!(f, "{at} reports a section twice")
-            }
-            LayoutFault::DoubleJoint(place) => {
-                let at = Words(place);
-                write!(f, "{at} joins a port with itself")
-            }
-            LayoutFault::Limit(place) => {
-                let at = Words(place);
-                let why = limit_words(place);
-                write!(f, "{at} {why}")
-            }
-            LayoutFault::OutOfMemory => f.write_str("memory is lacking"),
-        }
+/// The words for a fault of a layout.
+#[tactic(auto, unfolding(crate::specs::FaultWords::layout_words, crate::specs::inside::Sentences::part_words))]
+pub(crate) fn layout_sentence(fault: LayoutFault) -> Sentence
+    ensures { sentence_words result ≡ layout_words fault }
+{
+    match fault {
+        LayoutFault::Toml => bare("the text is no TOML"),
+        LayoutFault::MissingKey(place) => to_one("a key is missing at ", Part::Place(place)),
+        LayoutFault::WrongKind(place) => to_one(
+            "a value is of another kind or form at ",
+            Part::Place(place),
+        ),
+        LayoutFault::UnknownName(place) => one(
+            "",
+            Part::Place(place),
+            " names something that isn't there",
+        ),
+        LayoutFault::DoubleName(place) => one("", Part::Place(place), " reports a section twice"),
+        LayoutFault::DoubleJoint(place) => one("", Part::Place(place), " joins a port with itself"),
+        LayoutFault::Limit(place) => two(
+            "",
+            Part::Place(place),
+            " ",
+            Part::Nothing,
+            limit_words(place),
+        ),
+        LayoutFault::OutOfMemory => bare("memory is lacking"),
     }
 }
 
@@ -114,17 +107,19 @@ fn route_words(fault: &TableFault) -> &'static str
     }
 }
 
-impl fmt::Display for Words<TableFault> {
-    ghost output = { λ words. Some (table_words words.0) };
-
-    #[tactic(auto, unfolding(crate::specs::FaultWords::table_words))]
-    fn fmt<W: fmt::Write>(&self, f: &mut fmt::Formatter<W>) -> fmt::Result {
-        match route_at_fault(&self.0) {
-            Some(route) => {
-                let why = route_words(&self.0);
-                write!(f, "{route} {why}")
-            }
-            None => f.write_str("memory is lacking"),
-        }
+/// The words for a fault of a table.
+#[tactic(auto, unfolding(crate::specs::FaultWords::table_words, crate::specs::inside::Sentences::part_words))]
+pub(crate) fn table_sentence(fault: &TableFault) -> Sentence
+    ensures { sentence_words result ≡ table_words fault.now }
+{
+    match route_at_fault(fault) {
+        Some(route) => two(
+            "",
+            Part::Route(route),
+            " ",
+            Part::Nothing,
+            route_words(fault),
+        ),
+        None => bare("memory is lacking"),
     }
 }

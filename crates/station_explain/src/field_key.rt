@@ -1,11 +1,12 @@
 //! The keys of entries, and what may stand under them.
 
-ghost use Rattle.std.specs.Prelude.{◌≡◌, Some};
+ghost use Rattle.std.specs.Prelude.{◌≡◌};
 ghost use Rattle.toml.specs.View.{view};
 ghost use Rattle.station_explain.specs.FieldKeys.{all_keys, form_words, is_required, item_key, key_text, kind_of, kind_word, kind_words};
+ghost use Rattle.station_explain.specs.inside.Sentences.{sentence_words};
 
+use crate::sentence::{Part, Sentence, bare, to_one};
 use layout_text::TableName;
-use std::fmt;
 use toml::Value;
 
 /// A key of an entry.
@@ -138,14 +139,6 @@ pub(crate) fn keys_of(table: TableName) -> &'static [FieldKey]
     }
 }
 
-impl fmt::Display for FieldKey {
-    ghost output = { λ key. Some (key_text key) };
-
-    fn fmt<W: fmt::Write>(&self, f: &mut fmt::Formatter<W>) -> fmt::Result {
-        f.write_str(self.word())
-    }
-}
-
 /// What kind of value stands in a text.
 #[derive(Clone, Copy)]
 pub(crate) enum Kind {
@@ -175,16 +168,15 @@ impl Kind {
             Kind::Table => "a table",
         }
     }
-}
 
-impl fmt::Display for Kind {
-    ghost output = { λ kind. Some (kind_words kind) };
-
-    #[tactic(auto, unfolding(crate::specs::FieldKeys::kind_words))]
-    fn fmt<W: fmt::Write>(&self, f: &mut fmt::Formatter<W>) -> fmt::Result {
+    /// The kind as it is told: an integer by its digits.
+    #[tactic(auto, unfolding(crate::specs::FieldKeys::kind_words, crate::specs::inside::Sentences::part_words))]
+    pub(crate) fn sentence(&self) -> Sentence
+        ensures { sentence_words result ≡ kind_words self.now }
+    {
         match self {
-            Kind::Integer(value) => write!(f, "{value}"),
-            other => f.write_str(other.word()),
+            Kind::Integer(value) => to_one("", Part::Integer(*value)),
+            other => bare(other.word()),
         }
     }
 }

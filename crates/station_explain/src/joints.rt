@@ -75,9 +75,14 @@ pub(crate) fn may_pass(entered: Port, left: Port) -> bool
 }
 
 /// The place of the signal that stands at a port.
-#[tactic(auto, unfolding(crate::specs::Joints::signal_at))]
+#[tactic(auto, using(crate::proofs::SignalFound::found, crate::proofs::SignalFound::goes_on, crate::proofs::SignalFound::nowhere), unfolding(crate::specs::Joints::signal_at))]
 pub(crate) fn signal_at(signals: &[Signal], port: Port) -> Option<usize>
     ensures { result ≡ signal_at signals.now port }
 {
-    signals.iter().position(|signal| same_port(signal.at, port))
+    for (place, signal) in signals.iter().enumerate() {
+        if same_port(signal.at, port) {
+            return Some(place);
+        }
+    }
+    None
 }

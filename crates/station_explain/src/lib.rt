@@ -12,15 +12,16 @@ mod fault_words;
 mod field_key;
 mod joints;
 mod layout_names;
+mod port_words;
 mod repeats;
 mod route_detail;
 mod route_sides;
 mod route_start;
+mod sentence;
 mod shared;
 mod side_detail;
 mod text_place;
 mod unknown;
 mod value_forms;
-mod words;
 
 pub use explain::explain_text;

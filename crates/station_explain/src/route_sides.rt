@@ -155,6 +155,10 @@ pub(crate) fn requires_on(
 pub(crate) fn is_on_path(path: &[Port], point: PointId) -> bool
     ensures { result ≡ is_on_path path.now point }
 {
-    path.iter()
-        .any(|left| same_element(left.element, Element::Point(point)))
+    for left in path {
+        if same_element(left.element, Element::Point(point)) {
+            return true;
+        }
+    }
+    false
 }

@@ -17,5 +17,10 @@ pub(crate) fn start_of(layout: &Layout, route: &Route) -> Option<Port>
 pub(crate) fn is_written(points: &[(PointId, Side)], point: PointId) -> bool
     ensures { result ≡ is_written points.now point }
 {
-    points.iter().any(|written| written.0.0 == point.0)
+    for (other, _) in points {
+        if other.0 == point.0 {
+            return true;
+        }
+    }
+    false
 }

@@ -2,13 +2,13 @@
 
 ghost use Rattle.std.specs.Prelude.{◌≡◌};
 ghost use Rattle.station_explain.specs.declared.advice.Missed.TheVariants as missing;
-ghost use Rattle.station_explain.specs.UnknownAdvice.{first_missed, is_entry, is_there, missed, name_missed, points_missed, route_missed, spot_of, table_of, unknown_told};
+ghost use Rattle.station_explain.specs.UnknownAdvice.{detector_missed, first_missed, is_entry, is_there, joint_missed, missed, name_missed, named_by, points_missed, route_missed, spot_of, table_of, unknown_told};
 
 use crate::advice::{Advice, Common, Missed, Spot};
 use crate::field_key::FieldKey;
 use crate::shared::{entry_at, place_having};
 use control_table::sci_telegram::{Name, Side};
-use layout_text::{End, Place, PortName, TableName, WrittenLayout, WrittenRoute};
+use layout_text::{End, Place, PortName, TableName, WrittenJoint, WrittenLayout, WrittenRoute};
 
 /// The table in which an element stands that has a port of this word.
 fn table_of(end: End) -> TableName
@@ -164,42 +164,64 @@ fn route_missed(written: &WrittenLayout, place: Place, route: &WrittenRoute) -> 
     first_missed(written, place, FieldKey::Extra, &route.extra)
 }
 
+/// The advice for the first port of a joint that isn't there.
+fn joint_missed(written: &WrittenLayout, place: Place, joint: WrittenJoint) -> Option<Advice>
+    ensures { result ≡ joint_missed written.now place joint }
+{
+    let itself = Spot::Entry(place);
+    if let Some(found) = missed(written, itself, &Missed::Port(joint.first)) {
+        return Some(found);
+    }
+    missed(written, itself, &Missed::Port(joint.second))
+}
+
+/// The advice for the first section of a detection controller that isn't there.
+fn detector_missed(written: &WrittenLayout, place: Place, before: usize) -> Option<Advice>
+    ensures { result ≡ detector_missed written.now place before }
+{
+    let sections = written.detectors.get(before)?.sections();
+    first_missed(written, place, FieldKey::Sections, sections)
+}
+
+/// What an entry names that names one thing; of a section its own name.
+fn named_by(written: &WrittenLayout, table: TableName, before: usize) -> Option<Missed>
+    ensures { result ≡ named_by written.now table before }
+{
+    match table {
+        TableName::Section => match written.sections.get(before) {
+            Some(name) => Some(Missed::Unreported(*name)),
+            None => None,
+        },
+        TableName::Track => match written.tracks.get(before) {
+            Some(track) => Some(Missed::Section(track.section)),
+            None => None,
+        },
+        TableName::Point => match written.points.get(before) {
+            Some(point) => Some(Missed::Section(point.section)),
+            None => None,
+        },
+        TableName::Signal => match written.signals.get(before) {
+            Some(signal) => Some(Missed::Port(signal.at)),
+            None => None,
+        },
+        _ => None,
+    }
+}
+
 /// The advice for the first name of the entry at a place that isn't that of an entry of the kind that is wanted; of a section for
 /// its own name, since no detection controller reports it.
 pub(crate) fn unknown_told(written: &WrittenLayout, place: Place) -> Option<Advice>
     ensures { result ≡ unknown_told written.now place }
 {
     let before = place.entry.saturating_sub(1);
-    let itself = Spot::Entry(place);
     match place.table {
-        TableName::Section => {
-            let name = entry_at(&written.sections, before)?;
-            missed(written, itself, &Missed::Unreported(name))
-        }
-        TableName::Track => {
-            let section = entry_at(&written.tracks, before)?.section;
-            missed(written, itself, &Missed::Section(section))
-        }
-        TableName::Point => {
-            let section = entry_at(&written.points, before)?.section;
-            missed(written, itself, &Missed::Section(section))
-        }
-        TableName::Joint => {
-            let joint = entry_at(&written.joints, before)?;
-            if let Some(found) = missed(written, itself, &Missed::Port(joint.first)) {
-                return Some(found);
-            }
-            missed(written, itself, &Missed::Port(joint.second))
-        }
-        TableName::Signal => {
-            let port = entry_at(&written.signals, before)?.at;
-            missed(written, itself, &Missed::Port(port))
-        }
-        TableName::Detector => {
-            let sections = written.detectors.get(before)?.sections();
-            first_missed(written, place, FieldKey::Sections, sections)
-        }
+        TableName::Joint => joint_missed(written, place, entry_at(&written.joints, before)?),
+        TableName::Detector => detector_missed(written, place, before),
         TableName::Route => route_missed(written, place, written.routes.get(before)?),
-        TableName::Station | TableName::Border => None,
+        table => missed(
+            written,
+            Spot::Entry(place),
+            &named_by(written, table, before)?,
+        ),
     }
 }

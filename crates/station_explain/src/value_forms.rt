@@ -65,7 +65,12 @@ const DIGITS: usize = 32;
 fn are_digits(text: &[u8]) -> bool
     ensures { result ≡ list_all is_ascii_hexdigit text.now }
 {
-    text.iter().all(|byte| byte.is_ascii_hexdigit())
+    for byte in text {
+        if !byte.is_ascii_hexdigit() {
+            return false;
+        }
+    }
+    true
 }
 
 /// Whether a text has the form of a key of the safety code.

@@ -1,4 +1,5 @@
 pub mod ThingsDrawn
 pub mod GroupsMade
 pub mod Identities
+pub mod PlaceFound
 pub mod SubjectsOnce

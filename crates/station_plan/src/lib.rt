@@ -19,6 +19,7 @@ mod main_legs;
 mod marks;
 mod notes;
 mod paper;
+mod places;
 mod ranks;
 mod rows;
 mod section_marks;
@@ -37,6 +38,7 @@ mod yard;
 
 pub use drawn_plan::plan;
 pub use laws::{identities_differ, subjects_stand_once};
+pub use places::{route_place, signal_place};
 pub use shown::{Seen, Shown};
 pub use thing::{Subject, Thing};
 pub use thing_list::things;

@@ -1,13 +1,12 @@
 //! What is seen of signals, points and sections, as words of their classes.
 
 ghost use Rattle.std.specs.Prelude.{◌≡◌};
-ghost use Rattle.std.specs.List.{position};
-ghost use Rattle.std.specs.Str.{bytes_eq};
 ghost use Rattle.station_plan.specs.Faces.{aspect_seen, aspect_state, known, leg_state, occupancy_seen, occupancy_state, position_seen, state_for};
 
+use crate::places::{point_place, section_place, signal_place};
 use crate::shown::{Seen, Shown};
 use crate::thing::Subject;
-use control_table::layout::{Layout, Point, Signal};
+use control_table::layout::Layout;
 use control_table::sci_telegram::{Aspect, Name, Occupancy, Position, Side};
 
 /// What is known at a place of a list, if anything is.
@@ -21,29 +20,6 @@ fn known<T: Copy>(list: &[Option<T>], place: Option<usize>) -> Option<T>
         },
         None => None,
     }
-}
-
-/// The place of the signal of a name.
-fn signal_place(signals: &[Signal], name: &str) -> Option<usize>
-    ensures { result ≡ position (λ s. bytes_eq s.name name.now) signals.now }
-{
-    signals
-        .iter()
-        .position(|signal| signal.name.as_str() == name)
-}
-
-/// The place of the point of a name.
-fn point_place(points: &[Point], name: &str) -> Option<usize>
-    ensures { result ≡ position (λ p. bytes_eq p.name name.now) points.now }
-{
-    points.iter().position(|point| point.name.as_str() == name)
-}
-
-/// The place of the section of a name.
-fn section_place(sections: &[Name], name: &str) -> Option<usize>
-    ensures { result ≡ position (λ s. bytes_eq s name.now) sections.now }
-{
-    sections.iter().position(|section| section.as_str() == name)
 }
 
 /// What a signal shows.

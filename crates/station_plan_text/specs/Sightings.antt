@@ -8,7 +8,7 @@
 --     route NAME free|set
 --     safe, unsafe                              no plan shows it
 --     ok, accepted, refused .., no ..           an answer, which no plan shows
-use Rattle.std.specs.Prelude.{ℕ, true, false, Bool, if◌then◌else◌, List, [], ◌∷◌, codes, Result, Ok, Err}
+use Rattle.std.specs.Prelude.{ℕ, true, false, Bool, ◌||◌, if◌then◌else◌, List, [], ◌∷◌, codes, Result, Ok, Err}
 use Rattle.std.specs.List.{enumerate_from}
 use Rattle.std.specs.Str.{bytes_eq}
 use Rattle.control_table.specs.layout.Entries.{Site}
@@ -119,21 +119,27 @@ abbrev pub verdict : List (List ℕ) → Result Sighting Fault
 verdict [] = Ok seen.Other
 verdict other = Err Words
 
+-- the first word of an answer
+abbrev pub is_answer : List ℕ → Bool
+is_answer first = bytes_eq first (codes "ok") || bytes_eq first (codes "accepted") || bytes_eq first (codes "refused") || bytes_eq first (codes "no")
+
+-- what no plan shows, by the first word of its line and the words behind it
+abbrev pub not_shown : List ℕ → List (List ℕ) → Result Sighting Fault
+not_shown first rest =
+    if bytes_eq first (codes "time") then time_sighting rest
+    else if bytes_eq first (codes "safe") then verdict rest
+    else if bytes_eq first (codes "unsafe") then verdict rest
+    else if is_answer first then Ok seen.Other
+    else Err Words
+
 -- what the words of a line say
 abbrev pub sighting_of : Site → List (List ℕ) → Result Sighting Fault
 sighting_of l (first ∷ rest) =
-    if bytes_eq first (codes "time") then time_sighting rest
-    else if bytes_eq first (codes "signal") then signal_sighting l rest
+    if bytes_eq first (codes "signal") then signal_sighting l rest
     else if bytes_eq first (codes "point") then point_sighting l rest
     else if bytes_eq first (codes "section") then section_sighting l rest
     else if bytes_eq first (codes "route") then route_sighting l rest
-    else if bytes_eq first (codes "safe") then verdict rest
-    else if bytes_eq first (codes "unsafe") then verdict rest
-    else if bytes_eq first (codes "ok") then Ok seen.Other
-    else if bytes_eq first (codes "accepted") then Ok seen.Other
-    else if bytes_eq first (codes "refused") then Ok seen.Other
-    else if bytes_eq first (codes "no") then Ok seen.Other
-    else Err Words
+    else not_shown first rest
 sighting_of l [] = Err Words
 
 abbrev pub sighting : Site → List ℕ → Result Sighting Fault

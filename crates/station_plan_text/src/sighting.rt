@@ -1,7 +1,7 @@
 //! What a line of a picture says.
 
 ghost use Rattle.std.specs.Prelude.{◌≡◌};
-ghost use Rattle.station_plan_text.specs.Sightings.{aspect_said, authority_said, driven_said, occupancy_said, point_sighting, position_said, route_sighting, section_sighting, set_said, side_said, sighting, sighting_of, signal_sighting, time_sighting, verdict};
+ghost use Rattle.station_plan_text.specs.Sightings.{aspect_said, authority_said, driven_said, is_answer, not_shown, occupancy_said, point_sighting, position_said, route_sighting, section_sighting, set_said, side_said, sighting, sighting_of, signal_sighting, time_sighting, verdict};
 
 use crate::names::{route_called, signal_called};
 use control_table::layout::{Layout, PointId, RouteId, SectionId, SignalId};
@@ -35,19 +35,32 @@ fn said(layout: &Layout, mut words: Words<'_>) -> Result<Sighting, Fault>
     ensures { result ≡ sighting_of layout.now words.entry }
 {
     match words.next() {
-        Some("time") => time(words),
         Some("signal") => signal(layout, words),
         Some("point") => point(layout, words),
         Some("section") => section(layout, words),
         Some("route") => route(layout, words),
-        Some("safe") => verdict(words),
-        Some("unsafe") => verdict(words),
-        Some("ok") => Ok(Sighting::Other),
-        Some("accepted") => Ok(Sighting::Other),
-        Some("refused") => Ok(Sighting::Other),
-        Some("no") => Ok(Sighting::Other),
+        Some(first) => not_shown(first, words),
+        None => Err(Fault::Words),
+    }
+}
+
+/// A line of what no plan shows: the time, whether what is seen is safe, or an answer.
+fn not_shown(first: &str, words: Words<'_>) -> Result<Sighting, Fault>
+    ensures { result ≡ not_shown first.now words.entry }
+{
+    match first {
+        "time" => time(words),
+        "safe" | "unsafe" => verdict(words),
+        _ if is_answer(first) => Ok(Sighting::Other),
         _ => Err(Fault::Words),
     }
+}
+
+/// Whether a line begins so that is an answer.
+fn is_answer(first: &str) -> bool
+    ensures { result ≡ is_answer first.now }
+{
+    first == "ok" || first == "accepted" || first == "refused" || first == "no"
 }
 
 fn time(mut words: Words<'_>) -> Result<Sighting, Fault>

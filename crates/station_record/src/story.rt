@@ -23,7 +23,7 @@ use station_run::replay::{Entry, recorded, try_event};
 use std::alloc::{AllocError, Global};
 
 /// What happens in a session.
-#[derive(Debug, Drop)]
+#[derive(Drop)]
 pub struct Story {
     /// What each lane shows at first, and then each change, in the order of the session.
     pub changes: Vec<Change>,

@@ -3,7 +3,7 @@
 use lane_chart::{Lane, Seen};
 
 /// A lane that is followed, and what it showed last.
-#[derive(Clone, Copy, Debug)]
+#[derive(Clone, Copy)]
 pub(crate) struct Watch {
     pub(crate) lane: Lane,
     pub(crate) seen: Seen,

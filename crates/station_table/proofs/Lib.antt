@@ -3,6 +3,7 @@ pub mod LetGo
 pub mod LetGoOnce
 pub mod ListingLaws
 pub mod OneTable
+pub mod PointsOnPath
 pub mod ReasonLaws
 pub mod Rows
 pub mod Tables

@@ -9,6 +9,7 @@ use Rattle.control_table.specs.layout.declared.ids.RouteId.{RouteId}
 use Rattle.control_table.specs.layout.declared.ids.SectionId.{SectionId}
 use Rattle.control_table.specs.layout.declared.port.Element.{Element}
 use Rattle.control_table.specs.layout.declared.port.Element.TheVariants as element
+use Rattle.control_table.specs.layout.declared.port.Port.{Port}
 use Rattle.control_table.specs.layout.Entries.{RouteEntry, Site}
 use Rattle.control_table.specs.AwaitedSections.{Awaits}
 use Rattle.control_table.specs.Table.{AreSections, Conflict, RouteRequires}
@@ -46,9 +47,13 @@ abbrev pub point_of : Element → Option PointId
 point_of (element.Point p) = Some p
 point_of _ = None
 
--- the points on the path of a route that have to lie at a side, in the order of the path
+-- the points on a path that are written at a side, in the order of the path
+abbrev pub points_on : List Port → List (PointId × Side) → Side → List PointId
+points_on path points side = filter (is_written points side) (filter_map (λ port. point_of port.element) path)
+
+-- the points on the path of a route that have to lie at a side
 abbrev pub points_at : RouteEntry → Side → List PointId
-points_at r side = filter (is_written r.points side) (filter_map (λ port. point_of port.element) r.path)
+points_at r side = points_on r.path r.points side
 
 abbrev pub names_of_points : Site → List PointId → List (List ℕ)
 names_of_points l points = map (point_name l) points

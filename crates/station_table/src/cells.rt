@@ -2,10 +2,10 @@
 
 ghost use Rattle.std.specs.Prelude.{◌≡◌, map, IfOk, string_bytes};
 ghost use Rattle.station_table.specs.Names.{parted, spaced, with_word};
-ghost use Rattle.station_table.specs.Row.{flank_text, flank_texts, is_written, names_of_points, point_of, points_at, same_side, section_names};
+ghost use Rattle.station_table.specs.Row.{flank_text, flank_texts, is_written, names_of_points, point_of, points_at, points_on, same_side, section_names};
 
 use crate::entry_names::{point_name, section_name, side_word};
-use control_table::layout::{Element, Layout, PointId, Route, SectionId};
+use control_table::layout::{Element, Layout, PointId, Port, Route, SectionId};
 use control_table::sci_telegram::Side;
 use std::alloc::{AllocError, Global};
 
@@ -14,8 +14,7 @@ use std::alloc::{AllocError, Global};
 pub(crate) fn spaced(alloc: Global, words: &[String]) -> Result<String, AllocError>
     ensures { IfOk result (λ text. string_bytes text ≡ spaced (map string_bytes words.now)) }
 {
-    let text = words.join(alloc, " ")?;
-    Ok(text)
+    words.join(alloc, " ")
 }
 
 /// Entries with a semicolon between each two.
@@ -23,16 +22,14 @@ pub(crate) fn spaced(alloc: Global, words: &[String]) -> Result<String, AllocErr
 pub(crate) fn parted(alloc: Global, entries: &[String]) -> Result<String, AllocError>
     ensures { IfOk result (λ text. string_bytes text ≡ parted (map string_bytes entries.now)) }
 {
-    let text = entries.join(alloc, "; ")?;
-    Ok(text)
+    entries.join(alloc, "; ")
 }
 
 /// A name, and what is said of it.
 pub(crate) fn with_word(alloc: Global, name: &str, word: &str) -> Result<String, AllocError>
     ensures { IfOk result (λ text. string_bytes text ≡ with_word name.now word.now) }
 {
-    let text = format!(in alloc; "{name}: {word}")?;
-    Ok(text)
+    format!(in alloc; "{name}: {word}")
 }
 
 /// Whether two sides are the same.
@@ -46,9 +43,12 @@ fn same_side(one: Side, other: Side) -> bool
 fn is_written(points: &[(PointId, Side)], side: Side, point: PointId) -> bool
     ensures { result ≡ is_written points.now side point }
 {
-    points
-        .iter()
-        .any(|entry| entry.0.0 == point.0 && same_side(entry.1, side))
+    for (other, at) in points {
+        if other.0 == point.0 && same_side(*at, side) {
+            return true;
+        }
+    }
+    false
 }
 
 /// The point that an element is, if it is one.
@@ -65,13 +65,28 @@ fn point_of(element: Element) -> Option<PointId>
 fn points_at(alloc: Global, route: &Route, side: Side) -> Result<Vec<PointId>, AllocError>
     ensures { IfOk result (λ points. points.items ≡ points_at route.now side) }
 {
-    let points = route.points();
-    route
-        .path()
-        .iter()
-        .filter_map(|port| point_of(port.element))
-        .filter(|point| is_written(points, side, *point))
-        .collect(alloc)
+    points_on(alloc, route.path(), route.points(), side)
+}
+
+/// The points on a path that are written at a side.
+#[tactic(auto, using(crate::proofs::PointsOnPath::one_more, crate::proofs::PointsOnPath::not_there, crate::proofs::PointsOnPath::no_point, crate::proofs::PointsOnPath::all))]
+fn points_on(
+    alloc: Global,
+    path: &[Port],
+    points: &[(PointId, Side)],
+    side: Side,
+) -> Result<Vec<PointId>, AllocError>
+    ensures { IfOk result (λ found. found.items ≡ points_on path.now points.now side) }
+{
+    let mut found = Vec::new(alloc);
+    for port in path {
+        if let Some(point) = point_of(port.element) {
+            if is_written(points, side, point) {
+                found.push(point)?;
+            }
+        }
+    }
+    Ok(found)
 }
 
 /// The names of points.

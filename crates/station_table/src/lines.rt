@@ -17,8 +17,7 @@ fn add_cell(line: &mut Vec<u8>, cell: &[u8]) -> Result<(), AllocError>
 {
     line.extend_from_slice(b"| ")?;
     line.extend_from_slice(cell)?;
-    line.extend_from_slice(b" ")?;
-    Ok(())
+    line.extend_from_slice(b" ")
 }
 
 /// The line of these cells in Markdown.

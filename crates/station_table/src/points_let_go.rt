@@ -39,7 +39,12 @@ fn has_there(awaited: BitRow, sections: &[SectionId], place: usize) -> bool
 fn has_one(awaited: BitRow, sections: &[SectionId]) -> bool
     ensures { result ≡ list_any (λ section. contains awaited section.0) sections.now }
 {
-    sections.iter().any(|section| awaited.contains(section.0))
+    for section in sections {
+        if awaited.contains(section.0) {
+            return true;
+        }
+    }
+    false
 }
 
 /// Whether the first two tests hold, and the third doesn't.
