@@ -14,7 +14,8 @@ use Rattle.clap.specs.Faults.{check_fault, defaults_fault, entered_fault, fault_
 use Rattle.clap.specs.Lexer.{long_of}
 use Rattle.clap.specs.Simple.{App, built, entered, names_of, subcommand_of}
 use Rattle.clap.specs.Walk.{Held, Text, Walk, arg_by_long, arg_by_short, finished, idle, nothing_held, rows_after, settled, walked}
-use Rattle.station_command.proofs.Commands.{CommandReads, capture_reads, capture_rules, chart_reads, chart_rules, check_reads, check_rules, decode_reads, decode_rules, node_reads, node_rules, panel_reads, panel_rules, plan_reads, plan_rules, replay_reads, replay_rules, run_reads, run_rules, sim_reads, sim_rules, table_reads, table_rules}
+use Rattle.station_command.proofs.CommandRules.{capture_rules, chart_rules, check_rules, decode_rules, node_rules, panel_rules, plan_rules, replay_rules, run_rules, sim_rules, table_rules}
+use Rattle.station_command.proofs.Commands.{CommandReads, capture_reads, chart_reads, check_reads, decode_reads, node_reads, panel_reads, plan_reads, replay_reads, run_reads, sim_reads, table_reads}
 use Rattle.station_command.proofs.LineRead.{line_fault}
 use Rattle.station_command.proofs.WordsRead.{Fails, at, fails_within, is_ends, top, word_fails, word_passes}
 use Rattle.station_command.specs.CommandWords.{Request, capture_by, capture_usage, chart_by, chart_usage, check_by, check_usage, decode_by, decode_usage, ends_flags, faults_in, is_flag, node_by, node_usage, panel_by, panel_usage, plan_by, plan_usage, replay_by, replay_usage, request_in, run_by, run_usage, sim_by, sim_usage, table_by, table_usage}

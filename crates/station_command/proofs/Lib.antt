@@ -1,3 +1,4 @@
+pub mod CommandRules
 pub mod Commands
 pub mod Defaults
 pub mod Found
