@@ -12,8 +12,8 @@ pub(crate) struct Seen {
     /// How often the operator was told that a link became ready, and that one was lost.
     pub(crate) ready: u64,
     pub(crate) lost: u64,
-    /// Whether memory was lacking somewhere.
-    pub(crate) is_lacking: bool,
+    /// What failed last, if anything did.
+    failure: Option<Failure>,
 }
 
 impl Seen {
@@ -23,13 +23,26 @@ impl Seen {
             text: String::new(alloc),
             ready: 0,
             lost: 0,
-            is_lacking: false,
+            failure: None,
+        }
+    }
+
+    /// Something failed: what was seen counts for nothing.
+    pub(crate) fn fail(&mut self, failure: Failure) {
+        self.failure = Some(failure);
+    }
+
+    /// Something was done, unless memory was lacking.
+    pub(crate) fn expect(&mut self, done: Result<(), AllocError>) {
+        if let Err(error) = done {
+            self.fail(Failure::from(error));
         }
     }
 
     /// A thing changed.
     pub(crate) fn note(&mut self, thing: &str, change: &str) {
-        self.is_lacking |= self.add(thing, change).is_err();
+        let added = self.add(thing, change);
+        self.expect(added);
     }
 
     fn add(&mut self, thing: &str, change: &str) -> Result<(), AllocError> {
@@ -53,9 +66,22 @@ impl Seen {
 
     /// What changed, in words.
     pub(crate) fn text(&self) -> Result<&str, Failure> {
-        if self.is_lacking {
-            return Err(Failure::from(AllocError));
+        match self.failure {
+            Some(failure) => Err(failure),
+            None => Ok(self.text.as_str()),
         }
-        Ok(self.text.as_str())
+    }
+
+    /// Whether nothing failed.
+    pub(crate) fn is_whole(&self) -> bool {
+        self.failure.is_none()
+    }
+
+    /// Whether nothing failed, and this changed.
+    pub(crate) fn is(&self, wanted: &str) -> bool {
+        match self.text() {
+            Ok(text) => text == wanted,
+            Err(_) => false,
+        }
     }
 }

@@ -7,15 +7,17 @@ use std::io;
 #[derive(Clone, Copy)]
 pub(crate) struct Failure(pub(crate) &'static str);
 
+pub(crate) const OUT_OF_MEMORY: Failure = Failure("out of memory");
+
 impl From<AllocError> for Failure {
     fn from(_error: AllocError) -> Failure {
-        Failure("out of memory")
+        OUT_OF_MEMORY
     }
 }
 
 impl<T: Drop> From<AllocFailed<T>> for Failure {
     fn from(_error: AllocFailed<T>) -> Failure {
-        Failure("out of memory")
+        OUT_OF_MEMORY
     }
 }
 

@@ -28,6 +28,10 @@ use std::io::{BufWriter, Write};
 use std::net::{IpAddr, Ipv4Addr, Net, SocketAddr, UdpSocket};
 use std::process::ExitCode;
 
+const UNKNOWN_WORDS: Failure = Failure(
+    "error: the words are `rest` and a number of rounds, or none",
+);
+
 fn main(rt: HostRuntime) -> ExitCode {
     match play(&rt) {
         Ok(()) => ExitCode::SUCCESS,
@@ -47,52 +51,69 @@ fn play(rt: &HostRuntime) -> Result<(), Failure> {
 }
 
 /// The same with a station, and what is written to.
-fn play_over<'a, W: Write>(
-    rt: &'a HostRuntime,
-    table: &'a Checked,
-    out: &mut W,
-) -> Result<(), Failure> {
-    let over_memory = Maker {
-        table,
-        addressed: None,
-    };
+fn play_over<W: Write>(rt: &HostRuntime, table: &Checked, out: &mut W) -> Result<(), Failure> {
     match rounds_of_rest(rt)? {
-        Some(rounds) => {
-            tell_rest::<Maker<'_>, Seat<'_>, W>(rt.alloc(), &over_memory, out, rounds)?;
-        }
+        Some(rounds) => play_rest(rt, table, out, rounds)?,
         None => {
             let addresses = free_addresses(rt, rt.alloc(), NAMES.len())?;
-            let addressed = Addressed {
-                net: rt,
-                addresses: &addresses,
-            };
-            let over_sockets = Maker {
-                table,
-                addressed: Some(addressed),
-            };
-            tell_all::<Maker<'_>, Seat<'_>, W>(rt, table, &over_memory, &over_sockets, out)?;
+            play_stories(rt, table, &addresses, out)?;
         }
     }
     out.flush()?;
     Ok(())
 }
 
+fn play_rest<W: Write>(
+    rt: &HostRuntime,
+    table: &Checked,
+    out: &mut W,
+    rounds: u64,
+) -> Result<(), Failure> {
+    let makes = Maker {
+        table,
+        addressed: None,
+    };
+    tell_rest::<Maker<'_>, Seat<'_>, W>(rt.alloc(), &makes, out, rounds)
+}
+
+/// Plays the stories, with these addresses for the nodes.
+fn play_stories<'a, W: Write>(
+    rt: &'a HostRuntime,
+    table: &'a Checked,
+    addresses: &'a [SocketAddr],
+    out: &mut W,
+) -> Result<(), Failure> {
+    let over_memory = Maker {
+        table,
+        addressed: None,
+    };
+    let over_sockets = Maker {
+        table,
+        addressed: Some(Addressed { net: rt, addresses }),
+    };
+    tell_all::<Maker<'_>, Seat<'_>, W>(rt, table, &over_memory, &over_sockets, out)
+}
+
 /// For how many rounds the station is to rest, if the words of the command line ask for that.
 fn rounds_of_rest(rt: &HostRuntime) -> Result<Option<u64>, Failure> {
-    let unknown = Failure("error: the words are `rest` and a number of rounds, or none");
     let Ok(words) = env::args(rt) else {
-        return Err(unknown);
+        return Err(UNKNOWN_WORDS);
     };
     let words = words.collect::<Vec<String>>(rt.alloc())?;
-    match (words.len(), words.get(1), words.get(2)) {
-        (0 | 1, _, _) => Ok(None),
-        (_, Some(first), Some(second)) if first.as_str() == "rest" => {
-            match second.as_str().parse::<u64>() {
-                Ok(rounds) => Ok(Some(rounds)),
-                Err(_) => Err(unknown),
-            }
-        }
-        _ => Err(unknown),
+    rounds_in(&words)
+}
+
+/// The same of the words behind the program's name.
+fn rounds_in(words: &[String]) -> Result<Option<u64>, Failure> {
+    if words.len() <= 1 {
+        return Ok(None);
+    }
+    let (Some(first), Some(second)) = (words.get(1), words.get(2)) else {
+        return Err(UNKNOWN_WORDS);
+    };
+    match second.as_str().parse::<u64>() {
+        Ok(rounds) if first.as_str() == "rest" => Ok(Some(rounds)),
+        _ => Err(UNKNOWN_WORDS),
     }
 }
 

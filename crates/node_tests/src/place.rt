@@ -1,6 +1,7 @@
 //! A node with its equipment.
 
 use crate::changes::Seen;
+use crate::failure::OUT_OF_MEMORY;
 use crate::gear::Gear;
 use crate::process::Process;
 use crate::station::{D1, P1, name};
@@ -22,7 +23,7 @@ pub(crate) struct Place<P> {
 impl<P: Process> Place<P> {
     /// A line comes to the node.
     pub(crate) fn bring_line(&mut self, line: &str, seen: &mut Seen) {
-        seen.is_lacking |= self.process.memory().bring_line(line).is_err();
+        seen.expect(self.process.memory().bring_line(line));
     }
 
     /// The equipment tells how its contacts stand.
@@ -38,7 +39,7 @@ impl<P: Process> Place<P> {
         self.process.memory().fail_after(failing);
         match self.process.round(alloc) {
             Ok(()) => {}
-            Err(NodeFault::OutOfMemory) => seen.is_lacking = true,
+            Err(NodeFault::OutOfMemory) => seen.fail(OUT_OF_MEMORY),
             Err(_) => seen.note(name(self.number), "ended"),
         }
         self.process.memory().fail_after(0)
@@ -46,15 +47,20 @@ impl<P: Process> Place<P> {
 
     /// The equipment hears what the node wrote, and goes on.
     pub(crate) fn equip(&mut self, alloc: Global, now: u64, seen: &mut Seen) {
-        for _ in 0..u64::MAX {
-            let Some(line) = self.process.memory().take_written() else {
-                break;
-            };
-            self.hear(alloc, line.as_str(), seen);
-        }
+        self.hear_all(alloc, seen);
         if let Some(change) = self.gear.go_on(now) {
             seen.note(name(self.number), change);
             self.tell_contacts(seen);
+        }
+    }
+
+    /// All that the node wrote is heard.
+    fn hear_all(&mut self, alloc: Global, seen: &mut Seen) {
+        for _ in 0..u64::MAX {
+            let Some(line) = self.process.memory().take_written() else {
+                return;
+            };
+            self.hear(alloc, line.as_str(), seen);
         }
     }
 
@@ -68,9 +74,14 @@ impl<P: Process> Place<P> {
         if !self.answers {
             return;
         }
-        match format!(in alloc; "done {}", order.number) {
+        self.answer(alloc, order.number, seen);
+    }
+
+    /// The equipment says that the order of this number is in force.
+    fn answer(&mut self, alloc: Global, number: u64, seen: &mut Seen) {
+        match format!(in alloc; "done {number}") {
             Ok(line) => self.bring_line(line.as_str(), seen),
-            Err(_) => seen.is_lacking = true,
+            Err(_) => seen.fail(OUT_OF_MEMORY),
         }
     }
 }

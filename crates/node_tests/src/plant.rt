@@ -3,7 +3,7 @@
 use crate::any_node::Beginning;
 use crate::changes::Seen;
 use crate::desk::Others;
-use crate::failure::Failure;
+use crate::failure::{Failure, OUT_OF_MEMORY};
 use crate::gear::Gear;
 use crate::place::Place;
 use crate::process::{Makes, Process, put};
@@ -79,27 +79,29 @@ impl<'m, M: Makes<P>, P: Process> Plant<'m, M, P> {
         }
     }
 
-    /// Each node begins.
-    pub(crate) fn begin(&mut self) -> Result<(), Failure> {
+    /// Each node begins, with equipment of its own.
+    pub(crate) fn begin(&mut self) {
         for number in 0..NAMES.len() {
-            self.add(number)?;
+            let runs = self.played.guest != Some(number);
+            let gear = Gear::new();
+            match self.begun(number, runs, gear.lies) {
+                Ok(process) => self.add(number, process, gear),
+                Err(failure) => self.seen.fail(failure),
+            }
         }
-        Ok(())
     }
 
-    /// A node begins, with equipment of its own.
-    fn add(&mut self, number: usize) -> Result<(), Failure> {
-        let gear = Gear::new();
-        let runs = self.played.guest != Some(number);
+    fn add(&mut self, number: usize, process: P, gear: Gear) {
         let mut place = Place {
             number,
-            process: self.begun(number, runs, gear.lies)?,
+            process,
             gear,
             answers: true,
         };
         place.tell_contacts(&mut self.seen);
-        self.places.push(place)?;
-        Ok(())
+        if self.places.push(place).is_err() {
+            self.seen.fail(OUT_OF_MEMORY);
+        }
     }
 
     /// What the clocks read.
@@ -122,67 +124,80 @@ impl<'m, M: Makes<P>, P: Process> Plant<'m, M, P> {
     }
 
     /// The process of a node ends, and a new one begins.
-    fn make_anew(&mut self, number: usize) -> Result<(), Failure> {
-        let lies = match self.places.get(number) {
-            Some(place) => place.gear.lies,
-            None => Position::NoEndPosition,
-        };
-        self.replace(number, false, lies)?;
-        self.replace(number, true, lies)?;
+    fn make_anew(&mut self, number: usize) {
+        let lies = self.lies(number);
+        // What the first one had open is closed before the second opens it.
+        self.replace(number, false, lies);
+        self.replace(number, true, lies);
         self.seen.note(name(number), "anew");
         if let Some(place) = self.places.get_mut(number) {
             place.gear.end();
             place.tell_contacts(&mut self.seen);
         }
-        Ok(())
+    }
+
+    /// How the point of a node lies, if it has one.
+    fn lies(&self, number: usize) -> Position {
+        match self.places.get(number) {
+            Some(place) => place.gear.lies,
+            None => Position::NoEndPosition,
+        }
     }
 
     /// Another process, or none with a node, takes the place of one.
-    fn replace(&mut self, number: usize, runs: bool, lies: Position) -> Result<(), Failure> {
-        let process = self.begun(number, runs, lies)?;
+    fn replace(&mut self, number: usize, runs: bool, lies: Position) {
+        match self.begun(number, runs, lies) {
+            Ok(process) => self.put(number, process),
+            Err(failure) => self.seen.fail(failure),
+        }
+    }
+
+    fn put(&mut self, number: usize, process: P) {
         if let Some(place) = self.places.get_mut(number) {
             put(&mut place.process, process);
         }
-        Ok(())
     }
 
     /// What the script has before this round happens.
-    fn act(&mut self) -> Result<(), Failure> {
+    fn act(&mut self) {
         for (round, act) in self.played.script {
             if *round == self.round {
-                self.perform(*act)?;
+                self.perform(*act);
             }
         }
-        Ok(())
     }
 
-    fn perform(&mut self, act: Act) -> Result<(), Failure> {
+    fn perform(&mut self, act: Act) {
         match act {
-            Act::Say(line) => {
-                if let Some(place) = self.places.first_mut() {
-                    place.bring_line(line, &mut self.seen);
-                }
-            }
-            Act::MakeAnew(number) => self.make_anew(number)?,
-            Act::MakeChosenAnew => self.make_anew(self.played.chosen)?,
-            Act::Silence(number) => {
-                if let Some(place) = self.places.get_mut(number) {
-                    place.answers = false;
-                }
-            }
+            Act::Say(line) => self.say(line),
+            Act::MakeAnew(number) => self.make_anew(number),
+            Act::MakeChosenAnew => self.make_anew(self.played.chosen),
+            Act::Silence(number) => self.silence(number),
         }
-        Ok(())
+    }
+
+    /// The operator says a line.
+    fn say(&mut self, line: &str) {
+        if let Some(place) = self.places.first_mut() {
+            place.bring_line(line, &mut self.seen);
+        }
+    }
+
+    /// The equipment of a node doesn't say any more that an order is in force.
+    fn silence(&mut self, number: usize) {
+        if let Some(place) = self.places.get_mut(number) {
+            place.answers = false;
+        }
     }
 
     /// A round of each node, and of its equipment.
-    fn go_on(&mut self) -> Result<(), Failure> {
-        self.act()?;
+    fn go_on(&mut self) {
+        self.act();
         self.run();
         self.carry();
         self.round = self.round.saturating_add(1);
         self.equip();
         self.judge();
-        Ok(())
     }
 
     /// A round of each node.
@@ -209,7 +224,7 @@ impl<'m, M: Makes<P>, P: Process> Plant<'m, M, P> {
             };
             if let Some(receiver) = self.places.get_mut(to.0) {
                 let brought = receiver.process.memory().bring(Some(NodeId(from)), &bytes);
-                self.seen.is_lacking |= brought.is_err();
+                self.seen.expect(brought);
             }
         }
     }
@@ -232,10 +247,7 @@ impl<'m, M: Makes<P>, P: Process> Plant<'m, M, P> {
 
     /// Whether the lamps show what the point allows: one over either leg from the tip, the other one from its left leg.
     fn is_safe(&self) -> bool {
-        let lies = match self.places.get(P1) {
-            Some(place) => place.gear.lies,
-            None => return false,
-        };
+        let lies = self.lies(P1);
         let is_still = !self.is_on(P1);
         let fits = match (self.is_on(S1), self.is_on(S3)) {
             (false, false) => true,
@@ -255,12 +267,11 @@ impl<'m, M: Makes<P>, P: Process> Plant<'m, M, P> {
     }
 
     /// Each node begins, and has so many rounds.
-    pub(crate) fn play(&mut self, rounds: u64) -> Result<(), Failure> {
-        self.begin()?;
+    pub(crate) fn play(&mut self, rounds: u64) {
+        self.begin();
         for _ in 0..rounds {
-            self.go_on()?;
+            self.go_on();
         }
-        Ok(())
     }
 
     /// The process that is played elsewhere gets what came to it, and what it wrote and sent is taken.
@@ -275,7 +286,7 @@ impl<'m, M: Makes<P>, P: Process> Plant<'m, M, P> {
 impl<'m, M: Makes<P>, P: Process> Others for Plant<'m, M, P> {
     fn go_on_beside(&mut self, memory: &mut MemoryOutside) {
         self.exchange(memory);
-        self.seen.is_lacking |= self.go_on().is_err();
+        self.go_on();
         self.exchange(memory);
     }
 }

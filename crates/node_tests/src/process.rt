@@ -39,37 +39,38 @@ pub(crate) struct Seat<'a> {
     course: Course,
     memory: MemoryOutside,
     wire: Option<Wire<'a>>,
-    /// The reading of its last tick.
-    ticked: u64,
 }
 
 impl<'a> Makes<Seat<'a>> for Maker<'a> {
     fn begun(&self, alloc: Global, begins: Beginning) -> Result<Seat<'a>, Failure> {
-        let wire = match self.addressed {
-            Some(addressed) if begins.runs => Some(opened(alloc, addressed, begins.number)?),
-            _ => None,
-        };
+        let wire = wire(alloc, self.addressed, begins)?;
         let driven = Driven::made(alloc, self.table, begins)?;
         Ok(Seat {
             driven,
             course: Course::new(alloc),
             memory: fresh_memory(alloc, begins.now, begins.step),
             wire,
-            ticked: begins.now,
         })
+    }
+}
+
+/// The socket of a process that begins, if it has a node and there are addresses.
+fn wire<'a>(
+    alloc: Global,
+    addressed: Option<Addressed<'a>>,
+    begins: Beginning,
+) -> Result<Option<Wire<'a>>, Failure> {
+    match addressed {
+        Some(addressed) if begins.runs => Ok(Some(opened(alloc, addressed, begins.number)?)),
+        _ => Ok(None),
     }
 }
 
 impl<'a> Process for Seat<'a> {
     fn round(&mut self, alloc: Global) -> Result<(), NodeFault> {
-        self.ticked = self.driven.round(
-            alloc,
-            &mut self.course,
-            &mut self.memory,
-            &mut self.wire,
-            self.ticked,
-        )?;
-        Ok(())
+        let wire = &mut self.wire;
+        self.driven
+            .round(alloc, &mut self.course, &mut self.memory, wire)
     }
 
     fn memory(&mut self) -> &mut MemoryOutside {
@@ -89,6 +90,8 @@ pub(crate) fn fresh_memory(alloc: Global, now: u64, step: u64) -> MemoryOutside 
 struct Driven<'a> {
     node: Option<AnyNode<'a>>,
     latest: u64,
+    /// The reading of its last tick.
+    ticked: u64,
 }
 
 impl<'a> Model for Driven<'a> {
@@ -117,20 +120,20 @@ impl<'a> Driven<'a> {
         Ok(Driven {
             node,
             latest: begins.now,
+            ticked: begins.now,
         })
     }
 
-    /// A round behind one that ticked at `before`. It answers the reading of its tick.
+    /// A round, if there is a node. Where it ends in that, there is none any more.
     fn round(
         &mut self,
         alloc: Global,
         course: &mut Course,
         memory: &mut MemoryOutside,
         wire: &mut Option<Wire<'_>>,
-        before: u64,
-    ) -> Result<u64, NodeFault> {
+    ) -> Result<(), NodeFault> {
         let Some(node) = &mut self.node else {
-            return Ok(before);
+            return Ok(());
         };
         let mut desk = Desk {
             latest: self.latest,
@@ -138,12 +141,18 @@ impl<'a> Driven<'a> {
             wire,
             others: &mut Nobody,
         };
-        let ticked = drive_once(alloc, node, course, &mut desk, before);
+        let ticked = drive_once(alloc, node, course, &mut desk, self.ticked);
         self.latest = desk.latest;
-        if ticked.is_err() {
-            put(&mut self.node, None);
+        match ticked {
+            Ok(ticked) => {
+                self.ticked = ticked;
+                Ok(())
+            }
+            Err(fault) => {
+                put(&mut self.node, None);
+                Err(fault)
+            }
         }
-        ticked
     }
 }
 

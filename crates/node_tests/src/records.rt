@@ -1,6 +1,6 @@
 //! The record of a node's whole process, and whether it is the same once more.
 
-use crate::desk::Desk;
+use crate::desk::{Desk, Others};
 use crate::failure::Failure;
 use crate::plant::{BEGINS, Plant, Played, STEP};
 use crate::process::{Makes, Process, fresh_memory};
@@ -9,7 +9,7 @@ use crate::station::{SMALL, name};
 use node_kinds::node_drive::Outside;
 use node_kinds::simulator_run::ixl_rules::control_table::Checked;
 use node_kinds::simulator_run::simulator_event::NodeId;
-use station_node::node_network::Recorded;
+use station_node::node_network::{MemoryOutside, Recorded};
 use station_node::{replay_node_text, run_node};
 use std::alloc::Global;
 
@@ -29,67 +29,90 @@ pub(crate) fn verdict<M: Makes<P>, P: Process>(
     makes: &M,
     number: usize,
 ) -> Result<&'static str, Failure> {
-    let record = recorded::<M, P>(rt, table, makes, number)?;
-    judged(rt.alloc(), number, record.as_slice())
+    let mut record = Vec::new(rt.alloc());
+    if record_node::<M, P>(rt, table, makes, number, &mut record) {
+        Ok(judged(rt.alloc(), number, &record))
+    } else {
+        Err(Failure("error: a process ended before its time"))
+    }
 }
 
 /// What comes of the lines of a record behind its first one.
-fn judged(alloc: Global, number: usize, record: &[u8]) -> Result<&'static str, Failure> {
+fn judged(alloc: Global, number: usize, record: &[u8]) -> &'static str {
     let (front, _) = record.split_at(record.len() / 2);
-    let whole = replayed(alloc, number, FIRST, record)?;
-    let half = replayed(alloc, number, FIRST, front)?;
-    let other = replayed(alloc, number, OTHER_FIRST, record)?;
-    Ok(match (whole, half, other) {
+    let whole = replayed(alloc, number, FIRST, record);
+    let half = replayed(alloc, number, FIRST, front);
+    let other = replayed(alloc, number, OTHER_FIRST, record);
+    match (whole, half, other) {
         (0, 0, 3) => "the same, and differs with other numbers",
         (0, 0, _) => "the same with other numbers",
         (0, _, _) => "its half differs",
         _ => "differs",
-    })
+    }
 }
 
 /// With which status a record that begins with this number is replayed: 0 where it is the same, and 3 where it differs.
-fn replayed(alloc: Global, number: usize, first: u32, lines: &[u8]) -> Result<u8, Failure> {
+fn replayed(alloc: Global, number: usize, first: u32, lines: &[u8]) -> u8 {
     let Ok(lines) = str::from_utf8(lines) else {
-        return Ok(1);
+        return 1;
     };
     let name = name(number);
-    let record = format!(in alloc; "node {name} first {first} for {FOR_MS}\n{lines}")?;
-    let (mut out, mut err) = (Vec::new(alloc), Vec::new(alloc));
-    let record = record.as_str();
-    let status = replay_node_text(alloc, SMALL, name, record, &mut out, &mut err);
-    let is_same = out.as_slice() == b"same\n".as_slice();
-    Ok(if is_same == (status == 0) { status } else { 1 })
+    match format!(in alloc; "node {name} first {first} for {FOR_MS}\n{lines}") {
+        Ok(record) => status(alloc, name, record.as_str()),
+        Err(_) => 1,
+    }
 }
 
-/// Runs the process of a node while the others are played. It answers the lines of its record behind the first one.
-fn recorded<M: Makes<P>, P: Process>(
+fn status(alloc: Global, name: &str, record: &str) -> u8 {
+    let (mut out, mut err) = (Vec::new(alloc), Vec::new(alloc));
+    let status = replay_node_text(alloc, SMALL, name, record, &mut out, &mut err);
+    let is_same = out.as_slice() == b"same\n".as_slice();
+    if is_same == (status == 0) { status } else { 1 }
+}
+
+/// Runs the process of a node while the others are played, and records it: the lines of its record behind the first one. It tells
+/// whether all went well, and the process ran to its end.
+fn record_node<M: Makes<P>, P: Process>(
     rt: &HostRuntime,
     table: &Checked,
     makes: &M,
     number: usize,
-) -> Result<Vec<u8>, Failure> {
-    let played = Played {
-        guest: Some(number),
-        ..Played::new(rt.alloc(), LATE)
-    };
-    let mut plant = Plant::<M, P>::new(makes, played);
-    plant.begin()?;
+    record: &mut Vec<u8>,
+) -> bool {
+    let mut plant = Plant::<M, P>::new(makes, with_guest(rt.alloc(), number));
+    plant.begin();
     let mut memory = fresh_memory(rt.alloc(), BEGINS, STEP);
     // What its contacts have told comes to it.
     plant.exchange(&mut memory);
+    let ended = record_beside(rt, table, number, &mut memory, &mut plant, record);
+    ended & plant.seen.is_whole()
+}
+
+/// The process of this node is played elsewhere.
+fn with_guest(alloc: Global, number: usize) -> Played {
+    Played {
+        guest: Some(number),
+        ..Played::new(alloc, LATE)
+    }
+}
+
+/// Records a whole process over memory, beside others. It tells whether it ran to its end.
+fn record_beside<O: Others>(
+    rt: &HostRuntime,
+    table: &Checked,
+    number: usize,
+    memory: &mut MemoryOutside,
+    others: &mut O,
+    record: &mut Vec<u8>,
+) -> bool {
     let mut no_wire = None;
-    let mut record = Vec::new(rt.alloc());
     let desk = Desk {
         latest: 0,
-        memory: &mut memory,
+        memory,
         wire: &mut no_wire,
-        others: &mut plant,
+        others,
     };
-    if record_whole(rt, table, number, desk, &mut record) {
-        Ok(record)
-    } else {
-        Err(Failure("error: a process ended before its time"))
-    }
+    record_whole(rt, table, number, desk, record)
 }
 
 /// Records a whole process that has this outside. It tells whether it ran to its end.

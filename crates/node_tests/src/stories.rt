@@ -25,53 +25,53 @@ const FAILING: u64 = 300;
 #[derive(Clone, Copy)]
 struct Story {
     name: &'static str,
+    is_over_sockets: bool,
     script: &'static [Row],
     chosen: usize,
     rounds: u64,
 }
 
-const TO_PROCEED: Story = Story {
-    name: "to proceed and to stop",
-    script: PROCEED,
-    chosen: 0,
-    rounds: PROCEED_ROUNDS,
-};
-
-const RESTARTS: Story = Story {
-    name: "two nodes made anew",
-    script: TWO_RESTARTS,
-    chosen: 0,
-    rounds: TWO_RESTARTS_ROUNDS,
-};
-
 const RESTART: Story = Story {
     name: "a node made anew at proceed",
+    is_over_sockets: false,
     script: MADE_ANEW,
     chosen: INTERLOCKING,
     rounds: MADE_ANEW_ROUNDS,
 };
 
-/// Those that are played over memory, each once.
+const RESTARTS: Story = Story {
+    name: "two nodes made anew",
+    script: TWO_RESTARTS,
+    rounds: TWO_RESTARTS_ROUNDS,
+    ..RESTART
+};
+
+/// Those that are played, each once.
 const STORIES: &[Story] = &[
-    TO_PROCEED,
+    Story {
+        name: "to proceed and to stop",
+        script: PROCEED,
+        rounds: PROCEED_ROUNDS,
+        ..RESTART
+    },
     RESTARTS,
     Story {
         name: "the detector made anew at proceed, and its approach lock",
         script: APPROACH_UNKNOWN,
-        chosen: 0,
         rounds: APPROACH_ROUNDS,
+        ..RESTART
     },
     Story {
         name: "equipment that never says done",
         script: NEVER_DONE,
-        chosen: 0,
         rounds: SILENT_ROUNDS,
+        ..RESTART
     },
     Story {
         name: "equipment that says done no more",
         script: DONE_NO_MORE,
-        chosen: 0,
         rounds: SILENT_ROUNDS,
+        ..RESTART
     },
     RESTART,
     Story {
@@ -94,9 +94,14 @@ const STORIES: &[Story] = &[
         chosen: D1,
         ..RESTART
     },
+    Story {
+        name: "two nodes made anew, over sockets",
+        is_over_sockets: true,
+        ..RESTARTS
+    },
 ];
 
-/// Plays all stories, and writes what was seen of each: over memory, but one over sockets too.
+/// Plays all stories, and writes what was seen of each.
 pub(crate) fn tell_all<M: Makes<P>, P: Process, W: Write>(
     rt: &HostRuntime,
     table: &Checked,
@@ -104,13 +109,26 @@ pub(crate) fn tell_all<M: Makes<P>, P: Process, W: Write>(
     over_sockets: &M,
     out: &mut W,
 ) -> Result<(), Failure> {
-    for story in STORIES {
-        tell::<M, P, W>(rt.alloc(), over_memory, *story, out)?;
-    }
-    writeln!(out, "over sockets")?;
-    tell::<M, P, W>(rt.alloc(), over_sockets, RESTARTS, out)?;
+    tell_stories::<M, P, W>(rt.alloc(), over_memory, over_sockets, out)?;
     tell_failing::<M, P, W>(rt.alloc(), over_memory, out)?;
     tell_records::<M, P, W>(rt, table, over_memory, out)
+}
+
+fn tell_stories<M: Makes<P>, P: Process, W: Write>(
+    alloc: Global,
+    over_memory: &M,
+    over_sockets: &M,
+    out: &mut W,
+) -> Result<(), Failure> {
+    for story in STORIES {
+        let makes = if story.is_over_sockets {
+            over_sockets
+        } else {
+            over_memory
+        };
+        tell::<M, P, W>(alloc, makes, *story, out)?;
+    }
+    Ok(())
 }
 
 /// Plays a story, and writes what was seen.
@@ -125,22 +143,21 @@ fn tell<M: Makes<P>, P: Process, W: Write>(
         chosen: story.chosen,
         ..Played::new(alloc, story.script)
     };
-    play::<M, P>(makes, played, story.rounds, &mut seen)?;
-    writeln!(out, "{}:{}", story.name, seen.text()?)?;
+    play::<M, P>(makes, played, story.rounds, &mut seen);
+    write_seen(story.name, &seen, out)
+}
+
+fn write_seen<W: Write>(name: &str, seen: &Seen, out: &mut W) -> Result<(), Failure> {
+    let text = seen.text()?;
+    writeln!(out, "{name}:{text}")?;
     Ok(())
 }
 
 /// Plays a station. What was seen is put in the place of `seen`.
-fn play<M: Makes<P>, P: Process>(
-    makes: &M,
-    played: Played,
-    rounds: u64,
-    seen: &mut Seen,
-) -> Result<(), Failure> {
+fn play<M: Makes<P>, P: Process>(makes: &M, played: Played, rounds: u64, seen: &mut Seen) {
     let mut plant = Plant::<M, P>::new(makes, played);
-    let done = plant.play(rounds);
+    plant.play(rounds);
     mem::swap(&mut plant.seen, seen);
-    done
 }
 
 /// Plays the first story once for each call of the network that fails, and writes how often the same was seen.
@@ -151,8 +168,18 @@ fn tell_failing<M: Makes<P>, P: Process, W: Write>(
 ) -> Result<(), Failure> {
     let mut wanted = Seen::new(alloc);
     let played = Played::new(alloc, PROCEED);
-    play::<M, P>(makes, played, PROCEED_ROUNDS, &mut wanted)?;
-    let same = count_same::<M, P>(makes, played, wanted.text()?)?;
+    play::<M, P>(makes, played, PROCEED_ROUNDS, &mut wanted);
+    write_same::<M, P, W>(makes, played, &wanted, out)
+}
+
+/// Writes with how many of the failing calls the same is seen.
+fn write_same<M: Makes<P>, P: Process, W: Write>(
+    makes: &M,
+    played: Played,
+    wanted: &Seen,
+    out: &mut W,
+) -> Result<(), Failure> {
+    let same = count_same::<M, P>(makes, played, wanted.text()?);
     writeln!(
         out,
         "{FAILING} calls of the network, each failing once: the same {same} times"
@@ -161,28 +188,20 @@ fn tell_failing<M: Makes<P>, P: Process, W: Write>(
 }
 
 /// With how many of the failing calls the same is seen.
-fn count_same<M: Makes<P>, P: Process>(
-    makes: &M,
-    played: Played,
-    wanted: &str,
-) -> Result<u64, Failure> {
+fn count_same<M: Makes<P>, P: Process>(makes: &M, played: Played, wanted: &str) -> u64 {
     let mut same: u64 = 0;
     for failing in 0..FAILING {
         let failing = failing.saturating_add(1);
-        let is_same = is_same::<M, P>(makes, Played { failing, ..played }, wanted)?;
+        let is_same = is_same::<M, P>(makes, Played { failing, ..played }, wanted);
         same = same.saturating_add(u64::from(is_same));
     }
-    Ok(same)
+    same
 }
 
-fn is_same<M: Makes<P>, P: Process>(
-    makes: &M,
-    played: Played,
-    wanted: &str,
-) -> Result<bool, Failure> {
+fn is_same<M: Makes<P>, P: Process>(makes: &M, played: Played, wanted: &str) -> bool {
     let mut seen = Seen::new(played.alloc);
-    play::<M, P>(makes, played, PROCEED_ROUNDS, &mut seen)?;
-    Ok(seen.text()? == wanted)
+    play::<M, P>(makes, played, PROCEED_ROUNDS, &mut seen);
+    seen.is(wanted)
 }
 
 /// Runs the whole process of each node while the others are played, and writes what comes of its record.
@@ -194,8 +213,14 @@ fn tell_records<M: Makes<P>, P: Process, W: Write>(
 ) -> Result<(), Failure> {
     for number in 0..NAMES.len() {
         let verdict = verdict::<M, P>(rt, table, makes, number)?;
-        writeln!(out, "record of {}: {verdict}", name(number))?;
+        write_verdict(number, verdict, out)?;
     }
+    Ok(())
+}
+
+fn write_verdict<W: Write>(number: usize, verdict: &str, out: &mut W) -> Result<(), Failure> {
+    let name = name(number);
+    writeln!(out, "record of {name}: {verdict}")?;
     Ok(())
 }
 
@@ -211,9 +236,13 @@ pub(crate) fn tell_rest<M: Makes<P>, P: Process, W: Write>(
         step: REST_STEP,
         ..Played::new(alloc, REST)
     };
-    play::<M, P>(makes, played, rounds, &mut seen)?;
+    play::<M, P>(makes, played, rounds, &mut seen);
+    write_links(rounds, &seen, out)
+}
+
+fn write_links<W: Write>(rounds: u64, seen: &Seen, out: &mut W) -> Result<(), Failure> {
     seen.text()?;
-    let Seen { ready, lost, .. } = &seen;
+    let (ready, lost) = (seen.ready, seen.lost);
     writeln!(out, "{rounds} rounds: {ready} links ready, {lost} lost")?;
     Ok(())
 }
