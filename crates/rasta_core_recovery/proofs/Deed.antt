@@ -15,7 +15,9 @@ use Rattle.rasta_core_run.specs.phase.State.{State}
 use Rattle.rasta_core_run.specs.pdu.Pdu.{Pdu}
 use Rattle.rasta_core_run.specs.body.Body.{Body}
 use Rattle.rasta_core_run.specs.body.Body.TheVariants.{ConnectionRequest, ConnectionResponse, RetransmissionRequest, RetransmissionResponse, DisconnectionRequest, Heartbeat, Data, RetransmittedData}
+use Rattle.rasta_core.specs.Order.{Rises}
 use Rattle.rasta_core_recovery.proofs.Healthy.{is_reading, waits}
+use Rattle.rasta_core_recovery.proofs.LongTags.{AllAbove, retagged_above, still_above}
 use Rattle.rasta_core_recovery.proofs.Words.{IsTalk, IsPlain, IsSpeech, IsSimple, Says, says_then, says_again}
 
 -- an end stays in its connection
@@ -68,6 +70,8 @@ pub record Taken (p : Pdu) (l k : LinkState) (ps : List Pdu) : Type 0 where
   -- no item is given by it, and none waits again
   pub given : k.given ≡ l.given
   pub waiting : IsPlain p.body → k.waiting ≡ still_waiting (l.sent - 1 - behind p l) l.waiting
+  -- and what waits, waits above what it confirms
+  pub above : Rises 0 l.sent l.waiting → AllAbove (l.sent - 1 - behind p l) k.waiting
 
 -- a PDU is missing, and is asked for
 pub record Asked (l k : LinkState) (ps : List Pdu) : Type 0 where
@@ -108,6 +112,7 @@ module _ (l : LinkState) (p : Pdu) (connected_is : is_open l.phase ≡ true) (jo
     speech = subst IsSpeech (sym is) tt;
     given = refl;
     waiting = λ plain. absurd (subst IsPlain is plain);
+    above = λ rises. retagged_above (l.sent - 1 - behind p l) (l.sent + 1) t.waiting (omega arith);
   })
     where
       t : LinkState
@@ -138,6 +143,7 @@ module _ (l : LinkState) (p : Pdu) (connected_is : is_open l.phase ≡ true) (jo
     speech = speech;
     given = refl;
     waiting = λ is. refl;
+    above = λ rises. still_above (l.sent - 1 - behind p l) 0 l.sent l.waiting rises;
   })
 
   handed_again : (items : List (List ℕ)) → is_reading l.phase ≡ true → IsSpeech p.body → InTurn p l → Deed p l (handing items (taking p l)).link []
@@ -156,6 +162,7 @@ module _ (l : LinkState) (p : Pdu) (connected_is : is_open l.phase ≡ true) (jo
     speech = speech;
     given = refl;
     waiting = λ is. refl;
+    above = λ rises. still_above (l.sent - 1 - behind p l) 0 l.sent l.waiting rises;
   })
 
   comes_up : IsSpeech p.body → InTurn p l → Deed p l (record (taking p l) { phase = phase.Up }) []
@@ -174,6 +181,7 @@ module _ (l : LinkState) (p : Pdu) (connected_is : is_open l.phase ≡ true) (jo
     speech = speech;
     given = refl;
     waiting = λ is. refl;
+    above = λ rises. still_above (l.sent - 1 - behind p l) 0 l.sent l.waiting rises;
   })
 
   resumes : p.body ≡ RetransmissionResponse → Deed p l (record (taking p l) { phase = phase.RetransmissionRunning }) []
@@ -192,6 +200,7 @@ module _ (l : LinkState) (p : Pdu) (connected_is : is_open l.phase ≡ true) (jo
     speech = subst IsSpeech (sym is) tt;
     given = refl;
     waiting = λ plain. refl;
+    above = λ rises. still_above (l.sent - 1 - behind p l) 0 l.sent l.waiting rises;
   })
 
   closes_by : (IsSimple p.body → ⊥) → Deed p l (record (taking p l) { phase = phase.Closed; closed_at = l.clock }) []

@@ -1,5 +1,5 @@
 -- What a call does at an end that is in a connection and stays in it: what it says confirms and returns no less than before.
-use Rattle.std.proofs.Common.{◌≡◌, ℕ, ◌∙◌, ◌+◌, ◌-◌, ◌^◌, ◌≤◌, ◌<◌, Bool, true, false, ◌&&◌, not, nat_le, ◌==◌, List, [], ◌∷◌, ◌++◌, None, Result, Ok, Err, if◌then◌else◌, refl, sym, ap, subst, arith}
+use Rattle.std.proofs.Common.{◌≡◌, ℕ, ◌∙◌, ◌+◌, ◌-◌, ◌^◌, ◌≤◌, ◌<◌, ◌⊎◌, inl, inr, Bool, true, false, ◌&&◌, not, nat_le, ◌==◌, List, [], ◌∷◌, ◌++◌, None, Result, Ok, Err, if◌then◌else◌, refl, sym, ap, subst, arith}
 use Rattle.std.specs.Prelude.{is_ok}
 use Rattle.std.proofs.lemmas.Bool.{false≢true}
 use Rattle.rasta_core_run.specs.Sequence.{stamp}
@@ -30,6 +30,7 @@ pub record Stayed (l k : LinkState) : Type 0 where
   pub partner_first : k.partner_first ≡ l.partner_first
   pub clock : k.clock ≡ l.clock
   pub joined : is_asking k ≡ false
+  pub waiting : (k.waiting ≡ l.waiting) ⊎ ((item : List ℕ) × (k.waiting ≡ l.waiting ++ (record { tag = l.sent; item = item }) ∷ []))
 
 -- it says something, or nothing, or takes a PDU that came and says what answers it
 pub data Moved (Came : Pdu → Type 0) (kept : ℕ) (l k : LinkState) (ps : List Pdu) : Type 0 where
@@ -43,7 +44,7 @@ module _ (now : ℕ) (l : LinkState) (is_in : is_open l.phase ≡ true) (settled
     is = record { clock = settled_at.clock; connected = is_in; joined = joined; young = settled_at.young; own = own }
 
     as_before : (Came : Pdu → Type 0) → Moved Came kept l l []
-    as_before Came = speaks (record { own_first = refl; partner_first = refl; clock = refl; joined = joined }) refl refl refl (refl, omega arith, omega arith)
+    as_before Came = speaks (record { own_first = refl; partner_first = refl; clock = refl; joined = joined; waiting = inl refl }) refl refl refl (refl, omega arith, omega arith)
 
     one_said : (body : Body) → IsTalk body → Chain (voice_of l) l.sent (l.expected - 1) kept (pdu_of (header_of l) l.sent body ∷ []) (l.sent + 1) (l.expected - 1) kept
     unfolding pdu_of
@@ -56,7 +57,7 @@ module _ (now : ℕ) (l : LinkState) (is_in : is_open l.phase ≡ true) (settled
         (λ o. beats (is_up l.phase && nat_le 300 (l.clock - l.sent_at))) (λ o. absurd (false≢true o))
       where
         beats : (b : Bool) → let s = (if b then sending Heartbeat l else silent l) in Moved NothingCame kept l s.link s.pdus
-        beats true = speaks (record { own_first = refl; partner_first = refl; clock = refl; joined = joined }) refl refl refl (one_said Heartbeat tt)
+        beats true = speaks (record { own_first = refl; partner_first = refl; clock = refl; joined = joined; waiting = inl refl }) refl refl refl (one_said Heartbeat tt)
         beats false = as_before NothingCame
 
     opens_move : opens now l ≡ false → is_open (opening now l).link.phase ≡ true → Moved NothingCame kept l (opening now l).link (opening now l).pdus
@@ -84,7 +85,7 @@ module _ (now : ℕ) (l : LinkState) (is_in : is_open l.phase ≡ true) (settled
         (λ o. given (is_ok (acceptance l))) (λ o. absurd (false≢true o))
       where
         given : (b : Bool) → let s = (if b then giving item l else silent l) in Moved NothingCame kept l s.link s.pdus
-        given true = speaks (record { own_first = refl; partner_first = refl; clock = refl; joined = joined }) refl refl refl (one_said (Data (item ∷ [])) tt)
+        given true = speaks (record { own_first = refl; partner_first = refl; clock = refl; joined = joined; waiting = inr (item, refl) }) refl refl refl (one_said (Data (item ∷ [])) tt)
         given false = as_before NothingCame
 
     -- a PDU that is read
@@ -102,6 +103,7 @@ module _ (now : ℕ) (l : LinkState) (is_in : is_open l.phase ≡ true) (settled
           partner_first = ap (λ (j : LinkState). j.partner_first) a.link;
           clock = ap (λ (j : LinkState). j.clock) a.link;
           joined = (asked_joined now l k ps is a).joined;
+          waiting = inl (ap (λ (j : LinkState). j.waiting) a.link);
         }) (ap (λ (j : LinkState). j.expected) a.link) (ap (λ (j : LinkState). j.partner_stamp) a.link) (ap (λ (j : LinkState). j.own_stamp) a.link)
             (asked_chain now kept l k ps is a some fits kept_is)
         by_deed k ps receiver sender o (takes passes t) = hears_one p came receiver sender passes t
@@ -146,7 +148,7 @@ moves_by (Receives bytes connection) moment end is_in at own joined kept some fi
 pub data AskMoved (Came : Pdu → Type 0) (l k : LinkState) (ps : List Pdu) : Type 0 where
   asks_on : k ≡ l → ps ≡ [] → AskMoved Came l k ps
   joins_by : (p : Pdu) → Came p → (p.receiver == l.identity.own) ≡ true → (p.sender == l.identity.partner) ≡ true → k.clock ≡ l.clock → is_asking k ≡ false → k.own_stamp ≡ l.own_stamp
-      → Met p l k ps → AskMoved Came l k ps
+      → k.sent ≡ l.sent + 1 → Met p l k ps → AskMoved Came l k ps
 
 module _ (now : ℕ) (l : LinkState) (is_in : is_open l.phase ≡ true) (settled_at : IsSettledAt now l) (own : l.own_stamp ≤ now) (asking : is_asking l ≡ true) where
   ticks_ask : is_open (ticking now l).link.phase ≡ true → AskMoved NothingCame l (ticking now l).link (ticking now l).pdus
@@ -194,7 +196,7 @@ module _ (now : ℕ) (l : LinkState) (is_in : is_open l.phase ≡ true) (settled
       by_deed : (k : LinkState) (ps : List Pdu) → (p.receiver == l.identity.own) ≡ true → (p.sender == l.identity.partner) ≡ true → is_open k.phase ≡ true → AskDeed p l k ps → AskMoved Came l k ps
       by_deed k ps receiver sender o (ask_leaves left) = absurd (false≢true (sym left.is_out ∙ o))
       by_deed k ps receiver sender o (ask_keeps same none) = asks_on same none
-      by_deed k ps receiver sender o (ask_joins opens clock in_it joined own_is said confirmed sent row met) = joins_by p came receiver sender clock joined own_is met
+      by_deed k ps receiver sender o (ask_joins opens clock in_it joined own_is said confirmed sent row met) = joins_by p came receiver sender clock joined own_is sent met
 
       choose : (a b : Bool) → (p.receiver == l.identity.own) ≡ a → (p.sender == l.identity.partner) ≡ b
           → let r = (if not a then refusing verdict.NotForMe l else if not b then refusing verdict.WrongSender l else by_state (state_at l.clock l) p l)

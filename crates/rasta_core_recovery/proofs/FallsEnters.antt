@@ -24,6 +24,7 @@ use Rattle.rasta_core_run.specs.body.Body.TheVariants.{ConnectionResponse}
 use Rattle.rasta_core_run.specs.body.Opening.{Opening}
 use Rattle.rasta_core_run.specs.PduRead.{reading}
 use Rattle.rasta_core_run.specs.Values.{IsPdu}
+use Rattle.rasta_core_run.specs.window.Unconfirmed.{Unconfirmed}
 use Rattle.rasta_core_run.specs.Each.{Each}
 use Rattle.rasta_core_run.specs.Ends.{Receives, Sent, end_after, handed_out, outcome, reading_of}
 use Rattle.rasta_core_run.specs.Events.{IsDelivered, MayCall}
@@ -122,6 +123,10 @@ only_one (f ∷ (g ∷ others)) n m p q one a b = absurd (omega (arith, one))
 first_part : {X : Type 0} (P : X → Type 0) (one other : List X) → Each P (one ++ other) → Each P one
 first_part P [] other each = tt
 first_part P (x ∷ one) other each = (each.0, first_part P one other each.1)
+
+from_none : (waiting : List Unconfirmed) → Each (λ (held : Unconfirmed). 0 ≤ held.tag) waiting
+from_none [] = tt
+from_none (first ∷ others) = (omega arith, from_none others)
 
 -- two readings of lately with one stamp are one
 same_reading : (one other clock : ℕ) → one ≤ clock → clock ≤ one + 4000 → other ≤ clock → clock ≤ other + 4000 → stamp one ≡ stamp other → one ≡ other
@@ -250,6 +255,8 @@ module _ (laws : Laws) (names : Names) (are : AreNames names) (ends : Ends) (tim
     returns = λ more. absurd (omega (arith, more));
     recent = λ more. absurd (omega (arith, more));
     fresh = λ behind. absurd (let e = entered.granted.expected in omega (arith, behind, e));
+    early = λ few. absurd (omega (arith, few));
+    paired = λ few. absurd (omega (arith, few));
   }
     where
       of : IsOfFlow pdu both.together.client.flow
@@ -317,6 +324,8 @@ module _ (laws : Laws) (names : Names) (are : AreNames names) (ends : Ends) (tim
     returns = λ more_sent. absurd (omega (arith, more_sent));
     recent = λ more_sent. absurd (omega (arith, more_sent));
     fresh = λ behind. omega arith;
+    early = λ few. absurd (omega (arith, few));
+    paired = λ few. absurd (omega (arith, few));
   }
 
   server_rises : Rises (IsOf names (the_server new 0)) nothing_sent (ends.sent ++ more) (stands new.server.link kept)
@@ -356,4 +365,6 @@ module _ (laws : Laws) (names : Names) (are : AreNames names) (ends : Ends) (tim
     };
     of_client = client_rises;
     of_server = server_rises;
+    client_marked = record { before = omega arith; paired = λ few. absurd (omega (arith, few)); waits = λ young. from_none ends.client.link.waiting };
+    server_marked = record { before = omega arith; paired = λ few. absurd (omega (arith, few)); waits = λ young. from_none new.server.link.waiting };
   }

@@ -12,9 +12,9 @@ use Rattle.rasta_core_run.specs.Values.{IsPdu}
 use Rattle.rasta_core_run.specs.identity.Role.{Role}
 use Rattle.rasta_core_run.specs.PduRead.{reading}
 use Rattle.rasta_core_run.specs.pdu.Pdu.{Pdu}
-use Rattle.rasta_core_recovery.specs.Falls.{Stand, NoneFalls, Rises, Speaker, IsToldAt, IsOf}
+use Rattle.rasta_core_recovery.specs.Falls.{Stand, NoneFalls, Rises, Speaker, IsPaired, IsToldAt, IsOf}
 use Rattle.rasta_core_recovery.proofs.Bridge.{WrittenIsRead}
-use Rattle.rasta_core_recovery.proofs.Words.{Voice, IsWord, Chain}
+use Rattle.rasta_core_recovery.proofs.Words.{Voice, IsWord, Chain, chain_ends}
 
 pub none_falls : (one : Stand) → NoneFalls one one
 none_falls one = (omega arith, omega arith, omega arith, omega arith)
@@ -98,9 +98,9 @@ rises_alike Q at (d ∷ ds) each = (at, none_falls at, each.0, rises_alike Q at 
 -- each PDU of a chain, as it is handed out
 module _ (law : WrittenIsRead) (names : Names) (speaker : Speaker) (v : Voice) (now : ℕ) (read_now : now ≡ speaker.clock / 1000) (stamped : v.stamp ≡ stamp now) (first : v.first ≡ speaker.first) (partner_first : v.partner_first ≡ speaker.partner_first)
     (kept : speaker.kept ≤ now) where
-  told : (n d q : ℕ) (p : Pdu) → 1000 * speaker.partner_clock ≤ 1000000 * q + 3820000000 → IsWord v n d q p
+  told : (n d q : ℕ) (p : Pdu) → 1000 * speaker.partner_clock ≤ 1000000 * q + 3820000000 → speaker.mark.sent ≤ n → IsPaired speaker.partner_mark d q → IsWord v n d q p
       → IsToldAt speaker speaker.time (record { sent = n + 1; now = now; confirms = d; returns = q }) p
-  told n d q p recent w = record {
+  told n d q p recent since paired w = record {
     some = omega arith;
     number = w.numbered.number ∙ ap (λ (f : ℕ). wire f n) first ∙ ap (wire speaker.first) (omega arith);
     stamped = w.numbered.stamped ∙ stamped;
@@ -109,20 +109,26 @@ module _ (law : WrittenIsRead) (names : Names) (speaker : Speaker) (v : Voice) (
     returns = λ more. w.returns;
     recent = λ more. omega (arith, recent);
     fresh = λ expected. kept;
+    early = λ few. absurd (omega (arith, few, since));
+    paired = paired;
   }
 
-  pub rises_said : (connection : Option ℕ) (before n c r end d q : ℕ) (ps : List Pdu) → before ≤ now → 1000 * speaker.partner_clock ≤ 1000000 * r + 3820000000 → Each IsPdu ps
+  pub rises_said : (connection : Option ℕ) (before n c r end d q : ℕ) (ps : List Pdu) → before ≤ now → 1000 * speaker.partner_clock ≤ 1000000 * r + 3820000000
+      → speaker.mark.sent ≤ n → d ≤ c → q ≤ r → IsPaired speaker.partner_mark d q → Each IsPdu ps
       → Chain v n c r ps end d q
       → Rises (IsOf names speaker) (record { sent = n; now = before; confirms = c; returns = r }) (handed_out speaker.time speaker.who connection (spellings names.key ps))
       (record { sent = end; now = now; confirms = d; returns = q })
-  rises_said connection before n c r end d q [] early recent are chain = (omega (arith, chain.0), early, chain.1, chain.2)
-  rises_said connection before n c r end d q (p ∷ ps) early recent are (x, y, h, i, w, more) = (
+  rises_said connection before n c r end d q [] early recent since still same paired are chain = (omega (arith, chain.0), early, chain.1, chain.2)
+  rises_said connection before n c r end d q (p ∷ ps) early recent since still same paired are (x, y, h, i, w, more) = (
     record { sent = n + 1; now = now; confirms = x; returns = y },
     (omega arith, early, h, i),
     λ sender same in_time pdu read. subst (IsToldAt speaker speaker.time (record { sent = n + 1; now = now; confirms = x; returns = y })) (same_pdu pdu read)
-        (told n x y p (omega (arith, recent, i)) w),
-    rises_said connection now (n + 1) x y end d q ps (omega arith) (omega (arith, recent, i)) are.1 more,
+        (told n x y p (omega (arith, recent, i)) since pair w),
+    rises_said connection now (n + 1) x y end d q ps (omega arith) (omega (arith, recent, i)) (omega (arith, since)) (omega (arith, still, h)) (omega (arith, same, i)) paired are.1 more,
   )
     where
+      pair : IsPaired speaker.partner_mark x y
+      pair few = let most = chain_ends v (n + 1) x y end d q ps more in let early = paired (omega (arith, few, most.1, h, still)) in omega (arith, early, most.2)
+
       same_pdu : (that : Pdu) → reading names.key (writing names.key p) ≡ Ok that → p ≡ that
       same_pdu that read = let is : reading names.key (writing names.key p) ≡ Ok p = law names.key p are.0 in cc

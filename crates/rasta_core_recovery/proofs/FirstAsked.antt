@@ -155,7 +155,7 @@ module _ (laws : Laws) (names : Names) (are : AreNames names) (ends : Ends) (tim
 
           on : IsAsked names ends → AskMoved (CameBy ends.client.link call) ends.client.link (outcome call ends.moment ends.client).link (outcome call ends.moment ends.client).pdus
               → IsAsked names client_new
-          on was (joins_by p came receiver sender clock joined own met) = absurd (false≢true (sym joined ∙ asks))
+          on was (joins_by p came receiver sender clock joined own sent met) = absurd (false≢true (sym joined ∙ asks))
           on was (asks_on same none) = record {
             link = same ∙ was.link ∙ sym (ap (λ (k : LinkState). asking_link names k.clock k.closed_at k.own_first k.own_stamp) same);
             fits = let f = was.fits in let e = ap (λ (k : LinkState). k.own_first) same in omega (arith, f, e);

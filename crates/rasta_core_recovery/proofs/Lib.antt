@@ -82,6 +82,12 @@ pub mod FallsGoes
 pub mod FallsEnters
 pub mod FallsEvents
 pub mod FallsAlways
+-- What was said long ago is confirmed.
+pub mod LongTags
+pub mod LongMarks
+pub mod LongEvents
+pub mod LongGiven
+pub mod LongAgo
 -- The first good round.
 pub mod FirstAsked
 pub mod FirstGrants

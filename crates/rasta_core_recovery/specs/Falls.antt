@@ -2,6 +2,7 @@
 -- nor what they confirm and return falls.
 use Rattle.std.specs.Prelude.{◌≡◌, ℕ, ◌+◌, ◌-◌, ◌*◌, ◌≤◌, ◌<◌, true, false, List, [], ◌∷◌, Option, Some, Ok, if◌then◌else◌}
 use Rattle.rasta_core_run.specs.Bag.{lifetime}
+use Rattle.rasta_core_run.specs.Each.{Each}
 use Rattle.rasta_core_run.specs.Ends.{Sent, reading_of}
 use Rattle.rasta_core_run.specs.Names.{Names}
 use Rattle.rasta_core_run.specs.Run.{Ends}
@@ -21,6 +22,34 @@ pub record Stand : Type 0 where
   pub now : ℕ
   pub confirms : ℕ
   pub returns : ℕ
+
+-- Where an end stood at a moment that is marked: how many PDUs it had sent, and what its clock read.
+pub record Mark : Type 0 where
+  pub sent : ℕ
+  pub now : ℕ
+
+-- both ends, at one moment
+pub record Marks : Type 0 where
+  pub client : Mark
+  pub server : Mark
+
+-- as they stand now
+abbrev pub marks_of : Ends → Marks
+marks_of ends = record {
+  client = record { sent = ends.client.link.sent; now = ends.client.link.clock };
+  server = record { sent = ends.server.link.sent; now = ends.server.link.clock };
+}
+
+abbrev pub unmarked : Marks
+unmarked = record { client = record { sent = 0; now = 0 }; server = record { sent = 0; now = 0 } }
+
+-- what is confirmed and what is returned belong together: where a PDU from behind the marked moment is returned, so many are confirmed
+abbrev pub IsPaired : Mark → ℕ → ℕ → Type 0
+IsPaired mark confirms returns = confirms < mark.sent → returns ≤ mark.now
+
+-- all items of an end that wait do so under its PDUs from this number on
+abbrev pub WaitFrom : ℕ → LinkState → Type 0
+WaitFrom number link = Each (λ held. number ≤ held.tag) link.waiting
 
 -- one that hasn't fallen
 abbrev pub NoneFalls : Stand → Stand → Type 0
@@ -43,9 +72,13 @@ pub record Speaker : Type 0 where
   pub partner_clock : ℕ
   pub expected : ℕ
   pub kept : ℕ
+  -- where it stood, and its partner, at the moment that is marked
+  pub mark : Mark
+  pub partner_mark : Mark
 
 -- It sent this PDU where it stood so: with this number and this stamp, which its clock read then. All but its first PDU confirm and return
 -- what its stand tells, and this was read lately then; and one that its partner may still take bears a stamp no older than the one that this keeps.
+-- What it had sent by the marked moment bears no later stamp; and what it confirms and returns belong together.
 pub record IsToldAt (speaker : Speaker) (sent_at : ℕ) (at : Stand) (pdu : Pdu) : Type 0 where
   pub some : 1 ≤ at.sent
   pub number : pdu.sequence_number ≡ wire speaker.first (at.sent - 1)
@@ -55,6 +88,8 @@ pub record IsToldAt (speaker : Speaker) (sent_at : ℕ) (at : Stand) (pdu : Pdu)
   pub returns : 2 ≤ at.sent → pdu.confirmed_time_stamp ≡ stamp at.returns
   pub recent : 2 ≤ at.sent → 1000 * speaker.partner_clock + 1001 * sent_at ≤ 1000000 * at.returns + 1001 * speaker.time + 3820000000
   pub fresh : speaker.expected < at.sent → speaker.kept ≤ at.now
+  pub early : at.sent ≤ speaker.mark.sent → at.now ≤ speaker.mark.now
+  pub paired : IsPaired speaker.partner_mark at.confirms at.returns
 
 -- a datagram, if it is of this end in this connection, and may still be delivered
 abbrev pub IsOf : Names → Speaker → Sent → Stand → Type 0
@@ -73,8 +108,8 @@ stands link kept = record { sent = link.sent; now = link.clock; confirms = confi
 abbrev pub nothing_sent : Stand
 nothing_sent = record { sent = 0; now = 0; confirms = 0; returns = 0 }
 
-abbrev pub the_client : Ends → ℕ → Speaker
-the_client ends kept = record {
+abbrev pub the_client_since : Marks → Ends → ℕ → Speaker
+the_client_since marks ends kept = record {
   who = role.Client;
   connection = ends.client.connection;
   first = ends.client.link.own_first;
@@ -84,10 +119,15 @@ the_client ends kept = record {
   partner_clock = ends.server.clock;
   expected = ends.server.link.expected;
   kept = kept;
+  mark = marks.client;
+  partner_mark = marks.server;
 }
 
-abbrev pub the_server : Ends → ℕ → Speaker
-the_server ends kept = record {
+abbrev pub the_client : Ends → ℕ → Speaker
+the_client = the_client_since unmarked
+
+abbrev pub the_server_since : Marks → Ends → ℕ → Speaker
+the_server_since marks ends kept = record {
   who = role.Server;
   connection = ends.server.connection;
   first = ends.server.link.own_first;
@@ -97,7 +137,12 @@ the_server ends kept = record {
   partner_clock = ends.client.clock;
   expected = ends.client.link.expected;
   kept = kept;
+  mark = marks.server;
+  partner_mark = marks.client;
 }
+
+abbrev pub the_server : Ends → ℕ → Speaker
+the_server = the_server_since unmarked
 
 -- The reading whose stamp an end keeps of its partner is past, and was read lately: 2005 ms before the end knew its own stamp to be
 -- returned, at most. The clocks are exact ones, in microseconds.
@@ -106,16 +151,31 @@ pub record Keeps (link : LinkState) (clock partner_clock kept : ℕ) : Type 0 wh
   pub before : kept ≤ reading_of partner_clock
   pub lately : 1000 * partner_clock + 1003000 * link.own_stamp ≤ 1000000 * kept + 2005000000 + 1003 * clock
 
+-- An end has sent no fewer PDUs than at its marked moment; it keeps of its partner what belongs to what it expects; and where its own stamp is
+-- younger than that moment, what waits was sent since.
+pub record IsMarked (mark partner_mark : Mark) (link : LinkState) (kept : ℕ) : Type 0 where
+  pub before : mark.sent ≤ link.sent
+  pub paired : IsPaired partner_mark (confirmed_by link) kept
+  pub waits : mark.now < link.own_stamp → WaitFrom mark.sent link
+
 -- What both ends of a connection have sent in it doesn't fall. A client that still asks keeps nothing.
-pub record Rising (names : Names) (ends : Ends) : Type 0 where
+pub record RisingSince (names : Names) (marks : Marks) (ends : Ends) : Type 0 where
   pub client_kept : ℕ
   pub server_kept : ℕ
   pub none_yet : is_asking ends.client.link ≡ true → client_kept ≡ 0
   pub client_keeps : is_asking ends.client.link ≡ false → Keeps ends.client.link ends.client.clock ends.server.clock client_kept
   pub server_keeps : Keeps ends.server.link ends.server.clock ends.client.clock server_kept
-  pub of_client : Rises (IsOf names (the_client ends server_kept)) nothing_sent ends.sent (stands ends.client.link client_kept)
-  pub of_server : Rises (IsOf names (the_server ends client_kept)) nothing_sent ends.sent (stands ends.server.link server_kept)
+  pub of_client : Rises (IsOf names (the_client_since marks ends server_kept)) nothing_sent ends.sent (stands ends.client.link client_kept)
+  pub of_server : Rises (IsOf names (the_server_since marks ends client_kept)) nothing_sent ends.sent (stands ends.server.link server_kept)
+  pub client_marked : IsMarked marks.client marks.server ends.client.link client_kept
+  pub server_marked : IsMarked marks.server marks.client ends.server.link server_kept
+
+abbrev pub Rising : Names → Ends → Type 0
+Rising names = RisingSince names unmarked
 
 -- so it is while both are in it
+abbrev pub NothingFallsSince : Names → Marks → Ends → Type 0
+NothingFallsSince names marks ends = AreIn ends → RisingSince names marks ends
+
 abbrev pub NothingFalls : Names → Ends → Type 0
-NothingFalls names ends = AreIn ends → Rising names ends
+NothingFalls names = NothingFallsSince names unmarked

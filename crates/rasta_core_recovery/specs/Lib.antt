@@ -6,3 +6,4 @@ pub mod Replies
 pub mod Confirming
 pub mod ServerConfirming
 pub mod Falls
+pub mod LongAgo

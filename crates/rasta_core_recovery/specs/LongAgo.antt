@@ -1,0 +1,33 @@
+-- What an end sent and gave long ago doesn't wait any more.
+use Rattle.std.specs.Prelude.{◌≡◌, ◌≢◌, ◌+◌, ◌≤◌, ◌<◌, length, Ok}
+use Rattle.rasta_core_run.specs.Ends.{EndState, Receives}
+use Rattle.rasta_core_run.specs.Events.{Calls, Event}
+use Rattle.rasta_core_run.specs.Names.{Names}
+use Rattle.rasta_core_run.specs.PduRead.{reading}
+use Rattle.rasta_core_run.specs.Run.{Ends}
+use Rattle.rasta_core_run.specs.State.{LinkState}
+use Rattle.rasta_core_run.specs.body.Body.TheVariants.{RetransmissionRequest}
+use Rattle.rasta_core_run.specs.identity.Role.{Role}
+use Rattle.rasta_core_run.specs.pdu.Pdu.{Pdu}
+use Rattle.rasta_core_recovery.specs.Confirming.{AreIn}
+use Rattle.rasta_core_recovery.specs.Falls.{WaitFrom}
+
+-- Both ends are in a connection at one moment and at another, and it is the same.
+pub record StayIn (one other : Ends) : Type 0 where
+  pub before : AreIn one
+  pub after : AreIn other
+  pub same : other.server.connection ≡ one.server.connection
+
+-- What waits at an end was sent since then, where its own stamp is younger; and so it is where that was 1800 ms ago or before.
+pub record WaitsSince (one other : LinkState) : Type 0 where
+  pub returned : one.clock < other.own_stamp → WaitFrom one.sent other
+  pub long_ago : one.clock + 1800 ≤ other.clock → WaitFrom one.sent other
+
+-- an event in which this end isn't asked to send again what waits
+abbrev pub AsksNothingAgain : Names → Role → Event → Type 0
+AsksNothingAgain names who (Calls other (Receives bytes connection)) = other ≡ who → (pdu : Pdu) → reading names.key bytes ≡ Ok pdu → pdu.body ≢ RetransmissionRequest
+AsksNothingAgain names who _ = Unit {0}
+
+-- No more items wait than an end has given since then, where that was 1800 ms ago or before.
+abbrev pub WaitsAsGiven : EndState → EndState → Type 0
+WaitsAsGiven one other = one.link.clock + 1800 ≤ other.link.clock → length other.link.waiting + length one.given ≤ length other.given
