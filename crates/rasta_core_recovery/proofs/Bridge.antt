@@ -326,7 +326,7 @@ front_may : (names : Names) (a b : List Event) (ends : Ends) → MayRun names (a
 front_may names [] b ends may = tt
 front_may names (e ∷ a) b ends may = (may.0, front_may names a b (happened e ends) may.1)
 
-run_append : (a b : List Event) (ends : Ends) → run (a ++ b) ends ≡ run b (run a ends)
+pub run_append : (a b : List Event) (ends : Ends) → run (a ++ b) ends ≡ run b (run a ends)
 run_append [] b ends = refl
 run_append (e ∷ a) b ends = run_append a b (happened e ends)
 

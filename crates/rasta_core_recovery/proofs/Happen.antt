@@ -73,7 +73,7 @@ run_joined : (one other : List Event) (ends : Ends) → run (one ++ other) ends 
 run_joined [] other ends = refl
 run_joined (first ∷ one) other ends = run_joined one other (happened first ends)
 
-may_joined : (names : Names) (one other : List Event) (ends : Ends) → MayRun names one ends → MayRun names other (run one ends) → MayRun names (one ++ other) ends
+pub may_joined : (names : Names) (one other : List Event) (ends : Ends) → MayRun names one ends → MayRun names other (run one ends) → MayRun names (one ++ other) ends
 may_joined names [] other ends first second = second
 may_joined names (head ∷ one) other ends first second = (first.0, may_joined names one other (happened head ends) first.1 second)
 

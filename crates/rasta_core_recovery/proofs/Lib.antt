@@ -86,6 +86,7 @@ pub mod FallsAlways
 pub mod LongTags
 pub mod LongMarks
 pub mod LongEvents
+pub mod OneConnection
 pub mod LongGiven
 pub mod LongAgo
 -- The first good round.
@@ -104,3 +105,6 @@ pub mod AnyFirstWork
 pub mod WithdrawnHears
 pub mod WithdrawnSpeaks
 pub mod WithdrawnServers
+-- What was given before rounds is confirmed behind them.
+pub mod LastingEnds
+pub mod LastingRounds

@@ -47,10 +47,10 @@ module _ (names : Names) (n : ℕ) (z : Pair) (at : ℕ → Pair) (rounds : Roun
       omega (arith, before, one, ap (λ (q : Pair). q.client.clock) r.1)
 
   module _ (m : ℕ) (most : m < n) (short : m ≤ 1000) (s : Lasts m) (reading : ℕ) (start : (at 0).server.clock ≡ reading + 10) where
-    client_short : (k : ℕ) → k ≤ m → (at k).client.clock ≤ (at 0).client.clock + 90000
+    pub client_short : (k : ℕ) → k ≤ m → (at k).client.clock ≤ (at 0).client.clock + 90000
     client_short k le = omega (arith, client_time m (omega (arith, most)) s k le, short, le)
 
-    server_short : (k : ℕ) → k ≤ m → (at k).server.clock ≤ reading + 90000
+    pub server_short : (k : ℕ) → k ≤ m → (at k).server.clock ≤ reading + 90000
     server_short k le = omega (arith, server_time m (omega (arith, most)) s.both k le, start, short, le)
 
     module _ (k : ℕ) (le : k ≤ m) (client_tuned server_tuned : Bool) (talk : Talk names (at 0).client.clock reading client_tuned server_tuned (at k)) where
@@ -86,7 +86,7 @@ module _ (names : Names) (n : ℕ) (z : Pair) (at : ℕ → Pair) (rounds : Roun
               (server_bounds names (at 0).client.clock reading client_tuned server_tuned (at k) r.0 talk fits.0 fits.1 client_early server_early) server_tuned (at k).server (server_step (at k) r.0)
           w = server_worked names (at 0).client.clock reading client_tuned server_tuned (at k) r.0 talk fits.0 fits.1 client_early server_early (subst (λ (q : Pair). is_open q.server.phase ≡ true) r.1 server_in)
 
-    lasting : Lasting names m (at 0).client.clock reading at
+    pub lasting : Lasting names m (at 0).client.clock reading at
     lasting = record {
       goes = λ k less client_tuned server_tuned talk. goes_on k (omega (arith, less)) client_tuned server_tuned talk (s.both (suc k) (omega (arith, less)));
       alone = λ client_tuned server_tuned talk server_in. alone_on m (omega arith) client_tuned server_tuned talk server_in;

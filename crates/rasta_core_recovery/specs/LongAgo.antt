@@ -1,5 +1,5 @@
 -- What an end sent and gave long ago doesn't wait any more.
-use Rattle.std.specs.Prelude.{◌≡◌, ◌≢◌, ◌+◌, ◌≤◌, ◌<◌, length, Ok}
+use Rattle.std.specs.Prelude.{ℕ, ◌≡◌, ◌≢◌, ◌+◌, ◌≤◌, ◌<◌, length, Ok}
 use Rattle.rasta_core_run.specs.Ends.{EndState, Receives}
 use Rattle.rasta_core_run.specs.Events.{Calls, Event}
 use Rattle.rasta_core_run.specs.Names.{Names}
@@ -31,3 +31,18 @@ AsksNothingAgain names who _ = Unit {0}
 -- No more items wait than an end has given since then, where that was 1800 ms ago or before.
 abbrev pub WaitsAsGiven : EndState → EndState → Type 0
 WaitsAsGiven one other = one.link.clock + 1800 ≤ other.link.clock → length other.link.waiting + length one.given ≤ length other.given
+
+-- No more items of an end wait at one moment than it has given since another; and at both its link counts what it has given.
+pub record WaitsAsGivenSince (one other : EndState) : Type 0 where
+  pub items : length other.link.waiting + length one.given ≤ length other.given
+  pub counted : one.link.given ≡ length one.given
+  pub counts : other.link.given ≡ length other.given
+
+-- Both ends are in a connection, and it was the server's last at an earlier moment, too: so they were in it then.
+pub record AreStillIn (one other : Ends) : Type 0 where
+  pub are : AreIn other
+  pub same : other.server.connection ≡ one.server.connection
+
+-- so many rounds at work are enough for what was given before them, where both ends stay in their connection: 6 s
+abbrev pub lasting_rounds : ℕ
+lasting_rounds = 600

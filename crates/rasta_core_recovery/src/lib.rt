@@ -3,10 +3,12 @@
 #![tactic(auto)]
 
 mod falls;
+mod lasting;
 mod laws;
 mod takings;
 
 pub use falls::{nothing_falls, what_was_sent_long_ago_is_confirmed};
+pub use lasting::what_was_given_before_is_confirmed;
 pub use laws::{
     clients_at_work_confirm, clients_at_work_speak, gaps_are_rare, gaps_are_short,
     good_rounds_are_at_work, good_rounds_may_happen, quiet_clients_confirm_at_once,

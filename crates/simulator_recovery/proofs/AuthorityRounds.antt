@@ -325,8 +325,9 @@ module _ (laws : AuthorityLaws) (sited : SitedTable) (station : IsStation sited.
         signals_are : timed.run.signals ≡ (passed 10000 (replicate (nodes flowing.state.sited.site) 10000) flowing.state.run).signals
         signals_are = ap (λ (w : WorldState). w.signals) world_is
 
-        from : (server : ClockedControllerState SignalState) × (slice_get flowing.state.run.signals place ≡ Some server) × (controls_timed.c.host ≡ server.host) → controls_timed.c.host ≡ c.host
-        from (server, e, same) = same ∙ ap (λ (x : ClockedControllerState SignalState). x.host) (same_Some server c (sym e ∙ found))
+        from : (server : ClockedControllerState SignalState) × (slice_get flowing.state.run.signals place ≡ Some server) × (controls_timed.c.host ≡ server.host)
+            × (controls_timed.c.connection ≡ server.connection) → controls_timed.c.host ≡ c.host
+        from (server, e, same, still) = same ∙ ap (λ (x : ClockedControllerState SignalState). x.host) (same_Some server c (sym e ∙ found))
 
     many_timed : 2 ≤ length (seen place before).server.taken → 2 ≤ length (timed_links.ends place).server.taken
     many_timed many = let e = ap (λ (x : Ends). length x.server.taken) start_is in let l = ap length (later_server_taken (seen place before)) in omega (arith, e, l, many)

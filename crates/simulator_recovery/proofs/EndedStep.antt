@@ -17,7 +17,6 @@ use Rattle.simulator_run.specs.ixl_client.Step.{clocked, hearing, ticking}
 use Rattle.simulator_run.specs.ixl_rules.Due.{At}
 use Rattle.simulator_run.specs.ixl_rules.Rules.{authorised, count, is_move_due, is_proceed_due, moved, moving, moving_one, proceeding, ruled}
 use Rattle.simulator_run.specs.ixl_rules.State.{IxlState, KnownPointState, RouteState}
-use Rattle.simulator_run.specs.ixl_rules.Step as ixl
 use Rattle.simulator_run.specs.ixl_rules.Step.{Input, all_clocked, clocked_known_point, stepped, ticked}
 use Rattle.simulator_run.specs.ixl_rules.StepSoFar.{Point, StepSoFar, begun_with, empty_outbox, with_route}
 use Rattle.simulator_run.specs.ixl_rules.Table.{Need, Row, Table}

@@ -165,9 +165,13 @@ pub mod NothingDueStops
 pub mod MovesKnown
 pub mod SectionsSensed
 pub mod SectionsInCount
+pub mod SectionsWalk
+pub mod SectionsAnew
+pub mod ConfirmedSince
 pub mod SectionsInRound
 pub mod SectionsInSpeech
 pub mod SectionsInTime
+pub mod RoomSince
 pub mod DueRoutes
 pub mod DueKnown
 pub mod DueProceeding

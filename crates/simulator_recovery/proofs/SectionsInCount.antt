@@ -17,7 +17,7 @@ use Rattle.simulator_run.specs.rasta_core.State.{LinkState, is_open}
 use Rattle.simulator_run.specs.sci_telegram.TelegramRead.{reading}
 use Rattle.simulator_run.specs.sci_telegram.declared.message.Agreement.TheVariants.{Match, NoMatch}
 use Rattle.simulator_run.specs.sci_telegram.declared.message.Initialisation.TheVariants.{InitialisationCompleted, VersionAnswer}
-use Rattle.simulator_run.specs.object_host.Host.{HostSoFar, HostState, is_completed, said}
+use Rattle.simulator_run.specs.object_host.Host.{HostSoFar, HostState, fallen, is_completed, said}
 use Rattle.simulator_run.specs.object_host.Made.{items_given}
 use Rattle.simulator_run.specs.object_host.Object.{Keeps, Loses, ObjectCall, Pays, Senses, Takes, Ticks, contacts_in, object_after_all, one_of, reports_paid}
 use Rattle.simulator_run.specs.object_host.Step.{beginning, host_step, initial_status, most_objects, report_then}
@@ -48,15 +48,11 @@ use Rattle.simulator_recovery.proofs.SectionsInitial.{length_is, statuses, whole
 use Rattle.simulator_recovery.proofs.SectionsKept.{AllowsAll, StepKept}
 use Rattle.simulator_recovery.proofs.SectionsNames.{says}
 use Rattle.simulator_recovery.proofs.SectionsTold.{all_both}
-use Rattle.simulator_recovery.proofs.SectionsWindow.{many_few, owed_many, paid_many}
+use Rattle.simulator_recovery.proofs.SectionsWindow.{IsIdle, few_come, idle_step, losing_none, many_few, owed_many, paid_many}
 use Rattle.simulator_recovery.proofs.StationTells.{TellsDetector, keeps as tells_keep}
 use Rattle.simulator_recovery.proofs.Telling.{detectors_tell, sections_told}
 
 -- ---- what is owed
-
-losing_none : (list : List Section) → owed_many (losing list) ≡ 0
-losing_none [] = refl
-losing_none (first ∷ others) = losing_none others
 
 -- where no contact comes the sections are as before
 come_same : (now : ℕ) (calls : List ObjectCall) → AreComing now calls → contacts_in calls ≡ [] → (list : List Section) → object_after_all detection_behaviour calls list ≡ list
@@ -277,17 +273,32 @@ module _ (d : DetectorSays) where
         by_loss true = let none = losing_none host.object in omega (arith, none)
         by_loss false = omega arith
 
-    begun_all : owed_many begun.object ≤ length d.names
-    begun_all = let few = many_few begun.object in let long = length_is d begun.object (begun_kept d now input host kept_so t).object in omega (arith, few, long)
+    -- nothing, where the initialisation isn't completed as the step begins
+    stage_begun : begun.stage ≡ (if has_lost (record host { link = settled now host.link }) then stage.Outside else host.stage)
+    unfolding beginning fallen
+    stage_begun = choose (has_lost (record host { link = settled now host.link }))
+      where
+        choose : (b : Bool) → (if b then record host { link = settled now host.link; stage = stage.Outside; object = losing host.object } else record host { link = settled now host.link }).stage
+            ≡ (if b then stage.Outside else host.stage)
+        choose true = refl
+        choose false = refl
+
+    begun_none : IsIdle host → is_completed begun.stage ≡ false → owed_many begun.object ≡ 0
+    begun_none idle early = subst (λ (l : List Section). owed_many l ≡ 0) (sym (t.begun_is ∙ at_first (has_lost (record host { link = settled now host.link })) now host.object))
+        (by_loss (has_lost (record host { link = settled now host.link })) (ap is_completed (sym stage_begun) ∙ early))
+      where
+        by_loss : (b : Bool) → is_completed (if b then stage.Outside else host.stage) ≡ false → owed_many (if b then losing host.object else host.object) ≡ 0
+        by_loss true e = losing_none host.object
+        by_loss false e = idle e
 
     come_is : come d now input host kept_so t ≡ begun.object
     come_is = come_same now t.comes t.are_coming (t.senses ∙ quiet) begun.object
 
     -- what was told before, and what is told in it, of what the step owed
-    pub step_tells : (start : List (List ℕ)) (bound : ℕ) → is_open part.host.link.phase ≡ true → is_completed part.host.stage ≡ true → length d.names + length d.names ≤ bound
+    pub step_tells : (start : List (List ℕ)) (bound : ℕ) → is_open part.host.link.phase ≡ true → is_completed part.host.stage ≡ true → length d.names ≤ bound → IsIdle host
         → (is_completed begun.stage ≡ true → tellings start + owed_many host.object ≤ bound) → (is_completed begun.stage ≡ false → tellings start ≡ 0)
         → tellings (start ++ items d now input host kept_so t) + owed_many part.host.object ≤ bound
-    step_tells start bound opened completed enough late early = by_stage (is_completed begun.stage) refl
+    step_tells start bound opened completed enough idle late early = by_stage (is_completed begun.stage) refl
       where
         whole : tellings (start ++ items d now input host kept_so t) ≡ tellings start + (reported t.own + reported t.reports)
         whole = tellings_both start (items d now input host kept_so t)
@@ -314,31 +325,36 @@ module _ (d : DetectorSays) where
             let own = subst (λ (reports : List Report). reported reports ≤ length d.names) (sym t.says.own_is)
             (own_few begun.object t.says.answers t.says.begins (begun_kept d now input host kept_so t).object (answers_so d now input host kept_so t) t.says.are_some)
             in let before = early e
-            in let few = begun_all
-            in omega (arith, whole, reports_few, after, came, own, before, few, enough)
+            in let none = begun_none idle e
+            in omega (arith, whole, reports_few, after, came, own, before, none, enough)
+
+-- no contact
+abbrev pub Quiet : Input → Type 0
+Quiet input = contacts_of input ≡ []
+
+pub quiet_allows : AllowsAll Quiet
+quiet_allows = record { ticks = refl; comes = λ bytes. refl }
 
 -- ---- a detector of a station
 
 module _ (laws : SectionLaws) (site : Site) (table : Table) (station : IsStation site) (once : Once site) (at : ℕ) (entry : DetectorEntry) (there : slice_get site.detectors at ≡ Some entry)
-    (bound : ℕ) (enough : length (section_names site entry) + length (section_names site entry) ≤ bound) where
+    (bound : ℕ) (enough : length (section_names site entry) ≤ bound) where
   abbrev d : DetectorSays
   d = says laws.expected.talked.links laws.expected.written site table station once at entry there
 
-  -- no contact
-  abbrev pub Quiet : Input → Type 0
-  Quiet input = contacts_of input ≡ []
-
-  pub allows : AllowsAll Quiet
-  allows = record { ticks = refl; comes = λ bytes. refl }
-
   -- Once its initialisation is completed, so often it has told of its sections, or owes to.
+  abbrev pub IsFew : HostState (List Section) → Lists → Type 0
+  IsFew host lists = is_open host.link.phase ≡ true → is_completed host.stage ≡ true → tellings d lists.given + owed_many host.object ≤ bound
+
+  -- before, it owes nothing
   pub record Counted (host : HostState (List Section)) (lists : Lists) : Type 0 where
     pub tells : TellsDetector site entry host lists
-    pub few : is_open host.link.phase ≡ true → is_completed host.stage ≡ true → tellings d lists.given + owed_many host.object ≤ bound
+    pub idle : IsIdle host
+    pub few : IsFew host lists
 
   module _ (input : Input) (connection : ℕ) (c : ClockedControllerState (List Section)) (ends : Ends) (quiet : Quiet input) (link_is : ends.server.link ≡ settled (reading_of c.clock) c.host.link)
       (clock_is : ends.server.clock ≡ c.clock)
-      (q : Counted c.host (lists_of ends.server)) where
+      (tells : TellsDetector site entry c.host (lists_of ends.server)) (idle : IsIdle c.host) where
     abbrev now : ℕ
     now = reading_of c.clock
 
@@ -353,24 +369,32 @@ module _ (laws : SectionLaws) (site : Site) (table : Table) (station : IsStation
 
     given_so : after.given ≡ kept (entering input connection ends) ends.server.given ++ given_now
     given_so = given_is detection_behaviour (HasNames (section_names site entry)) (spoken site) entry.name site.station.name
-        (detectors_keep site (section_names site entry)) detectors_tell laws.expected.tell.detectors input connection c ends link_is clock_is q.tells
+        (detectors_keep site (section_names site entry)) detectors_tell laws.expected.tell.detectors input connection c ends link_is clock_is tells
 
     owed_all : owed_many c.host.object ≤ length d.names
-    owed_all = let few = many_few c.host.object in let long = length_is d c.host.object q.tells.kept_so.object in omega (arith, few, long)
+    owed_all = let few = many_few c.host.object in let long = length_is d c.host.object tells.kept_so.object in omega (arith, few, long)
 
-    step_few : is_open done.host.link.phase ≡ true → is_completed done.host.stage ≡ true → tellings d after.given + owed_many done.host.object ≤ bound
-    step_few opened completed = subst (λ (given : List (List ℕ)). tellings d given + owed_many done.host.object ≤ bound) (sym given_so)
+    pub then_tells : TellsDetector site entry done.host after
+    then_tells = (tells_keep site laws.expected.tell).detectors input connection at c ends link_is clock_is
+        (λ x f. subst (λ (y : DetectorEntry). TellsDetector site y c.host (lists_of ends.server)) (same_Some entry x (sym there ∙ f)) tells) entry there
+
+    pub then_idle : IsIdle done.host
+    then_idle = idle_step now input c.host (few_come site station laws.told now input at entry there c.host tells.kept_so)
+
+    -- where it was so in the connection that it was in, if it was in one by the clock
+    pub step_few : (is_open ends.server.link.phase ≡ true → IsFew c.host (lists_of ends.server)) → IsFew done.host after
+    step_few was opened completed = subst (λ (given : List (List ℕ)). tellings d given + owed_many done.host.object ≤ bound) (sym given_so)
         (by_cases (is_open ends.server.link.phase) refl (entering input connection ends) refl)
       where
         from : (start : List (List ℕ)) → (is_completed (beginning detection_behaviour now c.host).stage ≡ true → tellings d start + owed_many c.host.object ≤ bound)
             → (is_completed (beginning detection_behaviour now c.host).stage ≡ false → tellings d start ≡ 0)
             → tellings d (start ++ given_now) + owed_many done.host.object ≤ bound
-        from start late early = step_tells d now input c.host q.tells.kept_so (laws.told now input c.host) quiet start bound opened completed enough late early
+        from start late early = step_tells d now input c.host tells.kept_so (laws.told now input c.host) quiet start bound opened completed enough idle late early
 
         -- in the connection that it was in
         inside : is_open ends.server.link.phase ≡ true → tellings d (ends.server.given ++ given_now) + owed_many done.host.object ≤ bound
-        inside f = from ends.server.given (λ was. q.few was_open (sym (ap is_completed still) ∙ was)) (λ early. unsaid d _ c.host.stage ends.server.given (sym (ap is_completed still)
-            ∙ early) (q.tells.said was_open))
+        inside f = from ends.server.given (λ late. was f was_open (sym (ap is_completed still) ∙ late)) (λ early. unsaid d _ c.host.stage ends.server.given (sym (ap is_completed still)
+            ∙ early) (tells.said was_open))
           where
             opened_then : is_open (settled now c.host.link).phase ≡ true
             opened_then = ap (λ (l : LinkState). is_open l.phase) (sym link_is) ∙ f
@@ -383,15 +407,15 @@ module _ (laws : SectionLaws) (site : Site) (table : Table) (station : IsStation
 
         by_cases : (b : Bool) → is_open ends.server.link.phase ≡ b → (entered : Option ℕ) → entering input connection ends ≡ entered
             → tellings d (kept entered ends.server.given ++ given_now) + owed_many done.host.object ≤ bound
-        by_cases b f (Some other) g = let none = none_told d in let all = owed_all in from [] (λ was. omega (arith, none, all, enough)) (λ early. none)
+        by_cases b f (Some other) g = let none = none_told d in let all = owed_all in from [] (λ late. omega (arith, none, all, enough)) (λ early. none)
         by_cases true f None g = inside f
         by_cases false f None g = absurd (false≢true
             (sym (stays_out detection_behaviour (HasNames (section_names site entry)) (spoken site) entry.name site.station.name
-            (detectors_keep site (section_names site entry)) detectors_tell laws.expected.tell.detectors input connection c ends link_is clock_is q.tells f g) ∙ opened))
+            (detectors_keep site (section_names site entry)) detectors_tell laws.expected.tell.detectors input connection c ends link_is clock_is tells f g) ∙ opened))
 
-  pub keeps : StepKept Quiet Counted
+  pub keeps : StepKept Quiet (λ last. Counted)
   keeps input connection c ends quiet link_is clock_is q = record {
-    tells = (tells_keep site laws.expected.tell).detectors input connection at c ends link_is clock_is
-        (λ x f. subst (λ (y : DetectorEntry). TellsDetector site y c.host (lists_of ends.server)) (same_Some entry x (sym there ∙ f)) q.tells) entry there;
-    few = step_few input connection c ends quiet link_is clock_is q;
+    tells = then_tells input connection c ends quiet link_is clock_is q.tells q.idle;
+    idle = then_idle input connection c ends quiet link_is clock_is q.tells q.idle;
+    few = step_few input connection c ends quiet link_is clock_is q.tells q.idle (λ f. q.few);
   }

@@ -1,5 +1,5 @@
 -- What a detector whose link is ready gives while none of its contacts changes, and when its window has room.
-use Rattle.std.proofs.Common.{◌≡◌, ◌⊎◌, inl, inr, ℕ, ◌+◌, ◌-◌, ◌<◌, ◌≤◌, ◌∙◌, nat_lt, Bool, true, false, List, [], ◌∷◌, length, map, Option, Some, None, slice_get, refl, sym, ap, subst, arith, ltb-false, ltb-true}
+use Rattle.std.proofs.Common.{◌≡◌, ◌⊎◌, inl, inr, ℕ, ◌+◌, ◌-◌, ◌<◌, ◌≤◌, ◌∙◌, nat_lt, Bool, true, false, List, [], ◌∷◌, length, map, Option, Some, slice_get, refl, sym, ap, subst, arith, ltb-false, ltb-true}
 use Rattle.std.proofs.lemmas.Bool.{false≢true}
 use Rattle.std.proofs.lemmas.Option.{same_Some, slice_get_within}
 use Rattle.ixl_table.specs.Table.{IsTableOf}
@@ -10,25 +10,21 @@ use Rattle.simulator_run.specs.rasta_core.Clock.{settled}
 use Rattle.simulator_run.specs.rasta_core.Each.{Each}
 use Rattle.simulator_run.specs.rasta_core.EachLink.{AreTimely}
 use Rattle.simulator_run.specs.rasta_core.Ends.{reading_of}
-use Rattle.simulator_run.specs.rasta_core.Links.{AreLinks, Links, run_links}
+use Rattle.simulator_run.specs.rasta_core.Links.{Links}
 use Rattle.simulator_run.specs.rasta_core.Parameters.{stops_at_greatest, window_size}
 use Rattle.simulator_run.specs.rasta_core.State.{confirmed_items, is_open, is_up}
-use Rattle.simulator_run.specs.object_host.Host.{is_completed}
+use Rattle.simulator_run.specs.object_host.Host.{HostState, is_completed}
 use Rattle.simulator_run.specs.object_host.Told.{contacts_of}
-use Rattle.simulator_run.specs.object_host.declared.input.Input.{Input}
 use Rattle.simulator_run.specs.object_host.declared.stage.Stage.{Stage}
 use Rattle.simulator_run.specs.object_host.declared.stage.Stage.TheVariants as stage
 use Rattle.simulator_run.specs.tds_ctl.Controlled.{detection_behaviour}
 use Rattle.simulator_run.specs.tds_ctl.declared.section.Section.{Section}
 use Rattle.simulator_run.specs.ixl_rules.Table.{Table}
 use Rattle.simulator_run.specs.simulator_event.declared.event.Event.{Event}
-use Rattle.simulator_run.specs.Happens.{happens}
 use Rattle.simulator_run.specs.Links.{AreLinksOf, ServerEnd, end_of_server, names_at}
 use Rattle.simulator_run.specs.Nodes.{Node, detector_link, links}
-use Rattle.simulator_run.specs.Refusals.{refusal}
 use Rattle.simulator_run.specs.Run.{CanHappen, after_all}
 use Rattle.simulator_run.specs.State.{ClockedControllerState, WorldState}
-use Rattle.simulator_run_links.specs.Events.{events_of}
 use Rattle.simulator_run_links.specs.HasLinks.{IsStanding, links_in}
 use Rattle.simulator_run_links.specs.Whole.{IsWhole}
 use Rattle.simulator_headline.specs.Reached.{IsReached}
@@ -42,25 +38,26 @@ use Rattle.simulator_recovery.specs.Told.{HasNames, SaidAll, SaidBy}
 use Rattle.simulator_recovery.proofs.AlwaysOnLinks.{HasHeld}
 use Rattle.simulator_recovery.proofs.AtLink.{mapped, of_third}
 use Rattle.simulator_recovery.proofs.ClientLinks.{up_open}
-use Rattle.simulator_recovery.proofs.ControllersOnLinks.{lists_at, lists_of}
+use Rattle.simulator_recovery.proofs.ControllersOnLinks.{Lists, lists_at, lists_of}
 use Rattle.simulator_recovery.proofs.LinkCounts.{settled_open}
 use Rattle.simulator_recovery.proofs.Lists.{map_length}
 use Rattle.simulator_recovery.proofs.SectionsAlways.{Reporting, SectionLaws, reporting_first, reporting_held, reporting_on, timely_of}
 use Rattle.simulator_recovery.proofs.SectionsCalls.{DetectorSays, item}
 use Rattle.simulator_recovery.proofs.SectionsController.{TellsSections}
-use Rattle.simulator_recovery.proofs.SectionsInCount.{Counted, Quiet, ToldOf, allows, keeps, said_all, tellings}
+use Rattle.simulator_recovery.proofs.SectionsInCount.{Counted, ToldOf, keeps, said_all, tellings}
 use Rattle.simulator_recovery.proofs.SectionsInitial.{length_is}
-use Rattle.simulator_recovery.proofs.SectionsKept.{Brings, event_so}
+use Rattle.simulator_recovery.proofs.SectionsKept.{Brings}
 use Rattle.simulator_recovery.proofs.SectionsNames.{says}
 use Rattle.simulator_recovery.proofs.SectionsOver.{controller_open, report_there, server_count}
 use Rattle.simulator_recovery.proofs.SectionsRounds.{WindowLaws, detector_there, owes_none}
 use Rattle.simulator_recovery.proofs.SectionsStay.{stays_paid}
+use Rattle.simulator_recovery.proofs.SectionsWalk.{IsSoIn, all_so}
 use Rattle.simulator_recovery.proofs.SectionsWindow.{many_few, owed_many}
 use Rattle.simulator_recovery.proofs.WindowsFew.{few_wait}
 use Rattle.simulator_recovery.proofs.WindowsQuiet.{Stand}
 
 -- a detector that has completed its initialisation has said all of it
-completed_said : (d : DetectorSays) (Wrong : Type 0) (how_far : Stage) (given : List (List ℕ)) → is_completed how_far ≡ true
+pub completed_said : (d : DetectorSays) (Wrong : Type 0) (how_far : Stage) (given : List (List ℕ)) → is_completed how_far ≡ true
     → SaidBy detection_behaviour (HasNames d.names) Wrong (item d) d.version how_far given
     → SaidAll detection_behaviour (HasNames d.names) (item d) d.version given
 completed_said d Wrong stage.Completed given completed said = said
@@ -120,43 +117,13 @@ module _ (laws : SectionLaws) (site : Site) (table : Table) (station : IsStation
   abbrev pub IsCalmHere : Event → Type 0
   IsCalmHere happening = LeavesSection site table section happening × BringsNone happening
 
-  -- ---- event by event
+  -- how often its detector has told of its sections, or owes to, where that is bounded so
+  module _ (bound : ℕ) (enough : length (section_names site entry) ≤ bound) where
+    abbrev CountedHere : Option ℕ → HostState (List Section) → Lists → Type 0
+    CountedHere last = Counted laws site table station once reporter.0 entry there bound enough
 
-  module _ (bound : ℕ) (enough : length (section_names site entry) + length (section_names site entry) ≤ bound) where
-    abbrev QuietHere : Input → Type 0
-    QuietHere = Quiet laws site table station once reporter.0 entry there bound enough
-
-    -- a station with its links, and what its detector has told of its sections
-    record IsCountedIn (world : WorldState) (network : Links) : Type 0 where
-      timely : AreTimely (links site) (names_at site) network
-      are : AreLinksOf site world network
-      reporting : Reporting laws site table station once is_table world network
-      counted : (c : ClockedControllerState (List Section)) → slice_get world.detectors reporter.0 ≡ Some c
-          → Counted laws site table station once reporter.0 entry there bound enough c.host (lists_at network link)
-
-    named : AreLinks (links site) (names_at site)
-    named = laws.expected.talked.links.named site station once
-
-    counted_on : (happening : Event) (world : WorldState) (network : Links) → refusal site happening world ≡ None → Brings site table reporter.0 QuietHere happening → IsCountedIn world network
-        → IsCountedIn (happens site table happening world) (run_links (events_of site table happening world) network)
-    counted_on happening world network may brings o =
-        let whole = o.reporting.stands.whole
-        in let follows = laws.expected.talked.links.exactly site table happening world network named whole o.timely o.are may
-        in record {
-          timely = laws.expected.talked.links.time (links site) (names_at site) (events_of site table happening world) network named o.timely follows.may;
-          are = follows.are;
-          reporting = reporting_on laws site table station once is_table happening world network
-              (record { named = named; whole = whole; timely = o.timely; are = o.are; may = may; follows = follows }) o.reporting;
-          counted = event_so laws.expected.tell.calls site table reporter.0 QuietHere (Counted laws site table station once reporter.0 entry there bound enough)
-              (keeps laws site table station once reporter.0 entry there bound enough)
-              (allows laws site table station once reporter.0 entry there bound enough) world network whole o.are o.counted happening brings;
-        }
-
-    all_counted : (events : List Event) (world : WorldState) (network : Links) → CanHappen site table events world → Each (Brings site table reporter.0 QuietHere) events → IsCountedIn world network
-        → (after : Links) × IsCountedIn (after_all site table events world) after
-    all_counted [] world network can brings o = (network, o)
-    all_counted (first ∷ others) world network can brings o = all_counted others (happens site table first world) (run_links (events_of site table first world) network) can.1 brings.1
-        (counted_on first world network can.0 brings.0 o)
+    abbrev IsCountedIn : WorldState → Links → Type 0
+    IsCountedIn = IsSoIn laws site table station once is_table reporter.0 CountedHere (keeps laws site table station once reporter.0 entry there bound enough)
 
   -- ---- at a moment
 
@@ -210,17 +177,18 @@ module _ (laws : SectionLaws) (site : Site) (table : Table) (station : IsStation
 
   module _ (old : WorldState) (first : Links) (timely : AreTimely (links site) (names_at site) first) (are : AreLinksOf site old first)
       (r : Reporting laws site table station once is_table old first) (was : IsReadyOn site link old) where
-    enough : length d.names + length d.names ≤ bound_in first
-    enough = let each = (its_told old first timely are r was).each in omega (arith, each)
+    enough : length d.names ≤ bound_in first
+    enough = omega arith
 
     begins : IsCountedIn (bound_in first) enough old first
     begins = record {
       timely = timely;
       are = are;
       reporting = r;
-      counted = λ other e. subst (λ (x : ClockedControllerState (List Section)). Counted laws site table station once reporter.0 entry there (bound_in first) enough x.host (lists_at first link))
+      so = λ other e. subst (λ (x : ClockedControllerState (List Section)). Counted laws site table station once reporter.0 entry there (bound_in first) enough x.host (lists_at first link))
           (same_Some (its old first timely are r was).controller other (sym (its old first timely are r was).is_there ∙ e)) (record {
             tells = (told_so old first timely are r was).tells;
+            idle = λ early. absurd (false≢true (sym early ∙ (its old first timely are r was).completed));
             few = λ opened completed. let owed = its_owed old first timely are r was in omega (arith, owed);
           });
     }
@@ -230,7 +198,7 @@ module _ (laws : SectionLaws) (site : Site) (table : Table) (station : IsStation
         let before = its_count old first timely are r was
         in let behind = its_count new last o.timely o.are o.reporting is
         in let x = its new last o.timely o.are o.reporting is
-        in let most = (o.counted x.controller x.is_there).few (its_open new last o.timely o.are o.reporting is) x.completed
+        in let most = (o.so x.controller x.is_there).few (its_open new last o.timely o.are o.reporting is) x.completed
         in let names_few = d.few
         in omega (arith, before, behind, most, names_few)
 
@@ -242,7 +210,8 @@ module _ (laws : SectionLaws) (site : Site) (table : Table) (station : IsStation
       (reporting_on laws site table station once is_table) old
       = reporting_held laws site table station once is_table old reached
       in let timely = timely_of laws site table station once is_table old held.has
-      in let last = all_counted (bound_in (links_in held.has)) (enough old (links_in held.has) timely held.has.are held.holds was) events old (links_in held.has) can brings
+      in let last = all_so laws site table station once is_table reporter.0 (CountedHere (bound_in (links_in held.has)) (enough old (links_in held.has) timely held.has.are held.holds was))
+      (keeps laws site table station once reporter.0 entry there (bound_in (links_in held.has)) (enough old (links_in held.has) timely held.has.are held.holds was)) events old (links_in held.has) can brings
       (begins old (links_in held.has) timely held.has.are held.holds was)
       in few_then old (links_in held.has) timely held.has.are held.holds was (after_all site table events old) last.0 last.1 is
 

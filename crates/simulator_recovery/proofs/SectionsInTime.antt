@@ -74,7 +74,7 @@ pub record HoldsOfRounds (P : Event → Type 0) : Type 0 where
   pub ticks : (node : NodeId) → P (event.Tick node)
   pub reaches : (point : _) (position : _) → P (event.Reach point position)
 
-round_leads : (sited : SitedTable) (P : Event → Type 0) → HoldsOfRounds P → (flowing : Flowing Played) → flowing.state.sited ≡ sited → (last : List Event) → Each P last
+pub round_leads : (sited : SitedTable) (P : Event → Type 0) → HoldsOfRounds P → (flowing : Flowing Played) → flowing.state.sited ≡ sited → (last : List Event) → Each P last
     → LeadsBy sited.site sited.table P flowing.state.run (all_tried last (round stations flowing)).state.run
 round_leads sited P holds flowing same last each = subst (λ (w : Played). LeadsBy sited.site sited.table P flowing.state.run w.run) (sym (round_tried last flowing))
     (tries_lead sited P (round_of_time flowing.state.sited.site ∷ (map event_of (behind_time flowing) ++ last)) flowing.state same (

@@ -1,5 +1,5 @@
 -- What is kept of one detector, with what its end has given, by its steps is kept by each event but those that bring it another input.
-use Rattle.std.proofs.Common.{◌≡◌, ◌≢◌, ℕ, ◌∙◌, ◌<◌, List, length, map, Option, Some, None, slice_get, slice_set, ◌⊎◌, inl, inr, refl, sym, ap, subst, arith}
+use Rattle.std.proofs.Common.{◌≡◌, ◌≢◌, ℕ, ◌∙◌, ◌<◌, List, length, map, Option, Some, None, if◌then◌else◌, slice_get, slice_set, ◌⊎◌, inl, inr, refl, sym, ap, subst, arith}
 use Rattle.std.specs.Prelude.{drop}
 use Rattle.std.proofs.lemmas.Option.{same_Some, slice_get_within}
 use Rattle.object_host_theorem.specs.World.{as_call, called_all}
@@ -23,7 +23,7 @@ use Rattle.simulator_run.specs.ixl_rules.Step as ixl
 use Rattle.simulator_run.specs.ixl_rules.Table.{Table}
 use Rattle.simulator_run.specs.simulator_event.declared.event.Event.{Event}
 use Rattle.simulator_run.specs.simulator_event.declared.event.Event.TheVariants as event
-use Rattle.simulator_run.specs.Controllers.{controller_after, controller_anew, step_of}
+use Rattle.simulator_run.specs.Controllers.{controller_after, controller_anew, has_entered, step_of}
 use Rattle.simulator_run.specs.First.{Beginning, new_detector}
 use Rattle.simulator_run.specs.Happens.{coming, delivered_to, detector_anew, detector_stepped, happens, interlocking_stepped, made_anew, passed, point_anew, point_stepped, sensed_by, signal_anew, signal_stepped, stepped_at, ticked_at}
 use Rattle.simulator_run.specs.Interlocking.{interlocking_step}
@@ -42,10 +42,15 @@ use Rattle.simulator_recovery.proofs.IxlClients.{changed_at}
 use Rattle.simulator_recovery.proofs.Lists.{at_place, map_length}
 use Rattle.simulator_recovery.proofs.StationKeeps.{later_at}
 
--- What a step keeps of a detector, and of what its end has given, where its input is such a one.
-abbrev pub StepKept : (HostInput → Type 0) → (HostState (List Section) → Lists → Type 0) → Type 0
+-- the last connection that a detector has entered behind a step
+abbrev pub connection_after : HostInput → ℕ → ClockedControllerState (List Section) → Option ℕ
+connection_after input connection c = if has_entered c (step_of detection_behaviour input c) then Some connection else c.connection
+
+-- What a step keeps of a detector, of the last connection that it entered, and of what its end has given, where its input is such a one.
+abbrev pub StepKept : (HostInput → Type 0) → (Option ℕ → HostState (List Section) → Lists → Type 0) → Type 0
 StepKept Allowed Q = (input : HostInput) (connection : ℕ) (c : ClockedControllerState (List Section)) (ends : Ends) → Allowed input → ends.server.link ≡ settled (reading_of c.clock) c.host.link → ends.server.clock ≡ c.clock
-    → Q c.host (lists_of ends.server) → Q (step_of detection_behaviour input c).host (lists_of (called_all connection (step_of detection_behaviour input c).calls ends).server)
+    → Q c.connection c.host (lists_of ends.server)
+    → Q (connection_after input connection c) (step_of detection_behaviour input c).host (lists_of (called_all connection (step_of detection_behaviour input c).calls ends).server)
 
 -- the inputs of every detector, whatever happens to its sections
 pub record AllowsAll (Allowed : HostInput → Type 0) : Type 0 where
@@ -58,18 +63,18 @@ Brings site table place Allowed (event.Occupy section occupancy) = (reporter : �
 Brings site table place Allowed (event.Restart node clock first) = node_at site node.0 ≢ Some (nodes.Detector place)
 Brings site table place Allowed _ = Unit {0}
 
-module _ (laws : CallLaws) (site : Site) (table : Table) (place : ℕ) (Allowed : HostInput → Type 0) (Q : HostState (List Section) → Lists → Type 0) (keeps : StepKept Allowed Q) (allows : AllowsAll Allowed) where
+module _ (laws : CallLaws) (site : Site) (table : Table) (place : ℕ) (Allowed : HostInput → Type 0) (Q : Option ℕ → HostState (List Section) → Lists → Type 0) (keeps : StepKept Allowed Q) (allows : AllowsAll Allowed) where
   abbrev link : ℕ
   link = detector_link site place
 
   abbrev pub IsSo : List (ClockedControllerState (List Section)) → Links → Type 0
-  IsSo detectors network = (c : ClockedControllerState (List Section)) → slice_get detectors place ≡ Some c → Q c.host (lists_at network link)
+  IsSo detectors network = (c : ClockedControllerState (List Section)) → slice_get detectors place ≡ Some c → Q c.connection c.host (lists_at network link)
 
   abbrev pub At : WorldState → Links → Type 0
   At world network = IsSo world.detectors network
 
   same_lists : (detectors : List (ClockedControllerState (List Section))) (old new : Links) → lists_at new link ≡ lists_at old link → IsSo detectors old → IsSo detectors new
-  same_lists detectors old new same is c e = subst (Q c.host) (sym same) (is c e)
+  same_lists detectors old new same is c e = subst (Q c.connection c.host) (sym same) (is c e)
 
   module _ (world : WorldState) (network : Links) (whole : IsWhole site world) (are : AreLinksOf site world network) (is : At world network) where
     -- the end of the detector
@@ -110,11 +115,11 @@ module _ (laws : CallLaws) (site : Site) (table : Table) (place : ℕ) (Allowed 
             after : Links
             after = run_links (host_events detection_behaviour input connection (detector_link site at) (Some old)) network
 
-            choose : (c : ClockedControllerState (List Section)) → ((place ≡ at) × (c ≡ controller_after (step_of detection_behaviour input old) connection (length world.sent) old)) ⊎ ((place ≢ at) × (slice_get world.detectors place ≡ Some c)) → Q c.host (lists_at after link)
-            choose c (inr (apart, f)) = subst (Q c.host) (sym (elsewhere laws detection_behaviour input connection (detector_link site at) (Some old) network link (λ x g same. apart (omega (arith, same))))) (is c f)
-            choose c (inl (same, f)) = subst (λ (x : ClockedControllerState (List Section)). Q x.host (lists_at after link)) (sym f)
-                (subst (λ (n : ℕ). Q (step_of detection_behaviour input old).host (lists_at (run_links (host_events detection_behaviour input connection (detector_link site n) (Some old)) network) link)) same
-                (subst (λ (two : Ends). Q (step_of detection_behaviour input old).host (lists_of two.server))
+            choose : (c : ClockedControllerState (List Section)) → ((place ≡ at) × (c ≡ controller_after (step_of detection_behaviour input old) connection (length world.sent) old)) ⊎ ((place ≢ at) × (slice_get world.detectors place ≡ Some c)) → Q c.connection c.host (lists_at after link)
+            choose c (inr (apart, f)) = subst (Q c.connection c.host) (sym (elsewhere laws detection_behaviour input connection (detector_link site at) (Some old) network link (λ x g same. apart (omega (arith, same))))) (is c f)
+            choose c (inl (same, f)) = subst (λ (x : ClockedControllerState (List Section)). Q x.connection x.host (lists_at after link)) (sym f)
+                (subst (λ (n : ℕ). Q (connection_after input connection old) (step_of detection_behaviour input old).host (lists_at (run_links (host_events detection_behaviour input connection (detector_link site n) (Some old)) network) link)) same
+                (subst (λ (two : Ends). Q (connection_after input connection old) (step_of detection_behaviour input old).host (lists_of two.server))
                 (sym (laws.own role.Server link (map (as_call connection) (step_of detection_behaviour input old).calls) network ∙ sym (all_called connection (step_of detection_behaviour input old).calls (seen link network))))
                 (let there = ap (slice_get world.detectors) same ∙ e in let end = end_there old there in keeps input connection old (seen link network) (allowed same) end.link_is end.clock_is (is old there))))
 
@@ -164,7 +169,7 @@ module _ (laws : CallLaws) (site : Site) (table : Table) (place : ℕ) (Allowed 
     detector_anew_so begins at (Some entry) apart = λ c f. choose c (changed_at (controller_anew (new_detector site begins world.occupancies entry) begins.clock (length world.sent)) at world.detectors place c f)
       where
         choose : (c : ClockedControllerState (List Section)) → ((place ≡ at) × (x : ClockedControllerState (List Section)) × (slice_get world.detectors at ≡ Some x) × (c ≡ controller_anew (new_detector site begins world.occupancies entry) begins.clock (length world.sent) x)) ⊎ (slice_get world.detectors place ≡ Some c)
-            → Q c.host (lists_at (run_links (anew_events begins.clock begins.first (detector_link site at) (Some entry)) network) link)
+            → Q c.connection c.host (lists_at (run_links (anew_events begins.clock begins.first (detector_link site at) (Some entry)) network) link)
         choose c (inl (same, x, f, g)) = absurd (apart same)
         choose c (inr f) = anew_so begins.clock begins.first (detector_link site at) (Some entry) c f
 
@@ -178,7 +183,7 @@ module _ (laws : CallLaws) (site : Site) (table : Table) (place : ℕ) (Allowed 
     time_so : (elapsed : ℕ) (clocks : List ℕ) → At (passed elapsed clocks world) (run_links (time_events elapsed clocks) network)
     unfolding passed end_later
     time_so elapsed clocks c e = let found = later_at (length world.sent) (drop (length world.points) (drop (length world.signals) (drop 1 clocks))) world.detectors place c e in
-        subst (λ (h : HostState (List Section)). Q h (lists_at network link)) (sym found.2) (is found.0 found.1)
+        subst (λ (o : Option ℕ). Q o c.host (lists_at network link)) (sym found.3) (subst (λ (h : HostState (List Section)). Q found.0.connection h (lists_at network link)) (sym found.2) (is found.0 found.1))
 
     pub event_so : (happening : Event) → Brings site table place Allowed happening → At (happens site table happening world) (run_links (events_of site table happening world) network)
     unfolding happens events_of

@@ -201,7 +201,7 @@ module _ (laws : SectionLaws) (site : Site) (table : Table) (station : IsStation
           only = given_only;
         }
 
-  keeps : StepKept Allowed Stays
+  keeps : StepKept Allowed (λ last. Stays)
   keeps input connection c ends elsewhere link_is clock_is q = record {
     tells = (tells_keep site laws.expected.tell).detectors input connection at c ends link_is clock_is
         (λ x f. subst (λ (y : DetectorEntry). TellsDetector site y c.host (lists_of ends.server)) (same_Some entry x (sym there ∙ f)) q.tells) entry there;
@@ -282,7 +282,7 @@ module _ (laws : SectionLaws) (site : Site) (table : Table) (station : IsStation
           timely = laws.expected.talked.links.time (links site) (names_at site) (events_of site table happening world) network named o.timely follows.may;
           are = follows.are;
           reporting = reporting_on laws site table station once is_table happening world network (record { named = named; whole = whole; timely = o.timely; are = o.are; may = may; follows = follows }) o.reporting;
-          stays = event_so laws.expected.tell.calls site table reporter.0 AllowedHere StaysHere (keeps laws site table station once is_table reporter.0 entry there place occupancy bound)
+          stays = event_so laws.expected.tell.calls site table reporter.0 AllowedHere (λ last. StaysHere) (keeps laws site table station once is_table reporter.0 entry there place occupancy bound)
               (allows laws site table station once is_table reporter.0 entry there place occupancy bound) world network whole o.are o.stays happening (leaves_so happening leaves);
         }
 

@@ -13,18 +13,20 @@ use Rattle.simulator_run.specs.rasta_core.Calls.{acceptance, answer_to_send, sen
 use Rattle.simulator_run.specs.rasta_core.Parameters.{window_size}
 use Rattle.simulator_run.specs.rasta_core.PdusHandedOut.{Step, beating, entered, giving, sending, silent}
 use Rattle.simulator_run.specs.rasta_core.State.{LinkState, is_open, is_up}
+use Rattle.simulator_run.specs.rasta_core.identity.Identity.{Identity}
 use Rattle.simulator_run.specs.rasta_core.fault.SendFault.{SendFault}
 use Rattle.simulator_run.specs.rasta_core.fault.SendFault.TheVariants.{NotUp, WindowFull}
 use Rattle.simulator_run.specs.rasta_pdu.declared.body.Body.TheVariants.{Heartbeat}
 use Rattle.simulator_run.specs.sci_telegram.Telegrams.{writing}
 use Rattle.simulator_run.specs.object_host.Host.{HostSoFar, HostState, fallen, is_completed, is_outside, keeping, silent as silent_host, telegram_of, then_do}
+use Rattle.simulator_run.specs.object_host.Hosted.{new_host}
 use Rattle.simulator_run.specs.object_host.Step.{beating as beating_host, beginning, ending, given as given_in, goes_on, host_step, most_owed, paid, paying, paying_first, posting}
 use Rattle.simulator_run.specs.object_host.declared.input.Input.{Input}
 use Rattle.simulator_run.specs.object_host.declared.input.Input.TheVariants as inputs
 use Rattle.simulator_run.specs.object_host.declared.report.Report.{Report}
 use Rattle.simulator_run.specs.object_host.declared.stage.Stage.TheVariants as stage
 use Rattle.simulator_run.specs.tds_ctl.Controlled.{detection_behaviour}
-use Rattle.simulator_run.specs.tds_ctl.Sections.{losing, owes, paying as paying_sections, settled as settled_section, status_of}
+use Rattle.simulator_run.specs.tds_ctl.Sections.{losing, owes, owing, paying as paying_sections, settled as settled_section, status_of}
 use Rattle.simulator_run.specs.tds_ctl.declared.section.Section.{Section}
 use Rattle.simulator_run.specs.ixl_rules.Table.{Table}
 use Rattle.simulator_run.specs.simulator_event.declared.event.Event.{Event}
@@ -43,7 +45,7 @@ use Rattle.simulator_recovery.proofs.Lists.{at_place, map_length}
 use Rattle.simulator_recovery.proofs.MatchedEnds.{KeptDetector, OfPoint, OfSignal, detectors_keep, keeps as matched_keep, spoken}
 use Rattle.simulator_recovery.proofs.SectionsCalls.{Owed, none_owed, one_owed, owed_first}
 use Rattle.simulator_recovery.proofs.SectionsController.{IsToldAlways}
-use Rattle.simulator_recovery.proofs.StationKeeps.{Kept, StationKeeps, all_at, always_kept}
+use Rattle.simulator_recovery.proofs.StationKeeps.{StationKeeps, all_at, always_kept}
 use Rattle.simulator_recovery.proofs.StationSaid.{new_closed}
 use Rattle.simulator_recovery.specs.Matched.{SpeaksAt}
 
@@ -96,6 +98,20 @@ many_few (first ∷ others) = choose first.owes (many_few others)
     choose true few = omega (arith, few)
     choose false few = omega (arith, few)
 
+-- where nothing is found that owes, nothing is owed
+found_none : (list : List Section) → find owes list ≡ None → owed_many list ≡ 0
+found_none [] none = refl
+found_none (first ∷ others) none = choose first.owes none (found_none others)
+  where
+    choose : (b : Bool) → (if b then Some first else find owes others) ≡ None → (find owes others ≡ None → owed_many others ≡ 0) → (if b then suc (owed_many others) else owed_many others) ≡ 0
+    choose true e later = absurd (none-some first (sym e))
+    choose false e later = later e
+
+-- with the link all is dropped
+pub losing_none : (list : List Section) → owed_many (losing list) ≡ 0
+losing_none [] = refl
+losing_none (first ∷ others) = losing_none others
+
 none_many : (list : List Section) → owed_many list ≡ 0 → find owes list ≡ None
 none_many [] none = refl
 none_many (first ∷ others) none = choose first.owes none (none_many others)
@@ -128,6 +144,15 @@ owes_found (first ∷ others) (suc at) s e owing none = owes_found others at s e
 -- behind payments nothing is owed, or the link refuses an item
 pub record PaidOff (before after : HostState (List Section)) : Type 0 where
   pub done : (find owes after.object ≡ None) ⊎ Refuses after.link
+
+-- before the initialisation is completed nothing is owed
+abbrev pub IsIdle : HostState (List Section) → Type 0
+IsIdle host = is_completed host.stage ≡ false → owed_many host.object ≡ 0
+
+-- a new host owes nothing
+new_idle : (identity : Identity) (own_name peer_name : List ℕ) (first now : ℕ) (object : List Section) (version : ℕ) → owed_many (new_host detection_behaviour identity own_name peer_name first now object version).object ≡ 0
+unfolding new_host keeping
+new_idle identity own_name peer_name first now object version = losing_none object
 
 -- once the initialisation is completed, nothing is owed or the link refuses an item
 abbrev pub OwesByWindow : HostState (List Section) → Type 0
@@ -166,7 +191,76 @@ module _ (now : ℕ) where
       choose (none_owed none same) later = subst (λ (found : Option Section). PaidOff host (whole (option_map status_of found)).host) (sym none) (record { done = inl none })
       choose (one_owed k s is) later = subst (λ (found : Option Section). PaidOff host (whole (option_map status_of found)).host) (sym is.found) (paid_first s is.found later (is_completed host.stage) (is_ok (answer_to_send now host.link)) completed refl)
 
-  -- ---- a whole step
+  -- ---- payments before the initialisation is completed
+
+  -- they leave the stage
+  abbrev StageKept : ℕ → Type 0
+  StageKept more = (host : HostState (List Section)) → (paying detection_behaviour now more host).host.stage ≡ host.stage
+
+  stage_kept : (more : ℕ) → StageKept more
+  unfolding paying posting
+  stage_kept zero host = refl
+  stage_kept (suc more) host = by_found (owing host.object) (stage_kept more)
+    where
+      by_bools : StageKept more → (completed ok : Bool) → (report : Report) → (all_paid completed ok more report host).host.stage ≡ host.stage
+      by_bools later false ok report = later (paid detection_behaviour host)
+      by_bools later true true report = later (paid detection_behaviour (posting now report host).host)
+      by_bools later true false report = refl
+
+      by_found : (found : Option Report) → StageKept more
+          → (if goes_on now found host then then_do (paying_first detection_behaviour now found host) (paying detection_behaviour now more) else paying_first detection_behaviour now found host).host.stage ≡ host.stage
+      by_found None later = refl
+      by_found (Some report) later = by_bools later (is_completed host.stage) (is_ok (answer_to_send now host.link)) report
+
+  -- and drop all that is owed
+  abbrev DropsAll : ℕ → Type 0
+  DropsAll more = (host : HostState (List Section)) → is_completed host.stage ≡ false → owed_many host.object ≤ more → owed_many (paying detection_behaviour now more host).host.object ≡ 0
+
+  drops_all : (more : ℕ) → DropsAll more
+  unfolding paying posting
+  drops_all zero host early few = omega (arith, few)
+  drops_all (suc more) host early few = choose (owed_first host.object) (drops_all more)
+    where
+      whole : Option Report → HostSoFar (List Section)
+      whole found = if goes_on now found host then then_do (paying_first detection_behaviour now found host) (paying detection_behaviour now more) else paying_first detection_behaviour now found host
+
+      paid_first : (s : Section) → find owes host.object ≡ Some s → DropsAll more → (completed ok : Bool) → completed ≡ false → owed_many (all_paid completed ok more (status_of s) host).host.object ≡ 0
+      paid_first s found later true ok e = absurd (false≢true (sym e))
+      paid_first s found later false ok e = later (paid detection_behaviour host) early (let one = paid_many host.object s found in omega (arith, few, one))
+
+      choose : Owed host.object → DropsAll more → owed_many (whole (option_map status_of (find owes host.object))).host.object ≡ 0
+      choose (none_owed none same) later = subst (λ (found : Option Section). owed_many (whole (option_map status_of found)).host.object ≡ 0) (sym none) (found_none host.object none)
+      choose (one_owed k s is) later = subst (λ (found : Option Section). owed_many (whole (option_map status_of found)).host.object ≡ 0) (sym is.found)
+          (paid_first s is.found later (is_completed host.stage) (is_ok (answer_to_send now host.link)) early)
+
+  -- ---- what is owed behind a whole step
+
+  idle_ended : (host : HostState (List Section)) → IsIdle host → IsIdle (ending detection_behaviour host)
+  unfolding fallen keeping
+  idle_ended host is = choose (is_outside host.stage) (is_open host.link.phase)
+    where
+      fell : HostState (List Section)
+      fell = record host { stage = stage.Outside; object = losing host.object }
+
+      choose : (a b : Bool) → IsIdle (if not a && not b then fell else host)
+      choose true b = is
+      choose false true = is
+      choose false false = λ early. losing_none host.object
+
+  idle_beaten : (input : Input) (host : HostState (List Section)) → IsIdle host → IsIdle (beating_host now input host).host
+  unfolding beating_host
+  idle_beaten inputs.Tick host is = is
+  idle_beaten (inputs.Datagram bytes) host is = is
+  idle_beaten (inputs.Sense contact) host is = is
+
+  pub idle_step : (input : Input) (host : HostState (List Section)) → owed_many (given_in detection_behaviour now input (beginning detection_behaviour now host)).host.object ≤ most_owed
+      → IsIdle (host_step detection_behaviour now input host).host
+  unfolding host_step
+  idle_step input host few = idle_ended (beating_host now input (paying detection_behaviour now most_owed come).host).host (idle_beaten input (paying detection_behaviour now most_owed come).host
+      (λ early. drops_all most_owed come (ap is_completed (sym (stage_kept most_owed come)) ∙ early) few))
+    where
+      come : HostState (List Section)
+      come = (given_in detection_behaviour now input (beginning detection_behaviour now host)).host
 
   ended : (host : HostState (List Section)) → OwesByWindow host → OwesByWindow (ending detection_behaviour host)
   unfolding fallen keeping
@@ -215,11 +309,12 @@ module _ (site : Site) (station : IsStation site) (told : IsToldAlways) where
   pub record KeepsReports (entry : DetectorEntry) (host : HostState (List Section)) : Type 0 where
     pub kept_so : KeptDetector site entry host
     pub owes_so : OwesByWindow host
+    pub idle_so : IsIdle host
 
   abbrev pub OfDetector : ℕ → HostState (List Section) → Type 0
   OfDetector place host = (entry : DetectorEntry) → slice_get site.detectors place ≡ Some entry → KeepsReports entry host
 
-  few_come : (now : ℕ) (input : Input) (place : ℕ) (entry : DetectorEntry) → slice_get site.detectors place ≡ Some entry → (host : HostState (List Section)) → KeptDetector site entry host
+  pub few_come : (now : ℕ) (input : Input) (place : ℕ) (entry : DetectorEntry) → slice_get site.detectors place ≡ Some entry → (host : HostState (List Section)) → KeptDetector site entry host
       → owed_many (given_in detection_behaviour now input (beginning detection_behaviour now host)).host.object ≤ most_owed
   few_come now input place entry there host kept_so =
       let at_most = (all_at (IsDetectorOf site) site.detectors station.detectors place entry there).few
@@ -244,26 +339,34 @@ module _ (site : Site) (station : IsStation site) (told : IsToldAlways) where
         detector_steps = λ now input place host is entry e. record {
           kept_so = old.detector_steps now input place host (λ x f. (is x f).kept_so) entry e;
           owes_so = step_owes now told input host (few_come now input place entry e host (is entry e).kept_so);
+          idle_so = idle_step now input host (few_come now input place entry e host (is entry e).kept_so);
         };
         new_detector_is = λ begins occupied entry place e other f. record {
           kept_so = old.new_detector_is begins occupied entry place e other f;
           owes_so = λ opened. absurd (false≢true (sym (new_closed detection_behaviour _ _ _ _ _ _ _) ∙ opened));
+          idle_so = λ early. new_idle _ _ _ _ _ _ _;
         };
       }
 
-  pub owed_wait : Once site → Stands → (table : Table) (world : WorldState) → IsReached site table world → (place : ℕ) (controller : ClockedControllerState (List Section)) → slice_get world.detectors place ≡ Some controller
-      → is_up controller.host.link.phase ≡ true → is_completed controller.host.stage ≡ true → (at : ℕ) (section : Section) → slice_get controller.host.object at ≡ Some section → section.owes ≡ true → window_size ≤ length controller.host.link.waiting
-  owed_wait once stands table world reached place controller e up completed at section f owing = choose ((kept.of_detectors place controller e entry.0 entry.1).owes_so (up_open _ up) completed)
-    where
-      whole : IsWhole site world
-      whole = (subst (IsStanding site) (sym reached.after) (stands site table reached.outset reached.events station once reached.lies reached.can)).whole
+  module _ (once : Once site) (stands : Stands) (table : Table) (world : WorldState) (reached : IsReached site table world) (place : ℕ) (controller : ClockedControllerState (List Section))
+      (e : slice_get world.detectors place ≡ Some controller) where
+    whole : IsWhole site world
+    whole = (subst (IsStanding site) (sym reached.after) (stands site table reached.outset reached.events station once reached.lies reached.can)).whole
 
-      entry : (one : DetectorEntry) × (slice_get site.detectors place ≡ Some one)
-      entry = at_place site.detectors place (let a = slice_get_within world.detectors place controller e in let b = whole.detectors in omega (arith, a, b))
+    entry : (one : DetectorEntry) × (slice_get site.detectors place ≡ Some one)
+    entry = at_place site.detectors place (let a = slice_get_within world.detectors place controller e in let b = whole.detectors in omega (arith, a, b))
 
-      kept : Kept site table (SpeaksAt site) (λ now. SpeaksAt site) (OfSignal site) (OfPoint site) OfDetector window_keeps world
-      kept = always_kept site table (SpeaksAt site) (λ now. SpeaksAt site) (OfSignal site) (OfPoint site) OfDetector window_keeps world reached
+    kept : KeepsReports entry.0 controller.host
+    kept = (always_kept site table (SpeaksAt site) (λ now. SpeaksAt site) (OfSignal site) (OfPoint site) OfDetector window_keeps world reached).of_detectors place controller e entry.0 entry.1
 
-      choose : (find owes controller.host.object ≡ None) ⊎ Refuses controller.host.link → window_size ≤ length controller.host.link.waiting
-      choose (inl none) = absurd (owes_found controller.host.object at section f owing none)
-      choose (inr refuses) = full_window controller.host.link up refuses
+    pub owed_wait : is_up controller.host.link.phase ≡ true → is_completed controller.host.stage ≡ true → (at : ℕ) (section : Section) → slice_get controller.host.object at ≡ Some section
+        → section.owes ≡ true → window_size ≤ length controller.host.link.waiting
+    owed_wait up completed at section f owing = choose (kept.owes_so (up_open _ up) completed)
+      where
+        choose : (find owes controller.host.object ≡ None) ⊎ Refuses controller.host.link → window_size ≤ length controller.host.link.waiting
+        choose (inl none) = absurd (owes_found controller.host.object at section f owing none)
+        choose (inr refuses) = full_window controller.host.link up refuses
+
+    -- before its initialisation is completed it owes nothing
+    pub idle_always : IsIdle controller.host
+    idle_always = kept.idle_so

@@ -79,11 +79,12 @@ module _ {Object : Type 0} (does : Behaviour Object) (Q : ℕ → HostState Obje
       choose k one (inr f) = each k one f
 
 pub later_at : {Object : Type 0} (moment : ℕ) (steps : List ℕ) (servers : List (ClockedControllerState Object)) (place : ℕ) (one : ClockedControllerState Object) → slice_get (all_later moment steps servers) place ≡ Some one
-    → (server : ClockedControllerState Object) × (slice_get servers place ≡ Some server) × (one.host ≡ server.host)
+    → (server : ClockedControllerState Object) × (slice_get servers place ≡ Some server) × (one.host ≡ server.host) × (one.connection ≡ server.connection)
 unfolding controller_later
 later_at moment steps [] place one e = absurd (none-some one e)
-later_at moment [] (first ∷ others) place one e = (one, e, refl)
-later_at moment (step ∷ steps) (first ∷ others) zero one e = (first, refl, sym (ap (λ (c : ClockedControllerState _). c.host) (same_Some _ one e)))
+later_at moment [] (first ∷ others) place one e = (one, e, refl, refl)
+later_at moment (step ∷ steps) (first ∷ others) zero one e =
+    (first, refl, sym (ap (λ (c : ClockedControllerState _). c.host) (same_Some _ one e)), sym (ap (λ (c : ClockedControllerState _). c.connection) (same_Some _ one e)))
 later_at moment (step ∷ steps) (first ∷ others) (suc place) one e = later_at moment steps others place one e
 
 later_all : {Object : Type 0} (Q : ℕ → HostState Object → Type 0) (moment : ℕ) (steps : List ℕ) (servers : List (ClockedControllerState Object)) → AllAt Q servers → AllAt Q (all_later moment steps servers)

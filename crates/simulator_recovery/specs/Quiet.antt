@@ -1,5 +1,5 @@
 -- Where nothing comes by which a point could be moved.
-use Rattle.std.specs.Prelude.{◌≢◌, ◌≤◌, ◌⊎◌, ℕ, suc, List, ◌∷◌, length}
+use Rattle.std.specs.Prelude.{◌≡◌, ◌≢◌, ◌≤◌, ◌⊎◌, ℕ, suc, List, ◌∷◌, length, Some, slice_get}
 use Rattle.simulator_run.specs.ixl_rules.Table.{Table}
 use Rattle.simulator_run.specs.simulator_event.declared.event.Event.{Event}
 use Rattle.simulator_run.specs.simulator_event.declared.event.Event.TheVariants as event
@@ -13,6 +13,12 @@ use Rattle.simulator_recovery.specs.SectionsReported.{HasRoomToReport, section_r
 abbrev pub IsOccupancyElsewhere : ℕ → Event → Type 0
 IsOccupancyElsewhere section (event.Occupy other occupancy) = other.0 ≢ section
 IsOccupancyElsewhere section _ = ⊥
+
+-- a request, or a section is occupied or left that another detector than this reports
+abbrev pub IsWorkElsewhere : Table → ℕ → Event → Type 0
+IsWorkElsewhere table detector (event.Request command) = Unit {0}
+IsWorkElsewhere table detector (event.Occupy section occupancy) = (reporter : ℕ × ℕ) → slice_get table.reporters section.0 ≡ Some reporter → reporter.0 ≢ detector
+IsWorkElsewhere table detector _ = ⊥
 
 -- The rounds behind some first ones are enough for what was told of a section by then: 32, where links are ready from the first of them on; or one,
 -- in which they become ready, where the window of its detector's link had room before it.

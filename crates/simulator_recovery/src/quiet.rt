@@ -18,14 +18,15 @@ ghost use Rattle.simulator_headline.specs.Reached.{IsReached};
 ghost use Rattle.simulator_recovery.specs.LinkRounds.{StaysBelowLimit};
 ghost use Rattle.simulator_recovery.specs.Moves.{move_rounds};
 ghost use Rattle.simulator_recovery.specs.NothingDue.{IsUpAtClock};
-ghost use Rattle.simulator_recovery.specs.Quiet.{IsOccupancyElsewhere, IsTimeToReport};
+ghost use Rattle.simulator_recovery.specs.Quiet.{IsOccupancyElsewhere, IsTimeToReport, IsWorkElsewhere};
+ghost use Rattle.simulator_recovery.specs.Ready.{ready_rounds};
 ghost use Rattle.simulator_recovery.specs.Rounds.{HasTime, IsWork, all_tried, good_rounds};
 ghost use Rattle.simulator_recovery.specs.SidesOfMoves.{AwaitsMove};
 
 use crate::{
-    events_close_no_link, links_are_ready, links_stay_up, moves_that_are_out_are_reported,
-    no_move_is_unanswered, points_held_with_authority_are_known, set_routes_hold_their_points,
-    stations_stand_by_their_counts,
+    detectors_windows_have_room, events_close_no_link, links_are_ready, links_stay_up,
+    moves_that_are_out_are_reported, no_move_is_unanswered, points_held_with_authority_are_known,
+    set_routes_hold_their_points, stations_stand_by_their_counts,
 };
 use object_host_theorem::step_takes_and_gives;
 use rasta_core_recovery::{
@@ -173,6 +174,28 @@ pub fn no_move_is_out_where_nothing_comes()
     step_takes_and_gives::<Point>();
     step_takes_and_gives::<Detection>();
     written_is_read();
+}
+
+/// And where nothing came since the good rounds began, no move is out 16,170 ms behind their beginning, with no premise on a window: from the second
+/// of them on requests come, and sections of other detectors than that of the point's own section are occupied and left; from the 1564th or a later one
+/// on no request comes for 53 rounds, and nothing is told of the own section. Then no move of the point is out, nor behind any later round, as long as
+/// that goes on. So it is where neither a request nor an occupancy came since the good rounds began, behind each from the 1617th on. For by then the
+/// window of the own section's detector has room (`detectors_windows_have_room`). The premises are else those of `no_move_is_out_where_nothing_comes`.
+pub fn no_move_is_out_where_nothing_came()
+    ensures { (between : List Event) (later more last : List (List Event)) (flowing : Flowing Played) (place section : ℕ) (reporter : ℕ × ℕ)
+        → Once flowing.state.sited.site → IsStation flowing.state.sited.site
+        → IsTableOf flowing.state.sited.site flowing.state.sited.table → IsReached flowing.state.sited.site flowing.state.sited.table flowing.state.run
+        → Each IsWork between → Each (Each (IsWorkElsewhere flowing.state.sited.table reporter.0)) later → Each (Each (IsOccupancyElsewhere section)) (more ++ last)
+        → HasTime (suc (length ((later ++ more) ++ last))) flowing.state.run
+        → place < length flowing.state.sited.site.points → length flowing.state.sited.site.points ≤ length flowing.drives
+        → slice_get flowing.state.sited.table.point_sections place ≡ Some section → slice_get flowing.state.sited.table.reporters section ≡ Some reporter
+        → ready_rounds ≤ suc (suc (length later)) → 1 ≤ length more → length last ≡ move_rounds
+        → StaysBelowLimit flowing.state.sited.site (point_link flowing.state.sited.site place) ((later ++ more) ++ last) (all_tried between (round stations flowing))
+        → StaysBelowLimit flowing.state.sited.site (detector_link flowing.state.sited.site reporter.0) ((later ++ more) ++ last) (all_tried between (round stations flowing))
+        → AwaitsMove place (good_rounds (between ∷ ((later ++ more) ++ last)) flowing).state.run → ⊥ }
+{
+    detectors_windows_have_room();
+    no_move_is_out_where_nothing_comes();
 }
 
 /// A point that is known at a side lies there in the field, as long as its link is up by the interlocking's clock: after every list of events, on any

@@ -1,6 +1,6 @@
 //! Sections are reported as they are, so soon behind their last change.
 
-ghost use Rattle.std.specs.Prelude.{◌≡◌, ◌≤◌, ℕ, suc, List, ◌∷◌, ◌++◌, length, Some, slice_get};
+ghost use Rattle.std.specs.Prelude.{◌≡◌, ◌≤◌, ℕ, suc, List, [], ◌∷◌, ◌++◌, length, Some, slice_get};
 ghost use Rattle.ixl_table.specs.Table.{IsTableOf};
 ghost use Rattle.simulator_run.specs.layout.Once.{Once};
 ghost use Rattle.simulator_run.specs.layout.Station.{IsStation};
@@ -10,16 +10,20 @@ ghost use Rattle.simulator_run.specs.Flow.{Flowing, round, stations};
 ghost use Rattle.simulator_run.specs.Nodes.{detector_link};
 ghost use Rattle.simulator_run.specs.Tried.{Played};
 ghost use Rattle.simulator_headline.specs.Reached.{IsReached};
-ghost use Rattle.simulator_recovery.specs.LinkRounds.{StaysBelowLimit};
+ghost use Rattle.simulator_recovery.specs.LinkRounds.{StaysBelowLimit, link_rounds};
+ghost use Rattle.simulator_recovery.specs.Quiet.{IsWorkElsewhere};
 ghost use Rattle.simulator_recovery.specs.Ready.{ready_rounds};
 ghost use Rattle.simulator_recovery.specs.Rounds.{HasTime, IsWork, all_tried, good_rounds};
-ghost use Rattle.simulator_recovery.specs.SectionsReported.{IsKnownAsInTheField, LeavesSection, section_rounds};
+ghost use Rattle.simulator_recovery.specs.SectionsReported.{HasRoomToReport, IsKnownAsInTheField, LeavesSection, section_rounds};
 
-use crate::{events_close_no_link, stations_stand_by_their_counts};
+use crate::{
+    events_close_no_link, known_sections_are_as_in_the_field, sections_are_reported_with_room,
+    stations_stand_by_their_counts,
+};
 use object_host_theorem::step_takes_and_gives;
 use rasta_core_recovery::{
     clients_at_work_speak, quiet_clients_confirm_at_once, two_ends_at_work_come_up,
-    two_ends_at_work_hand_over,
+    two_ends_at_work_hand_over, what_was_given_before_is_confirmed,
 };
 use simulator_headline::reached_worlds_are_safe;
 use simulator_machine_links::{a_client_of_many_makes_a_step, a_node_of_one_link_makes_a_step};
@@ -90,4 +94,72 @@ pub fn sections_are_reported()
     step_takes_and_gives::<Point>();
     step_takes_and_gives::<Detection>();
     written_is_read();
+}
+
+/// The window of a detector has room where nothing was told of its sections since the good rounds began: behind each of these from the 1562nd on it isn't
+/// full. A detector that has entered its connection since has given 19 items at most there, its initialisation; so has one that was in it before, and
+/// completed its initialisation since. One that had completed it has given one report of each section since at most, and all that it had given before
+/// is confirmed (`what_was_given_before_is_confirmed`). Requests may come as they like, and sections of other detectors may be occupied and left. What
+/// comes between the first round and the second may tell of any section. The premises are else those of `links_come_up`, of the detector's link.
+pub fn detectors_windows_have_room()
+    ensures { (between : List Event) (later : List (List Event)) (flowing : Flowing Played) (section : ℕ) (reporter : ℕ × ℕ) → Once flowing.state.sited.site → IsStation flowing.state.sited.site
+        → IsTableOf flowing.state.sited.site flowing.state.sited.table → IsReached flowing.state.sited.site flowing.state.sited.table flowing.state.run
+        → Each IsWork between → Each (Each (IsWorkElsewhere flowing.state.sited.table reporter.0)) later → HasTime (suc (length later)) flowing.state.run
+        → slice_get flowing.state.sited.table.reporters section ≡ Some reporter → link_rounds ≤ suc (length later)
+        → StaysBelowLimit flowing.state.sited.site (detector_link flowing.state.sited.site reporter.0) later (all_tried between (round stations flowing))
+        → HasRoomToReport flowing.state.sited.table (good_rounds (between ∷ later) flowing).state.run section }
+{
+    each_link_is_a_run();
+    each_link_sees_its_events();
+    events_close_no_link();
+    reached_worlds_are_safe();
+    stations_stand_by_their_counts();
+    two_ends_at_work_come_up();
+    two_ends_at_work_hand_over();
+    what_was_given_before_is_confirmed();
+    a_client_of_many_makes_a_step();
+    a_node_makes_a_step();
+    a_node_of_one_link_makes_a_step();
+    a_station_begins_its_links();
+    client_step_is_calls();
+    deliveries_may_come();
+    events_are_those_of_the_links();
+    interlockings_call_their_nodes();
+    items_are_counted();
+    layouts_name_their_links();
+    links_keep_order();
+    links_keep_time();
+    one_connection();
+    order_is_safe();
+    stations_have_links();
+    step_hears_what_was_taken();
+    step_is_told_to_the_object::<Detection>();
+    steps_keep_a_host::<Signal>();
+    steps_keep_a_host::<Point>();
+    steps_keep_a_host::<Detection>();
+    step_is_calls::<Signal>();
+    step_is_calls::<Point>();
+    step_is_calls::<Detection>();
+    step_takes_and_gives::<Signal>();
+    step_takes_and_gives::<Point>();
+    step_takes_and_gives::<Detection>();
+    written_is_read();
+}
+
+/// So where nothing was told of a detector's sections since the good rounds began, the interlocking knows each as it is in the field behind the 1565th
+/// of them, 15,650 ms, and behind each later one, as long as that goes on. Requests may come as they like, and sections of other detectors may be
+/// occupied and left. The premises are else those of `links_are_ready`, of the link of the detector.
+pub fn sections_are_reported_where_nothing_came()
+    ensures { (between : List Event) (later : List (List Event)) (last : List Event) (flowing : Flowing Played) (section : ℕ) (reporter : ℕ × ℕ)
+        → Once flowing.state.sited.site → IsStation flowing.state.sited.site
+        → IsTableOf flowing.state.sited.site flowing.state.sited.table → IsReached flowing.state.sited.site flowing.state.sited.table flowing.state.run
+        → Each IsWork between → Each (Each (IsWorkElsewhere flowing.state.sited.table reporter.0)) (later ++ last ∷ []) → HasTime (suc (length (later ++ last ∷ []))) flowing.state.run
+        → slice_get flowing.state.sited.table.reporters section ≡ Some reporter → ready_rounds ≤ suc (suc (length later))
+        → StaysBelowLimit flowing.state.sited.site (detector_link flowing.state.sited.site reporter.0) (later ++ last ∷ []) (all_tried between (round stations flowing))
+        → IsKnownAsInTheField flowing.state.sited.table (good_rounds (between ∷ (later ++ last ∷ [])) flowing).state.run section }
+{
+    detectors_windows_have_room();
+    known_sections_are_as_in_the_field();
+    reached_worlds_are_safe();
+    sections_are_reported_with_room();
 }
