@@ -82,6 +82,16 @@ pub mod FallsGoes
 pub mod FallsEnters
 pub mod FallsEvents
 pub mod FallsAlways
+-- Asks and answers.
+pub mod AsksSeen
+pub mod AsksBlocks
+pub mod AsksCalls
+pub mod AsksSaid
+pub mod AsksGoes
+pub mod AsksEnters
+pub mod AsksEvents
+pub mod AsksFresh
+pub mod AsksRound
 -- What was said long ago is confirmed.
 pub mod LongTags
 pub mod LongMarks

@@ -5,5 +5,6 @@ pub mod FirstRound
 pub mod Replies
 pub mod Confirming
 pub mod ServerConfirming
+pub mod Asks
 pub mod Falls
 pub mod LongAgo

@@ -2,11 +2,13 @@
 //! stands in `rasta_core`; it is kept by two ends that never come up, too.
 #![tactic(auto)]
 
+mod asking;
 mod falls;
 mod lasting;
 mod laws;
 mod takings;
 
+pub use asking::{ends_ask_in_turn, two_that_wait_are_answered};
 pub use falls::{nothing_falls, what_was_sent_long_ago_is_confirmed};
 pub use lasting::what_was_given_before_is_confirmed;
 pub use laws::{
