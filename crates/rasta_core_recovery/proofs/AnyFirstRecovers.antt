@@ -5,11 +5,11 @@ use Rattle.rasta_core_run.specs.State.{LinkState, is_asking}
 use Rattle.rasta_core_run.specs.identity.Role.TheVariants as role
 use Rattle.rasta_core_run.specs.Each.{Each}
 use Rattle.rasta_core_run.specs.Ends.{Sent}
-use Rattle.rasta_core_run.specs.Events.{Event, MayRun, Passes, Start, run, started}
+use Rattle.rasta_core_run.specs.Events.{Event, Passes}
 use Rattle.rasta_core_run.specs.Names.{Names, AreNames}
 use Rattle.rasta_core.specs.Ordered.{Ordered}
 use Rattle.rasta_core_recovery.specs.FirstRound.{StayBelowLimitFrom, WereSent, round_of}
-use Rattle.rasta_core_recovery.specs.Rounds.{AreUp, Flow, comings, flow_after, good_round, good_rounds, own_work, recovery_rounds}
+use Rattle.rasta_core_recovery.specs.Rounds.{AreUp, Flow, comings, good_round, good_rounds, own_work, recovery_rounds}
 use Rattle.rasta_core_recovery.specs.Work.{IsCall, work_round}
 use Rattle.rasta_core_recovery.proofs.Ages.{rounds_clock}
 use Rattle.rasta_core_recovery.proofs.AnyFirst.{among_due, below_first, mirrors_same, waiting_for, waits_asked, waits_ordered, waits_timely}
@@ -22,7 +22,7 @@ use Rattle.rasta_core_recovery.proofs.Healthy.{Healthy}
 use Rattle.rasta_core_recovery.proofs.Links.{Pair, pair_round, pair_rounds}
 use Rattle.rasta_core_recovery.proofs.Mirror.{Mirrors}
 use Rattle.rasta_core_recovery.proofs.Pasts.{Past}
-use Rattle.rasta_core_recovery.proofs.Recovers.{Laws, Holds, askings, climbing, healthy_at, holds_after, holds_run, is_up_then, mirrors, rooms_of, seen}
+use Rattle.rasta_core_recovery.proofs.Recovers.{Laws, Holds, askings, climbing, healthy_at, holds_run, is_up_then, mirrors, rooms_of, seen}
 use Rattle.rasta_core_recovery.proofs.Seen.{Rooms, Seen, round_first}
 use Rattle.rasta_core_recovery.proofs.WorkGood.{good_is_at_work, good_is_work_round}
 
@@ -111,18 +111,12 @@ module _ (laws : Laws) (names : Names) (are : AreNames names) (f : Flow) (start 
         (askings laws names are g then_holds (pair_round p) then_mirrors k (ap (λ (q : Pair). is_asking q.client) (round_first k p) ∙ asks))
 
     healthy_then : recovery_rounds ≤ suc n → Healthy names 1 (pair_rounds (suc n) p)
-    healthy_then long = healthy_at names (suc n) p long all_seen
+    healthy_then long = healthy_at names 1561 (suc n) p long all_seen
         (first_comes names (suc n) p long all_seen (below_first names f due were start.timely start.ordered start.rising p mirror.1)
         (climbing laws names are g then_holds (pair_round p) then_mirrors 0) all_askings)
 
-    up_then : recovery_rounds ≤ suc n → AreUp (good_rounds n g).ends
+    pub up_then : recovery_rounds ≤ suc n → AreUp (good_rounds n g).ends
     up_then long =
         let h : Healthy names 1 (pair_rounds n (pair_round p)) = subst (Healthy names 1) (sym (round_first n p)) (healthy_then long) in
         let m : Mirrors names (good_rounds n g) (pair_rounds n (pair_round p)) = mirrors laws names are g then_holds (pair_round p) then_mirrors n in
         (is_up_then _ _ m.client h.steady_client.up, is_up_then _ _ m.server h.steady_server.up)
-
-pub recovers_from_any : Laws → (names : Names) (start : Start) (events : List Event) (due : List Sent) (n : ℕ) → AreNames names → MayRun names events (started names start)
-    → WereSent (run events (started names start)).sent due → recovery_rounds ≤ suc n → StayBelowLimitFrom due n (flow_after names start events 0)
-    → AreUp (good_rounds n (round_of due (flow_after names start events 0))).ends
-recovers_from_any laws names start events due n are may were long room =
-    up_then laws names are (flow_after names start events 0) (holds_after laws names start events are may) due were n room long

@@ -24,7 +24,8 @@ use Rattle.rasta_core.specs.TimedEnds.{Times, times_of}
 use Rattle.rasta_core_recovery.proofs.Links.{Pair, heard, all_heard, worked, end_round, pair_round}
 use Rattle.rasta_core_recovery.proofs.Lists.{each_append, each_drop}
 use Rattle.rasta_core_recovery.proofs.Mirror.{Mirrors, AreRead, arriving, pending, bytes_from, chosen}
-use Rattle.rasta_core_recovery.specs.Rounds.{Flow, can_come, comings, own_work, round_events, good_round}
+use Rattle.rasta_core_recovery.specs.FirstRound.{behind_comings, round_of}
+use Rattle.rasta_core_recovery.specs.Rounds.{Flow, can_come, comings, own_work, good_round}
 use Rattle.rasta_core_run.specs.Bag.{lifetime}
 use Rattle.std.proofs.lemmas.Bool.Decides.{nat_tests}
 use Rattle.rasta_core_recovery.proofs.Happen.{may_happen}
@@ -322,7 +323,7 @@ works_timely keeps names are ends is =
 
 -- ---- a round
 
-front_may : (names : Names) (a b : List Event) (ends : Ends) → MayRun names (a ++ b) ends → MayRun names a ends
+pub front_may : (names : Names) (a b : List Event) (ends : Ends) → MayRun names (a ++ b) ends → MayRun names a ends
 front_may names [] b ends may = tt
 front_may names (e ∷ a) b ends may = (may.0, front_may names a b (happened e ends) may.1)
 
@@ -361,6 +362,10 @@ pub passed_on : (ends : Ends) → ((later 10000 10000 10000 ends).client.link �
 unfolding later end_later
 passed_on ends = (refl, refl, refl, refl, refl)
 
+time_passed : (ends : Ends) → (later 10000 10000 10000 ends).time ≡ ends.time + 10000
+unfolding later
+time_passed ends = refl
+
 pub ten_later : (clock now : ℕ) → now ≡ reading_of clock → reading_of (clock + 10000) ≡ now + 10
 ten_later clock now e = omega (arith, e)
 
@@ -374,20 +379,61 @@ joined_round who now pdus l link after is e f = (
       ∙ ap (λ (w : Role). (all_heard now pdus (settled now l)).pdus ++ (worked now w (all_heard now pdus (settled now l)).link).pdus) (sym is),
 )
 
-pub mirrors_on : KeepsTime → WrittenIsRead → HandsOut → (names : Names) → AreNames names → (f : Flow) (p : Pair) → Mirrors names f p → Mirrors names (good_round f) (pair_round p)
-unfolding good_round pair_round
-mirrors_on keeps written hands names are f p m = record {
-  timely = subst (Timely names) (sym whole) new_timely;
-  client = subst (λ (e : Ends). e.client.link ≡ (end_round (p.client.clock + 10) p.to_client p.client).link) (sym whole) (client_round.0);
-  server = subst (λ (e : Ends). e.server.link ≡ (end_round (p.server.clock + 10) p.to_server p.server).link) (sym whole) (server_round.0);
-  to_client = read_back written names.key _ _ (subst (Each IsPdu) server_round.1 sends.client_pdus)
-      (ap (bytes_from role.Server) pending_is ∙ sends.of_server ∙ ap (λ (ps : List Pdu). spellings names.key ps) server_round.1);
-  to_server = read_back written names.key _ _ (subst (Each IsPdu) client_round.1 sends.server_pdus)
-      (ap (bytes_from role.Client) pending_is ∙ sends.of_client ∙ ap (λ (ps : List Pdu). spellings names.key ps) client_round.1);
+-- Two ends, and what comes to them in a round, of these datagrams: they may come in it as events.
+pub record ComesIn (names : Names) (f : Flow) (due : List Sent) (p : Pair) : Type 0 where
+  pub timely : Timely names f.ends
+  pub client : f.ends.client.link ≡ p.client
+  pub server : f.ends.server.link ≡ p.server
+  pub to_client : AreRead names.key (bytes_from role.Server (arriving (f.ends.time + 10000) due)) p.to_client
+  pub to_server : AreRead names.key (bytes_from role.Client (arriving (f.ends.time + 10000) due)) p.to_server
+  pub may : MayRun names (Passes 10000 10000 10000 ∷ (comings (f.ends.time + 10000) due ++ own_work)) f.ends
+
+-- What that round leaves, with all that is said in it: by the time that all has come, and by its end.
+pub record LeavesIt (names : Names) (f : Flow) (due : List Sent) (p : Pair) : Type 0 where
+  pub mirrors : Mirrors names (round_of due f) (pair_round p)
+  pub early : List Sent
+  pub then_sent : (behind_comings due f).sent ≡ f.ends.sent ++ early
+  pub new : List Sent
+  pub sent : (round_of due f).ends.sent ≡ f.ends.sent ++ new
+  pub client_clock : (round_of due f).ends.client.clock ≡ f.ends.client.clock + 10000
+  pub server_clock : (round_of due f).ends.server.clock ≡ f.ends.server.clock + 10000
+  pub then_client : (behind_comings due f).client.link ≡ (all_heard (p.client.clock + 10) p.to_client (settled (p.client.clock + 10) p.client)).link
+  pub then_server : (behind_comings due f).server.link ≡ (all_heard (p.server.clock + 10) p.to_server (settled (p.server.clock + 10) p.server)).link
+  pub early_client : bytes_from role.Client early ≡ spellings names.key (all_heard (p.client.clock + 10) p.to_client (settled (p.client.clock + 10) p.client)).pdus
+  pub early_server : bytes_from role.Server early ≡ spellings names.key (all_heard (p.server.clock + 10) p.to_server (settled (p.server.clock + 10) p.server)).pdus
+  pub to_client : AreRead names.key (bytes_from role.Server new) (pair_round p).to_client
+  pub to_server : AreRead names.key (bytes_from role.Client new) (pair_round p).to_server
+  pub time : (round_of due f).ends.time ≡ f.ends.time + 10000
+  pub now : Each (IsNow (f.ends.time + 10000)) new
+
+pub leaves_it : KeepsTime → WrittenIsRead → HandsOut → (names : Names) → AreNames names → (f : Flow) (due : List Sent) (p : Pair) → ComesIn names f due p → LeavesIt names f due p
+unfolding pair_round
+leaves_it keeps written hands names are f due p m = record {
+  mirrors = record {
+    timely = subst (Timely names) (sym whole) new_timely;
+    client = subst (λ (e : Ends). e.client.link ≡ (end_round (p.client.clock + 10) p.to_client p.client).link) (sym whole) (client_round.0);
+    server = subst (λ (e : Ends). e.server.link ≡ (end_round (p.server.clock + 10) p.to_server p.server).link) (sym whole) (server_round.0);
+    to_client = subst (λ (ds : List Sent). AreRead names.key (bytes_from role.Server ds) (end_round nows p.to_server p.server).pdus) (sym pending_is) read_client;
+    to_server = subst (λ (ds : List Sent). AreRead names.key (bytes_from role.Client ds) (end_round nowc p.to_client p.client).pdus) (sym pending_is) read_server;
+  };
+  early = came.sends.more;
+  then_sent = ap (λ (es : List Event). (run es passed).sent) same ∙ came.sends.sent ∙ ap (λ (s : List Sent). s ++ came.sends.more) (passed_on f.ends).4;
+  new = sends.more;
+  sent = ap (λ (e : Ends). e.sent) whole ∙ sends.sent ∙ ap (λ (s : List Sent). s ++ sends.more) (passed_on f.ends).4;
+  client_clock = ap (λ (e : Ends). e.client.clock) whole ∙ sends.client_clock ∙ (passed_on f.ends).1;
+  server_clock = ap (λ (e : Ends). e.server.clock) whole ∙ sends.server_clock ∙ (passed_on f.ends).3;
+  then_client = ap (λ (es : List Event). (run es passed).client.link) same ∙ came.client ∙ heard_client (λ (s : Step). s.link);
+  then_server = ap (λ (es : List Event). (run es passed).server.link) same ∙ came.server ∙ heard_server (λ (s : Step). s.link);
+  early_client = came.sends.of_client ∙ ap (λ (ps : List Pdu). spellings names.key ps) (heard_client (λ (s : Step). s.pdus));
+  early_server = came.sends.of_server ∙ ap (λ (ps : List Pdu). spellings names.key ps) (heard_server (λ (s : Step). s.pdus));
+  to_client = read_client;
+  to_server = read_server;
+  time = ap (λ (e : Ends). e.time) whole ∙ sends.time ∙ time_passed f.ends;
+  now = subst (λ (t : ℕ). Each (IsNow t) sends.more) (time_passed f.ends) sends.sent_now;
 }
   where
     ds : List Sent
-    ds = pending f
+    ds = arriving (f.ends.time + 10000) due
 
     passed : Ends
     passed = later 10000 10000 10000 f.ends
@@ -398,15 +444,15 @@ mirrors_on keeps written hands names are f p m = record {
     nows : ℕ
     nows = p.server.clock + 10
 
-    same : comings (f.ends.time + 10000) (drop f.passed f.ends.sent) ≡ each_comes ds
-    same = arriving_come (f.ends.time + 10000) (drop f.passed f.ends.sent)
+    same : comings (f.ends.time + 10000) due ≡ each_comes ds
+    same = arriving_come (f.ends.time + 10000) due
 
     may_pass : May names (Passes 10000 10000 10000) f.ends
-    may_pass = (may_happen names f).0
+    may_pass = m.may.0
 
-    may : MayRun names (each_comes (pending f)) (later 10000 10000 10000 f.ends)
-    may = front_may names (each_comes (pending f)) own_work (later 10000 10000 10000 f.ends)
-        (subst (λ (es : List Event). MayRun names (es ++ own_work) (later 10000 10000 10000 f.ends)) same (may_happen names f).1)
+    may : MayRun names (each_comes ds) (later 10000 10000 10000 f.ends)
+    may = front_may names (each_comes ds) own_work (later 10000 10000 10000 f.ends)
+        (subst (λ (es : List Event). MayRun names (es ++ own_work) (later 10000 10000 10000 f.ends)) same m.may.1)
 
     mid : Ends
     mid = run (each_comes ds) passed
@@ -414,8 +460,8 @@ mirrors_on keeps written hands names are f p m = record {
     new : Ends
     new = run own_work mid
 
-    whole : run (comings (f.ends.time + 10000) (drop f.passed f.ends.sent) ++ own_work) passed ≡ new
-    whole = run_append (comings (f.ends.time + 10000) (drop f.passed f.ends.sent)) own_work passed ∙ ap (λ (es : List Event). run own_work (run es passed)) same
+    whole : run (comings (f.ends.time + 10000) due ++ own_work) passed ≡ new
+    whole = run_append (comings (f.ends.time + 10000) due) own_work passed ∙ ap (λ (es : List Event). run own_work (run es passed)) same
 
     client_now : reading_of passed.client.clock ≡ nowc
     client_now = ap reading_of (passed_on f.ends).1 ∙ ten_later f.ends.client.clock p.client.clock (sym (ap (λ (l : LinkState). l.clock) m.client) ∙ m.timely.client.clock)
@@ -484,25 +530,36 @@ mirrors_on keeps written hands names are f p m = record {
     new_timely : Timely names new
     new_timely = works_timely keeps names are mid came.timely
 
-    pending_is : arriving ((run (round_events f) f.ends).time + 10000) (drop (length f.ends.sent) (run (round_events f) f.ends).sent) ≡ sends.more
+    pending_is : pending (round_of due f) ≡ sends.more
     pending_is = ap (λ (e : Ends). arriving (e.time + 10000) (drop (length f.ends.sent) e.sent)) whole
         ∙ ap (λ (s : List Sent). arriving (new.time + 10000) (drop (length f.ends.sent) s)) (sends.sent ∙ ap (λ (s : List Sent). s ++ sends.more) (passed_on f.ends).4)
         ∙ ap (arriving (new.time + 10000)) (drop_append f.ends.sent sends.more)
         ∙ now_arrives new.time sends.more (subst (λ (t : ℕ). Each (IsNow t) sends.more) (sym sends.time) sends.sent_now)
 
+    read_client : AreRead names.key (bytes_from role.Server sends.more) (end_round nows p.to_server p.server).pdus
+    read_client = read_back written names.key _ _ (subst (Each IsPdu) server_round.1 sends.client_pdus) (sends.of_server ∙ ap (λ (ps : List Pdu). spellings names.key ps) server_round.1)
+
+    read_server : AreRead names.key (bytes_from role.Client sends.more) (end_round nowc p.to_client p.client).pdus
+    read_server = read_back written names.key _ _ (subst (Each IsPdu) client_round.1 sends.server_pdus) (sends.of_client ∙ ap (λ (ps : List Pdu). spellings names.key ps) client_round.1)
+
+pub mirrors_on : KeepsTime → WrittenIsRead → HandsOut → (names : Names) → AreNames names → (f : Flow) (p : Pair) → Mirrors names f p → Mirrors names (good_round f) (pair_round p)
+unfolding good_round
+mirrors_on keeps written hands names are f p m = (leaves_it keeps written hands names are f (drop f.passed f.ends.sent) p
+    (record { timely = m.timely; client = m.client; server = m.server; to_client = m.to_client; to_server = m.to_server; may = may_happen names f })).mirrors
+
 -- ---- the beginning: what can come are PDUs, whoever sent them
 
-record Lists (names : Names) (ds : List Sent) : Type 0 where
-  to_client : List Pdu
-  to_server : List Pdu
-  of_server : AreRead names.key (bytes_from role.Server ds) to_client
-  of_client : AreRead names.key (bytes_from role.Client ds) to_server
+pub record Lists (names : Names) (ds : List Sent) : Type 0 where
+  pub to_client : List Pdu
+  pub to_server : List Pdu
+  pub of_server : AreRead names.key (bytes_from role.Server ds) to_client
+  pub of_client : AreRead names.key (bytes_from role.Client ds) to_server
 
 -- a datagram that spells a PDU
-abbrev Spells : Names → Sent → Type 0
+abbrev pub Spells : Names → Sent → Type 0
 Spells names d = (pdu : Pdu) × (reading names.key d.bytes ≡ Ok pdu)
 
-lists_of : (names : Names) (ds : List Sent) → Each (Spells names) ds → Lists names ds
+pub lists_of : (names : Names) (ds : List Sent) → Each (Spells names) ds → Lists names ds
 lists_of names [] each = record { to_client = []; to_server = []; of_server = tt; of_client = tt }
 lists_of names (d ∷ ds) each = choose d.sender refl (lists_of names ds each.1)
   where
@@ -520,7 +577,7 @@ lists_of names (d ∷ ds) each = choose d.sender refl (lists_of names ds each.1)
       of_client = subst (λ (s : Role). AreRead names.key (chosen role.Client s d.bytes (bytes_from role.Client ds)) l.to_server) (sym e) l.of_client;
     }
 
-each_arriving : (P : Sent → Type 0) (t : ℕ) (ds : List Sent) → Each P ds → Each P (arriving t ds)
+pub each_arriving : (P : Sent → Type 0) (t : ℕ) (ds : List Sent) → Each P ds → Each P (arriving t ds)
 each_arriving P t [] each = tt
 each_arriving P t (d ∷ ds) each = choose (can_come t d) (each_arriving P t ds each.1)
   where

@@ -131,6 +131,10 @@ module _ (names : Names) (who : Role) (start own_start : ℕ) (tuned other_tuned
     shut = λ s. (s.0, shut_at (at_reading (l.clock + 10) l) refl refl refl refl there.number ps s.1);
   }
 
+  pub hearing_number : (young : l.clock + 10 < l.own_stamp + 1800) → (hearing_now young).number ≡ there.number
+  unfolding hearing_now
+  hearing_number young = refl
+
   -- what the round makes of this end, where it stays
   pub turn : is_open (end_round (l.clock + 10) ps l).link.phase ≡ true → Turn x bounds tuned l (end_round (l.clock + 10) ps l)
   turn is_in = choose (turns x bounds ghost_now l refl refl there.is refl hearing_now)

@@ -1,5 +1,5 @@
 -- What becomes of one PDU at an end that has joined a connection, whatever it is.
-use Rattle.std.proofs.Common.{◌≡◌, ℕ, ◌+◌, ◌-◌, ◌<◌, ◌⊎◌, inl, inr, Bool, true, false, not, nat_lt, ◌==◌, List, [], ◌∷◌, ◌++◌, length, if◌then◌else◌, refl, sym, ap, subst, arith}
+use Rattle.std.proofs.Common.{◌≡◌, ℕ, ◌+◌, ◌-◌, ◌≤◌, ◌<◌, ◌⊎◌, inl, inr, Bool, true, false, not, nat_lt, ◌==◌, List, [], ◌∷◌, ◌++◌, length, if◌then◌else◌, refl, sym, ap, subst, arith}
 use Rattle.std.proofs.lemmas.Bool.Decides.{nat_tests}
 use Rattle.rasta_core_run.specs.Parameters.{sequence_range}
 use Rattle.rasta_core_run.specs.Sequence.{wire}
@@ -16,9 +16,10 @@ use Rattle.rasta_core_run.specs.pdu.Pdu.{Pdu}
 use Rattle.rasta_core_run.specs.body.Body.{Body}
 use Rattle.rasta_core_run.specs.body.Body.TheVariants.{ConnectionRequest, ConnectionResponse, RetransmissionRequest, RetransmissionResponse, DisconnectionRequest, Heartbeat, Data, RetransmittedData}
 use Rattle.rasta_core.specs.Order.{Rises}
+use Rattle.rasta_core_recovery.proofs.Blocks.{IsBlock, as_many_both, repeated_as_many, retagged_as_many, still_fewer}
 use Rattle.rasta_core_recovery.proofs.Healthy.{is_reading, waits}
 use Rattle.rasta_core_recovery.proofs.LongTags.{AllAbove, retagged_above, still_above}
-use Rattle.rasta_core_recovery.proofs.Words.{IsTalk, IsPlain, IsSpeech, IsSimple, Says, says_then, says_again}
+use Rattle.rasta_core_recovery.proofs.Words.{IsNoAnswer, IsTalk, IsPlain, IsSpeech, IsSimple, Says, says_then, says_again}
 
 -- an end stays in its connection
 pub record Stays (l k : LinkState) : Type 0 where
@@ -43,7 +44,7 @@ pub data Blocked (p : Pdu) (l : LinkState) : Type 0 where
   far : nat_lt sequence_range (ahead p l) ≡ true → Blocked p l
   stale : is_stale p l ≡ true → Blocked p l
   unconfirming : confirms p l ≡ false → Blocked p l
-  discarded : waits l.phase ≡ true → Blocked p l
+  discarded : waits l.phase ≡ true → IsNoAnswer p.body → Blocked p l
 
 pub record Passes (p : Pdu) (l : LinkState) : Type 0 where
   pub near : nat_lt sequence_range (ahead p l) ≡ false
@@ -72,6 +73,9 @@ pub record Taken (p : Pdu) (l k : LinkState) (ps : List Pdu) : Type 0 where
   pub waiting : IsPlain p.body → k.waiting ≡ still_waiting (l.sent - 1 - behind p l) l.waiting
   -- and what waits, waits above what it confirms
   pub above : Rises 0 l.sent l.waiting → AllAbove (l.sent - 1 - behind p l) k.waiting
+  -- it is answered by a retransmission, or by nothing; and no more waits than before
+  pub block : (ps ≡ []) ⊎ IsBlock (length l.waiting + 1) ps
+  pub fewer : length k.waiting ≤ length l.waiting
 
 -- a PDU is missing, and is asked for
 pub record Asked (l k : LinkState) (ps : List Pdu) : Type 0 where
@@ -113,6 +117,19 @@ module _ (l : LinkState) (p : Pdu) (connected_is : is_open l.phase ≡ true) (jo
     given = refl;
     waiting = λ plain. absurd (subst IsPlain is plain);
     above = λ rises. retagged_above (l.sent - 1 - behind p l) (l.sent + 1) t.waiting (omega arith);
+    block = inr (record {
+      first = pdu_of h l.sent RetransmissionResponse;
+      rest = repeated h (l.sent + 1) t.waiting ++ pdu_of h (l.sent + 1 + length t.waiting) Heartbeat ∷ [];
+      are = refl;
+      answers = refl;
+      few = omega (
+        arith,
+        as_many_both (repeated h (l.sent + 1) t.waiting) (pdu_of h (l.sent + 1 + length t.waiting) Heartbeat ∷ []),
+        repeated_as_many h (l.sent + 1) t.waiting,
+        still_fewer (l.sent - 1 - behind p l) l.waiting,
+      );
+    });
+    fewer = omega (arith, retagged_as_many (l.sent + 1) t.waiting, still_fewer (l.sent - 1 - behind p l) l.waiting);
   })
     where
       t : LinkState
@@ -144,6 +161,8 @@ module _ (l : LinkState) (p : Pdu) (connected_is : is_open l.phase ≡ true) (jo
     given = refl;
     waiting = λ is. refl;
     above = λ rises. still_above (l.sent - 1 - behind p l) 0 l.sent l.waiting rises;
+    block = inl refl;
+    fewer = still_fewer (l.sent - 1 - behind p l) l.waiting;
   })
 
   handed_again : (items : List (List ℕ)) → is_reading l.phase ≡ true → IsSpeech p.body → InTurn p l → Deed p l (handing items (taking p l)).link []
@@ -163,6 +182,8 @@ module _ (l : LinkState) (p : Pdu) (connected_is : is_open l.phase ≡ true) (jo
     given = refl;
     waiting = λ is. refl;
     above = λ rises. still_above (l.sent - 1 - behind p l) 0 l.sent l.waiting rises;
+    block = inl refl;
+    fewer = still_fewer (l.sent - 1 - behind p l) l.waiting;
   })
 
   comes_up : IsSpeech p.body → InTurn p l → Deed p l (record (taking p l) { phase = phase.Up }) []
@@ -182,6 +203,8 @@ module _ (l : LinkState) (p : Pdu) (connected_is : is_open l.phase ≡ true) (jo
     given = refl;
     waiting = λ is. refl;
     above = λ rises. still_above (l.sent - 1 - behind p l) 0 l.sent l.waiting rises;
+    block = inl refl;
+    fewer = still_fewer (l.sent - 1 - behind p l) l.waiting;
   })
 
   resumes : p.body ≡ RetransmissionResponse → Deed p l (record (taking p l) { phase = phase.RetransmissionRunning }) []
@@ -201,6 +224,8 @@ module _ (l : LinkState) (p : Pdu) (connected_is : is_open l.phase ≡ true) (jo
     given = refl;
     waiting = λ plain. refl;
     above = λ rises. still_above (l.sent - 1 - behind p l) 0 l.sent l.waiting rises;
+    block = inl refl;
+    fewer = still_fewer (l.sent - 1 - behind p l) l.waiting;
   })
 
   closes_by : (IsSimple p.body → ⊥) → Deed p l (record (taking p l) { phase = phase.Closed; closed_at = l.clock }) []
@@ -238,8 +263,8 @@ module _ (l : LinkState) (p : Pdu) (connected_is : is_open l.phase ≡ true) (jo
       choose true at = subst (λ (x : Body). Does (bringing x (taking p l))) (sym e) (brings body e speech asks_in again_in (at, free))
       choose false at = asked at free
 
-  discards_it : waits l.phase ≡ true → Does (refusing verdict.Discarded l)
-  discards_it waiting = keeps (discarded waiting) refl refl
+  discards_it : (body : Body) → p.body ≡ body → IsNoAnswer body → waits l.phase ≡ true → Does (refusing verdict.Discarded l)
+  discards_it body e none waiting = keeps (discarded waiting (subst IsNoAnswer (sym e) none)) refl refl
 
   no_phase : l.phase ≡ phase.Closed → {A : Type 0} → A
   no_phase e {A} = absurd (cc (e, connected_is, ap is_open e))
@@ -251,7 +276,7 @@ module _ (l : LinkState) (p : Pdu) (connected_is : is_open l.phase ≡ true) (jo
   admits RetransmissionRequest e phase.Closed f = no_phase f
   admits RetransmissionRequest e phase.Start f = violated (λ s. subst IsSimple e s)
   admits RetransmissionRequest e phase.Up f = turns RetransmissionRequest e (subst IsSpeech (sym e) tt) (λ is. ap is_reading f) (λ items is. ap is_reading f) (ap waits f)
-  admits RetransmissionRequest e phase.RetransmissionRequested f = discards_it (ap waits f)
+  admits RetransmissionRequest e phase.RetransmissionRequested f = discards_it RetransmissionRequest e tt (ap waits f)
   admits RetransmissionRequest e phase.RetransmissionRunning f = turns RetransmissionRequest e (subst IsSpeech (sym e) tt) (λ is. ap is_reading f) (λ items is. ap is_reading f) (ap waits f)
   admits RetransmissionResponse e phase.Closed f = no_phase f
   admits RetransmissionResponse e phase.Start f = violated (λ s. subst IsSimple e s)
@@ -262,17 +287,17 @@ module _ (l : LinkState) (p : Pdu) (connected_is : is_open l.phase ≡ true) (jo
   admits Heartbeat e phase.Closed f = no_phase f
   admits Heartbeat e phase.Start f = turns Heartbeat e (subst IsSpeech (sym e) tt) (λ is. absurd (cc is)) (λ items is. absurd (cc is)) (ap waits f)
   admits Heartbeat e phase.Up f = turns Heartbeat e (subst IsSpeech (sym e) tt) (λ is. absurd (cc is)) (λ items is. absurd (cc is)) (ap waits f)
-  admits Heartbeat e phase.RetransmissionRequested f = discards_it (ap waits f)
+  admits Heartbeat e phase.RetransmissionRequested f = discards_it Heartbeat e tt (ap waits f)
   admits Heartbeat e phase.RetransmissionRunning f = turns Heartbeat e (subst IsSpeech (sym e) tt) (λ is. absurd (cc is)) (λ items is. absurd (cc is)) (ap waits f)
   admits (Data x) e phase.Closed f = no_phase f
   admits (Data x) e phase.Start f = turns (Data x) e (subst IsSpeech (sym e) tt) (λ is. absurd (cc is)) (λ items is. absurd (cc is)) (ap waits f)
   admits (Data x) e phase.Up f = turns (Data x) e (subst IsSpeech (sym e) tt) (λ is. absurd (cc is)) (λ items is. absurd (cc is)) (ap waits f)
-  admits (Data x) e phase.RetransmissionRequested f = discards_it (ap waits f)
+  admits (Data x) e phase.RetransmissionRequested f = discards_it (Data x) e tt (ap waits f)
   admits (Data x) e phase.RetransmissionRunning f = turns (Data x) e (subst IsSpeech (sym e) tt) (λ is. absurd (cc is)) (λ items is. absurd (cc is)) (ap waits f)
   admits (RetransmittedData x) e phase.Closed f = no_phase f
   admits (RetransmittedData x) e phase.Start f = violated (λ s. subst IsSimple e s)
   admits (RetransmittedData x) e phase.Up f = violated (λ s. subst IsSimple e s)
-  admits (RetransmittedData x) e phase.RetransmissionRequested f = discards_it (ap waits f)
+  admits (RetransmittedData x) e phase.RetransmissionRequested f = discards_it (RetransmittedData x) e tt (ap waits f)
   admits (RetransmittedData x) e phase.RetransmissionRunning f = turns (RetransmittedData x) e (subst IsSpeech (sym e) tt) (λ is. ap is_reading f) (λ items is. ap is_reading f) (ap waits f)
 
 -- ---- the tests

@@ -1,5 +1,5 @@
 -- A connection that both ends stay in becomes healthy soon, or its server never hears of a stamp of the good rounds.
-use Rattle.std.proofs.Common.{◌≡◌, ℕ, suc, ◌∙◌, ◌+◌, ◌-◌, ◌^◌, ◌≤◌, ◌<◌, Bool, false, true, ap, subst, arith}
+use Rattle.std.proofs.Common.{◌≡◌, ℕ, suc, ◌∙◌, ◌+◌, ◌-◌, ◌^◌, ◌≤◌, ◌<◌, Bool, true, ap, subst, arith}
 use Rattle.rasta_core_run.specs.State.{is_open}
 use Rattle.rasta_core_run.specs.Names.{Names}
 use Rattle.rasta_core_recovery.proofs.Links.{Pair, end_round, pair_round, pair_rounds}
@@ -44,7 +44,7 @@ module _ (names : Names) (of_client of_server n : ℕ) (p : Pair) (seen : Seen n
           server_tuned (pair_rounds n p).server (end_round ((pair_rounds n p).server.clock + 10) (pair_rounds n p).to_server (pair_rounds n p).server)
       turn = server_turn names of_client of_server client_tuned server_tuned (pair_rounds n p) talk client_fits (server_short n (omega arith)) then_in
 
-  lasting : Lasting names n of_client of_server (λ k. pair_rounds k p)
+  pub lasting : Lasting names n of_client of_server (λ k. pair_rounds k p)
   lasting = record {
     goes = goes;
     alone = alone;
@@ -55,8 +55,9 @@ module _ (names : Names) (of_client of_server n : ℕ) (p : Pair) (seen : Seen n
   }
 
 -- from two that talk since a reading, some rounds later
-module _ (names : Names) (b n : ℕ) (p : Pair) (base : b ≤ 2) (long : 103 ≤ n) (short : n ≤ 1000) (seen : Seen names n p) (stay : Stay n p) (reading : ℕ) (start : (pair_rounds b p).server.clock ≡ reading + 10)
-    (talk : Talk names (pair_rounds b p).client.clock reading false false (pair_rounds b p)) where
+module _ (names : Names) (b n : ℕ) (p : Pair) (base : b ≤ 2) (long : 103 ≤ n) (short : n ≤ 1000) (seen : Seen names n p) (stay : Stay n p) (of_client reading : ℕ)
+    (client_start : (pair_rounds b p).client.clock ≤ of_client + 100) (start : (pair_rounds b p).server.clock ≤ reading + 100)
+    (client_tuned server_tuned : Bool) (talk : Talk names of_client reading client_tuned server_tuned (pair_rounds b p)) where
   abbrev first : Pair
   first = pair_rounds b p
 
@@ -66,16 +67,16 @@ module _ (names : Names) (b n : ℕ) (p : Pair) (base : b ≤ 2) (long : 103 ≤
   then_stay : Stay (n - b) first
   then_stay = stay_later b (n - b) p (subst (λ (k : ℕ). Stay k p) (omega (arith, long, base)) stay)
 
-  lasts : Lasting names (n - b) first.client.clock reading (λ k. pair_rounds k first)
-  lasts = lasting names first.client.clock reading (n - b) first then_seen then_stay (omega (arith, short)) (omega arith) (omega (arith, start))
+  lasts : Lasting names (n - b) of_client reading (λ k. pair_rounds k first)
+  lasts = lasting names of_client reading (n - b) first then_seen then_stay (omega (arith, short)) (omega (arith, client_start)) (omega (arith, start))
 
   same : (k m : ℕ) → k + b ≡ m → pair_rounds k first ≡ pair_rounds m p
   same k m e = rounds_add k b p ∙ ap (λ (i : ℕ). pair_rounds i p) e
 
   pub early_from : HealthyOrOld names n p reading
-  early_from = finish (fate_of_both names (n - b) first.client.clock reading (λ k. pair_rounds k first) lasts (omega (arith, long, base)) talk)
+  early_from = finish (fate_of_both names (n - b) of_client reading (λ k. pair_rounds k first) lasts (omega (arith, long, base)) client_tuned server_tuned talk)
     where
-      finish : Fate names (n - b) first.client.clock reading (λ k. pair_rounds k first) lasts → HealthyOrOld names n p reading
+      finish : Fate names (n - b) of_client reading (λ k. pair_rounds k first) lasts → HealthyOrOld names n p reading
       finish (tuned_soon k le tuned) = soon_healthy (31 + (2 + (k + b))) (omega (arith, le, base)) (subst (Healthy names 1) there (healthy_after names (n - b - k - 2) (pair_rounds 2 q) seen4 stay4 (omega (arith, le, long, base)) by))
         where
           q : Pair
@@ -94,7 +95,7 @@ module _ (names : Names) (b n : ℕ) (p : Pair) (base : b ≤ 2) (long : 103 ≤
           stay4 = stay_later 2 (n - b - k - 2) q (subst (λ (m : ℕ). Stay m q) (omega (arith, le, long, base)) stay3)
 
           by : NearBy names (pair_rounds 2 q)
-          by = near_by names (n - b - k) first.client.clock reading q (omega (arith, le, long, base)) seen3 stay3 tuned (omega (arith, le, then_seen.client_clock k)) (omega (arith, le, then_seen.server_clock k, start))
+          by = near_by names (n - b - k) of_client reading q (omega (arith, le, long, base)) seen3 stay3 tuned (omega (arith, le, then_seen.client_clock k, client_start)) (omega (arith, le, then_seen.server_clock k, start))
 
           there : pair_rounds 31 (pair_rounds 2 q) ≡ pair_rounds (31 + (2 + (k + b))) p
           there = ap (λ (r : Pair). pair_rounds 31 (pair_rounds 2 r)) (rounds_add k b p) ∙ ap (pair_rounds 31) (rounds_add 2 (k + b) p) ∙ rounds_add 31 (2 + (k + b)) p

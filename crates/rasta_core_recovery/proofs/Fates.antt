@@ -241,7 +241,7 @@ pub server_joined : (names : Names) (p : Pair) → Facts names p → is_open p.s
 server_joined names p facts is_in = joined_of p.server is_in (server_not_asking names p.server facts.server) (facts.server_young is_in)
 
 -- a client inside that has joined goes out, or stays so
-joined_step : (p : Pair) → Joined p.client.clock p.client → JustOut (pair_round p).client ⊎ Joined (pair_round p).client.clock (pair_round p).client
+pub joined_step : (p : Pair) → Joined p.client.clock p.client → JustOut (pair_round p).client ⊎ Joined (pair_round p).client.clock (pair_round p).client
 unfolding pair_round
 joined_step p is = choose (in_round (p.client.clock + 10) p.to_client p.client (inl is) refl)
   where
@@ -500,7 +500,7 @@ pub seen_narrow : (names : Names) (k n : ℕ) (p : Pair) → k ≤ n → Seen na
 seen_narrow names k n p most seen = record { facts = seen.facts; client_clock = seen.client_clock; server_clock = seen.server_clock; client_past = seen.client_past; server_past = seen.server_past; room = λ i le. seen.room i (omega (arith, le, most)) }
 
 -- a client that asks, and joins in this round: where its server is outside it left lately, for it has said something that comes
-called_lately : (names : Names) (p : Pair) → Facts names p → Asks p.client.clock p.client → Joined (pair_round p).client.clock (pair_round p).client → is_open p.server.phase ≡ false → p.server.clock ≤ p.server.closed_at + 1804
+pub called_lately : (names : Names) (p : Pair) → Facts names p → Asks p.client.clock p.client → Joined (pair_round p).client.clock (pair_round p).client → is_open p.server.phase ≡ false → p.server.clock ≤ p.server.closed_at + 1804
 unfolding pair_round
 called_lately names p facts is j shut = choose p.to_client refl (facts.called (ap is_open is.starts) shut)
   where

@@ -5,13 +5,13 @@ use Rattle.rasta_core_run.specs.State.{LinkState, is_asking, is_open}
 use Rattle.rasta_core_run.specs.PdusHandedOut.{Step}
 use Rattle.rasta_core_run.specs.identity.Role.TheVariants as role
 use Rattle.rasta_core_run.specs.Each.{Each}
-use Rattle.rasta_core_run.specs.Names.{Names}
+use Rattle.rasta_core_run.specs.Names.{Names, identity_of}
 use Rattle.rasta_core_run.specs.pdu.Pdu.{Pdu}
 use Rattle.rasta_core_recovery.proofs.Asks.{Asks, InIt, asks_asking}
 use Rattle.rasta_core_recovery.proofs.Converse.{Talk}
 use Rattle.rasta_core_recovery.proofs.Course.{Joined}
 use Rattle.rasta_core_recovery.proofs.Early.{HealthyOrOld, early_from}
-use Rattle.rasta_core_recovery.proofs.Facts.{Calls, Facts, IsFirst}
+use Rattle.rasta_core_recovery.proofs.Facts.{Calls, IsFirst}
 use Rattle.rasta_core_recovery.proofs.Fates.{Asking as AskingStep, Comes, Leaves, Stays, asking_step, asks_on, comes_later, goes_out, in_it_of, joining, joins, leaves_comes, out_comes, search, search_from, seen_narrow, server_joined, stays_comes, same_pair}
 use Rattle.rasta_core_recovery.proofs.FirstGrants.{Asking, ServerFirst, grants, rests, server_first}
 use Rattle.rasta_core_recovery.proofs.FirstHears.{Below}
@@ -40,7 +40,7 @@ none_first m n end (p ∷ ps) some fits row first =
     in absurd (omega (arith, zero_is, some))
 
 -- a server that was inside has said nothing in the first round
-none_says : (p : Pair) → Joined p.server.clock p.server → 1 ≤ p.server.sent → (pair_round p).server.sent < 2 ^ 31 → BothIn (pair_round p)
+pub none_says : (p : Pair) → Joined p.server.clock p.server → 1 ≤ p.server.sent → (pair_round p).server.sent < 2 ^ 31 → BothIn (pair_round p)
     → Each (IsFirst (pair_round p).server) (pair_round p).to_client → (pair_round p).to_client ≡ []
 unfolding pair_round
 none_says p is some fits then_in first =
@@ -49,18 +49,18 @@ none_says p is some fits then_in first =
     (server_says p is then_in).row first
 
 -- what a server that was outside makes of the request
-first_of : (names : Names) (p : Pair) → Facts names p → Asking names p → is_open p.server.phase ≡ false
+pub first_of : (names : Names) (p : Pair) → p.server.identity ≡ identity_of role.Server names → Asking names p → is_open p.server.phase ≡ false
     → ServerFirst names (p.server.clock + 10) p.server.closed_at (left_of p.server) p.client.own_first p.client.own_stamp (record { link = (pair_round p).server; pdus = (pair_round p).to_client })
 unfolding pair_round
-first_of names p facts asking shut =
+first_of names p is_server asking shut =
     subst (λ (l : LinkState). ServerFirst names (p.server.clock + 10) p.server.closed_at (left_of p.server) p.client.own_first p.client.own_stamp
     (end_round (p.server.clock + 10) p.to_server l))
-    (sym (out_is names role.Server p.server facts.server shut)) (server_first names p.server.clock p.server.closed_at p.client.own_first p.client.own_stamp (left_of p.server) p.to_server asking.due)
+    (sym (out_is names role.Server p.server is_server shut)) (server_first names p.server.clock p.server.closed_at p.client.own_first p.client.own_stamp (left_of p.server) p.to_server asking.due)
 
-abbrev the_step : LinkState → List Pdu → Step
+abbrev pub the_step : LinkState → List Pdu → Step
 the_step l ps = record { link = l; pdus = ps }
 
-asked_as : {a b c d : ℕ} (names : Names) (clock closed : ℕ) → a ≡ b → c ≡ d → asking_link names clock closed a c ≡ asking_link names clock closed b d
+pub asked_as : {a b c d : ℕ} (names : Names) (clock closed : ℕ) → a ≡ b → c ≡ d → asking_link names clock closed a c ≡ asking_link names clock closed b d
 asked_as names clock closed e f = cc
 
 module _ (names : Names) (n : ℕ) (p : Pair) (long : 1561 ≤ n) (seen : Seen names n p) (below : BothIn p → Below p) (climbing : BothIn (pair_round p) → Climbs (pair_round p))
@@ -75,7 +75,8 @@ module _ (names : Names) (n : ℕ) (p : Pair) (long : 1561 ≤ n) (seen : Seen n
 
   talked_early : (m : ℕ) → 103 ≤ m → m ≤ 1000 → Stay m p → Talk names (pair_round p).client.clock p.server.clock false false (pair_round p) → HealthyOrOld names m p p.server.clock
   talked_early m least most stay talk =
-      early_from names 1 m p (omega arith) least most (seen_narrow names m n p (omega (arith, most, long)) seen) stay p.server.clock (omega (arith, seen.server_clock 1)) talk
+      early_from names 1 m p (omega arith) least most (seen_narrow names m n p (omega (arith, most, long)) seen) stay
+      (pair_rounds 1 p).client.clock p.server.clock (omega arith) (omega (arith, seen.server_clock 1)) false false talk
 
   come_by : (BothIn p → BothIn (pair_round p) → Talk names (pair_round p).client.clock p.server.clock false false (pair_round p)) → Leaves 178 p ⊎ Stays 178 p → Comes names 1561 p
   come_by talk (inl l) = leaves_comes names 178 n p (omega arith) long_enough seen l
@@ -156,7 +157,7 @@ module _ (names : Names) (n : ℕ) (p : Pair) (long : 1561 ≤ n) (seen : Seen n
 
     -- its server was outside
     was_outside : is_open p.server.phase ≡ false → Comes names 1561 p
-    was_outside shut = by (first_of names p (seen.facts 0) asking_now shut)
+    was_outside shut = by (first_of names p (seen.facts 0).server asking_now shut)
       where
         by : ServerFirst names (p.server.clock + 10) p.server.closed_at (left_of p.server) p.client.own_first p.client.own_stamp
             (record { link = (pair_round p).server; pdus = (pair_round p).to_client }) → Comes names 1561 p

@@ -1,5 +1,5 @@
 -- Two ends that share a connection behind the first good round: it is known at once what is under way.
-use Rattle.std.proofs.Common.{◌≡◌, ℕ, ◌∙◌, ◌+◌, ◌-◌, ◌^◌, ◌≤◌, ◌<◌, true, false, refl, sym, ap, arith}
+use Rattle.std.proofs.Common.{◌≡◌, ℕ, ◌∙◌, ◌+◌, ◌-◌, ◌^◌, ◌≤◌, ◌<◌, true, false, drop, refl, sym, ap, arith}
 use Rattle.rasta_core_run.specs.Sequence.{stamp}
 use Rattle.rasta_core_run.specs.State.{LinkState, is_asking, is_open}
 use Rattle.rasta_core_run.specs.Names.{Names}
@@ -11,6 +11,7 @@ use Rattle.rasta_core_recovery.proofs.Facts.{Calls, Facts, Shares}
 use Rattle.rasta_core_recovery.proofs.FirstHears.{Below, IsOld, old_behind}
 use Rattle.rasta_core_recovery.proofs.FirstRises.{Climbs, KeepsOf, Lately, lately_of}
 use Rattle.rasta_core_recovery.proofs.Links.{Pair, end_round, pair_round}
+use Rattle.rasta_core_recovery.proofs.Passed.{lately_without, without}
 use Rattle.rasta_core_recovery.proofs.Pasts.{Past}
 use Rattle.rasta_core_recovery.proofs.Seen.{BothIn, Rows, joined_of, server_behind, server_not_asking}
 use Rattle.rasta_core_recovery.proofs.Turn.{Either, gone, so}
@@ -25,14 +26,27 @@ pub record IsBehindIt (bound last : ℕ) (l : LinkState) : Type 0 where
   pub before : kept ≤ last
   pub recent : last ≤ kept + 4000
 
-same_kept : (one other clock : ℕ) → one ≤ clock → clock ≤ one + 5000 → other ≤ clock → clock ≤ other + 5000 → stamp one ≡ stamp other → one ≡ other
+pub same_kept : (one other clock : ℕ) → one ≤ clock → clock ≤ one + 5000 → other ≤ clock → clock ≤ other + 5000 → stamp one ≡ stamp other → one ≡ other
 same_kept one other clock a b c d e = omega (arith, a, b, c, d, e)
 
--- behind a round in which the numbers of what both say go on
-pub talk_first : (names : Names) (p q : Pair) → Facts names q → Past q.client → Past q.server → Climbs q → BothIn q → Rows p q → 1 ≤ p.client.sent → 1 ≤ p.server.sent
+-- so it is of the reading whose stamp it keeps, whichever way this is known
+pub kept_behind : (p q : Pair) (climbs : Climbs q) → is_asking q.client ≡ false → IsBehindIt p.server.sent p.server.clock q.client → q.server.clock ≡ p.server.clock + 10
+    → climbs.client_kept ≤ p.server.clock
+kept_behind p q climbs joined behind server_clock = omega (arith, same, behind.before)
+  where
+    keeps : KeepsOf q.client q.server climbs.client_kept
+    keeps = climbs.client_keeps joined
+
+    same : climbs.client_kept ≡ behind.kept
+    same = same_kept climbs.client_kept behind.kept q.server.clock keeps.before (omega (arith, keeps.recent)) (omega (arith, behind.before, server_clock))
+        (omega (arith, behind.recent, server_clock)) (sym keeps.kept_is ∙ behind.kept_is)
+
+-- behind a round in which the numbers of what both say go on, but for what the server has passed of what is under way to it
+pub talk_without : (names : Names) (p q : Pair) (k : ℕ) → Facts names q → Past q.client → Past q.server → Climbs q → BothIn q → Rows p q → 1 ≤ p.client.sent → 1 ≤ p.server.sent
     → q.client.clock ≡ p.client.clock + 10 → q.server.clock ≡ p.server.clock + 10
-    → IsBehindIt p.server.sent p.server.clock q.client → q.server.expected ≤ p.client.sent → q.server.own_stamp ≤ p.server.clock → Talk names q.client.clock p.server.clock false false q
-talk_first names p q facts client_past server_past climbs in_it rows client_some server_some client_clock server_clock behind server_most server_old = record {
+    → IsBehindIt p.server.sent p.server.clock q.client → q.server.expected ≤ p.client.sent + k → p.client.sent + k ≤ q.client.sent → q.server.own_stamp ≤ p.server.clock
+    → Talk names q.client.clock p.server.clock false false (without 0 k q)
+talk_without names p q k facts client_past server_past climbs in_it rows client_some server_some client_clock server_clock behind server_most ends server_old = record {
   client = facts.client;
   server = facts.server;
   client_kept = climbs.client_kept;
@@ -51,7 +65,7 @@ talk_first names p q facts client_past server_past climbs in_it rows client_some
     reading = to_client.reading;
     chain = to_client.chain;
     since = to_client.recent;
-    mode = (omega (arith, client_kept_is, behind.before), server_old);
+    mode = (client_kept, server_old);
     later = omega (arith, server_clock);
     young = λ e. absurd (cc e);
     deaf = λ e. (behind.most, client_is.own);
@@ -65,7 +79,7 @@ talk_first names p q facts client_past server_past climbs in_it rows client_some
     before = climbs.server_keeps.before;
     low = omega (arith, climbs.server_keeps.recent);
     sent_before = client_past.said in_it.client;
-    number = p.client.sent;
+    number = p.client.sent + k;
     count = to_server.count;
     reading = to_server.reading;
     chain = to_server.chain;
@@ -92,17 +106,27 @@ talk_first names p q facts client_past server_past climbs in_it rows client_some
     client_keeps : KeepsOf q.client q.server climbs.client_kept
     client_keeps = climbs.client_keeps rows.joined
 
-    client_kept_is : climbs.client_kept ≡ behind.kept
-    client_kept_is = same_kept climbs.client_kept behind.kept q.server.clock client_keeps.before (omega (arith, client_keeps.recent)) (omega (arith, behind.before, server_clock))
-        (omega (arith, behind.recent, server_clock)) (sym client_keeps.kept_is ∙ behind.kept_is)
+    client_kept : climbs.client_kept ≤ p.server.clock
+    client_kept = kept_behind p q climbs rows.joined behind server_clock
 
     to_client : Lately q.client q.server p.server.sent q.server.sent (q.server.expected - 1) climbs.server_kept q.to_client
     to_client = lately_of q.client q.server p.server.sent q.server.sent climbs.server_kept q.to_client climbs.server_low server_some (shares.1.fits) refl server_joined
         (let r = climbs.server_keeps.recent in omega (arith, r)) rows.server climbs.to_client
 
-    to_server : Lately q.server q.client p.client.sent q.client.sent (q.client.expected - 1) climbs.client_kept q.to_server
-    to_server = lately_of q.server q.client p.client.sent q.client.sent climbs.client_kept q.to_server climbs.client_low client_some (shares.0.fits) refl rows.joined
+    all_to_server : Lately q.server q.client p.client.sent q.client.sent (q.client.expected - 1) climbs.client_kept q.to_server
+    all_to_server = lately_of q.server q.client p.client.sent q.client.sent climbs.client_kept q.to_server climbs.client_low client_some (shares.0.fits) refl rows.joined
         (let r = client_keeps.recent in omega (arith, r)) rows.client climbs.to_server
+
+    to_server : Lately q.server q.client (p.client.sent + k) q.client.sent (q.client.expected - 1) climbs.client_kept (drop k q.to_server)
+    to_server = lately_without q.server q.client k p.client.sent q.client.sent (q.client.expected - 1) climbs.client_kept q.to_server all_to_server ends
+
+-- where the server has passed none of it
+pub talk_first : (names : Names) (p q : Pair) → Facts names q → Past q.client → Past q.server → Climbs q → BothIn q → Rows p q → 1 ≤ p.client.sent → 1 ≤ p.server.sent
+    → q.client.clock ≡ p.client.clock + 10 → q.server.clock ≡ p.server.clock + 10
+    → IsBehindIt p.server.sent p.server.clock q.client → q.server.expected ≤ p.client.sent → q.server.own_stamp ≤ p.server.clock → Talk names q.client.clock p.server.clock false false q
+talk_first names p q facts client_past server_past climbs in_it rows client_some server_some client_clock server_clock behind server_most server_old =
+    talk_without names p q 0 facts client_past server_past climbs in_it rows client_some server_some client_clock server_clock behind (omega (arith, server_most))
+    (let m = row_most (IsNumbered (voice_of q.client)) p.client.sent q.client.sent q.to_server rows.client in omega (arith, m)) server_old
 
 -- ---- what the ends have come to in the first round
 
@@ -166,7 +190,7 @@ talk_at_once names p facts then_facts client_past server_past below then_climbs 
     server_is = joined_of p.server now_in.server (server_not_asking names p.server facts.server) (facts.server_young now_in.server)
 
 -- a client that joins in it
-by_response : (p : Pair) → Asks p.client.clock p.client → Calls p.client p.server p.to_client → is_open (pair_round p).client.phase ≡ true → is_asking (pair_round p).client ≡ false
+pub by_response : (p : Pair) → Asks p.client.clock p.client → Calls p.client p.server p.to_client → is_open (pair_round p).client.phase ≡ true → is_asking (pair_round p).client ≡ false
     → IsBehindIt p.server.sent p.server.clock (pair_round p).client
 unfolding pair_round
 by_response p is calls then_in joined = let e = entered (p.client.clock + 10) p.server p.to_client p.client is calls.first refl then_in joined in

@@ -97,7 +97,7 @@ module _ (names : Names) (client_closed server_closed cf sf at grant : ℕ) (fit
   }
 
   -- both become healthy, or one of them leaves early
-  near_comes : (n : ℕ) (p : Pair) → 1000 ≤ n → Seen names n p → NearBy names p → Joined p.client.clock p.client → Comes names 1414 p
+  pub near_comes : (n : ℕ) (p : Pair) → 1000 ≤ n → Seen names n p → NearBy names p → Joined p.client.clock p.client → Comes names 1414 p
   near_comes n p long seen near j = choose (search 31 p j)
     where
       choose : Leaves 31 p ⊎ Stays 31 p → Comes names 1414 p

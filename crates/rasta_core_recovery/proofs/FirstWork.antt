@@ -41,7 +41,7 @@ use Rattle.rasta_core_recovery.proofs.Words.{IsNumbered, row_most, voice_of}
 -- ---- what comes in it was sent before it
 
 module _ (first bound last now : ℕ) (fits : bound < 2 ^ 31) where
-  old_at_work : (who : Role) (due : List Pdu) (acts : List Act) (l : LinkState) → IsWork who due acts → now ≡ l.clock + 10 → Joined l.clock l → l.partner_first ≡ first → l.expected ≤ bound
+  pub old_at_work : (who : Role) (due : List Pdu) (acts : List Act) (l : LinkState) → IsWork who due acts → now ≡ l.clock + 10 → Joined l.clock l → l.partner_first ≡ first → l.expected ≤ bound
       → (kept : ℕ) → l.partner_stamp ≡ stamp kept → kept ≤ last → last ≤ kept + 4000
       → Each (IsBelow first bound last) due → Roomy now acts (settled now l) → is_open (acted now acts l).link.phase ≡ true → IsOld bound last now (acted now acts l).link
   old_at_work who due acts l work at is f most kept kept_is before recent each room is_in =

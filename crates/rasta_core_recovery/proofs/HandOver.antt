@@ -26,7 +26,6 @@ use Rattle.rasta_core_recovery.proofs.Within.{Continues}
 use Rattle.rasta_core_recovery.proofs.Hale.{Hale, Keeps}
 use Rattle.rasta_core_recovery.proofs.WorkBridge.{Follows, follows}
 use Rattle.rasta_core_recovery.proofs.WorkFates.{Soon, soon_on, soon_keeps, soon_up}
-use Rattle.rasta_core_recovery.proofs.WorkSum.{soon_come}
 use Rattle.rasta_core_recovery.proofs.AnyFirstWork.{Begins, begins}
 
 -- ---- lists
@@ -186,6 +185,6 @@ hands_over laws names start events passed rounds calls are may work opens room l
     let f : Flow = flow_after names start events passed in
     let l : Begins names (length rounds) (work_rounds rounds f) = begins laws names are rounds f first work opens room in
     let g : Flow = work_rounds rounds f in
-    let soon = soon_come names (length rounds) l.first l.last (omega (arith, long)) l.sound l.is_run l.climb in
+    let soon = l.soon (omega (arith, long)) in
     round_hands_over names g l.last calls l.mirrors l.holds (holds_run laws names are (Passes 10000 10000 10000 ∷ calls) g.ends l.holds last.may) soon
     (follows laws.time laws.written laws.hands names are g l.last calls l.mirrors last last_open last_room)

@@ -3,13 +3,14 @@ use Rattle.std.proofs.Common.{◌≡◌, ℕ, zero, suc, inl, inr, ◌∙◌, �
 use Rattle.rasta_core_run.specs.identity.Role.{Role}
 use Rattle.rasta_core_run.specs.identity.Role.TheVariants as role
 use Rattle.rasta_core_run.specs.Bag.{lifetime}
-use Rattle.rasta_core_run.specs.Ends.{Sent, Call, Receives}
+use Rattle.rasta_core_run.specs.Ends.{Sent, Call, Opens, Receives, Ticks}
 use Rattle.rasta_core_run.specs.Run.{Ends, called, later}
 use Rattle.rasta_core_run.specs.Events.{Event, Calls, IsAmong, IsDelivered, MayRun, Passes, happened, run}
 use Rattle.rasta_core_run.specs.Names.{Names, partner_of}
+use Rattle.rasta_core_recovery.specs.FirstRound.{behind_comings, round_of}
 use Rattle.rasta_core_recovery.specs.Rounds.{Flow, can_come, comings, own_work, round_events, good_round, good_rounds, events_of}
 
-among_front : (d : Sent) (a b : List Sent) → IsAmong d a → IsAmong d (a ++ b)
+pub among_front : (d : Sent) (a b : List Sent) → IsAmong d a → IsAmong d (a ++ b)
 among_front d [] b i = absurd i
 among_front d (x ∷ a) b (inl e) = inl e
 among_front d (x ∷ a) b (inr i) = inr (among_front d a b i)
@@ -67,11 +68,16 @@ round_may names f due among = (
 pub may_happen : (names : Names) (f : Flow) → MayRun names (round_events f) f.ends
 may_happen names f = round_may names f (drop f.passed f.ends.sent) (λ d i. among_drop d f.passed f.ends.sent i)
 
--- ---- and so may many
-
 run_joined : (one other : List Event) (ends : Ends) → run (one ++ other) ends ≡ run other (run one ends)
 run_joined [] other ends = refl
 run_joined (first ∷ one) other ends = run_joined one other (happened first ends)
+
+-- what was sent as all came was sent by the end of the round
+pub sent_by_then : (due : List Sent) (f : Flow) (d : Sent) → IsAmong d (behind_comings due f).sent → IsAmong d (round_of due f).ends.sent
+sent_by_then due f d is = subst (λ (ends : Ends). IsAmong d ends.sent) (sym (run_joined (Passes 10000 10000 10000 ∷ comings (f.ends.time + 10000) due) own_work f.ends))
+    (stays_sent role.Server Ticks _ d (stays_sent role.Client Opens _ d (stays_sent role.Client Ticks (behind_comings due f) d is)))
+
+-- ---- and so may many
 
 pub may_joined : (names : Names) (one other : List Event) (ends : Ends) → MayRun names one ends → MayRun names other (run one ends) → MayRun names (one ++ other) ends
 may_joined names [] other ends first second = second

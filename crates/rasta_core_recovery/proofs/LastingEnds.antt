@@ -138,7 +138,7 @@ module _ (names : Names) (n : ℕ) (z : Pair) (at : ℕ → Pair) (rounds : Roun
   -- Behind the next round it is known what is under way.
   joined_ready : 215 ≤ n → (reading : ℕ) → (at 0).server.clock ≡ reading + 10 → Joined (at 0).client.clock (at 0).client
       → Talk names (at 0).client.clock reading false false (at 0) → Hale names z
-  joined_ready long reading start j talk = choose (fate_of_both names 180 (at 0).client.clock reading at lasts (omega arith) talk)
+  joined_ready long reading start j talk = choose (fate_of_both names 180 (at 0).client.clock reading at lasts (omega arith) false false talk)
     where
       lasts_so : Lasts names n z at rounds 180
       lasts_so = record { both = λ k le. both k (omega (arith, le, long)); joined = λ k le. all_joined k (omega (arith, le, long)) j }

@@ -74,8 +74,8 @@ holds_run laws names are (e ∷ events) ends is may = holds_run laws names are e
 }) may.1
 
 -- once they are healthy they stay so
-pub healthy_at : (names : Names) (n : ℕ) (p : Pair) → recovery_rounds ≤ n → Seen names n p → Comes names 1561 p → Healthy names 1 (pair_rounds n p)
-healthy_at names n p long seen comes = subst (Healthy names 1) (rounds_add (n - comes.rounds) comes.rounds p ∙ ap (λ (k : ℕ). pair_rounds k p) (omega (arith, whole)))
+pub healthy_at : (names : Names) (most n : ℕ) (p : Pair) → most ≤ n → Seen names n p → Comes names most p → Healthy names 1 (pair_rounds n p)
+healthy_at names most n p long seen comes = subst (Healthy names 1) (rounds_add (n - comes.rounds) comes.rounds p ∙ ap (λ (k : ℕ). pair_rounds k p) (omega (arith, whole)))
     (healthy_for names (n - comes.rounds) (n - comes.rounds) (pair_rounds comes.rounds p)
     (seen_later names comes.rounds (n - comes.rounds) p (subst (λ (k : ℕ). Seen names k p) (sym whole) seen)) (omega arith) comes.healthy)
   where
@@ -134,7 +134,7 @@ module _ (laws : Laws) (names : Names) (are : AreNames names) (f : Flow) (start 
     askings k asks = asking_of names (good_rounds k f) (pair_rounds k p) (mirrors k) (holds k).ordered (holds k).asked asks
 
     healthy_then : (n : ℕ) → recovery_rounds ≤ n → StayBelowLimit n f → Healthy names 1 (pair_rounds n p)
-    healthy_then n long room = let all = seen n room in healthy_at names n p long all
+    healthy_then n long room = let all = seen n room in healthy_at names 1561 n p long all
         (first_comes names n p long all (λ both. below_of p (climbing 0 both)) (climbing 1) askings)
 
     up_at : (n : ℕ) → (pair_rounds n p).client.phase ≡ phase.Up → (pair_rounds n p).server.phase ≡ phase.Up → AreUp (good_rounds n f).ends

@@ -689,8 +689,8 @@ module _ (names : Names) (n : ℕ) (of_client of_server : ℕ) (at : ℕ → Pai
     tuned_soon : (k : ℕ) → k ≤ 68 → Talk names of_client of_server true true (at k) → Fate
     old_ever : (at n).server.own_stamp ≤ of_server → (is_open (at (suc n)).server.phase ≡ true → (at (suc n)).server.own_stamp ≤ of_server) → Fate
 
-  pub fate_of_both : 68 ≤ n → Talk names of_client of_server false false (at 0) → Fate
-  fate_of_both long talk = finish (outcome long (record { client_tuned = false; server_tuned = false; talk = talk }))
+  pub fate_of_both : 68 ≤ n → (client_tuned server_tuned : Bool) → Talk names of_client of_server client_tuned server_tuned (at 0) → Fate
+  fate_of_both long client_tuned server_tuned talk = finish (outcome long (record { client_tuned = client_tuned; server_tuned = server_tuned; talk = talk }))
     where
       ever : Sealed n → Fate
       ever s = old_ever (is_old n s.held s.kind) (λ then_in. server_old s.held then_in s.kind)

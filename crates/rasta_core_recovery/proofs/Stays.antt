@@ -74,7 +74,7 @@ new_is_healthy names rest c s client_closed server_closed client server h g room
 
 -- ---- outside
 
-refused : (a b : Bool) (k : LinkState) (v w : Verdict) (r : Receipt) → r.link ≡ k → r.pdus ≡ []
+pub refused : (a b : Bool) (k : LinkState) (v w : Verdict) (r : Receipt) → r.link ≡ k → r.pdus ≡ []
     → ((if not a then refusing v k else if not b then refusing w k else r).link ≡ k) × ((if not a then refusing v k else if not b then refusing w k else r).pdus ≡ [])
 refused true true k v w r e f = (e, f)
 refused true false k v w r e f = (refl, refl)
@@ -103,10 +103,10 @@ down_then now l out over = rw (out, early) refl
     early : nat_lt now (l.closed_at + 6000) ≡ false
     early = let q = over in grind (arith, nat_tests)
 
-abbrev the_step : LinkState → List Pdu → Step
+abbrev pub the_step : LinkState → List Pdu → Step
 the_step k ps = record { link = k; pdus = ps }
 
-made_same : {k j : LinkState} {ps qs : List Pdu} → k ≡ j → ps ≡ qs → the_step k ps ≡ the_step j qs
+pub made_same : {k j : LinkState} {ps qs : List Pdu} → k ≡ j → ps ≡ qs → the_step k ps ≡ the_step j qs
 made_same e f = cc
 
 -- an end outside that is quiet refuses what comes

@@ -31,10 +31,10 @@ pub says_plain : (h : Header) (n end : ℕ) (ps : List Pdu) → Says IsPlain h n
 says_plain h n end [] s = tt
 says_plain h n end (p ∷ ps) s = (s.1, says_plain h (n + 1) end ps s.2)
 
-same_eq : (a b : ℕ) → a ≡ b → (a == b) ≡ true
+pub same_eq : (a b : ℕ) → a ≡ b → (a == b) ≡ true
 same_eq a b e = subst (λ (x : ℕ). (a == x) ≡ true) e (grind (arith, nat_tests))
 
-waits_not_reading : (at : Phase) → waits at ≡ true → is_reading at ≡ true → ⊥
+pub waits_not_reading : (at : Phase) → waits at ≡ true → is_reading at ≡ true → ⊥
 waits_not_reading phase.Closed e f = cc (e, f)
 waits_not_reading phase.Start e f = cc (e, f)
 waits_not_reading phase.Up e f = cc (e, f)
@@ -191,19 +191,19 @@ module _ (x : Round) (bounds : Bounds x) (g : Ghost) (p : Pdu) (ps : List Pdu) (
 
   -- what the chain says of this PDU and the others
   module _ (d q : ℕ) (h : is.count ≤ d) (i : is.reading ≤ q) (w : IsWord x.voice is.number d q p) (more : Chain x.voice (is.number + 1) d q ps x.end x.confirmed x.returned) where
-    before_end : is.number < x.end
+    pub before_end : is.number < x.end
     before_end = omega (arith, (chain_ends x.voice (is.number + 1) d q x.end x.confirmed x.returned ps more).0)
 
-    d_most : d ≤ x.confirmed
+    pub d_most : d ≤ x.confirmed
     d_most = (chain_ends x.voice (is.number + 1) d q x.end x.confirmed x.returned ps more).1
 
-    q_most : q ≤ x.returned
+    pub q_most : q ≤ x.returned
     q_most = (chain_ends x.voice (is.number + 1) d q x.end x.confirmed x.returned ps more).2
 
-    age_is : age p l ≡ x.now - q
+    pub age_is : age p l ≡ x.now - q
     age_is = returned q x.now p l is.is.clock w.returns (omega (arith, q_most, bounds.old)) (omega (arith, is.low, i))
 
-    behind_is : behind p l ≡ l.sent - 1 - d
+    pub behind_is : behind p l ≡ l.sent - 1 - d
     behind_is = counted x.voice d p l is.partner_first w.confirms (omega (arith, d_most, is.counts)) (omega (arith, room))
 
     level : l.expected ≡ is.number → ahead p l ≡ 0
@@ -218,7 +218,7 @@ module _ (x : Round) (bounds : Bounds x) (g : Ghost) (p : Pdu) (ps : List Pdu) (
     not_blocked t (far e) = let f = ltb-true 200 (ahead p l) e in omega (arith, f, level t.expected)
     not_blocked t (stale e) = let f = ltb-true (l.clock - l.own_stamp) (age p l) e in omega (arith, f, age_is, is.is.clock, t.own, i)
     not_blocked t (unconfirming e) = let f = ltb-false (behind p l + l.confirmed) l.sent e in omega (arith, f, behind_is, t.confirmed, h, d_most, is.counts)
-    not_blocked t (discarded e) = waits_not_reading l.phase e t.reading
+    not_blocked t (discarded e none) = waits_not_reading l.phase e t.reading
 
     not_apart : Tuned l is.number is.count is.reading → (ahead p l == 0) ≡ false → ⊥
     not_apart t e = cc (e, same_eq (ahead p l) 0 (level t.expected))
@@ -235,7 +235,7 @@ module _ (x : Round) (bounds : Bounds x) (g : Ghost) (p : Pdu) (ps : List Pdu) (
     not_past : g.tuned ≡ false → l.expected ≤ is.number
     not_past e = omega (arith, (is.deaf e).expected, bounds.level, is.from_number)
 
-    away : l.expected ≤ is.number → ahead p l ≡ is.number - l.expected
+    pub away : l.expected ≤ is.number → ahead p l ≡ is.number - l.expected
     unfolding ahead
     away le = let f = ap (λ (y : ℕ). wire y is.number) is.first in let n = w.numbered.number in omega (arith, f, n, le, before_end, bounds.fits)
 
@@ -246,7 +246,7 @@ module _ (x : Round) (bounds : Bounds x) (g : Ghost) (p : Pdu) (ps : List Pdu) (
     blocked_by deaf (far e) = let f = ltb-true 200 (ahead p l) e in off (omega (arith, f, away (not_past deaf)))
     blocked_by deaf (stale e) = let f = ltb-true (l.clock - l.own_stamp) (age p l) e in low (inl (omega (arith, f, age_is, is.is.clock, is.is.own, i, is.from_reading)))
     blocked_by deaf (unconfirming e) = let f = ltb-false (behind p l + l.confirmed) l.sent e in low (inr (omega (arith, f, behind_is, h, is.from_count, d_most, is.counts)))
-    blocked_by deaf (discarded e) = waiting e
+    blocked_by deaf (discarded e none) = waiting e
 
     kept_deaf : Blocked p l → g.tuned ≡ false → Deaf x l (is.number + 1) ps
     kept_deaf b e = let f = is.deaf e in record { expected = f.expected; confirmed = f.confirmed; phase = f.phase; reached = blocked_by e b }
@@ -460,7 +460,7 @@ tunes_one x bounds g p ps l is room = after x bounds g p ps l is room (heard x.n
     same = heard_lives x.now p l (record { connected = is.is.connected; young = is.is.young; room = room })
         ∙ ap (λ (k : LinkState). record { link = (hearing p k).link; pdus = (hearing p k).pdus }) (same_clock x.now l is.is.clock)
 
-tune_step : (x : Round) → Bounds x → (g : Ghost) (p : Pdu) (ps : List Pdu) (l : LinkState) → Hearing x g (p ∷ ps) l → Next Ghost x.now (Hearing x) (Answers x) g l ps (heard x.now p l)
+pub tune_step : (x : Round) → Bounds x → (g : Ghost) (p : Pdu) (ps : List Pdu) (l : LinkState) → Hearing x g (p ∷ ps) l → Next Ghost x.now (Hearing x) (Answers x) g l ps (heard x.now p l)
 tune_step x bounds g p ps l is = choose (heard_case x.now p l (lively x.now l is.is))
   where
     next : ((IsSimple p.body → ⊥) × Out x.now (heard x.now p l).link) ⊎ ((h : Ghost) × Hearing x h ps (heard x.now p l).link × Answers x g l (heard x.now p l).pdus h (heard x.now p l).link) → Next Ghost x.now (Hearing x) (Answers x) g l ps (heard x.now p l)

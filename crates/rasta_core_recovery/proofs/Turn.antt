@@ -144,7 +144,7 @@ module _ (now : ℕ) where
       choose (inr (room, e, f)) = next (rows_one p l (heard now p l).link (heard now p l).pdus is
           (subst (λ (k : LinkState). Deed p l k (heard now p l).pdus) (sym e) (subst (λ (qs : List Pdu). Deed p l (hearing p l).link qs) (sym f) (hears p l is.connected is.joined (omega (arith, is.young, is.clock))))))
 
-  rows : (ps : List Pdu) (l : LinkState) → Joined now l → Next ℕ now (λ g ps l. Joined now l) Rowed 0 l [] (all_heard now ps l)
+  pub rows : (ps : List Pdu) (l : LinkState) → Joined now l → Next ℕ now (λ g ps l. Joined now l) Rowed 0 l [] (all_heard now ps l)
   rows ps l is = all_hear ℕ now (λ g ps l. Joined now l) Rowed (λ g l a. record { goes = goes_none now l; row = refl }) rowed_then rows_step ps 0 l is
 
 pub reading_joined : (now : ℕ) (l : LinkState) → Joined l.clock l → now ≡ l.clock + 10 → now < l.own_stamp + 1800 → Joined now (at_reading now l)

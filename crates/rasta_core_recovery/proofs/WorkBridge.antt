@@ -440,14 +440,30 @@ pub record Follows (names : Names) (f : Flow) (p : Pair) (calls : List Event) : 
   pub server_begins : Begins (later 10000 10000 10000 f.ends).server p.server
   pub client_as : AllAct names.key (calls_in role.Client calls) round.client_acts
   pub server_as : AllAct names.key (calls_in role.Server calls) round.server_acts
+  -- what is said in it
+  pub new : List Sent
+  pub sent : (work_round calls f).ends.sent ≡ f.ends.sent ++ new
+  pub of_client : AreRead names.key (bytes_from role.Client new) (behind p round).to_server
+
+-- Two ends, and what comes to them in a round at work, of these datagrams: they may come in it as events.
+pub record ComesAtWork (names : Names) (f : Flow) (due : List Sent) (p : Pair) (calls : List Event) : Type 0 where
+  pub timely : Timely names f.ends
+  pub client : f.ends.client.link ≡ p.client
+  pub server : f.ends.server.link ≡ p.server
+  pub to_client : AreRead names.key (bytes_from role.Server (arriving (f.ends.time + 10000) due)) p.to_client
+  pub to_server : AreRead names.key (bytes_from role.Client (arriving (f.ends.time + 10000) due)) p.to_server
+  pub may : MayRun names (Passes 10000 10000 10000 ∷ calls) f.ends
+  pub only : Each IsCall calls
+  pub client_work : IsWorkAt role.Client (due_to role.Client (f.ends.time + 10000) due) (calls_in role.Client calls)
+  pub server_work : IsWorkAt role.Server (due_to role.Server (f.ends.time + 10000) due) (calls_in role.Server calls)
 
 later_continues : (ends : Ends) → Continues ends.client (later 10000 10000 10000 ends).client × Continues ends.server (later 10000 10000 10000 ends).server
 unfolding later end_later
 later_continues ends = (record { connection = refl; more = []; given = sym (append-nil ends.client.given) }, record { connection = refl; more = []; given = sym (append-nil ends.server.given) })
 
-pub follows : KeepsTime → WrittenIsRead → HandsOut → (names : Names) → AreNames names → (f : Flow) (p : Pair) (calls : List Event) → Mirrors names f p → IsAtWork names f calls → Each LeavesOpen calls → HaveRoom calls (later 10000 10000 10000 f.ends) → Follows names f p calls
+pub follows_all : KeepsTime → WrittenIsRead → HandsOut → (names : Names) → AreNames names → (f : Flow) (due : List Sent) (p : Pair) (calls : List Event) → ComesAtWork names f due p calls → Each LeavesOpen calls → HaveRoom calls (later 10000 10000 10000 f.ends) → Follows names f p calls
 unfolding acted
-follows keeps written hands names are f p calls m w opens room = record {
+follows_all keeps written hands names are f due p calls m opens room = record {
   round = round_now;
   mirrors = record {
     timely = d.timely;
@@ -455,8 +471,7 @@ follows keeps written hands names are f p calls m w opens room = record {
     server = d.server ∙ server_did (λ (s : Step). s.link);
     to_client = read_back written names.key (server_step p round_now).pdus _ (subst (Each IsPdu) (server_did (λ (s : Step). s.pdus)) d.sends.client_pdus)
         (ap (bytes_from role.Server) pending_is ∙ d.sends.of_server ∙ ap (λ (ps : List Pdu). spellings names.key ps) (server_did (λ (s : Step). s.pdus)));
-    to_server = read_back written names.key (client_step p round_now).pdus _ (subst (Each IsPdu) (client_did (λ (s : Step). s.pdus)) d.sends.server_pdus)
-        (ap (bytes_from role.Client) pending_is ∙ d.sends.of_client ∙ ap (λ (ps : List Pdu). spellings names.key ps) (client_did (λ (s : Step). s.pdus)));
+    to_server = subst (λ (ds : List Sent). AreRead names.key (bytes_from role.Client ds) (client_step p round_now).pdus) (sym pending_is) read_client;
   };
   client_on = λ in_it. continues_then f.ends.client passed.client (run calls passed).client (later_continues f.ends).0
       (d.client_on (subst (λ (n : ℕ). Within n d.client_acts passed.client.link) (sym client_now) (subst (λ (l : LinkState). Within nowc d.client_acts l) (sym settled_client) in_it)));
@@ -466,29 +481,32 @@ follows keeps written hands names are f p calls m w opens room = record {
   server_begins = record { now = server_now; link = settled_server };
   client_as = d.client_as;
   server_as = d.server_as;
+  new = d.sends.more;
+  sent = d.sends.sent ∙ ap (λ (s : List Sent). s ++ d.sends.more) (passed_on f.ends).4;
+  of_client = read_client;
 }
   where
     passed : Ends
     passed = later 10000 10000 10000 f.ends
 
     due_c : List (List ℕ)
-    due_c = due_to role.Client (f.ends.time + 10000) (drop f.passed f.ends.sent)
+    due_c = due_to role.Client (f.ends.time + 10000) due
 
     due_s : List (List ℕ)
-    due_s = due_to role.Server (f.ends.time + 10000) (drop f.passed f.ends.sent)
+    due_s = due_to role.Server (f.ends.time + 10000) due
 
     read_c : AreRead names.key due_c p.to_client
-    read_c = subst (λ (bs : List (List ℕ)). AreRead names.key bs p.to_client) (sym (due_client (f.ends.time + 10000) (drop f.passed f.ends.sent))) m.to_client
+    read_c = subst (λ (bs : List (List ℕ)). AreRead names.key bs p.to_client) (sym (due_client (f.ends.time + 10000) due)) m.to_client
 
     read_s : AreRead names.key due_s p.to_server
-    read_s = subst (λ (bs : List (List ℕ)). AreRead names.key bs p.to_server) (sym (due_server (f.ends.time + 10000) (drop f.passed f.ends.sent))) m.to_server
+    read_s = subst (λ (bs : List (List ℕ)). AreRead names.key bs p.to_server) (sym (due_server (f.ends.time + 10000) due)) m.to_server
 
     d : Done names passed (run calls passed) (calls_in role.Client calls) (calls_in role.Server calls)
-    d = all_done keeps hands names are calls passed p.to_client p.to_server (keeps names (Passes 10000 10000 10000) f.ends are m.timely w.may.0) w.only
+    d = all_done keeps hands names are calls passed p.to_client p.to_server (keeps names (Passes 10000 10000 10000) f.ends are m.timely m.may.0) m.only
         (stays_open role.Client calls opens) (stays_open role.Server calls opens)
-        (subst (λ (bs : List (List ℕ)). AreRead names.key bs p.to_client) (sym (comes_in role.Client due_c (calls_in role.Client calls) w.client)) read_c)
-        (subst (λ (bs : List (List ℕ)). AreRead names.key bs p.to_server) (sym (comes_in role.Server due_s (calls_in role.Server calls) w.server)) read_s)
-        w.may.1 room
+        (subst (λ (bs : List (List ℕ)). AreRead names.key bs p.to_client) (sym (comes_in role.Client due_c (calls_in role.Client calls) m.client_work)) read_c)
+        (subst (λ (bs : List (List ℕ)). AreRead names.key bs p.to_server) (sym (comes_in role.Server due_s (calls_in role.Server calls) m.server_work)) read_s)
+        m.may.1 room
 
     nowc : ℕ
     nowc = p.client.clock + 10
@@ -512,8 +530,8 @@ follows keeps written hands names are f p calls m w opens room = record {
     round_now = record {
       client_acts = d.client_acts;
       server_acts = d.server_acts;
-      client_work = work_of names.key role.Client due_c (calls_in role.Client calls) d.client_acts p.to_client w.client d.client_as read_c;
-      server_work = work_of names.key role.Server due_s (calls_in role.Server calls) d.server_acts p.to_server w.server d.server_as read_s;
+      client_work = work_of names.key role.Client due_c (calls_in role.Client calls) d.client_acts p.to_client m.client_work d.client_as read_c;
+      server_work = work_of names.key role.Server due_s (calls_in role.Server calls) d.server_acts p.to_server m.server_work d.server_as read_s;
       client_room = subst (λ (l : LinkState). Roomy nowc d.client_acts l) settled_client (subst (λ (n : ℕ). Roomy n d.client_acts passed.client.link) client_now d.client_room);
       server_room = subst (λ (l : LinkState). Roomy nows d.server_acts l) settled_server (subst (λ (n : ℕ). Roomy n d.server_acts passed.server.link) server_now d.server_room);
     }
@@ -528,3 +546,20 @@ follows keeps written hands names are f p calls m w opens room = record {
     pending_is = ap (λ (s : List Sent). arriving ((run calls passed).time + 10000) (drop (length f.ends.sent) s)) (d.sends.sent ∙ ap (λ (s : List Sent). s ++ d.sends.more) (passed_on f.ends).4)
         ∙ ap (arriving ((run calls passed).time + 10000)) (drop_append f.ends.sent d.sends.more)
         ∙ now_arrives (run calls passed).time d.sends.more (subst (λ (t : ℕ). Each (IsNow t) d.sends.more) (sym d.sends.time) d.sends.sent_now)
+
+    read_client : AreRead names.key (bytes_from role.Client d.sends.more) (client_step p round_now).pdus
+    read_client = read_back written names.key (client_step p round_now).pdus _ (subst (Each IsPdu) (client_did (λ (s : Step). s.pdus)) d.sends.server_pdus)
+        (d.sends.of_client ∙ ap (λ (ps : List Pdu). spellings names.key ps) (client_did (λ (s : Step). s.pdus)))
+
+pub follows : KeepsTime → WrittenIsRead → HandsOut → (names : Names) → AreNames names → (f : Flow) (p : Pair) (calls : List Event) → Mirrors names f p → IsAtWork names f calls → Each LeavesOpen calls → HaveRoom calls (later 10000 10000 10000 f.ends) → Follows names f p calls
+follows keeps written hands names are f p calls m w opens room = follows_all keeps written hands names are f (drop f.passed f.ends.sent) p calls (record {
+  timely = m.timely;
+  client = m.client;
+  server = m.server;
+  to_client = m.to_client;
+  to_server = m.to_server;
+  may = w.may;
+  only = w.only;
+  client_work = w.client;
+  server_work = w.server;
+}) opens room

@@ -97,7 +97,7 @@ module _ (names : Names) (n : ℕ) (z : Pair) (at : ℕ → Pair) (rounds : Roun
     }
 
     pub early_hale : 68 ≤ m → 1484 ≤ n → Talk names (at 0).client.clock reading false false (at 0) → HaleOrOld names z (at m) (at (suc m)) reading
-    early_hale long rest talk = finish (fate_of_both names m (at 0).client.clock reading at lasting long talk)
+    early_hale long rest talk = finish (fate_of_both names m (at 0).client.clock reading at lasting long false false talk)
       where
         finish : Fate names m (at 0).client.clock reading at lasting → HaleOrOld names z (at m) (at (suc m)) reading
         finish (tuned_soon k le tuned) = hale_soon (tuned_comes names (at 0).client.clock reading (n - k) (at k) z (omega (arith, le, rest))

@@ -77,7 +77,7 @@ module _ (names : Names) (n : ℕ) (z : Pair) (at : ℕ → Pair) (rounds : Roun
       choose (gone left) = inl (out_comes names (n - suc m) (at (suc m)) z (omega (arith, most)) (rounds.sound (suc m) lt) (rounds.rest (suc m) lt) left.is_out)
       choose (so k) = by_server k (is_open (at (suc m)).server.phase) refl
 
-  search : (fuel m : ℕ) → m + fuel + 1382 ≤ n → 1 ≤ m → Stays m → Soon names z ⊎ Stays (m + fuel)
+  pub search : (fuel m : ℕ) → m + fuel + 1382 ≤ n → 1 ≤ m → Stays m → Soon names z ⊎ Stays (m + fuel)
   search zero m most some s = inr (subst Stays (omega arith) s)
   search (suc fuel) m most some s = choose (λ t. search fuel (suc m) (omega (arith, most)) (omega arith) t) (stays_or_comes m (omega (arith, most)) (omega (arith, most)) (s.joined m some (omega arith)))
     where
@@ -148,7 +148,7 @@ module _ (names : Names) (n : ℕ) (z : Pair) (at : ℕ → Pair) (rounds : Roun
     both_last more (ever_old d then_d) = let e = (more.both (suc m) (omega arith)).server in
         server_first (server_late (suc m) then_lt e (omega (arith, d, server_next e, over))) (client_on (suc m) then_lt (more.joined (suc m) (omega arith) (omega arith)))
 
-    stays_comes : Soon names z
+    pub stays_comes : Soon names z
     stays_comes = choose (early m (omega arith) (omega arith) s)
       where
         both_stay : (b : Bool) → is_open (at (suc m)).server.phase ≡ b → Joined (at (suc m)).client.clock (at (suc m)).client → Soon names z

@@ -29,7 +29,7 @@ use Rattle.rasta_core_recovery.proofs.WorkEarly.{server_is}
 use Rattle.rasta_core_recovery.proofs.WorkStays.{Stays, stays_first, stays_or_comes, first_comes}
 
 -- a client that asks, to which nothing comes, doesn't join
-not_joined : (p : Pair) (r : WorkRound p) → Asks p.client.clock p.client → p.to_client ≡ [] → is_open (client_step p r).link.phase ≡ true → is_asking (client_step p r).link ≡ false → ⊥
+pub not_joined : (p : Pair) (r : WorkRound p) → Asks p.client.clock p.client → p.to_client ≡ [] → is_open (client_step p r).link.phase ≡ true → is_asking (client_step p r).link ≡ false → ⊥
 not_joined p r is none in_it joined = choose (alone_round_at_work (p.client.clock + 10) p.to_client r.client_acts p.client r.client_work is (subst (Each IsTalkPdu) (sym none) tt) refl r.client_room)
   where
     choose : Either (p.client.clock + 10) (client_step p r).link (AsksOn (p.client.clock + 10) p.client (client_step p r)) → ⊥
@@ -112,7 +112,7 @@ module _ (names : Names) (n : ℕ) (z : Pair) (at : ℕ → Pair) (rounds : Roun
 -- ---- a client that asks
 
 -- what a round makes of it
-asked_round : (p : Pair) (r : WorkRound p) → Asks p.client.clock p.client → Either (p.client.clock + 10) (client_step p r).link (Joined (p.client.clock + 10) (client_step p r).link ⊎ AsksOn (p.client.clock + 10) p.client (client_step p r))
+pub asked_round : (p : Pair) (r : WorkRound p) → Asks p.client.clock p.client → Either (p.client.clock + 10) (client_step p r).link (Joined (p.client.clock + 10) (client_step p r).link ⊎ AsksOn (p.client.clock + 10) p.client (client_step p r))
 asked_round p r is = in_round_at_work (p.client.clock + 10) p.to_client r.client_acts p.client r.client_work (inr is) refl r.client_room
 
 -- it has asked for a round, and nothing comes to it from a server that knows no own stamp that is younger than before that

@@ -10,7 +10,7 @@ ghost use Rattle.rasta_core_run.specs.State.{confirmed_items};
 ghost use Rattle.rasta_core.specs.Invariant.{Timely};
 ghost use Rattle.rasta_core.specs.Ordered.{Ordered};
 ghost use Rattle.rasta_core_recovery.specs.Confirming.{Answers, AreIn, Confirming, FewLeft, FewWait, HasLeft, Owes};
-ghost use Rattle.rasta_core_recovery.specs.FirstRound.{BeginAtWork, StayBelowLimitFrom, WereSent, round_of};
+ghost use Rattle.rasta_core_recovery.specs.FirstRound.{BeginAtWork, ComeFirst, StayBelowLimitFrom, round_of};
 ghost use Rattle.rasta_core_recovery.specs.ServerConfirming.{AwaitsAnswers, ClientHasLeft, ClientOwes, FewOfServerLeft, FewOfServerWait, ServerConfirming};
 ghost use Rattle.rasta_core_recovery.specs.Replies.{Accepts, ClientSpeaks, SpeaksAlone, StaysAtWork, in_round, speaking_rounds, with_reply};
 ghost use Rattle.rasta_core_recovery.specs.Rounds.{AreUp, Flow, StayBelowLimit, calm_rounds, comings, events_of, flow_after, gap_rounds, good_round, good_rounds, own_work, recovery_rounds};
@@ -54,11 +54,12 @@ pub fn two_ends_come_up()
     connection_begins();
 }
 
-/// And so they do whatever comes in the first of these rounds (`round_of`), of all that was sent before it: in any order, again and
-/// again, or never. The good rounds behind it are counted with it: after each from the 1561st on both ends are up.
+/// And so they do whatever comes in the first of these rounds (`round_of`), of all that was sent by then: in any order, again and again,
+/// or never. Also what an end says as something comes to it may come in it at once. The good rounds behind it are counted with it: after
+/// each from the 1561st on both ends are up.
 pub fn two_ends_come_up_whatever_comes_first()
     ensures { (names : Names) (start : Start) (events : List Event) (due : List Sent) (n : ℕ) → AreNames names → MayRun names events (started names start)
-        → WereSent (run events (started names start)).sent due → recovery_rounds ≤ suc n → StayBelowLimitFrom due n (flow_after names start events 0)
+        → ComeFirst names due (flow_after names start events 0) → recovery_rounds ≤ suc n → StayBelowLimitFrom due n (flow_after names start events 0)
         → AreUp (good_rounds n (round_of due (flow_after names start events 0))).ends }
 {
     starts_in_time();
@@ -125,7 +126,7 @@ pub fn gaps_are_rare()
 /// Two ends at work come up, too: whatever has happened to them before, and whatever items they are given meanwhile, both are up
 /// after each round at work from the 1561st on, so for good 15.61 s after these rounds began. That is where nothing closes
 /// an end in them, and no end comes to the limit of PDUs in a connection. In the first of them anything may come that was sent
-/// before it, in any order, again and again, or never.
+/// before it, in any order, again and again, or never; and of what is said in it also what the client says, where that was in a connection before.
 pub fn two_ends_at_work_come_up()
     ensures { (names : Names) (start : Start) (events : List Event) (passed : ℕ) (rounds : List (List Event)) → AreNames names → MayRun names events (started names start)
         → BeginAtWork names rounds (flow_after names start events passed) → Each (Each LeavesOpen) rounds → StayBelow rounds (flow_after names start events passed)
@@ -150,7 +151,7 @@ pub fn two_ends_at_work_come_up()
 /// Two ends at work hand over what they are given: whatever has happened to them before, behind each round at work from the 1561st
 /// on each end has taken all that the other had given behind the round before, in the connection that both are in; and behind that
 /// one the client was up. So nothing that is given is lost or waits for long, as long as nothing closes an end and none comes
-/// to the limit of PDUs. In the first of these rounds anything may come that was sent before it, here too.
+/// to the limit of PDUs. In the first of these rounds the same may come.
 pub fn two_ends_at_work_hand_over()
     ensures { (names : Names) (start : Start) (events : List Event) (passed : ℕ) (rounds : List (List Event)) (calls : List Event) → AreNames names
         → MayRun names events (started names start) → BeginAtWork names rounds (flow_after names start events passed) → Each (Each LeavesOpen) rounds

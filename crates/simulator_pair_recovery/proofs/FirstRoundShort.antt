@@ -15,7 +15,7 @@ use Rattle.rasta_core.specs.TimedEnds.{Times, times_of}
 use Rattle.simulator_pair.specs.Theorem.{names}
 use Rattle.simulator_pair_recovery.proofs.Reached.{Laws, Reached, are_names, reached_timely, start}
 use Rattle.simulator_pair_recovery.proofs.Fresh.{IsFresh, called_adds, each_append}
-use Rattle.simulator_pair_recovery.proofs.Recovers.{LawsHere}
+use Rattle.simulator_pair_recovery.proofs.Rounds.{LawsHere}
 
 abbrev pub ReadIsIntact : Type 0
 ReadIsIntact = (key : Key) (bytes : List ℕ) (pdu : Pdu) → reading key bytes ≡ Ok pdu → IsIntact key bytes

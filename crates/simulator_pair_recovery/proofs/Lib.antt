@@ -1,6 +1,8 @@
 pub mod Reached
 pub mod Fresh
 pub mod Alike
-pub mod Recovers
+pub mod Rounds
 pub mod FirstRoundShort
+pub mod FirstRoundMay
 pub mod FirstRoundComes
+pub mod Recovers

@@ -1,6 +1,6 @@
 -- A pair that was given events is two ends to which events happened that may happen to them.
-use Rattle.std.proofs.Common.{◌≡◌, ℕ, zero, suc, ◌∙◌, Bool, true, false, nat_lt, List, [], ◌∷◌, ◌++◌, length, Option, Some, None, if◌then◌else◌, refl, sym, ap, subst, inl, inr, arith, lit<}
-use Rattle.std.specs.Prelude.{◌↔◌, IsTrue, ◌||◌, ◌-◌, is_none, slice_get}
+use Rattle.std.proofs.Common.{◌≡◌, ℕ, ◌∙◌, Bool, true, false, List, [], ◌∷◌, ◌++◌, Option, Some, None, if◌then◌else◌, refl, sym, ap, subst, inl, inr, arith, lit<}
+use Rattle.std.specs.Prelude.{◌↔◌, IsTrue, is_none}
 use Rattle.std.proofs.lemmas.Bool.{false≢true}
 use Rattle.md4.specs.declared.message.TheConstants.{STANDARD}
 use Rattle.rasta_core_run.specs.Calls.{created}
@@ -21,7 +21,7 @@ use Rattle.simulator_pair.specs.Theorem.{names}
 use Rattle.simulator_pair.specs.declared.event.PairEvent.{PairEvent}
 use Rattle.simulator_pair.specs.declared.event.PairEvent.TheVariants as event
 use Rattle.simulator_pair.specs.refused.Refused.TheVariants.{NeverSent}
-use Rattle.simulator_pair_text.specs.Flow.{Flowing, arrived, arriving, arriving_from, partner_of, round, tried}
+use Rattle.simulator_pair_text.specs.Flow.{tried}
 use Rattle.simulator_pair_recovery.specs.Recovery.{GivesItem, after_events}
 
 pub are_names : AreNames names
@@ -125,33 +125,3 @@ events_reached laws (e ∷ events) pair items is = events_reached laws events (t
 pub new_reached : Reached (new_pair (record { 0 = STANDARD })).ends
 unfolding created
 new_reached = record { events = []; may = tt; same = refl }
-
--- ---- a round
-
-pub arrived_reached : Laws → (who : Role) (bytes : List ℕ) (pair : PairState) → Reached pair.ends → Reached (arrived who bytes pair).ends
-unfolding arrived
-arrived_reached laws who bytes pair is = choose (is_none (refusal_of_delivery who bytes pair.ends)) refl
-  where
-    choose : (b : Bool) → is_none (refusal_of_delivery who bytes pair.ends) ≡ b → Reached (if b then stepped who (Receives bytes (connection_of (copy_of bytes pair.ends))) pair else pair).ends
-    choose true f = reached_stepped who (Receives bytes (connection_of (copy_of bytes pair.ends))) pair is (may_receive laws who bytes pair.ends (reached_timely laws pair.ends is) (none_is (refusal_of_delivery who bytes pair.ends) f))
-    choose false f = is
-
-pub arriving_reached : Laws → (o : Option Sent) (pair : PairState) → Reached pair.ends → Reached (arriving o pair).ends
-unfolding arriving
-arriving_reached laws None pair is = is
-arriving_reached laws (Some sent) pair is = choose (sent.is_lost || nat_lt 512 (length sent.bytes))
-  where
-    choose : (b : Bool) → Reached (if b then pair else arrived (partner_of sent.sender) sent.bytes pair).ends
-    choose true = is
-    choose false = arrived_reached laws (partner_of sent.sender) sent.bytes pair is
-
-pub arriving_from_reached : Laws → (index more : ℕ) (pair : PairState) → Reached pair.ends → Reached (arriving_from index more pair).ends
-unfolding arriving_from
-arriving_from_reached laws index zero pair is = is
-arriving_from_reached laws index (suc more) pair is = arriving_from_reached laws (suc index) more (arriving (slice_get pair.ends.sent index) pair) (arriving_reached laws (slice_get pair.ends.sent index) pair is)
-
-pub round_reached : Laws → (flowing : Flowing) → Reached flowing.pair.ends → Reached (round flowing).pair.ends
-unfolding round
-round_reached laws flowing is =
-    tried_reached laws (event.Tick role.Server) _ tt (tried_reached laws (event.Tick role.Client) _ tt
-    (arriving_from_reached laws flowing.passed (length flowing.pair.ends.sent - flowing.passed) _ (tried_reached laws (event.Time 10000 10000 10000) flowing.pair tt is)))

@@ -1,2 +1,1 @@
 pub mod Recovery
-pub mod FirstRound

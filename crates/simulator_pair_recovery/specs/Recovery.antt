@@ -33,6 +33,6 @@ pub record HasTime (n : ℕ) (flowing : Flowing) : Type 0 where
 abbrev pub StayBelowLimit : ℕ → Flowing → Type 0
 StayBelowLimit n flowing = (k : ℕ) → k ≤ n → IsBelowLimit (rounds k flowing).pair.ends.client × IsBelowLimit (rounds k flowing).pair.ends.server
 
--- from this round on both ends are up: 15,620 ms after the flow began
+-- from this round on both ends are up: 15,610 ms after the flow began
 abbrev pub recovery_rounds : ℕ
-recovery_rounds = 1562
+recovery_rounds = 1561

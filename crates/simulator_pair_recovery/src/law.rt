@@ -8,13 +8,14 @@ ghost use Rattle.simulator_pair_text.specs.Flow.{rounds};
 ghost use Rattle.simulator_pair_recovery.specs.Recovery.{GivesItem, HasTime, StayBelowLimit, flow_after, recovery_rounds};
 
 use rasta_core::{calls_hand_out_pdus, copies_are_delivered, every_run_keeps_time, starts_in_time};
-use rasta_core_recovery::two_ends_come_up;
-use rasta_core_run::written_is_read;
+use rasta_core_recovery::two_ends_come_up_whatever_comes_first;
+use rasta_core_run::{read_was_written, written_is_read};
 use rasta_pdu::intact_is_tested;
 
-/// A pair comes up whatever events it was given: after each round of `flow` from the 1562nd on both its ends are up, so for
-/// good 15.62 s after the flow began. That is where its clocks are away from their limits for so long, and no end comes to
-/// the limit of PDUs in a connection. Some datagrams of before, how many is free, were tried by earlier flows.
+/// A pair comes up whatever events it was given: after each round of `flow` from the 1561st on both its ends are up, so for
+/// good 15.61 s after the flow began. That is where its clocks are away from their limits for so long, and no end comes to
+/// the limit of PDUs in a connection. Some datagrams of before, how many is free, were tried by earlier flows. Of all others the first
+/// round tries each: in its place comes the newest copy of its bytes that still can, be it sent before the flow or said in this very round.
 pub fn a_pair_comes_up()
     ensures { (events : List PairEvent) (passed n : ℕ) → Each GivesItem events → recovery_rounds ≤ n
         → HasTime n (flow_after events passed) → StayBelowLimit n (flow_after events passed)
@@ -25,6 +26,7 @@ pub fn a_pair_comes_up()
     copies_are_delivered();
     calls_hand_out_pdus();
     written_is_read();
+    read_was_written();
     intact_is_tested();
-    two_ends_come_up();
+    two_ends_come_up_whatever_comes_first();
 }

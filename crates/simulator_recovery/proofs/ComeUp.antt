@@ -153,7 +153,7 @@ rounds_begin names [] f work = tt
 rounds_begin names (calls ∷ others) f (first, work) = (
   record {
     due = drop f.passed f.ends.sent;
-    were_sent = among_drop f.passed f.ends.sent f.ends.sent (λ d is. is);
+    comes = inl (among_drop f.passed f.ends.sent f.ends.sent (λ d is. is));
     may = first.may;
     only = first.only;
     client = first.client;

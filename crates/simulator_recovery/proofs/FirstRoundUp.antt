@@ -321,8 +321,8 @@ module _ (laws : ComeUpLaws) (read : ReadIsIntact) (tested : IntactIsTested) (fl
       one : IsFirstAtWork (names_at sited.site link) (flow_of link passed_at these) (calls_on link between flowing these)
       one = record {
         due = of_link link due_in_all;
-        were_sent = subst (λ (l : List OnLink). WereSent (of_link link l) (of_link link due_in_all)) (sym has.are.sent_is)
-            (all_sent sited.site time world.sent mid.run.sent link more tried);
+        comes = inl (subst (λ (l : List OnLink). WereSent (of_link link l) (of_link link due_in_all)) (sym has.are.sent_is)
+            (all_sent sited.site time world.sent mid.run.sent link more tried));
         may = r.may;
         only = r.only;
         client = as_timed role.Client (calls_in role.Client (calls_on link between flowing these)) r.client;

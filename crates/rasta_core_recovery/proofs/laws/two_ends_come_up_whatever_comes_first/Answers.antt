@@ -1,8 +1,8 @@
-use Rattle.rasta_core_recovery.proofs.AnyFirstRecovers.{recovers_from_any}
+use Rattle.rasta_core_recovery.proofs.FirstUp.{recovers_whatever_comes}
 use Rattle.rasta_core_recovery.proofs.laws.two_ends_come_up_whatever_comes_first.Goals as goal
 
 pub returns : goal.returns
-returns c = recovers_from_any (record {
+returns c = recovers_whatever_comes (record {
   starts_timely = c.starts_in_time.ensures;
   time = c.every_event_keeps_time.ensures;
   starts_ordered = c.every_event_keeps_order.ensures.starts;
