@@ -354,6 +354,21 @@ class Station:
         request, = self.deliver(self.name, version)
         return heartbeat, request
 
+    def live_before(self, interlocking, node, number):
+        """A former life of two nodes, in which each misses what the other says: the clocks and numbers are those that they will have."""
+        self.restart(interlocking, 7800, 5)
+        self.restart(node, 7800, number)
+        self.pass_time(6000)
+        told = self.come_up_to_request(node)
+        self.miss_each_other(node, *told)
+        return told
+
+    def live_anew(self, interlocking, node, note):
+        self.note(note)
+        self.restart(interlocking)
+        self.restart(node)
+        self.pass_time(6000)
+
     def miss_each_other(self, name, heartbeat, request):
         """What is to be said in the first good round, behind that: both miss something, and ask. What is lost here is missed there."""
         self.lose(heartbeat)
@@ -414,15 +429,8 @@ def slowest_route():
     it.note('''R1 was set before the good rounds began, and since then the links were lost. Its signal shows its aspect 16,180 ms after they began: the
 link of P1 is ready as late as in slowest_recovery_by_copies, 15,650 ms after they began, and so the move is given then.
 First what the interlocking and P1 are to say once more, as there; their clocks and numbers are those that they will have.''')
-    it.restart('IXL1', 7800, 5)
-    it.restart('P1', 7800, 5)
-    it.pass_time(6000)
-    told = it.come_up_to_request('P1')
-    it.miss_each_other('P1', *told)
-    it.note('Both are made anew. The links that R1 needs come up, and it is set. Its move does not come.')
-    it.restart('IXL1')
-    it.restart('P1')
-    it.pass_time(6000)
+    told = it.live_before('IXL1', 'P1', 5)
+    it.live_anew('IXL1', 'P1', 'Both are made anew. The links that R1 needs come up, and it is set. Its move does not come.')
     it.come_up(('S1', 'P1', 'D1'))
     it.line('resume')
     it.line('set R1')
@@ -439,15 +447,9 @@ def freed_without_a_train():
     it = junction()
     it.note('''R2 was cancelled before the good rounds began, with no train near. It is free 15,650 ms later: the link of D2 is ready again as late as
 that of P1 in slowest_recovery_by_copies. First what the interlocking and D2 are to say once more, as there.''')
-    it.restart('JUNCTION', 7800, 5)
-    it.restart('D2', 7800, 8)
-    it.pass_time(6000)
-    told = it.come_up_to_request('D2')
-    it.miss_each_other('D2', *told)
-    it.note('Both are made anew. The links that R2 needs come up, and those of S1 and D1 live 300 ms longer. R2 is set, and has its aspect.')
-    it.restart('JUNCTION')
-    it.restart('D2')
-    it.pass_time(6000)
+    told = it.live_before('JUNCTION', 'D2', 8)
+    it.live_anew('JUNCTION', 'D2', 'Both are made anew. The links that R2 needs come up, and those of S1 and D1 live 300 ms longer. '
+                 'R2 is set, and has its aspect.')
     it.come_up(('S1', 'P1', 'P2', 'P3', 'D1', 'D2'))
     it.line('resume')
     it.pass_time(300)
