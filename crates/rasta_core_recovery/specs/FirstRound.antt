@@ -1,4 +1,4 @@
--- A first round, in which anything may come that was sent before it: in any order, again and again, or never.
+-- A first round, in which anything may come that was sent by then, before it or in it: in any order, again and again, or never.
 use Rattle.std.specs.Prelude.{◌≡◌, ℕ, ◌⊎◌, true, ◌+◌, List, [], ◌∷◌, ◌++◌, length}
 use Rattle.rasta_core_run.specs.identity.Role.{Role}
 use Rattle.rasta_core_run.specs.identity.Role.TheVariants as role
