@@ -3,3 +3,4 @@ pub mod GroupsMade
 pub mod Identities
 pub mod PlaceFound
 pub mod SubjectsOnce
+pub mod Grown

@@ -3,10 +3,10 @@
 use crate::sketch::Sketch;
 use crate::yard::Place;
 
-impl Sketch<'_> {
+impl Sketch {
     /// The port of an element on its row, at a side.
     pub(crate) fn level_port(&self, element: usize, right: bool) -> Option<Place> {
-        for end in self.ends(element) {
+        for end in self.numbers.ends(element) {
             let place = Place { element, end: *end };
             if self.is_level(place) && self.is_right(place) == right {
                 return Some(place);
@@ -42,7 +42,7 @@ impl Sketch<'_> {
         self.chains = chain.saturating_add(1);
         let mut element = first;
         for _ in 0..self.elements.len() {
-            if let Some(facts) = self.elements.get_mut(element) {
+            if let Some(facts) = self.facts_mut(element) {
                 facts.chain = Some(chain);
             }
             match self.beside(element, true) {

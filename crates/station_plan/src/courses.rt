@@ -1,15 +1,15 @@
 //! Which joints go on from left to right. Those that turn back or close a circle are left out of the rows.
 
-use crate::lists::at;
 use crate::sketch::Sketch;
-use crate::yard::{Place, port_number};
+use crate::yard::Place;
+use control_table::layout::Joint;
 use std::alloc::AllocError;
 
-impl Sketch<'_> {
+impl Sketch {
     /// Finds the joints that go on, and an order of the elements in which each stands before those at its left: by a search
     /// for circles, depth first. It goes over all elements: first from those at whose left there is nothing.
-    pub(crate) fn lay_courses(&mut self) -> Result<(), AllocError> {
-        self.straighten();
+    pub(crate) fn lay_courses(&mut self, joints: &[Joint]) -> Result<(), AllocError> {
+        self.straighten(joints);
         for element in 0..self.elements.len() {
             if !self.has_left(element) {
                 self.visit(element)?;
@@ -22,11 +22,10 @@ impl Sketch<'_> {
     }
 
     /// Lets those joints go on that lead from a right side to a left side.
-    fn straighten(&mut self) {
-        let layout = self.layout;
-        for joint in layout.joints() {
-            let first = self.place(joint.first);
-            let second = self.place(joint.second);
+    fn straighten(&mut self, joints: &[Joint]) {
+        for joint in joints {
+            let first = self.numbers.place(joint.first);
+            let second = self.numbers.place(joint.second);
             if self.is_right(first) != self.is_right(second) {
                 self.set_next(first, Some(second));
                 self.set_next(second, Some(first));
@@ -35,8 +34,27 @@ impl Sketch<'_> {
     }
 
     fn set_next(&mut self, place: Place, next: Option<Place>) {
-        if let Some(port) = self.ports.get_mut(port_number(place)) {
+        if let Some(port) = self.port_mut(place) {
             port.next = next;
+        }
+    }
+
+    /// Numbers the joints that don't go on: those that aren't drawn as a line.
+    pub(crate) fn number_connectors(&mut self, joints: &[Joint]) {
+        let mut number: usize = 0;
+        for joint in joints {
+            let first = self.numbers.place(joint.first);
+            if self.is_connector(first) {
+                number = number.saturating_add(1);
+                self.set_connector(first, number);
+                self.set_connector(self.numbers.place(joint.second), number);
+            }
+        }
+    }
+
+    fn set_connector(&mut self, place: Place, number: usize) {
+        if let Some(port) = self.port_mut(place) {
+            port.connector = Some(number);
         }
     }
 
@@ -50,7 +68,7 @@ impl Sketch<'_> {
     }
 
     fn has_left(&self, element: usize) -> bool {
-        for end in self.ends(element) {
+        for end in self.numbers.ends(element) {
             let place = Place { element, end: *end };
             if self.neighbour(place, false).is_some() {
                 return true;
@@ -84,7 +102,7 @@ impl Sketch<'_> {
         let Some((element, tried)) = self.stack.pop() else {
             return Ok(());
         };
-        match self.ends(element).get(tried) {
+        match self.numbers.ends(element).get(tried) {
             Some(end) => {
                 self.stack.push((element, tried.saturating_add(1)))?;
                 self.follow(Place { element, end: *end })
@@ -94,7 +112,7 @@ impl Sketch<'_> {
     }
 
     fn close(&mut self, element: usize) -> Result<(), AllocError> {
-        if let Some(facts) = self.elements.get_mut(element) {
+        if let Some(facts) = self.facts_mut(element) {
             facts.is_open = false;
         }
         self.order.push(element)?;

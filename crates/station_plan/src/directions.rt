@@ -5,11 +5,11 @@ use crate::yard::Place;
 use control_table::layout::{Element, End};
 use std::alloc::AllocError;
 
-impl Sketch<'_> {
+impl Sketch {
     /// Lays all elements: from the borders first, in table order, then from the rest.
     pub(crate) fn lay_directions(&mut self) -> Result<(), AllocError> {
         let size = self.elements.len();
-        for border in self.border(0)..size {
+        for border in self.numbers.border(0)..size {
             self.explore(border)?;
         }
         for element in 0..size {
@@ -30,7 +30,7 @@ impl Sketch<'_> {
     /// Whether a piece is a line by itself: it has no point, and ends at no border at the right of the plan.
     pub(crate) fn is_line(&self, piece: usize) -> bool {
         for (element, facts) in self.elements.iter().enumerate() {
-            let parts = match self.element(element) {
+            let parts = match self.numbers.element(element) {
                 Element::Track(_) => false,
                 Element::Point(_) => true,
                 Element::Border(_) => facts.is_flipped,
@@ -66,7 +66,7 @@ impl Sketch<'_> {
         is_flipped: bool,
         found: &mut Vec<usize>,
     ) -> Result<(), AllocError> {
-        if let Some(facts) = self.elements.get_mut(element) {
+        if let Some(facts) = self.facts_mut(element) {
             facts.piece = Some(piece);
             facts.is_flipped = is_flipped;
         }
@@ -81,7 +81,7 @@ impl Sketch<'_> {
         piece: usize,
         found: &mut Vec<usize>,
     ) -> Result<(), AllocError> {
-        for end in self.ends(element) {
+        for end in self.numbers.ends(element) {
             let place = Place { element, end: *end };
             if let Some(mate) = self.port(place).mate {
                 if self.facts(mate.element).piece.is_none() {

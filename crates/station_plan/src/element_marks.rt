@@ -39,7 +39,7 @@ pub(crate) fn along(from: Spot, side: i32, slope: i32, length: i32) -> Spot {
 pub(crate) fn draw_track(
     marks: &mut Marks,
     more: &mut Marks,
-    sketch: &Sketch<'_>,
+    sketch: &Sketch,
     element: usize,
     name: Name,
 ) -> Result<(), AllocError>
@@ -59,7 +59,7 @@ pub(crate) fn draw_track(
 /// Draws what stands at an end of a row: a dead end, or the number of the joint by which the line goes on elsewhere.
 fn draw_end(
     marks: &mut Marks,
-    sketch: &Sketch<'_>,
+    sketch: &Sketch,
     element: usize,
     right: bool,
 ) -> Result<(), AllocError> {
@@ -74,8 +74,8 @@ fn draw_end(
 }
 
 /// Draws the number of the joint by which a line goes on elsewhere, where it does.
-fn draw_connector(marks: &mut Marks, sketch: &Sketch<'_>, place: Place) -> Result<(), AllocError> {
-    let Some(number) = sketch.connector(place) else {
+fn draw_connector(marks: &mut Marks, sketch: &Sketch, place: Place) -> Result<(), AllocError> {
+    let Some(number) = sketch.port(place).connector else {
         return Ok(());
     };
     let (slope, line, ring) = if sketch.is_level(place) {
@@ -94,7 +94,7 @@ fn draw_connector(marks: &mut Marks, sketch: &Sketch<'_>, place: Place) -> Resul
 pub(crate) fn draw_branch(
     marks: &mut Marks,
     more: &mut Marks,
-    sketch: &Sketch<'_>,
+    sketch: &Sketch,
     place: Place,
 ) -> Result<(), AllocError>
     ensures drawn { OnOk result (strokes marks.new.marks.items ≡ strokes marks.old.marks.items ++ rail) }
@@ -112,7 +112,7 @@ pub(crate) fn draw_branch(
 pub(crate) fn draw_point(
     marks: &mut Marks,
     more: &mut Marks,
-    sketch: &Sketch<'_>,
+    sketch: &Sketch,
     element: usize,
     name: Name,
 ) -> Result<(), AllocError>
@@ -131,7 +131,7 @@ pub(crate) fn draw_point(
 }
 
 /// Draws the hand of the other leg of a point.
-fn draw_hand(marks: &mut Marks, sketch: &Sketch<'_>, element: usize) -> Result<(), AllocError> {
+fn draw_hand(marks: &mut Marks, sketch: &Sketch, element: usize) -> Result<(), AllocError> {
     let place = sketch.minor(element);
     let side = sign(sketch.is_right(place));
     let at = moved(
@@ -143,11 +143,32 @@ fn draw_hand(marks: &mut Marks, sketch: &Sketch<'_>, element: usize) -> Result<(
     marks.text("hand", at, Anchor::Middle, hand)
 }
 
+/// The end of a border that lies away from the plan.
+fn outer_end(sketch: &Sketch, place: Place) -> Spot {
+    let side = sign(sketch.is_right(place));
+    let half = sketch.facts(place.element).half;
+    spot(
+        sketch.x(place.element) - half.times(side),
+        sketch.y(place.element),
+    )
+}
+
+/// Draws the arrow of a border into the plan, and its line.
+fn draw_arrow(marks: &mut Marks, sketch: &Sketch, place: Place) -> Result<(), AllocError>
+    ensures drawn { OnOk result (strokes marks.new.marks.items ≡ strokes marks.old.marks.items ++ border_strokes) }
+    ensures named { OnOk result (written marks.new.marks.items ≡ written marks.old.marks.items) }
+{
+    let outer = outer_end(sketch, place);
+    let tip = moved(outer, sign(sketch.is_right(place)).saturating_mul(10), 0);
+    marks.triangle("arrow", moved(outer, 0, -5), tip, moved(outer, 0, 5))?;
+    marks.line("rail", tip, sketch.port_spot(place))
+}
+
 /// Draws a border: an arrow into the plan, and its name.
 pub(crate) fn draw_border(
     marks: &mut Marks,
     more: &mut Marks,
-    sketch: &Sketch<'_>,
+    sketch: &Sketch,
     element: usize,
     name: Name,
 ) -> Result<(), AllocError>
@@ -159,27 +180,22 @@ pub(crate) fn draw_border(
         end: End::End,
     };
     let right = sketch.is_right(place);
-    let side = sign(right);
-    let y = sketch.y(element);
-    let outer = spot(
-        sketch.x(element) - sketch.facts(element).half.times(side),
-        y,
-    );
-    let tip = moved(outer, side.saturating_mul(10), 0);
-    marks.triangle("arrow", moved(outer, 0, -5), tip, moved(outer, 0, 5))?;
-    marks.line("rail", tip, sketch.port_spot(place))?;
+    draw_arrow(marks, sketch, place)?;
     draw_end(more, sketch, element, right)?;
     let anchor = if right { Anchor::Start } else { Anchor::End };
-    let x = Units(outer.x);
-    marks.name("name", x, y - Units(8), anchor, name, true)
+    let outer = outer_end(sketch, place);
+    marks.name(
+        "name",
+        Units(outer.x),
+        Units(outer.y) - Units(8),
+        anchor,
+        name,
+        true,
+    )
 }
 
 /// Draws a joint across the line.
-pub(crate) fn draw_joint(
-    marks: &mut Marks,
-    sketch: &Sketch<'_>,
-    place: Place,
-) -> Result<(), AllocError>
+pub(crate) fn draw_joint(marks: &mut Marks, sketch: &Sketch, place: Place) -> Result<(), AllocError>
     ensures drawn { OnOk result (strokes marks.new.marks.items ≡ strokes marks.old.marks.items ++ tick) }
     ensures named { OnOk result (written marks.new.marks.items ≡ written marks.old.marks.items) }
 {
@@ -200,7 +216,7 @@ pub(crate) fn draw_joint(
 /// Draws the band of an element's section.
 pub(crate) fn draw_band(
     marks: &mut Marks,
-    sketch: &Sketch<'_>,
+    sketch: &Sketch,
     element: usize,
 ) -> Result<(), AllocError>
     ensures drawn { OnOk result (strokes marks.new.marks.items ≡ strokes marks.old.marks.items ++ band ∷ []) }
@@ -213,7 +229,7 @@ pub(crate) fn draw_band(
 /// Draws the band of a point's section: its row and its other leg.
 pub(crate) fn draw_point_band(
     marks: &mut Marks,
-    sketch: &Sketch<'_>,
+    sketch: &Sketch,
     element: usize,
 ) -> Result<(), AllocError>
     ensures drawn { OnOk result (strokes marks.new.marks.items ≡ strokes marks.old.marks.items ++ band ∷ band ∷ []) }

@@ -50,7 +50,7 @@ const BEHIND: Room = Room {
     is_occupied: true,
 };
 
-impl Sketch<'_> {
+impl Sketch {
     /// Finds the heights of all rows: makes room for the texts of elements and for level lines, and lays each row below the
     /// one before.
     pub(crate) fn lay_heights(&mut self) -> Result<(), AllocError> {
@@ -127,9 +127,9 @@ impl Sketch<'_> {
 
     /// How far the texts of an element reach above and below its row.
     fn texts(&self, element: usize) -> (Units, Units) {
-        let name = lines(self.name(element));
+        let name = lines(self.written(element).name);
         let section = lines(self.section_name(element));
-        match self.element(element) {
+        match self.numbers.element(element) {
             Element::Track(_) => (Units(16) + more(name), Units(17) + more(section)),
             Element::Point(_) => {
                 let all = more(name.saturating_add(section));
@@ -148,9 +148,9 @@ impl Sketch<'_> {
         let Some(place) = self.level_port(element, right) else {
             return Units(0);
         };
-        match self.signal_name(place) {
-            Some(name) => one + more(lines(Some(name))),
-            None => Units(0),
+        match self.port(place).signal {
+            0 => Units(0),
+            letters => one + more(lines(letters)),
         }
     }
 }

@@ -3,9 +3,9 @@
 use crate::sketch::Sketch;
 use crate::subjects::{element_name, section_of};
 use crate::units::{Units, count};
-use crate::yard::Place;
-use control_table::layout::{Element, Layout, SectionId};
+use control_table::layout::{Element, Layout, SectionId, Track};
 use control_table::sci_telegram::Name;
+use std::alloc::AllocError;
 
 /// How wide a letter is.
 pub(crate) const LETTER: Units = Units(6);
@@ -14,68 +14,105 @@ pub(crate) const LINE: Units = Units(11);
 /// How many letters of a name stand on one line.
 pub(crate) const WRAP: usize = 10;
 
+/// What is written at an element: names by their letters, of which there are 0 where none is written.
+#[derive(Clone, Copy)]
+pub(crate) struct Label {
+    /// How many letters its name has.
+    pub(crate) name: usize,
+    /// The section in which it lies, if it lies in one.
+    section: Option<SectionId>,
+    /// How many letters the section's name has, if an element of this kind may tell it.
+    section_name: usize,
+}
+
+/// What is written where nothing is.
+pub(crate) const UNWRITTEN: Label = Label {
+    name: 0,
+    section: None,
+    section_name: 0,
+};
+
 /// How wide a name is.
-pub(crate) fn width(name: Option<Name>) -> Units {
-    match name {
-        Some(name) => LETTER.times(count(name.bytes().len().min(WRAP))),
-        None => Units(0),
-    }
+pub(crate) fn width(letters: usize) -> Units {
+    LETTER.times(count(letters.min(WRAP)))
 }
 
 /// On how many lines a name stands.
-pub(crate) fn lines(name: Option<Name>) -> usize {
+pub(crate) fn lines(letters: usize) -> usize {
+    match letters {
+        0 => 0,
+        1..=WRAP => 1,
+        _ => 2,
+    }
+}
+
+/// How many letters a name has, if there is one.
+pub(crate) fn letters(name: Option<Name>) -> usize {
     match name {
-        Some(name) if name.bytes().len() > WRAP => 2,
-        Some(_) => 1,
+        Some(name) => name.bytes().len(),
         None => 0,
     }
 }
 
-impl Sketch<'_> {
-    /// The name of an element.
-    pub(crate) fn name(&self, element: usize) -> Option<Name> {
-        element_name(self.layout, self.element(element))
-    }
-
-    /// The name of the signal at a port.
-    pub(crate) fn signal_name(&self, place: Place) -> Option<Name> {
-        let signal = self.port(place).signal?;
-        Some(self.layout.signals().get(signal)?.name)
-    }
-
-    /// The section that is named at an element. A section is named once on each row on which it lies without a break: at its
-    /// tracks, or at its points where it has no track.
-    pub(crate) fn section_name(&self, element: usize) -> Option<Name> {
-        let section = section_of(self.layout, self.element(element))?;
-        let is_point = matches!(self.element(element), Element::Point(_));
-        if is_point && has_track(self.layout, section) {
-            return None;
-        }
-        if self.is_named_before(element, section) {
-            return None;
-        }
-        self.layout.sections().get(section.0).copied()
-    }
-
-    /// Whether what lies at the left of an element on its row is of the same kind and section.
-    fn is_named_before(&self, element: usize, section: SectionId) -> bool {
-        let Some(mate) = self.beside(element, false) else {
-            return false;
-        };
-        let before = self.element(mate.element);
-        let is_same_kind = matches!(
-            (before, self.element(element)),
-            (Element::Track(_), Element::Track(_)) | (Element::Point(_), Element::Point(_))
-        );
-        is_same_kind && section_of(self.layout, before) == Some(section)
+/// What is written at an element of a layout.
+fn label_of(layout: &Layout, element: Element) -> Label {
+    let section = section_of(layout, element);
+    Label {
+        name: letters(element_name(layout, element)),
+        section,
+        section_name: section_letters(layout, element, section),
     }
 }
 
-fn has_track(layout: &Layout, section: SectionId) -> bool {
-    for track in layout.tracks() {
+/// How many letters the name of a section has that an element may tell: a point where the section has no track, too.
+fn section_letters(layout: &Layout, element: Element, section: Option<SectionId>) -> usize {
+    let Some(section) = section else {
+        return 0;
+    };
+    if matches!(element, Element::Point(_)) && has_track(layout.tracks(), section) {
+        return 0;
+    }
+    letters(layout.sections().get(section.0).copied())
+}
+
+fn has_track(tracks: &[Track], section: SectionId) -> bool {
+    for track in tracks {
         if track.section == section {
             return true;
         }
     }
     false
+}
+
+impl Sketch {
+    /// Takes up what is written at the elements of a layout.
+    pub(crate) fn read_labels(&mut self, layout: &Layout) -> Result<(), AllocError> {
+        for number in 0..self.numbers.all() {
+            let element = self.numbers.element(number);
+            self.labels.push(label_of(layout, element))?;
+        }
+        Ok(())
+    }
+
+    /// How many letters of its section's name are written at an element. A section is named once on each row on which it lies
+    /// without a break: at its tracks, or at its points where it has no track.
+    pub(crate) fn section_name(&self, element: usize) -> usize {
+        if self.is_named_before(element) {
+            return 0;
+        }
+        self.written(element).section_name
+    }
+
+    /// Whether what lies at the left of an element on its row is of the same kind and section.
+    fn is_named_before(&self, element: usize) -> bool {
+        let Some(mate) = self.beside(element, false) else {
+            return false;
+        };
+        let before = self.numbers.element(mate.element);
+        let is_same_kind = matches!(
+            (before, self.numbers.element(element)),
+            (Element::Track(_), Element::Track(_)) | (Element::Point(_), Element::Point(_))
+        );
+        is_same_kind && self.written(mate.element).section == self.written(element).section
+    }
 }

@@ -4,7 +4,7 @@ use crate::links::Link;
 use crate::lists::put;
 use crate::sketch::Sketch;
 
-impl Sketch<'_> {
+impl Sketch {
     /// Gives links that pass between two rows beside one another different slots, by how far they reach.
     pub(crate) fn level_links(&mut self) {
         for number in 0..self.links.len() {

@@ -29,10 +29,10 @@ pub(crate) struct Link {
     pub(crate) is_flat: bool,
 }
 
-impl Sketch<'_> {
+impl Sketch {
     /// Finds the links of the layout. A link within one chain makes a chain without elements.
     pub(crate) fn lay_links(&mut self) -> Result<(), AllocError> {
-        for element in self.point(0)..self.border(0) {
+        for element in self.numbers.point(0)..self.numbers.border(0) {
             let from = self.minor(element);
             if let Some(to) = self.port(from).next {
                 self.add_link(from, to)?;

@@ -1,8 +1,8 @@
 //! The leg of each point by which its row goes on.
 
 use crate::sketch::Sketch;
-use crate::yard::{FAR, Place, port_number};
-use control_table::layout::{End, Route};
+use crate::yard::{FAR, Place};
+use control_table::layout::{End, PointId, Route};
 use control_table::sci_telegram::{Aspect, Side};
 
 /// What a leg is joined to.
@@ -25,25 +25,24 @@ const WORST: usize = 1_003_003_000;
 /// What a way counts more by which a row is lost.
 const LOST: usize = 2_000_000_000;
 
-impl Sketch<'_> {
+impl Sketch {
     /// Marks the legs over which routes run that aren't slow.
-    pub(crate) fn mark_fast_legs(&mut self) {
-        let layout = self.layout;
-        for route in layout.routes() {
+    pub(crate) fn mark_fast_legs(&mut self, routes: &[Route]) {
+        for route in routes {
             if !matches!(route.aspect(), Aspect::Slow) {
-                self.mark_fast(route);
+                self.mark_fast(route.points());
             }
         }
     }
 
-    fn mark_fast(&mut self, route: &Route) {
-        for (point, side) in route.points() {
+    fn mark_fast(&mut self, points: &[(PointId, Side)]) {
+        for (point, side) in points {
             let end = match side {
                 Side::Left => End::Left,
                 Side::Right => End::Right,
             };
-            let element = self.point(point.0);
-            if let Some(port) = self.ports.get_mut(port_number(Place { element, end })) {
+            let element = self.numbers.point(point.0);
+            if let Some(port) = self.port_mut(Place { element, end }) {
                 port.is_fast = true;
             }
         }
@@ -53,11 +52,11 @@ impl Sketch<'_> {
     /// joined to no leg goes before one that is, and this before an open one; the better way. Where both legs are joined to
     /// legs, the one whose peer gives up the worse row.
     pub(crate) fn choose_main_legs(&mut self) {
-        for element in self.point(0)..self.border(0) {
+        for element in self.numbers.point(0)..self.numbers.border(0) {
             let leg = self.plain_leg(element);
             self.set_main(element, leg);
         }
-        for element in self.point(0)..self.border(0) {
+        for element in self.numbers.point(0)..self.numbers.border(0) {
             if self.facts(element).main.is_none() {
                 self.settle_leg(element);
             }
@@ -65,7 +64,7 @@ impl Sketch<'_> {
     }
 
     fn set_main(&mut self, element: usize, leg: Option<End>) {
-        if let Some(facts) = self.elements.get_mut(element) {
+        if let Some(facts) = self.facts_mut(element) {
             facts.main = leg;
         }
     }

@@ -138,20 +138,6 @@ impl Marks {
         self.text(class, spot(x, upper), anchor, first)?;
         self.text(class, spot(x, upper + LINE), anchor, second)
     }
-
-    /// Adds a name, where one is written.
-    pub(crate) fn label(
-        &mut self,
-        x: Units,
-        y: Units,
-        name: Option<Name>,
-        upward: bool,
-    ) -> Result<(), AllocError> {
-        match name {
-            Some(name) => self.name("label", x, y, Anchor::Middle, name, upward),
-            None => Ok(()),
-        }
-    }
 }
 
 /// The two lines of a long name.

@@ -5,7 +5,7 @@ use crate::sketch::Sketch;
 use crate::yard::{FAR, Place, Ways};
 use control_table::layout::Element;
 
-impl Sketch<'_> {
+impl Sketch {
     /// Finds the ranks of all elements, and the ways from them to both sides.
     pub(crate) fn lay_ranks(&mut self) {
         for turn in 0..self.order.len() {
@@ -32,7 +32,7 @@ impl Sketch<'_> {
             longest: 0,
             points: FAR,
         };
-        for end in self.ends(element) {
+        for end in self.numbers.ends(element) {
             if let Some(mate) = self.neighbour(Place { element, end: *end }, right) {
                 let beyond = self.ways(mate.element, right);
                 ways.longest = ways.longest.max(beyond.longest);
@@ -40,12 +40,12 @@ impl Sketch<'_> {
             }
         }
         ways.longest = ways.longest.saturating_add(1);
-        match self.element(element) {
+        match self.numbers.element(element) {
             Element::Track(_) => {}
             Element::Point(_) => ways.points = ways.points.saturating_add(1).min(FAR),
             Element::Border(_) => ways.points = 0,
         }
-        if let Some(facts) = self.elements.get_mut(element) {
+        if let Some(facts) = self.facts_mut(element) {
             if right {
                 facts.right = ways;
             } else {
@@ -60,9 +60,9 @@ impl Sketch<'_> {
         for facts in &self.elements {
             longest = longest.max(facts.left.longest);
         }
-        let borders = self.border(0);
+        let borders = self.numbers.border(0);
         for element in 0..self.elements.len() {
-            if let Some(facts) = self.elements.get_mut(element) {
+            if let Some(facts) = self.facts_mut(element) {
                 let is_last = borders <= element && facts.is_flipped;
                 let way = if is_last { longest } else { facts.left.longest };
                 facts.rank = way.saturating_sub(1);

@@ -27,7 +27,7 @@ fn is_new(spot: usize) -> bool {
     spot % 2 == 0
 }
 
-impl Sketch<'_> {
+impl Sketch {
     /// Places all chains, piece by piece: first the longest chain, and then always the longest that hangs at what is placed,
     /// where it costs least. A piece lies below all that is placed before, but for a line that hangs at nothing, which may
     /// share a row with others.

@@ -21,8 +21,8 @@ const TINTS: [&str; 8] = [
 ];
 
 /// The detection controller that reports a section.
-pub(crate) fn detector_of(layout: &Layout, section: SectionId) -> usize {
-    for (number, detector) in layout.detectors().iter().enumerate() {
+pub(crate) fn detector_of(detectors: &[Detector], section: SectionId) -> usize {
+    for (number, detector) in detectors.iter().enumerate() {
         if detector.sections().contains(&section) {
             return number;
         }
@@ -50,7 +50,7 @@ pub(crate) fn draw_section(
     marks: &mut Marks,
     more: &mut Marks,
     layout: &Layout,
-    sketch: &Sketch<'_>,
+    sketch: &Sketch,
     name: &Name,
 ) -> Result<(), AllocError>
     ensures drawn { OnOk result (strokes marks.new.marks.items ≡ strokes marks.old.marks.items ++ section_strokes layout.now name.now) }
@@ -65,7 +65,7 @@ fn draw_tracks(
     marks: &mut Marks,
     more: &mut Marks,
     layout: &Layout,
-    sketch: &Sketch<'_>,
+    sketch: &Sketch,
     name: &Name,
     tracks: &[Track],
 ) -> Result<(), AllocError>
@@ -83,7 +83,7 @@ fn draw_track_part(
     marks: &mut Marks,
     more: &mut Marks,
     layout: &Layout,
-    sketch: &Sketch<'_>,
+    sketch: &Sketch,
     name: &Name,
     number: usize,
     track: &Track,
@@ -95,7 +95,7 @@ fn draw_track_part(
         return Ok(());
     }
     draw_band(marks, sketch, number)?;
-    draw_track_label(more, sketch, number)
+    draw_track_label(more, sketch, number, name)
 }
 
 /// Draws the bands of the points of a section.
@@ -103,7 +103,7 @@ fn draw_points(
     marks: &mut Marks,
     more: &mut Marks,
     layout: &Layout,
-    sketch: &Sketch<'_>,
+    sketch: &Sketch,
     name: &Name,
     points: &[Point],
 ) -> Result<(), AllocError>
@@ -121,7 +121,7 @@ fn draw_point_part(
     marks: &mut Marks,
     more: &mut Marks,
     layout: &Layout,
-    sketch: &Sketch<'_>,
+    sketch: &Sketch,
     name: &Name,
     number: usize,
     point: &Point,
@@ -132,39 +132,46 @@ fn draw_point_part(
     if !is_named(layout, name, point.section) {
         return Ok(());
     }
-    let element = sketch.point(number);
+    let element = sketch.numbers.point(number);
     draw_point_band(marks, sketch, element)?;
-    draw_point_label(more, sketch, element)
+    draw_point_label(more, sketch, element, name)
 }
 
+/// Names the section of a track, where it is to be named.
 fn draw_track_label(
     more: &mut Marks,
-    sketch: &Sketch<'_>,
+    sketch: &Sketch,
     element: usize,
+    name: &Name,
 ) -> Result<(), AllocError> {
+    if sketch.section_name(element) == 0 {
+        return Ok(());
+    }
     let (left, right) = sketch.row_line(element);
     let x = (Units(left.x) + Units(right.x) - sketch.signal_room(element, true)).half();
     let y = sketch.y(element) + Units(15);
-    let name = sketch.section_name(element);
-    more.label(x, y, name, false)
+    more.name("label", x, y, Anchor::Middle, *name, false)
 }
 
-/// The section of a point is named beyond the point's own name.
+/// Names the section of a point beyond the point's own name, where it is to be named.
 fn draw_point_label(
     more: &mut Marks,
-    sketch: &Sketch<'_>,
+    sketch: &Sketch,
     element: usize,
+    name: &Name,
 ) -> Result<(), AllocError> {
+    if sketch.section_name(element) == 0 {
+        return Ok(());
+    }
     let up = sketch.is_drawn_up(element);
-    let beyond = LINE.times(count(lines(sketch.name(element))));
+    let beyond = LINE.times(count(lines(sketch.written(element).name)));
     let y = if up {
         sketch.y(element) + Units(16) + beyond
     } else {
         sketch.y(element) - Units(8) - beyond
     };
     let x = sketch.x(element);
-    let name = sketch.section_name(element);
-    more.label(x, y, name, !up)
+    more.name("label", x, y, Anchor::Middle, *name, !up)
 }
 
 /// Draws a detection controller below the plan: its tint and its name.
@@ -181,29 +188,39 @@ pub(crate) fn draw_detector(marks: &mut Marks, name: &Name, at: Spot) -> Result<
 pub(crate) fn draw_list(
     more: &mut Marks,
     alloc: Global,
-    layout: &Layout,
+    names: &[Name],
     detector: &Detector,
     at: Spot,
     letters: usize,
 ) -> Result<Units, AllocError> {
     let mut words = String::from_str(alloc, ":")?;
-    draw_names(more, &mut words, layout, detector, at, letters)
+    let before = detector.name().as_str().len();
+    draw_names(
+        more,
+        &mut words,
+        names,
+        detector.sections(),
+        at,
+        before,
+        letters,
+    )
 }
 
-/// Writes names behind the words with which the first line begins.
+/// Writes names of sections behind the words with which the first line begins, which stand behind so many letters.
 fn draw_names(
     more: &mut Marks,
     words: &mut String,
-    layout: &Layout,
-    detector: &Detector,
+    names: &[Name],
+    sections: &[SectionId],
     at: Spot,
+    behind: usize,
     letters: usize,
 ) -> Result<Units, AllocError> {
     let begin = Units(at.x) + Units(30);
-    let mut before = detector.name().as_str().len();
+    let mut before = behind;
     let mut down = Units(at.y);
-    for section in detector.sections() {
-        let word = section_word(layout, *section);
+    for section in sections {
+        let word = section_word(names, *section);
         let taken = before.saturating_add(words.len());
         if taken.saturating_add(word.len()) >= letters {
             draw_words(more, begin, down, before, words.as_str())?;
@@ -211,11 +228,16 @@ fn draw_names(
             before = 0;
             down = down + LINE;
         }
-        words.push_str(" ")?;
-        words.push_str(word)?;
+        add_word(words, word)?;
     }
     draw_words(more, begin, down, before, words.as_str())?;
     Ok(down + LINE + Units(5))
+}
+
+/// Adds a word behind others.
+fn add_word(words: &mut String, word: &str) -> Result<(), AllocError> {
+    words.push_str(" ")?;
+    words.push_str(word)
 }
 
 /// Writes words behind so many letters.
@@ -231,8 +253,8 @@ fn draw_words(
 }
 
 /// The name of a section.
-fn section_word(layout: &Layout, section: SectionId) -> &str {
-    match layout.sections().get(section.0) {
+fn section_word(names: &[Name], section: SectionId) -> &str {
+    match names.get(section.0) {
         Some(name) => name.as_str(),
         None => "",
     }

@@ -3,8 +3,8 @@
 use crate::section_marks::{detector_of, tint};
 use crate::thing::Subject;
 use control_table::layout::{
-    BorderId, Element, End, Exit, Layout, PointId, Port, Route, RouteId, SectionId, SignalId,
-    TrackId,
+    BorderId, Detector, Element, End, Exit, Layout, PointId, Port, Route, RouteId, SectionId,
+    SignalId, TrackId,
 };
 use control_table::sci_telegram::{Aspect, Occupancy, Position, Side};
 use std::alloc::{AllocError, Global};
@@ -81,9 +81,9 @@ fn add(class: &mut String, is_so: bool, words: &str) -> Result<(), AllocError> {
 }
 
 /// Whether a set route passes over an element or a leg.
-fn is_set_over(layout: &Layout, seen: &Seen, port: Port) -> bool {
-    for (number, route) in layout.routes().iter().enumerate() {
-        let is_set = number < seen.set.len() && seen.set[number];
+fn is_set_over(routes: &[Route], set: &[bool], port: Port) -> bool {
+    for (number, route) in routes.iter().enumerate() {
+        let is_set = number < set.len() && set[number];
         if is_set && takes(route, port) {
             return true;
         }
@@ -91,14 +91,25 @@ fn is_set_over(layout: &Layout, seen: &Seen, port: Port) -> bool {
     false
 }
 
+/// Whether a point protects the flank of a route.
+fn protects(route: &Route, point: PointId) -> bool {
+    has_side(route.flank(), point, Side::Left) || has_side(route.flank(), point, Side::Right)
+}
+
 /// Whether a point protects the flank of the route that is shown.
 pub(crate) fn is_flank(layout: &Layout, shown: &Shown, point: PointId) -> bool {
     match shown.route(layout) {
-        Some(route) => {
-            has_side(route.flank(), point, Side::Left)
-                || has_side(route.flank(), point, Side::Right)
-        }
+        Some(route) => protects(route, point),
         None => false,
+    }
+}
+
+/// Marks a track, or the tip or a leg of a point, on the way of the route that is shown.
+fn mark_path(class: &mut String, route: &Route, port: Port) -> Result<(), AllocError> {
+    add(class, takes(route, port), " path")?;
+    match leg_of(port) {
+        Some((point, side)) => add(class, has_side(route.flank(), point, side), " flank"),
+        None => Ok(()),
     }
 }
 
@@ -112,13 +123,10 @@ fn mark_way(
 ) -> Result<(), AllocError> {
     let port = Port { element, end };
     if let Some(route) = shown.route(layout) {
-        add(class, takes(route, port), " path")?;
-        if let Some((point, side)) = leg_of(port) {
-            add(class, has_side(route.flank(), point, side), " flank")?;
-        }
+        mark_path(class, route, port)?;
     }
     match &shown.seen {
-        Some(seen) => add(class, is_set_over(layout, seen, port), " set"),
+        Some(seen) => add(class, is_set_over(layout.routes(), &seen.set, port), " set"),
         None => Ok(()),
     }
 }
@@ -126,12 +134,12 @@ fn mark_way(
 /// Marks a section: by the tint of its detection controller, and as an approach.
 fn mark_section(
     class: &mut String,
-    layout: &Layout,
-    shown: &Shown,
+    detectors: &[Detector],
+    route: Option<&Route>,
     section: SectionId,
 ) -> Result<(), AllocError> {
-    class.push_str(tint(detector_of(layout, section)))?;
-    match shown.route(layout) {
+    class.push_str(tint(detector_of(detectors, section)))?;
+    match route {
         Some(route) => add(class, route.approach().contains(&section), " approach"),
         None => Ok(()),
     }
@@ -140,11 +148,10 @@ fn mark_section(
 /// Marks a signal.
 fn mark_signal(
     class: &mut String,
-    layout: &Layout,
-    shown: &Shown,
+    route: Option<&Route>,
     signal: SignalId,
 ) -> Result<(), AllocError> {
-    let Some(route) = shown.route(layout) else {
+    let Some(route) = route else {
         return Ok(());
     };
     add(class, route.entry() == signal, " entry")?;
@@ -152,8 +159,8 @@ fn mark_signal(
 }
 
 /// Whether the route that is shown ends at a border.
-fn is_exit(layout: &Layout, shown: &Shown, border: BorderId) -> bool {
-    match shown.route(layout) {
+fn is_exit(route: Option<&Route>, border: BorderId) -> bool {
+    match route {
         Some(route) => route.exit() == Exit::Border(border),
         None => false,
     }
@@ -169,16 +176,17 @@ pub(crate) fn mark(
 ) -> Result<(), AllocError> {
     let point = PointId(number);
     let track = Element::Track(TrackId(number));
+    let route = shown.route(layout);
     match subject {
-        Subject::Section(_) => mark_section(class, layout, shown, SectionId(number)),
+        Subject::Section(_) => mark_section(class, layout.detectors(), route, SectionId(number)),
         Subject::Track(_) => mark_way(class, layout, shown, track, End::A),
         Subject::Point(_) => add(class, is_flank(layout, shown, point), " flank"),
         Subject::Tip(_) => mark_way(class, layout, shown, Element::Point(point), End::Tip),
         Subject::Left(_) => mark_way(class, layout, shown, Element::Point(point), End::Left),
         Subject::Right(_) => mark_way(class, layout, shown, Element::Point(point), End::Right),
-        Subject::Border(_) => add(class, is_exit(layout, shown, BorderId(number)), " exit"),
+        Subject::Border(_) => add(class, is_exit(route, BorderId(number)), " exit"),
         Subject::Joint(..) => Ok(()),
-        Subject::Signal(_) => mark_signal(class, layout, shown, SignalId(number)),
+        Subject::Signal(_) => mark_signal(class, route, SignalId(number)),
         Subject::Detector(_) => class.push_str(tint(number)),
     }
 }

@@ -34,7 +34,7 @@ struct Symbol {
 }
 
 /// A signal beside a row: below it for trains to the right, above it for the others.
-fn level_symbol(sketch: &Sketch<'_>, place: Place) -> Symbol {
+fn level_symbol(sketch: &Sketch, place: Place) -> Symbol {
     let right = sketch.is_right(place);
     let side = sign(right);
     let back = sketch.clearance(place.element, right) + Units(31);
@@ -56,7 +56,7 @@ fn level_symbol(sketch: &Sketch<'_>, place: Place) -> Symbol {
 }
 
 /// A signal beside a leg that leads up or down by 45 degrees, at the right hand of a train on the leg.
-fn slanted_symbol(sketch: &Sketch<'_>, place: Place) -> Symbol {
+fn slanted_symbol(sketch: &Sketch, place: Place) -> Symbol {
     let side = sign(sketch.is_right(place));
     let slope = sketch.slope(place.element);
     let start = sketch.stub(place, Units(20));
@@ -89,7 +89,7 @@ fn slanted_symbol(sketch: &Sketch<'_>, place: Place) -> Symbol {
 /// Draws a signal that stands at a port.
 pub(crate) fn draw_signal(
     marks: &mut Marks,
-    sketch: &Sketch<'_>,
+    sketch: &Sketch,
     place: Place,
     name: Name,
 ) -> Result<(), AllocError>

@@ -2,20 +2,24 @@
 
 use crate::columns::Limit;
 use crate::heights::Room;
+use crate::labels::Label;
 use crate::links::Link;
+use crate::numbers::Numbers;
 use crate::strands::{NOTHING, Strand};
 use crate::units::Units;
 use crate::widths::{CONNECTOR, POINT};
 use crate::yard::{ElementFacts, Place, PortFacts, UNJOINED, UNKNOWN};
-use control_table::layout::{Element, Layout};
+use control_table::layout::{Element, Joint, Layout};
 use drawing::Spot;
 use std::alloc::{AllocError, Global};
 
 /// Where everything lies, as far as it is found.
 #[derive(Drop)]
-pub(crate) struct Sketch<'a> {
+pub(crate) struct Sketch {
     pub(crate) alloc: Global,
-    pub(crate) layout: &'a Layout,
+    pub(crate) numbers: Numbers,
+    /// What is written at each element.
+    pub(crate) labels: Vec<Label>,
     /// What is known of each element.
     pub(crate) elements: Vec<ElementFacts>,
     /// What is known of each port, in `port_number`'s order.
@@ -50,12 +54,13 @@ pub(crate) fn sign(positive: bool) -> i32 {
     if positive { 1 } else { -1 }
 }
 
-impl<'a> Sketch<'a> {
-    /// A sketch of a layout in which nothing is found yet.
-    pub(crate) fn new(alloc: Global, layout: &'a Layout) -> Sketch<'a> {
+impl Sketch {
+    /// A sketch of so many elements, in which nothing is found yet.
+    pub(crate) fn new(alloc: Global, numbers: Numbers) -> Sketch {
         Sketch {
             alloc,
-            layout,
+            numbers,
+            labels: Vec::new(alloc),
             elements: Vec::new(alloc),
             ports: Vec::new(alloc),
             pieces: 0,
@@ -69,31 +74,43 @@ impl<'a> Sketch<'a> {
             limits: Vec::new(alloc),
         }
     }
-}
 
-impl Sketch<'_> {
-    /// Lays out the layout, one thing after the other. Nobody else has what is being made, so an error drops it in one place.
-    pub(crate) fn lay(&mut self) -> Result<(), AllocError> {
-        self.lay_elements()?;
+    /// Takes up what a layout tells of its elements and their ports.
+    pub(crate) fn take_up(&mut self, layout: &Layout) -> Result<(), AllocError> {
+        self.begin()?;
+        self.read_labels(layout)?;
+        self.join(layout.joints());
+        self.stand(layout.signals());
+        self.mark_fast_legs(layout.routes());
+        Ok(())
+    }
+
+    /// Each element is there, and each port.
+    fn begin(&mut self) -> Result<(), AllocError> {
+        let size = self.numbers.all();
+        self.elements = vec![in self.alloc; UNKNOWN; size]?;
+        self.ports = vec![in self.alloc; UNJOINED; size.saturating_mul(3)]?;
+        Ok(())
+    }
+
+    /// Lays out what was taken up, with its joints, one thing after the other. Nobody else has what is being made, so an error
+    /// drops it in one place.
+    pub(crate) fn lay(&mut self, joints: &[Joint]) -> Result<(), AllocError> {
+        self.lay_elements(joints)?;
         self.lay_grid()?;
         self.lay_widths();
-        self.set_out()?;
+        self.set_out(joints)?;
         // Once more, as it is known which links are level between rows.
         self.measure_links();
         self.level_links();
-        self.set_out()
+        self.set_out(joints)
     }
 
     /// Finds which way elements lie, how far to the right, and the legs by which rows go on.
-    fn lay_elements(&mut self) -> Result<(), AllocError> {
-        let size = self.border(self.layout.borders().len());
-        self.elements = vec![in self.alloc; UNKNOWN; size]?;
-        self.ports = vec![in self.alloc; UNJOINED; size.saturating_mul(3)]?;
-        self.join();
-        self.stand();
-        self.mark_fast_legs();
+    fn lay_elements(&mut self, joints: &[Joint]) -> Result<(), AllocError> {
         self.lay_directions()?;
-        self.lay_courses()?;
+        self.lay_courses(joints)?;
+        self.number_connectors(joints);
         self.lay_ranks();
         self.choose_main_legs();
         Ok(())
@@ -111,9 +128,9 @@ impl Sketch<'_> {
     }
 
     /// Finds where rows and columns lie.
-    fn set_out(&mut self) -> Result<(), AllocError> {
+    fn set_out(&mut self, joints: &[Joint]) -> Result<(), AllocError> {
         self.lay_heights()?;
-        self.lay_columns()
+        self.lay_columns(joints)
     }
 
     /// How far to the right an element lies.
@@ -155,8 +172,8 @@ impl Sketch<'_> {
             return other - down.times(side);
         }
         let theirs = other - self.facts(mate.element).half.times(side);
-        let is_track = matches!(self.element(element), Element::Track(_));
-        let is_to_track = matches!(self.element(mate.element), Element::Track(_));
+        let is_track = matches!(self.numbers.element(element), Element::Track(_));
+        let is_to_track = matches!(self.numbers.element(mate.element), Element::Track(_));
         if !is_track && is_to_track {
             own
         } else if is_track && !is_to_track {
@@ -260,20 +277,5 @@ impl Sketch<'_> {
             }
             _ => false,
         }
-    }
-
-    /// The number by which the two ends of a joint know one another that isn't drawn as a line.
-    pub(crate) fn connector(&self, place: Place) -> Option<usize> {
-        let mut number: usize = 0;
-        for joint in self.layout.joints() {
-            let first = self.place(joint.first);
-            if self.is_connector(first) {
-                number = number.saturating_add(1);
-                if first == place || self.place(joint.second) == place {
-                    return Some(number);
-                }
-            }
-        }
-        None
     }
 }

@@ -42,7 +42,7 @@ impl Strand {
     }
 }
 
-impl Sketch<'_> {
+impl Sketch {
     /// How far a chain reaches.
     pub(crate) fn strand(&self, chain: usize) -> Strand {
         at(&self.strands, chain, NOTHING)

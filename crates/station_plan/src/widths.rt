@@ -21,12 +21,12 @@ const BESIDE: Units = Units(14);
 /// How long the end of a line is that goes on elsewhere.
 pub(crate) const CONNECTOR: Units = Units(34);
 
-impl Sketch<'_> {
+impl Sketch {
     /// Finds the widths of all elements.
     pub(crate) fn lay_widths(&mut self) {
         for element in 0..self.elements.len() {
             let half = self.half_of(element);
-            if let Some(facts) = self.elements.get_mut(element) {
+            if let Some(facts) = self.facts_mut(element) {
                 facts.half = half;
             }
         }
@@ -34,9 +34,9 @@ impl Sketch<'_> {
 
     /// How much room the signal at a port takes.
     fn signal_width(&self, place: Place) -> Units {
-        match self.signal_name(place) {
-            Some(name) => SIGNAL.or_more(width(Some(name)) + Units(8)),
-            None => Units(0),
+        match self.port(place).signal {
+            0 => Units(0),
+            letters => SIGNAL.or_more(width(letters) + Units(8)),
         }
     }
 
@@ -60,7 +60,7 @@ impl Sketch<'_> {
     fn parting(&self, element: usize, right: bool) -> Option<usize> {
         let port = self.port(self.level_port(element, right)?);
         let mate = port.next?;
-        if port.signal.is_some() && mate.end == self.main(mate.element) {
+        if port.signal > 0 && mate.end == self.main(mate.element) {
             Some(mate.element)
         } else {
             None
@@ -84,7 +84,7 @@ impl Sketch<'_> {
     /// The signals at the three ports of a point, of which the widest counts.
     fn widest_signal(&self, element: usize) -> Units {
         let mut widest = Units(0);
-        for end in self.ends(element) {
+        for end in self.numbers.ends(element) {
             widest = widest.or_more(self.signal_width(Place { element, end: *end }));
         }
         widest
@@ -92,7 +92,7 @@ impl Sketch<'_> {
 
     /// Half of the room of an element.
     fn half_of(&self, element: usize) -> Units {
-        let own = match self.element(element) {
+        let own = match self.numbers.element(element) {
             Element::Track(_) => self.half_of_track(element),
             Element::Point(_) => self.half_of_point(element),
             Element::Border(_) => self.half_of_border(element),
@@ -103,13 +103,13 @@ impl Sketch<'_> {
     }
 
     fn half_of_track(&self, element: usize) -> Units {
-        let above = width(self.name(element)) + BESIDE + self.signal_room(element, false);
+        let above = width(self.written(element).name) + BESIDE + self.signal_room(element, false);
         let below = width(self.section_name(element)) + BESIDE + self.signal_room(element, true);
         (LEAST.or_more(above).or_more(below) + Units(1)).half()
     }
 
     fn half_of_point(&self, element: usize) -> Units {
-        let text = width(self.name(element)).or_more(width(self.section_name(element)));
+        let text = width(self.written(element).name).or_more(width(self.section_name(element)));
         let clear = self
             .clearance(element, false)
             .or_more(self.clearance(element, true));
@@ -117,14 +117,14 @@ impl Sketch<'_> {
     }
 
     fn half_of_border(&self, element: usize) -> Units {
-        let text = (width(self.name(element)) + Units(8)).half();
+        let text = (width(self.written(element).name) + Units(8)).half();
         let place = Place {
             element,
             end: End::End,
         };
         let signal = match self.port(place).signal {
-            Some(_) => Units(17),
-            None => Units(0),
+            0 => Units(0),
+            _ => Units(17),
         };
         BORDER.or_more(text) + signal
     }

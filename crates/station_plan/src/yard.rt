@@ -1,9 +1,10 @@
-//! The elements of a layout, by numbers: tracks first, then points, then borders, each in table order.
+//! What is known of elements and ports.
 
+use crate::labels::{Label, UNWRITTEN, letters};
 use crate::lists::at;
 use crate::sketch::Sketch;
 use crate::units::Units;
-use control_table::layout::{BorderId, Element, End, PointId, Port, TrackId};
+use control_table::layout::{End, Joint, Signal};
 
 /// A port of an element, which goes by its number.
 #[derive(Clone, Copy, PartialEq)]
@@ -84,25 +85,22 @@ pub(crate) struct PortFacts {
     pub(crate) mate: Option<Place>,
     /// The same, where the joint goes on from left to right.
     pub(crate) next: Option<Place>,
-    /// The signal that stands there.
-    pub(crate) signal: Option<usize>,
+    /// How many letters the name of the signal has that stands there, or 0.
+    pub(crate) signal: usize,
     /// Whether it is a leg over which a route runs that isn't slow.
     pub(crate) is_fast: bool,
+    /// The number by which the two ends of a joint know one another that isn't drawn as a line.
+    pub(crate) connector: Option<usize>,
 }
 
 /// A port at which there is nothing.
 pub(crate) const UNJOINED: PortFacts = PortFacts {
     mate: None,
     next: None,
-    signal: None,
+    signal: 0,
     is_fast: false,
+    connector: None,
 };
-
-const TRACK_ENDS: [End; 2] = [End::A, End::B];
-
-const POINT_ENDS: [End; 3] = [End::Tip, End::Left, End::Right];
-
-const BORDER_ENDS: [End; 1] = [End::End];
 
 /// The place of a port within the list of all ports, of which each element has three there.
 pub(crate) fn port_number(place: Place) -> usize {
@@ -114,51 +112,7 @@ pub(crate) fn port_number(place: Place) -> usize {
     place.element.saturating_mul(3).saturating_add(end)
 }
 
-impl Sketch<'_> {
-    /// The number of a point.
-    pub(crate) fn point(&self, point: usize) -> usize {
-        self.layout.tracks().len().saturating_add(point)
-    }
-
-    /// The number of a border.
-    pub(crate) fn border(&self, border: usize) -> usize {
-        self.point(self.layout.points().len())
-            .saturating_add(border)
-    }
-
-    /// The element of a number.
-    pub(crate) fn element(&self, number: usize) -> Element {
-        if number < self.point(0) {
-            Element::Track(TrackId(number))
-        } else if number < self.border(0) {
-            Element::Point(PointId(number.saturating_sub(self.point(0))))
-        } else {
-            Element::Border(BorderId(number.saturating_sub(self.border(0))))
-        }
-    }
-
-    /// The ports of an element.
-    pub(crate) fn ends(&self, element: usize) -> &'static [End] {
-        match self.element(element) {
-            Element::Track(_) => &TRACK_ENDS,
-            Element::Point(_) => &POINT_ENDS,
-            Element::Border(_) => &BORDER_ENDS,
-        }
-    }
-
-    /// A port by its element's number.
-    pub(crate) fn place(&self, port: Port) -> Place {
-        let element = match port.element {
-            Element::Track(track) => track.0,
-            Element::Point(point) => self.point(point.0),
-            Element::Border(border) => self.border(border.0),
-        };
-        Place {
-            element,
-            end: port.end,
-        }
-    }
-
+impl Sketch {
     /// What is known of an element.
     pub(crate) fn facts(&self, element: usize) -> ElementFacts {
         at(&self.elements, element, UNKNOWN)
@@ -169,30 +123,43 @@ impl Sketch<'_> {
         at(&self.ports, port_number(place), UNJOINED)
     }
 
-    /// Takes up the joints of the layout.
-    pub(crate) fn join(&mut self) {
-        let layout = self.layout;
-        for joint in layout.joints() {
-            let first = self.place(joint.first);
-            let second = self.place(joint.second);
+    /// What is known of an element, to be changed.
+    pub(crate) fn facts_mut(&mut self, element: usize) -> Option<&mut ElementFacts> {
+        self.elements.get_mut(element)
+    }
+
+    /// What is known of a port, to be changed.
+    pub(crate) fn port_mut(&mut self, place: Place) -> Option<&mut PortFacts> {
+        self.ports.get_mut(port_number(place))
+    }
+
+    /// What is written at an element.
+    pub(crate) fn written(&self, element: usize) -> Label {
+        at(&self.labels, element, UNWRITTEN)
+    }
+
+    /// Takes up joints.
+    pub(crate) fn join(&mut self, joints: &[Joint]) {
+        for joint in joints {
+            let first = self.numbers.place(joint.first);
+            let second = self.numbers.place(joint.second);
             self.set_mate(first, second);
             self.set_mate(second, first);
         }
     }
 
     fn set_mate(&mut self, place: Place, mate: Place) {
-        if let Some(port) = self.ports.get_mut(port_number(place)) {
+        if let Some(port) = self.port_mut(place) {
             port.mate = Some(mate);
         }
     }
 
-    /// Takes up the signals of the layout.
-    pub(crate) fn stand(&mut self) {
-        let layout = self.layout;
-        for (number, signal) in layout.signals().iter().enumerate() {
-            let place = self.place(signal.at);
-            if let Some(port) = self.ports.get_mut(port_number(place)) {
-                port.signal = Some(number);
+    /// Takes up signals.
+    pub(crate) fn stand(&mut self, signals: &[Signal]) {
+        for signal in signals {
+            let place = self.numbers.place(signal.at);
+            if let Some(port) = self.port_mut(place) {
+                port.signal = letters(Some(signal.name));
             }
         }
     }

@@ -1,0 +1,7 @@
+use Rattle.std.proofs.Common.{◌≡◌, ◌++◌, map, take}
+use Rattle.station_plan.specs.Subjects.{signal_subject}
+use Rattle.station_plan.specs.inside.Placing.{subjects_at}
+use Rattle.station_plan.proofs.placed.place_signals.Given as goal
+
+abbrev pub invariant-loop-number : goal.invariant-loop-number
+invariant-loop-number l = subjects_at l.placed.items ≡ subjects_at l.initial.placed.items ++ map signal_subject (take l.number l.signals)

@@ -1,0 +1,213 @@
+//! What a plan draws above its detection controllers, in table order, and where it stands.
+
+ghost use Rattle.std.specs.Prelude.{◌≡◌, ◌++◌, ◌∷◌, [], map, OnOk};
+ghost use Rattle.std.specs.List.{flat_map};
+ghost use Rattle.station_plan.specs.Subjects.{border_subject, detector_subject, joint_subjects, point_subjects, section_subject, signal_subject, subjects, track_subject};
+ghost use Rattle.station_plan.specs.inside.Placing.{subjects_at};
+
+use crate::numbers::Numbers;
+use crate::subjects::{element_name, same_section, section_of};
+use crate::thing::Subject;
+use crate::yard::Place;
+use control_table::layout::{End, Joint, Layout, Point, Signal, Track};
+use control_table::sci_telegram::Name;
+use std::alloc::AllocError;
+
+/// What is to be drawn of one subject.
+#[derive(Clone, Copy)]
+pub(crate) struct Placed {
+    /// What it stands for.
+    pub(crate) subject: Subject,
+    /// Its number in its table.
+    pub(crate) number: usize,
+    /// Where it stands.
+    pub(crate) at: Place,
+}
+
+/// The place of what has no port.
+pub(crate) const NO_PORT: Place = Place {
+    element: 0,
+    end: End::A,
+};
+
+fn place(
+    placed: &mut Vec<Placed>,
+    subject: Subject,
+    number: usize,
+    at: Place,
+) -> Result<(), AllocError>
+    ensures { OnOk result (subjects_at placed.new.items ≡ subjects_at placed.old.items ++ subject ∷ []) }
+{
+    placed.push(Placed {
+        subject,
+        number,
+        at,
+    })?;
+    Ok(())
+}
+
+fn place_sections(placed: &mut Vec<Placed>, sections: &[Name]) -> Result<(), AllocError>
+    ensures { OnOk result (subjects_at placed.new.items ≡ subjects_at placed.old.items ++ map section_subject sections.now) }
+{
+    for (number, name) in sections.iter().enumerate() {
+        place(placed, Subject::Section(*name), number, NO_PORT)?;
+    }
+    Ok(())
+}
+
+fn place_tracks(placed: &mut Vec<Placed>, tracks: &[Track]) -> Result<(), AllocError>
+    ensures { OnOk result (subjects_at placed.new.items ≡ subjects_at placed.old.items ++ map track_subject tracks.now) }
+{
+    for (number, track) in tracks.iter().enumerate() {
+        let at = Place {
+            element: number,
+            end: End::A,
+        };
+        place(placed, Subject::Track(track.name), number, at)?;
+    }
+    Ok(())
+}
+
+fn place_leg(
+    placed: &mut Vec<Placed>,
+    leg: Subject,
+    number: usize,
+    element: usize,
+    end: End,
+) -> Result<(), AllocError>
+    ensures { OnOk result (subjects_at placed.new.items ≡ subjects_at placed.old.items ++ leg ∷ []) }
+{
+    place(placed, leg, number, Place { element, end })
+}
+
+/// Places a point: its name, its tip and its two legs.
+fn place_point(
+    placed: &mut Vec<Placed>,
+    number: usize,
+    element: usize,
+    point: &Point,
+) -> Result<(), AllocError>
+    ensures { OnOk result (subjects_at placed.new.items ≡ subjects_at placed.old.items ++ point_subjects point.now) }
+{
+    let name = point.name;
+    let tip = Place {
+        element,
+        end: End::Tip,
+    };
+    place(placed, Subject::Point(name), number, tip)?;
+    place(placed, Subject::Tip(name), number, tip)?;
+    place_leg(placed, Subject::Left(name), number, element, End::Left)?;
+    place_leg(placed, Subject::Right(name), number, element, End::Right)
+}
+
+fn place_points(
+    placed: &mut Vec<Placed>,
+    numbers: Numbers,
+    points: &[Point],
+) -> Result<(), AllocError>
+    ensures { OnOk result (subjects_at placed.new.items ≡ subjects_at placed.old.items ++ flat_map point_subjects points.now) }
+{
+    for (number, point) in points.iter().enumerate() {
+        place_point(placed, number, numbers.point(number), point)?;
+    }
+    Ok(())
+}
+
+fn place_borders(
+    placed: &mut Vec<Placed>,
+    numbers: Numbers,
+    borders: &[Name],
+) -> Result<(), AllocError>
+    ensures { OnOk result (subjects_at placed.new.items ≡ subjects_at placed.old.items ++ map border_subject borders.now) }
+{
+    for (number, name) in borders.iter().enumerate() {
+        let at = Place {
+            element: numbers.border(number),
+            end: End::End,
+        };
+        place(placed, Subject::Border(*name), number, at)?;
+    }
+    Ok(())
+}
+
+/// Places a joint, if it parts two sections.
+fn place_joint(
+    placed: &mut Vec<Placed>,
+    numbers: Numbers,
+    layout: &Layout,
+    joint: Joint,
+) -> Result<(), AllocError>
+    ensures { OnOk result (subjects_at placed.new.items ≡ subjects_at placed.old.items ++ joint_subjects layout.now joint) }
+{
+    let before = section_of(layout, joint.first.element);
+    let behind = section_of(layout, joint.second.element);
+    if same_section(before, behind) {
+        return Ok(());
+    }
+    match element_name(layout, joint.first.element) {
+        Some(name) => {
+            let subject = Subject::Joint(name, joint.first.end);
+            place(placed, subject, 0, numbers.place(joint.first))
+        }
+        None => Ok(()),
+    }
+}
+
+fn place_joints(
+    placed: &mut Vec<Placed>,
+    numbers: Numbers,
+    layout: &Layout,
+    joints: &[Joint],
+) -> Result<(), AllocError>
+    ensures { OnOk result (subjects_at placed.new.items ≡ subjects_at placed.old.items ++ flat_map (joint_subjects layout.now) joints.now) }
+{
+    for joint in joints {
+        place_joint(placed, numbers, layout, *joint)?;
+    }
+    Ok(())
+}
+
+fn place_signals(
+    placed: &mut Vec<Placed>,
+    numbers: Numbers,
+    signals: &[Signal],
+) -> Result<(), AllocError>
+    ensures { OnOk result (subjects_at placed.new.items ≡ subjects_at placed.old.items ++ map signal_subject signals.now) }
+{
+    for (number, signal) in signals.iter().enumerate() {
+        let subject = Subject::Signal(signal.name);
+        place(placed, subject, number, numbers.place(signal.at))?;
+    }
+    Ok(())
+}
+
+/// Places sections, tracks and points.
+fn place_ways(placed: &mut Vec<Placed>, numbers: Numbers, layout: &Layout) -> Result<(), AllocError>
+    ensures { OnOk result (subjects_at placed.new.items ≡ subjects_at placed.old.items ++ (map section_subject layout.now.sections ++ (map track_subject layout.now.tracks ++ flat_map point_subjects layout.now.points))) }
+{
+    place_sections(placed, layout.sections())?;
+    place_tracks(placed, layout.tracks())?;
+    place_points(placed, numbers, layout.points())
+}
+
+/// Places borders, joints and signals.
+fn place_ends(placed: &mut Vec<Placed>, numbers: Numbers, layout: &Layout) -> Result<(), AllocError>
+    ensures { OnOk result (subjects_at placed.new.items ≡ subjects_at placed.old.items ++ (map border_subject layout.now.borders ++ (flat_map (joint_subjects layout.now) layout.now.joints ++ map signal_subject layout.now.signals))) }
+{
+    place_borders(placed, numbers, layout.borders())?;
+    place_joints(placed, numbers, layout, layout.joints())?;
+    place_signals(placed, numbers, layout.signals())
+}
+
+/// Places all that a plan draws above its detection controllers.
+pub(crate) fn place_all(
+    placed: &mut Vec<Placed>,
+    numbers: Numbers,
+    layout: &Layout,
+) -> Result<(), AllocError>
+    requires { placed.old.items ≡ [] }
+    ensures { OnOk result (subjects_at placed.new.items ++ map detector_subject layout.now.detectors ≡ subjects layout.now) }
+{
+    place_ways(placed, numbers, layout)?;
+    place_ends(placed, numbers, layout)
+}
