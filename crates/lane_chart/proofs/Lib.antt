@@ -1,5 +1,7 @@
+pub mod Grown
+pub mod Kept
 pub mod RowsMore
 pub mod SpansClose
-pub mod FacesTogether
+pub mod Together
 pub mod SeenLast
 pub mod RowsOnce

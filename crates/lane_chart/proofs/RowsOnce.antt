@@ -11,7 +11,7 @@ use Rattle.control_table.specs.layout.Entries.{Site}
 use Rattle.control_table.specs.layout.Once.{Distinct, Once, all_names}
 use Rattle.lane_chart.specs.Chart.{axis_id, legend_id}
 use Rattle.lane_chart.specs.Faces.{happening_id}
-use Rattle.lane_chart.specs.Subjects.{field_rows, kind_text, link_rows, node_rows, numbered, row_ids, row_of, rows_of, subject_id}
+use Rattle.lane_chart.specs.Subjects.{field_rows, kind_text, link_rows, node_rows, numbered, row_ids, rows_of, subject_id}
 use Rattle.lane_chart.specs.declared.subject.Row.{Row}
 use Rattle.lane_chart.specs.declared.subject.Sort.{Sort}
 use Rattle.lane_chart.specs.declared.subject.Sort.TheVariants as sort

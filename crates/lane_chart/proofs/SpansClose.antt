@@ -1,7 +1,7 @@
 -- Spans are closed one after the other.
 use Rattle.std.proofs.Common.{◌≡◌, ◌∙◌, ℕ, ◌+◌, ◌<◌, ◌≤◌, get_or, ◌==◌, Bool, true, false, if◌then◌else◌, List, [], ◌∷◌, ◌++◌, length, drop, Option, Some, None, ap, sym, refl}
 use Rattle.std.proofs.Math.ListN.{drop_of_length-le}
-use Rattle.std.proofs.lemmas.List.{append-nil, append_assoc, drop_more}
+use Rattle.std.proofs.lemmas.List.{append-nil, append_assoc, at_drop_more}
 use Rattle.lane_chart.specs.Spans.{begun, ended, joined, spans_behind, unit_of}
 use Rattle.lane_chart.specs.declared.change.Change.{Change}
 use Rattle.lane_chart.specs.declared.scale.Window.{Window}
@@ -44,10 +44,10 @@ closes window changes place before spans new whole past push so =
     push window ∙ ap (λ (cs : List Change). spans ++ spans_behind window before cs) (sym (drop_of_length-le changes past)) ∙ so
 
 -- one change more
-pub goes_on : (window : Window) (changes : List Change) (place : ℕ) (change : Change) (before next : Option Span) (spans new whole : List Span) → place < length changes → change ≡ get_or changes place change
-    → ((later : List Change) → new ++ spans_behind window next later ≡ spans ++ spans_behind window before (change ∷ later))
+pub goes_on : (window : Window) (changes : List Change) (place : ℕ) (any : Change) (before next : Option Span) (spans new whole : List Span) → place < length changes
+    → ((later : List Change) → new ++ spans_behind window next later ≡ spans ++ spans_behind window before (get_or changes place any ∷ later))
     → spans ++ spans_behind window before (drop place changes) ≡ whole → new ++ spans_behind window next (drop (place + 1) changes) ≡ whole
-goes_on window changes place change before next spans new whole within at step so =
+goes_on window changes place any before next spans new whole within step so =
     step (drop (place + 1) changes)
-    ∙ ap (λ (cs : List Change). spans ++ spans_behind window before cs) (sym (drop_more changes place change within ∙ ap (λ (c : Change). c ∷ drop (place + 1) changes) (sym at)))
+    ∙ sym (at_drop_more (λ (left : List Change). spans ++ spans_behind window before left) changes place any within)
     ∙ so

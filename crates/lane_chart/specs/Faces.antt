@@ -1,5 +1,5 @@
 -- How a chart draws its rows, its commands and its restarts.
-use Rattle.std.specs.Prelude.{ℕ, ◌+◌, ◌/◌, ◌==◌, ◌&&◌, ◌^◌, ◌-◌, min, max, nat_lt, ℤ, Bool, true, false, if◌then◌else◌, List, [], ◌∷◌, ◌++◌, codes, length, string_bytes, Option, Some, None}
+use Rattle.std.specs.Prelude.{ℕ, ◌+◌, ◌/◌, ◌==◌, ◌&&◌, ◌^◌, ◌-◌, min, max, nat_lt, ℤ, Bool, false, if◌then◌else◌, List, [], ◌∷◌, ◌++◌, codes, length, string_bytes, Option, Some, None}
 use Rattle.std.specs.Fmt.{decimal}
 use Rattle.std.specs.List.{flat_map}
 use Rattle.control_table.specs.layout.Entries.{Site}
@@ -17,6 +17,7 @@ use Rattle.lane_chart.specs.declared.lane.Readiness.TheVariants as readiness
 use Rattle.lane_chart.specs.declared.lane.Seen.{Seen}
 use Rattle.lane_chart.specs.declared.lane.Seen.TheVariants as seen
 use Rattle.lane_chart.specs.declared.scale.Window.{Window}
+use Rattle.lane_chart.specs.declared.scene.Nodes.{Nodes}
 use Rattle.lane_chart.specs.declared.spans.Span.{Span}
 use Rattle.lane_chart.specs.declared.subject.Row.{Row}
 use Rattle.lane_chart.specs.declared.subject.Sort.{Sort}
@@ -84,22 +85,26 @@ span_strokes span = line (codes "band " ++ state_text span.seen) (place_of span.
 abbrev pub capped : ℕ → ℕ
 capped n = min n (2 ^ 64 - 1)
 
--- the node of a row: the interlocking is 0, behind it come signals, points and detectors
-abbrev pub node_at : Site → Sort → ℕ → Option ℕ
-node_at l sort.Interlocking behind = Some 0
-node_at l sort.SignalNode behind = Some behind
-node_at l sort.PointNode behind = Some (capped (behind + length l.signals))
-node_at l sort.DetectorNode behind = Some (capped (capped (behind + length l.signals) + length l.points))
-node_at l sort.Signal behind = None
-node_at l sort.Point behind = None
-node_at l sort.Section behind = None
-node_at l sort.Route behind = None
-node_at l sort.SignalLink behind = None
-node_at l sort.PointLink behind = None
-node_at l sort.DetectorLink behind = None
+-- by how many signals and points the nodes of a station are numbered
+abbrev pub nodes_of : Site → Nodes
+nodes_of l = record { signals = length l.signals; points = length l.points }
 
-abbrev pub node_of : Site → Row → Option ℕ
-node_of l row = node_at l row.subject.sort (capped (row.place + 1))
+-- the node of a row: the interlocking is 0, behind it come signals, points and detectors
+abbrev pub node_at : Nodes → Sort → ℕ → Option ℕ
+node_at nodes sort.Interlocking behind = Some 0
+node_at nodes sort.SignalNode behind = Some behind
+node_at nodes sort.PointNode behind = Some (capped (behind + nodes.signals))
+node_at nodes sort.DetectorNode behind = Some (capped (capped (behind + nodes.signals) + nodes.points))
+node_at nodes sort.Signal behind = None
+node_at nodes sort.Point behind = None
+node_at nodes sort.Section behind = None
+node_at nodes sort.Route behind = None
+node_at nodes sort.SignalLink behind = None
+node_at nodes sort.PointLink behind = None
+node_at nodes sort.DetectorLink behind = None
+
+abbrev pub node_of : Nodes → Row → Option ℕ
+node_of nodes row = node_at nodes row.subject.sort (capped (row.place + 1))
 
 abbrev pub is_node : ℕ → Option ℕ → Bool
 is_node node None = false
@@ -119,10 +124,10 @@ node_strokes window happenings (Some node) =
 -- ---- a row
 
 -- A rule below it, its bands, and when its node was made anew.
-abbrev pub row_strokes : Site → Window → List Happening → DrawnRow → List Stroke
-row_strokes l window happenings drawn =
+abbrev pub row_strokes : Nodes → Window → List Happening → DrawnRow → List Stroke
+row_strokes nodes window happenings drawn =
     line (codes "rule") (on_paper 0) (on_paper 1380) ∷ flat_map span_strokes drawn.upper.items ++ (flat_map span_strokes drawn.lower.items
-    ++ node_strokes window happenings (node_of l drawn.row))
+    ++ node_strokes window happenings (node_of nodes drawn.row))
 
 -- ---- commands and restarts
 
@@ -156,11 +161,11 @@ pub record Face : Type 0 where
 abbrev pub face_of : Group → Face
 face_of group = record { id = string_bytes group.id; title = string_bytes group.title; strokes = strokes group.marks.items; name = named group.marks.items }
 
-abbrev pub row_face : Site → Window → List Happening → DrawnRow → Face
-row_face l window happenings drawn = record {
+abbrev pub row_face : Nodes → Window → List Happening → DrawnRow → Face
+row_face nodes window happenings drawn = record {
   id = subject_id drawn.row.subject;
   title = subject_id drawn.row.subject;
-  strokes = row_strokes l window happenings drawn;
+  strokes = row_strokes nodes window happenings drawn;
   name = drawn.row.subject.name;
 }
 

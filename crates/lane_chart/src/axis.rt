@@ -1,9 +1,9 @@
 //! The axis of true time.
 
-use crate::marks::{Marks, spot};
+use crate::marks::Marks;
 use crate::scale::{LEFT, MICROS, RIGHT, Window};
-use drawing::Anchor;
-use std::alloc::{AllocError, Global};
+use drawing::{Anchor, Spot};
+use std::alloc::AllocError;
 
 /// Where the axis lies.
 const AXIS: i32 = 106;
@@ -64,39 +64,27 @@ fn first_behind(time: u64, step: u64) -> u64 {
 }
 
 /// Draws a mark of the axis, down to the end of the rows.
-fn draw_mark(
-    marks: &mut Marks,
-    alloc: Global,
-    window: Window,
-    time: u64,
-    bottom: i32,
-) -> Result<(), AllocError> {
+fn draw_mark(marks: &mut Marks, window: Window, time: u64, bottom: i32) -> Result<(), AllocError> {
     let x = window.place(time);
     let millis = time / MICROS;
-    let words = format!(in alloc; "{millis} ms")?;
-    marks.line("grid", spot(x, AXIS), spot(x, bottom))?;
-    marks.text(
-        "time",
-        spot(x, AXIS.saturating_sub(4)),
-        Anchor::Middle,
-        words.as_str(),
-    )
+    let words = format!(in marks.alloc; "{millis} ms")?;
+    marks.upright_line("grid", x, AXIS, bottom)?;
+    let at = Spot {
+        x,
+        y: AXIS.saturating_sub(4),
+    };
+    marks.text("time", at, Anchor::Middle, words.as_str())
 }
 
 /// Draws the axis, and its marks down to the end of the rows.
-pub(crate) fn draw_axis(
-    marks: &mut Marks,
-    alloc: Global,
-    window: Window,
-    bottom: i32,
-) -> Result<(), AllocError> {
-    marks.line("axis", spot(LEFT, AXIS), spot(RIGHT, AXIS))?;
+pub(crate) fn draw_axis(marks: &mut Marks, window: Window, bottom: i32) -> Result<(), AllocError> {
+    marks.level_line("axis", LEFT, RIGHT, AXIS)?;
     let step = step(window);
     let first = first_behind(window.from, step);
     for number in 0..MOST_MARKS {
         let time = first.saturating_add(step.saturating_mul(number));
         if window.has(time) {
-            draw_mark(marks, alloc, window, time, bottom)?;
+            draw_mark(marks, window, time, bottom)?;
         }
     }
     Ok(())

@@ -6,10 +6,10 @@ ghost use Rattle.lane_chart.specs.Faces.{face_of, happening_face, happening_id, 
 ghost use Rattle.lane_chart.specs.Strokes.{named, strokes};
 
 use crate::change::Happening;
-use crate::marks::{Marks, spot};
+use crate::marks::Marks;
 use crate::row_marks::width;
 use crate::scale::{MICROS, Window};
-use drawing::{Anchor, Group};
+use drawing::{Anchor, Group, Spot};
 use std::alloc::{AllocError, Global};
 
 /// How many lines of text stand above each other.
@@ -64,7 +64,7 @@ fn draw_happening(
         return Ok(());
     }
     let x = window.place(happening.time);
-    marks.arrow(kind_word(happening.node), spot(x, TIP))?;
+    marks.arrow(kind_word(happening.node), Spot { x, y: TIP })?;
     draw_words(marks, x, happening.words.as_str(), ends)
 }
 
@@ -77,7 +77,10 @@ fn draw_words(marks: &mut Marks, x: i32, words: &str, ends: &mut [i32]) -> Resul
     let from = x.saturating_sub(3).min(BORDER.saturating_sub(wide));
     match level(ends, from, from.saturating_add(wide)) {
         Some(level) => {
-            let at = spot(from, base_line(level));
+            let at = Spot {
+                x: from,
+                y: base_line(level),
+            };
             marks.text("words", at, Anchor::Start, words)
         }
         None => Ok(()),
@@ -101,26 +104,34 @@ fn title_of(alloc: Global, happening: &Happening) -> Result<String, AllocError>
     format!(in alloc; "line {line}, {millis} ms: {words}")
 }
 
-/// A happening as a group.
-fn group(
-    alloc: Global,
-    window: Window,
-    happening: &Happening,
-    ends: &mut [i32],
-) -> Result<Group, AllocError>
-    ensures { IfOk result (λ group. face_of group ≡ happening_face window happening.now) }
+/// The marks of a happening as a group.
+fn group(happening: &Happening, marks: Marks) -> Result<Group, AllocError>
+    ensures { IfOk result (λ group. face_of group ≡ record { id = happening_id happening.now.line; title = happening_title happening.now; strokes = strokes marks.marks.items; name = named marks.marks.items }) }
 {
-    let mut marks = Marks::new(alloc);
-    draw_happening(&mut marks, window, happening, ends)?;
-    let id = id_of(alloc, happening.line)?;
-    let class = String::from_str(alloc, kind_word(happening.node))?;
-    let title = title_of(alloc, happening)?;
+    let id = id_of(marks.alloc, happening.line)?;
+    let class = String::from_str(marks.alloc, kind_word(happening.node))?;
+    let title = title_of(marks.alloc, happening)?;
     Ok(Group {
         id,
         class,
         title,
         marks: marks.marks,
     })
+}
+
+/// Adds a happening as a group.
+fn add_happening(
+    groups: &mut Vec<Group>,
+    alloc: Global,
+    window: Window,
+    happening: &Happening,
+    ends: &mut [i32],
+) -> Result<(), AllocError>
+    ensures { OnOk result (faces groups.new.items ≡ faces groups.old.items ++ happening_face window happening.now ∷ []) }
+{
+    let mut marks = Marks::new(alloc);
+    draw_happening(&mut marks, window, happening, ends)?;
+    add_group(groups, group(happening, marks)?)
 }
 
 /// Adds a group.
@@ -140,9 +151,9 @@ pub(crate) fn add_happenings(
 ) -> Result<(), AllocError>
     ensures { OnOk result (faces groups.new.items ≡ faces groups.old.items ++ happening_faces window happenings.now) }
 {
-    let mut ends = vec![in alloc; 0; LEVELS]?;
+    let mut ends = [0; LEVELS];
     for happening in happenings {
-        add_group(groups, group(alloc, window, happening, &mut ends)?)?;
+        add_happening(groups, alloc, window, happening, &mut ends)?;
     }
     Ok(())
 }

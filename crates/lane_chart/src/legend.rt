@@ -1,7 +1,7 @@
 //! What the marks of a chart mean.
 
-use crate::marks::{Marks, spot};
-use drawing::Anchor;
+use crate::marks::Marks;
+use drawing::{Anchor, Spot};
 use std::alloc::AllocError;
 
 /// How many columns the legend has.
@@ -152,11 +152,10 @@ pub(crate) fn draw_legend(marks: &mut Marks, top: i32) -> Result<(), AllocError>
 /// Draws a sample and what it means.
 fn draw_sample(marks: &mut Marks, sample: Sample, x: i32, y: i32) -> Result<(), AllocError> {
     let height = y.saturating_add(sample.offset);
-    marks.line(
-        sample.class,
-        spot(x, height),
-        spot(x.saturating_add(40), height),
-    )?;
-    let at = spot(x.saturating_add(50), y.saturating_add(3));
+    marks.level_line(sample.class, x, x.saturating_add(40), height)?;
+    let at = Spot {
+        x: x.saturating_add(50),
+        y: y.saturating_add(3),
+    };
     marks.text("note", at, Anchor::Start, sample.words)
 }

@@ -6,13 +6,6 @@ ghost use Rattle.lane_chart.specs.Strokes.{arrow, line, name_if, name_of, named,
 use drawing::{Anchor, Mark, Shape, Spot};
 use std::alloc::{AllocError, Global};
 
-/// A spot.
-pub(crate) fn spot(x: i32, y: i32) -> Spot
-    ensures { result.x ≡ x }
-{
-    Spot { x, y }
-}
-
 /// Marks, the lowest first.
 #[derive(Drop)]
 pub(crate) struct Marks {
@@ -41,11 +34,35 @@ impl Marks {
         Ok(())
     }
 
-    /// Adds a line.
-    pub(crate) fn line(&mut self, class: &str, from: Spot, to: Spot) -> Result<(), AllocError>
-        ensures drawn { OnOk result (strokes self.new.marks.items ≡ strokes self.old.marks.items ++ line class.now from.x to.x ∷ []) }
+    /// Adds a level line at this height.
+    pub(crate) fn level_line(
+        &mut self,
+        class: &str,
+        from: i32,
+        to: i32,
+        height: i32,
+    ) -> Result<(), AllocError>
+        ensures drawn { OnOk result (strokes self.new.marks.items ≡ strokes self.old.marks.items ++ line class.now from to ∷ []) }
         ensures named { OnOk result (named self.new.marks.items ≡ named self.old.marks.items) }
     {
+        let from = Spot { x: from, y: height };
+        let to = Spot { x: to, y: height };
+        self.add(class, Shape::Line { from, to })
+    }
+
+    /// Adds an upright line.
+    pub(crate) fn upright_line(
+        &mut self,
+        class: &str,
+        x: i32,
+        top: i32,
+        bottom: i32,
+    ) -> Result<(), AllocError>
+        ensures drawn { OnOk result (strokes self.new.marks.items ≡ strokes self.old.marks.items ++ line class.now x x ∷ []) }
+        ensures named { OnOk result (named self.new.marks.items ≡ named self.old.marks.items) }
+    {
+        let from = Spot { x, y: top };
+        let to = Spot { x, y: bottom };
         self.add(class, Shape::Line { from, to })
     }
 
@@ -54,9 +71,15 @@ impl Marks {
         ensures drawn { OnOk result (strokes self.new.marks.items ≡ strokes self.old.marks.items ++ arrow class.now at.x ∷ []) }
         ensures named { OnOk result (named self.new.marks.items ≡ named self.old.marks.items) }
     {
-        let top = at.y.saturating_sub(8);
-        let left = spot(at.x.saturating_sub(4), top);
-        let right = spot(at.x.saturating_add(4), top);
+        let y = at.y.saturating_sub(8);
+        let left = Spot {
+            x: at.x.saturating_sub(4),
+            y,
+        };
+        let right = Spot {
+            x: at.x.saturating_add(4),
+            y,
+        };
         let mut spots = Vec::new(self.alloc);
         spots.extend_from_slice(&[at, left, right])?;
         self.add(class, Shape::Polygon(spots))

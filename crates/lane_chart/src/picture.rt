@@ -1,23 +1,24 @@
 //! The picture of a chart.
 
-ghost use Rattle.std.specs.Prelude.{◌≡◌, ◌++◌, [], IfOk, OnOk, string_bytes};
+ghost use Rattle.std.specs.Prelude.{◌≡◌, ◌++◌, ◌∷◌, [], IfOk, OnOk, string_bytes};
 ghost use Rattle.lane_chart.specs.Chart.{AreChartGroups, IsChartOf, axis_id, faces, legend_id, row_faces};
 ghost use Rattle.lane_chart.specs.Faces.{face_of, row_face};
 ghost use Rattle.lane_chart.specs.Strokes.{named, strokes};
+ghost use Rattle.lane_chart.specs.Subjects.{subject_id};
 
 use crate::axis::draw_axis;
 use crate::change::Happening;
 use crate::drawn::DrawnRow;
 use crate::happening_marks::{add_group, add_happenings};
 use crate::legend::{HEIGHT, draw_legend};
-use crate::marks::{Marks, spot};
+use crate::marks::Marks;
 use crate::row_marks::{draw_row, height};
 use crate::scale::{MICROS, Window};
-use crate::scene::Scene;
+use crate::scene::{Nodes, Scene};
 use crate::style::STYLE;
-use crate::subject::{Sort, id_of, kind_word};
+use crate::subject::{Sort, Subject, id_of, kind_word};
 use control_table::layout::Layout;
-use drawing::{Anchor, Frame, Group, Picture};
+use drawing::{Anchor, Frame, Group, Picture, Spot};
 use std::alloc::{AllocError, Global};
 
 /// How wide the paper is.
@@ -35,13 +36,11 @@ fn height_of(rows: &[DrawnRow]) -> i32 {
     all
 }
 
-/// A group of these marks, which a viewer calls by its class.
-fn group(alloc: Global, id: &str, class: &str, marks: Marks) -> Result<Group, AllocError>
-    ensures { IfOk result (λ group. face_of group ≡ record { id = id.now; title = id.now; strokes = strokes marks.marks.items; name = named marks.marks.items }) }
+/// A group of these marks, which a viewer calls by its identity.
+fn group(id: String, class: String, marks: Marks) -> Result<Group, AllocError>
+    ensures { IfOk result (λ group. face_of group ≡ record { id = string_bytes id; title = string_bytes id; strokes = strokes marks.marks.items; name = named marks.marks.items }) }
 {
-    let title = String::from_str(alloc, id)?;
-    let id = String::from_str(alloc, id)?;
-    let class = String::from_str(alloc, class)?;
+    let title = String::from_str(marks.alloc, id.as_str())?;
     Ok(Group {
         id,
         class,
@@ -50,28 +49,47 @@ fn group(alloc: Global, id: &str, class: &str, marks: Marks) -> Result<Group, Al
     })
 }
 
-/// Draws the name of the station, what part of time is drawn, and the axis.
-fn draw_frame(
-    marks: &mut Marks,
-    alloc: Global,
-    scene: Scene<'_>,
-    bottom: i32,
-) -> Result<(), AllocError> {
-    let name = scene.layout.station().name.as_str();
-    let from = scene.window.from / MICROS;
-    let to = scene.window.to / MICROS;
-    let words = format!(in alloc; "{name}: {from} to {to} ms of true time")?;
-    marks.text("heading", spot(20, 24), Anchor::Start, words.as_str())?;
-    draw_axis(marks, alloc, scene.window, bottom)
+/// What stands above a chart: the name of the station, and what part of time is drawn.
+fn heading(alloc: Global, station: &str, window: Window) -> Result<String, AllocError> {
+    let from = window.from / MICROS;
+    let to = window.to / MICROS;
+    format!(in alloc; "{station}: {from} to {to} ms of true time")
 }
 
-/// The axis as a group, with the name of the station and what part of time is drawn.
-fn axis_group(alloc: Global, scene: Scene<'_>, bottom: i32) -> Result<Group, AllocError>
+/// A group of these marks, whose class is its identity.
+fn named_group(id: &str, marks: Marks) -> Result<Group, AllocError>
+    ensures { IfOk result (λ group. string_bytes group.id ≡ id.now) }
+{
+    let class = String::from_str(marks.alloc, id)?;
+    let id = String::from_str(marks.alloc, id)?;
+    group(id, class, marks)
+}
+
+/// Writes the heading, and draws the axis.
+fn draw_frame(
+    marks: &mut Marks,
+    station: &str,
+    window: Window,
+    bottom: i32,
+) -> Result<(), AllocError> {
+    let words = heading(marks.alloc, station, window)?;
+    let at = Spot { x: 20, y: 24 };
+    marks.text("heading", at, Anchor::Start, words.as_str())?;
+    draw_axis(marks, window, bottom)
+}
+
+/// The heading and the axis of a chart as a group.
+fn axis_group(
+    alloc: Global,
+    station: &str,
+    window: Window,
+    bottom: i32,
+) -> Result<Group, AllocError>
     ensures { IfOk result (λ group. string_bytes group.id ≡ axis_id) }
 {
     let mut marks = Marks::new(alloc);
-    draw_frame(&mut marks, alloc, scene, bottom)?;
-    group(alloc, "axis", "axis", marks)
+    draw_frame(&mut marks, station, window, bottom)?;
+    named_group("axis", marks)
 }
 
 /// What the marks mean, as a group.
@@ -80,26 +98,33 @@ fn legend_group(alloc: Global, top: i32) -> Result<Group, AllocError>
 {
     let mut marks = Marks::new(alloc);
     draw_legend(&mut marks, top)?;
-    group(alloc, "legend", "legend", marks)
+    named_group("legend", marks)
 }
 
-/// A row as a group under a heading, from this height on.
-fn row_group(
+/// The marks of a row as a group.
+fn row_group(subject: &Subject, marks: Marks) -> Result<Group, AllocError>
+    ensures { IfOk result (λ group. face_of group ≡ record { id = subject_id subject.now; title = subject_id subject.now; strokes = strokes marks.marks.items; name = named marks.marks.items }) }
+{
+    let kind = kind_word(subject.sort);
+    let id = id_of(marks.alloc, subject)?;
+    let class = format!(in marks.alloc; "{kind} {id}")?;
+    group(id, class, marks)
+}
+
+/// Adds a row as a group under a heading, from this height on.
+fn add_row(
+    groups: &mut Vec<Group>,
     alloc: Global,
     scene: Scene<'_>,
     drawn: &DrawnRow,
     heading: &str,
     top: i32,
-) -> Result<Group, AllocError>
-    ensures { IfOk result (λ group. face_of group ≡ row_face scene.entry.layout.now scene.entry.window scene.entry.happenings.now drawn.now) }
+) -> Result<(), AllocError>
+    ensures { OnOk result (faces groups.new.items ≡ faces groups.old.items ++ row_face scene.entry.nodes scene.entry.window scene.entry.happenings.now drawn.now ∷ []) }
 {
     let mut marks = Marks::new(alloc);
-    draw_row(&mut marks, alloc, scene, drawn, heading, top)?;
-    let subject = drawn.row.subject;
-    let kind = kind_word(subject.sort);
-    let id = id_of(alloc, &subject)?;
-    let class = format!(in alloc; "{kind} {id}")?;
-    group(alloc, id.as_str(), class.as_str(), marks)
+    draw_row(&mut marks, scene, drawn, heading, top)?;
+    add_group(groups, row_group(&drawn.row.subject, marks)?)
 }
 
 /// What stands before a row of a kind: its word, unless the row above is of this kind.
@@ -117,38 +142,39 @@ fn add_rows(
     scene: Scene<'_>,
     rows: &[DrawnRow],
 ) -> Result<(), AllocError>
-    ensures { OnOk result (faces groups.new.items ≡ faces groups.old.items ++ row_faces scene.entry.layout.now scene.entry.window scene.entry.happenings.now rows.now) }
+    ensures { OnOk result (faces groups.new.items ≡ faces groups.old.items ++ row_faces scene.entry.nodes scene.entry.window scene.entry.happenings.now rows.now) }
 {
     let mut top = ROWS;
     let mut above = None;
     for row in rows {
         let sort = row.row.subject.sort;
         let heading = heading_behind(above, sort);
-        add_group(groups, row_group(alloc, scene, row, heading, top)?)?;
+        add_row(groups, alloc, scene, row, heading, top)?;
         above = Some(sort);
         top = top.saturating_add(height(sort));
     }
     Ok(())
 }
 
-/// Adds all groups of a chart, whose rows end here.
-fn add_groups(
-    groups: &mut Vec<Group>,
+/// All groups of a chart, whose rows end here.
+fn groups_of(
     alloc: Global,
+    station: &str,
     scene: Scene<'_>,
     rows: &[DrawnRow],
     bottom: i32,
-) -> Result<(), AllocError>
-    requires { groups.old.items ≡ [] }
-    ensures { OnOk result (AreChartGroups scene.entry.layout.now scene.entry.window rows.now scene.entry.happenings.now groups.new.items) }
+) -> Result<Vec<Group>, AllocError>
+    ensures { IfOk result (λ groups. AreChartGroups scene.entry.nodes scene.entry.window rows.now scene.entry.happenings.now groups.items) }
 {
-    let axis = axis_group(alloc, scene, bottom)?;
-    add_group(groups, axis)?;
-    add_rows(groups, alloc, scene, rows)?;
-    add_happenings(groups, alloc, scene.window, scene.happenings)?;
-    let legend = legend_group(alloc, bottom)?;
-    add_group(groups, legend)?;
-    Ok(())
+    let mut groups = Vec::new(alloc);
+    add_group(
+        &mut groups,
+        axis_group(alloc, station, scene.window, bottom)?,
+    )?;
+    add_rows(&mut groups, alloc, scene, rows)?;
+    add_happenings(&mut groups, alloc, scene.window, scene.happenings)?;
+    add_group(&mut groups, legend_group(alloc, bottom)?)?;
+    Ok(groups)
 }
 
 /// The paper, down to here.
@@ -173,15 +199,19 @@ pub fn chart(
 ) -> Result<Picture, AllocError>
     ensures { IfOk result (IsChartOf layout.now window rows.now happenings.now) }
 {
+    let station = layout.station().name.as_str();
     let scene = Scene {
-        layout,
+        routes: layout.routes(),
+        nodes: Nodes {
+            signals: layout.signals().len(),
+            points: layout.points().len(),
+        },
         window,
         happenings,
     };
     let bottom = ROWS.saturating_add(height_of(rows));
-    let mut groups = Vec::new(alloc);
-    add_groups(&mut groups, alloc, scene, rows, bottom)?;
-    let title = String::from_str(alloc, layout.station().name.as_str())?;
+    let groups = groups_of(alloc, station, scene, rows, bottom)?;
+    let title = String::from_str(alloc, station)?;
     let style = String::from_str(alloc, STYLE)?;
     Ok(Picture {
         title,

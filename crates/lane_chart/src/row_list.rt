@@ -18,7 +18,6 @@ fn add(rows: &mut Vec<Row>, sort: Sort, place: usize, name: Name) -> Result<(), 
     Ok(())
 }
 
-#[tactic(auto, using(crate::proofs::RowsMore::goes_on, crate::proofs::RowsMore::ends))]
 fn add_signals(rows: &mut Vec<Row>, sort: Sort, signals: &[Signal]) -> Result<(), AllocError>
     ensures { OnOk result (rows.new.items ≡ rows.old.items ++ numbered (λ s. s.name) sort 0 signals.now) }
 {
@@ -28,7 +27,6 @@ fn add_signals(rows: &mut Vec<Row>, sort: Sort, signals: &[Signal]) -> Result<()
     Ok(())
 }
 
-#[tactic(auto, using(crate::proofs::RowsMore::goes_on, crate::proofs::RowsMore::ends))]
 fn add_points(rows: &mut Vec<Row>, sort: Sort, points: &[Point]) -> Result<(), AllocError>
     ensures { OnOk result (rows.new.items ≡ rows.old.items ++ numbered (λ p. p.name) sort 0 points.now) }
 {
@@ -38,7 +36,6 @@ fn add_points(rows: &mut Vec<Row>, sort: Sort, points: &[Point]) -> Result<(), A
     Ok(())
 }
 
-#[tactic(auto, using(crate::proofs::RowsMore::goes_on, crate::proofs::RowsMore::ends))]
 fn add_detectors(rows: &mut Vec<Row>, sort: Sort, detectors: &[Detector]) -> Result<(), AllocError>
     ensures { OnOk result (rows.new.items ≡ rows.old.items ++ numbered (λ d. d.name) sort 0 detectors.now) }
 {
@@ -48,7 +45,6 @@ fn add_detectors(rows: &mut Vec<Row>, sort: Sort, detectors: &[Detector]) -> Res
     Ok(())
 }
 
-#[tactic(auto, using(crate::proofs::RowsMore::goes_on, crate::proofs::RowsMore::ends))]
 fn add_sections(rows: &mut Vec<Row>, sections: &[Name]) -> Result<(), AllocError>
     ensures { OnOk result (rows.new.items ≡ rows.old.items ++ numbered (λ name. name) SectionRow 0 sections.now) }
 {
@@ -58,7 +54,6 @@ fn add_sections(rows: &mut Vec<Row>, sections: &[Name]) -> Result<(), AllocError
     Ok(())
 }
 
-#[tactic(auto, using(crate::proofs::RowsMore::goes_on, crate::proofs::RowsMore::ends))]
 fn add_routes(rows: &mut Vec<Row>, routes: &[Route]) -> Result<(), AllocError>
     ensures { OnOk result (rows.new.items ≡ rows.old.items ++ numbered (λ r. r.name) RouteRow 0 routes.now) }
 {

@@ -2,22 +2,22 @@
 
 ghost use Rattle.std.specs.Prelude.{◌≡◌, ◌++◌, ◌∷◌, [], OnOk, Some, codes};
 ghost use Rattle.std.specs.List.{flat_map};
-ghost use Rattle.lane_chart.specs.Faces.{edge_class, edge_of, is_node, node_of, node_strokes, restart_strokes, row_strokes, span_end, span_strokes, state_text};
+ghost use Rattle.lane_chart.specs.Faces.{edge_class, edge_of, is_node, node_strokes, restart_strokes, row_strokes, span_end, span_strokes, state_text};
 ghost use Rattle.lane_chart.specs.Strokes.{line, named, on_paper, place_of, strokes};
 
 use crate::change::Happening;
 use crate::drawn::{DrawnRow, lower_kind};
 use crate::lane::{Progress, Seen};
-use crate::marks::{Marks, spot};
+use crate::marks::Marks;
 use crate::scale::{LEFT, RIGHT, WIDTH, Window, on_paper, place_of};
 use crate::scene::Scene;
 use crate::spans::Span;
 use crate::subject::{Row, Sort};
 use crate::words::{label, state_word};
-use control_table::layout::Layout;
+use control_table::layout::Route;
 use control_table::sci_telegram::Position;
-use drawing::Anchor;
-use std::alloc::{AllocError, Global};
+use drawing::{Anchor, Spot};
+use std::alloc::AllocError;
 
 /// How wide a letter is.
 pub(crate) const LETTER: usize = 6;
@@ -27,22 +27,6 @@ pub(crate) fn height(sort: Sort) -> i32 {
     match lower_kind(sort) {
         Some(_) => 32,
         None => 18,
-    }
-}
-
-/// The number of a row's node, if the row is one of a node.
-fn node_of(layout: &Layout, row: &Row) -> Option<usize>
-    ensures { result ≡ node_of layout.now row.now }
-{
-    let signals = layout.signals().len();
-    let points = layout.points().len();
-    let behind = row.place.saturating_add(1);
-    match row.subject.sort {
-        Sort::Interlocking => Some(0),
-        Sort::SignalNode => Some(behind),
-        Sort::PointNode => Some(behind.saturating_add(signals)),
-        Sort::DetectorNode => Some(behind.saturating_add(signals).saturating_add(points)),
-        _ => None,
     }
 }
 
@@ -80,31 +64,24 @@ fn span_end(span: Span) -> i32
 }
 
 /// Draws a span of a band, from this height of its middle on.
-fn draw_span(
-    marks: &mut Marks,
-    alloc: Global,
-    layout: &Layout,
-    span: Span,
-    middle: i32,
-) -> Result<(), AllocError>
+fn draw_span(marks: &mut Marks, routes: &[Route], span: Span, middle: i32) -> Result<(), AllocError>
     ensures drawn { OnOk result (strokes marks.new.marks.items ≡ strokes marks.old.marks.items ++ span_strokes span) }
     ensures named { OnOk result (named marks.new.marks.items ≡ named marks.old.marks.items) }
 {
-    draw_state(marks, alloc, span, middle)?;
+    draw_state(marks, span, middle)?;
     draw_edge(marks, span, middle)?;
-    draw_label(marks, alloc, layout, span, middle)
+    draw_label(marks, routes, span, middle)
 }
 
 /// Draws what a span shows, as a line.
-fn draw_state(marks: &mut Marks, alloc: Global, span: Span, middle: i32) -> Result<(), AllocError>
+fn draw_state(marks: &mut Marks, span: Span, middle: i32) -> Result<(), AllocError>
     ensures drawn { OnOk result (strokes marks.new.marks.items ≡ strokes marks.old.marks.items ++ line (codes "band " ++ state_text span.seen) (place_of span.left) (span_end span) ∷ []) }
     ensures named { OnOk result (named marks.new.marks.items ≡ named marks.old.marks.items) }
 {
     let state = state_word(span.seen);
-    let class = format!(in alloc; "band {state}")?;
-    let y = middle.saturating_add(offset(span.seen));
-    let from = spot(place_of(span.left), y);
-    marks.line(class.as_str(), from, spot(span_end(span), y))
+    let class = format!(in marks.alloc; "band {state}")?;
+    let height = middle.saturating_add(offset(span.seen));
+    marks.level_line(class.as_str(), place_of(span.left), span_end(span), height)
 }
 
 /// The class of the edge where a span begins: where it joins changes that are narrower than a unit, the edge is thick.
@@ -122,17 +99,15 @@ fn draw_edge(marks: &mut Marks, span: Span, middle: i32) -> Result<(), AllocErro
     if span.left == 0 {
         return Ok(());
     }
-    let left = place_of(span.left);
-    let top = spot(left, middle.saturating_sub(7));
-    let bottom = spot(left, middle.saturating_add(7));
-    marks.line(edge_class(span), top, bottom)
+    let top = middle.saturating_sub(7);
+    let bottom = middle.saturating_add(7);
+    marks.upright_line(edge_class(span), place_of(span.left), top, bottom)
 }
 
 /// Writes what a span shows, where there is room for it.
 fn draw_label(
     marks: &mut Marks,
-    alloc: Global,
-    layout: &Layout,
+    routes: &[Route],
     span: Span,
     middle: i32,
 ) -> Result<(), AllocError>
@@ -141,20 +116,22 @@ fn draw_label(
 {
     let left = place_of(span.left);
     let room = span_end(span).saturating_sub(left);
-    let words = label(alloc, layout, span.seen)?;
+    let words = label(marks.alloc, routes, span.seen)?;
     if words.is_empty() || width(words.as_str()) > room {
         return Ok(());
     }
     let base = middle.saturating_add(word_offset(span.seen));
-    let at = spot(left.saturating_add(4), base);
+    let at = Spot {
+        x: left.saturating_add(4),
+        y: base,
+    };
     marks.text("state", at, Anchor::Start, words.as_str())
 }
 
 /// Draws a band.
 fn draw_band(
     marks: &mut Marks,
-    alloc: Global,
-    layout: &Layout,
+    routes: &[Route],
     spans: &[Span],
     middle: i32,
 ) -> Result<(), AllocError>
@@ -162,7 +139,7 @@ fn draw_band(
     ensures named { OnOk result (named marks.new.marks.items ≡ named marks.old.marks.items) }
 {
     for span in spans {
-        draw_span(marks, alloc, layout, *span, middle)?;
+        draw_span(marks, routes, *span, middle)?;
     }
     Ok(())
 }
@@ -192,7 +169,8 @@ fn draw_restart(
         return Ok(());
     }
     let x = window.place(happening.time);
-    marks.arrow("restart", spot(x, middle.saturating_add(4)))
+    let y = middle.saturating_add(4);
+    marks.arrow("restart", Spot { x, y })
 }
 
 /// Draws when a node was made anew.
@@ -212,40 +190,22 @@ fn draw_restarts(
     Ok(())
 }
 
-/// Draws the line of a node.
-fn draw_node_line(marks: &mut Marks, middle: i32) -> Result<(), AllocError>
-    ensures drawn { OnOk result (strokes marks.new.marks.items ≡ strokes marks.old.marks.items ++ line (codes "band node-line") (on_paper 0) (on_paper 1380) ∷ []) }
-    ensures named { OnOk result (named marks.new.marks.items ≡ named marks.old.marks.items) }
-{
-    marks.line("band node-line", spot(LEFT, middle), spot(RIGHT, middle))
-}
-
-/// Draws the line of a node, and when it was made anew.
+/// Draws the line of a row's node, and when it was made anew, if the row has a node.
 fn draw_node(
     marks: &mut Marks,
-    scene: Scene<'_>,
-    node: usize,
-    middle: i32,
-) -> Result<(), AllocError>
-    ensures drawn { OnOk result (strokes marks.new.marks.items ≡ strokes marks.old.marks.items ++ node_strokes scene.entry.window scene.entry.happenings.now (Some node)) }
-    ensures named { OnOk result (named marks.new.marks.items ≡ named marks.old.marks.items) }
-{
-    draw_node_line(marks, middle)?;
-    draw_restarts(marks, scene.window, node, scene.happenings, middle)
-}
-
-/// Draws the line of a row's node, if it has one.
-fn draw_node_if(
-    marks: &mut Marks,
-    scene: Scene<'_>,
+    window: Window,
     node: Option<usize>,
+    happenings: &[Happening],
     middle: i32,
 ) -> Result<(), AllocError>
-    ensures drawn { OnOk result (strokes marks.new.marks.items ≡ strokes marks.old.marks.items ++ node_strokes scene.entry.window scene.entry.happenings.now node) }
+    ensures drawn { OnOk result (strokes marks.new.marks.items ≡ strokes marks.old.marks.items ++ node_strokes window happenings.now node) }
     ensures named { OnOk result (named marks.new.marks.items ≡ named marks.old.marks.items) }
 {
     match node {
-        Some(node) => draw_node(marks, scene, node, middle),
+        Some(node) => {
+            marks.level_line("band node-line", LEFT, RIGHT, middle)?;
+            draw_restarts(marks, window, node, happenings, middle)
+        }
         None => Ok(()),
     }
 }
@@ -258,7 +218,10 @@ fn draw_kind(marks: &mut Marks, heading: &str, top: i32) -> Result<(), AllocErro
     if heading.is_empty() {
         return Ok(());
     }
-    let at = spot(12, top.saturating_add(12));
+    let at = Spot {
+        x: 12,
+        y: top.saturating_add(12),
+    };
     marks.text("sort", at, Anchor::Start, heading)
 }
 
@@ -268,21 +231,23 @@ fn draw_name(marks: &mut Marks, row: &Row, top: i32) -> Result<(), AllocError>
     ensures named { OnOk result (named marks.new.marks.items ≡ named marks.old.marks.items ++ row.now.subject.name) }
 {
     let rule = top.saturating_add(height(row.subject.sort));
-    marks.line("rule", spot(LEFT, rule), spot(RIGHT, rule))?;
-    let at = spot(LEFT.saturating_sub(8), top.saturating_add(12));
+    marks.level_line("rule", LEFT, RIGHT, rule)?;
+    let at = Spot {
+        x: LEFT.saturating_sub(8),
+        y: top.saturating_add(12),
+    };
     marks.text("name", at, Anchor::End, row.subject.name.as_str())
 }
 
 /// Draws a row under a heading, from this height on.
 pub(crate) fn draw_row(
     marks: &mut Marks,
-    alloc: Global,
     scene: Scene<'_>,
     drawn: &DrawnRow,
     heading: &str,
     top: i32,
 ) -> Result<(), AllocError>
-    ensures drawn { OnOk result (strokes marks.new.marks.items ≡ strokes marks.old.marks.items ++ row_strokes scene.entry.layout.now scene.entry.window scene.entry.happenings.now drawn.now) }
+    ensures drawn { OnOk result (strokes marks.new.marks.items ≡ strokes marks.old.marks.items ++ row_strokes scene.entry.nodes scene.entry.window scene.entry.happenings.now drawn.now) }
     ensures named { OnOk result (named marks.new.marks.items ≡ named marks.old.marks.items ++ drawn.now.row.subject.name) }
 {
     let row = drawn.row;
@@ -290,7 +255,8 @@ pub(crate) fn draw_row(
     let below = middle.saturating_add(14);
     draw_kind(marks, heading, top)?;
     draw_name(marks, &row, top)?;
-    draw_band(marks, alloc, scene.layout, &drawn.upper, middle)?;
-    draw_band(marks, alloc, scene.layout, &drawn.lower, below)?;
-    draw_node_if(marks, scene, node_of(scene.layout, &row), middle)
+    draw_band(marks, scene.routes, &drawn.upper, middle)?;
+    draw_band(marks, scene.routes, &drawn.lower, below)?;
+    let node = scene.nodes.number_of(&row);
+    draw_node(marks, scene.window, node, scene.happenings, middle)
 }

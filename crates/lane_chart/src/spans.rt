@@ -116,7 +116,6 @@ fn close(spans: &mut Vec<Span>, before: Option<Span>) -> Result<(), AllocError>
 }
 
 /// From each change to the next.
-#[tactic(auto, using(crate::proofs::SpansClose::goes_on, crate::proofs::SpansClose::closes))]
 fn spans_between(alloc: Global, window: Window, changes: &[Change]) -> Result<Vec<Span>, AllocError>
     ensures { IfOk result (λ spans. spans.items ≡ spans_behind window None changes.now) }
 {

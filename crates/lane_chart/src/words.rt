@@ -4,7 +4,7 @@ ghost use Rattle.std.specs.Prelude.{◌≡◌};
 ghost use Rattle.lane_chart.specs.Faces.{progress_text, readiness_text, state_text};
 
 use crate::lane::{Progress, Readiness, Seen};
-use control_table::layout::{Layout, RouteId};
+use control_table::layout::{Route, RouteId};
 use control_table::sci_telegram::{Aspect, Occupancy, Position, Side};
 use std::alloc::{AllocError, Global};
 
@@ -54,23 +54,27 @@ pub(crate) fn state_word(seen: Seen) -> &'static str
     }
 }
 
-/// The name of a route, or nothing where the layout lacks it.
-fn route_name(layout: &Layout, route: RouteId) -> &str {
-    match layout.routes().get(route.0) {
+/// The name of a route, or nothing where it is lacking.
+fn route_name(routes: &[Route], route: RouteId) -> &str {
+    match routes.get(route.0) {
         Some(entry) => entry.name().as_str(),
         None => "",
     }
 }
 
+/// The word that is written for what is seen: none where its line alone tells it.
+fn written_word(seen: Seen) -> &'static str {
+    match state_word(seen) {
+        "none" | "stop" | "clear" | "free" | "ready" | "driven-left" | "driven-right" => "",
+        word => word,
+    }
+}
+
 /// What is written into a span, if it is wide enough.
-pub(crate) fn label(alloc: Global, layout: &Layout, seen: Seen) -> Result<String, AllocError> {
+pub(crate) fn label(alloc: Global, routes: &[Route], seen: Seen) -> Result<String, AllocError> {
     match seen {
-        Seen::Authority(Some(route)) => String::from_str(alloc, route_name(layout, route)),
+        Seen::Authority(Some(route)) => String::from_str(alloc, route_name(routes, route)),
         Seen::Route(Some(Progress::Ended(freed))) => format!(in alloc; "freed {freed}"),
-        Seen::Drive(Some(_)) => String::from_str(alloc, ""),
-        _ => match state_word(seen) {
-            "none" | "free" | "clear" | "stop" | "ready" => String::from_str(alloc, ""),
-            word => String::from_str(alloc, word),
-        },
+        _ => String::from_str(alloc, written_word(seen)),
     }
 }
