@@ -1,6 +1,5 @@
--- Words that are joined by their texts, and lists of texts that grow.
-use Rattle.std.proofs.Common.{◌≡◌, ℕ, ◌+◌, ◌<◌, ◌≤◌, List, [], ◌∷◌, ◌++◌, get_or, length, map, take, refl, sym, ap, ◌∙◌}
-use Rattle.std.proofs.lemmas.List.{map-append, take_all, take_more}
+-- Words that are joined by their texts.
+use Rattle.std.proofs.Common.{◌≡◌, ℕ, List, [], ◌∷◌, ◌++◌, map, refl, ap, ◌∙◌}
 use Rattle.std.specs.List.{flat_map, join_by}
 use Rattle.station_table.specs.Names.{parted, spaced, with_word}
 
@@ -11,16 +10,6 @@ behind_first f sep (x ∷ xs) = ap (λ rest. (sep ++ f x) ++ rest) (behind_first
 pub join_map : {X : Type 0} (f : X → List ℕ) (sep : List ℕ) (xs : List X) → join_by f sep xs ≡ join_by (λ w. w) sep (map f xs)
 join_map f sep [] = refl
 join_map f sep (x ∷ xs) = ap (λ rest. f x ++ rest) (behind_first f sep xs)
-
--- one more text, of the next item
-pub mapped_more : {X Y : Type 0} (view : Y → List ℕ) (name : X → List ℕ) (ys : List Y) (y : Y) (zs : List Y) (xs : List X) (i : ℕ) (x : X)
-    → i < length xs → x ≡ get_or xs i x → map view ys ≡ map name (take i xs) → view y ≡ name x → zs ≡ ys ++ y ∷ [] → map view zs ≡ map name (take (i + 1) xs)
-mapped_more view name ys y zs xs i x lt at so_far is push =
-    let grown = take_more xs i x lt ∙ ap (λ z. take i xs ++ z ∷ []) (sym at) in
-    ap (map view) push ∙ (map-append view ys (y ∷ []) ∙ ((λ j. so_far j ++ is j ∷ []) ∙ sym (ap (map name) grown ∙ map-append name (take i xs) (x ∷ []))))
-
-pub mapped_all : {X Y : Type 0} (view : Y → List ℕ) (name : X → List ℕ) (ys : List Y) (xs : List X) (i : ℕ) → length xs ≤ i → map view ys ≡ map name (take i xs) → map view ys ≡ map name xs
-mapped_all view name ys xs i le so_far = so_far ∙ ap (map name) (take_all i xs le)
 
 -- a cell of texts that are lent, and a name with words that are lent
 pub parted_own : {Y : Type 0} (view : Y → List ℕ) (lent own : List Y) (cell : List ℕ) → cell ≡ parted (map view lent) → lent ≡ own → cell ≡ parted (map view own)

@@ -1,9 +1,9 @@
 -- A point is let go where it awaits a section, and none behind it.
-use Rattle.std.proofs.Common.{◌≡◌, ℕ, zero, suc, ◌+◌, ◌&&◌, ◌||◌, not, Bool, true, false, List, [], ◌∷◌, drop, Option, Some, None, slice_get, refl, ap, sym, ◌∙◌, IsTrue, ◌↔◌, arith}
+use Rattle.std.proofs.Common.{◌≡◌, ℕ, zero, suc, ◌+◌, ◌&&◌, ◌||◌, not, Bool, true, false, List, [], ◌∷◌, drop, Some, slice_get, refl, ap, sym, ◌∙◌, IsTrue, ◌↔◌, arith}
 use Rattle.std.specs.FinSet.{contains}
 use Rattle.std.specs.List.{Contains, list_any}
-use Rattle.std.specs.Option.{option_map_or}
 use Rattle.std.proofs.lemmas.Bool.{false≢true, true≢false}
+use Rattle.std.proofs.lemmas.Option.{same_Some}
 use Rattle.control_table.specs.layout.declared.ids.RouteId.{RouteId}
 use Rattle.control_table.specs.layout.declared.ids.SectionId.{SectionId}
 use Rattle.control_table.specs.layout.Entries.{Site}
@@ -50,23 +50,16 @@ of_three true false third is also none = absurd (false≢true also)
 of_three false other third is also none = absurd (false≢true is)
 
 module _ (l : Site) (a : RouteId) (sections : List SectionId) (place k : ℕ) (awaited : Places) (one other third result : Bool) (one_is : IsTrue one ↔ IsRequired l a (point_at k))
-    (awaits : (s : SectionId) → Has awaited s.0 ↔ Awaits l a (point_at k) s) (other_is : other ≡ option_map_or (λ section. contains awaited section.0) (slice_get sections place) false)
+    (awaits : (s : SectionId) → Has awaited s.0 ↔ Awaits l a (point_at k) s) (section : SectionId) (section_there : slice_get sections place ≡ Some section) (other_is : other ≡ contains awaited section.0)
     (third_is : third ≡ list_any (λ section. contains awaited section.0) (drop (place + 1) sections)) (result_is : result ≡ (one && (other && not third))) where
-  there : other ≡ true → (s : SectionId) × (slice_get sections place ≡ Some s) × Has awaited s.0
-  there is = by_section (slice_get sections place) refl (sym other_is ∙ is) where
-    by_section : (found : Option SectionId) → slice_get sections place ≡ found → option_map_or (λ section. contains awaited section.0) found false ≡ true → (s : SectionId) × (slice_get sections place ≡ Some s) × Has awaited s.0
-    by_section None none has = absurd (false≢true has)
-    by_section (Some s) found has = (s, found, has)
-
   forward : IsTrue result → IsLetGoAt l a sections place (point_at k)
   forward is =
       let three = all_three one other third (sym result_is ∙ is)
-      in let at = there three.1
       in record {
         required = one_is.0 three.0;
-        section = at.0;
-        there = at.1;
-        awaits = (awaits at.0).0 at.2;
+        section = section;
+        there = section_there;
+        awaits = (awaits section).0 (sym other_is ∙ three.1);
         behind = λ later within awaits_it. none_has awaited (drop (place + 1) sections) (sym third_is ∙ three.2) later within ((awaits later).1 awaits_it);
       }
 
@@ -80,7 +73,7 @@ module _ (l : Site) (a : RouteId) (sections : List SectionId) (place k : ℕ) (a
 
   back : IsLetGoAt l a sections place (point_at k) → IsTrue result
   back goes = result_is ∙ of_three one other third (one_is.1 goes.required)
-      (other_is ∙ ap (λ found. option_map_or (λ (section : SectionId). contains awaited section.0) found false) goes.there ∙ (awaits goes.section).1 goes.awaits) (none_behind goes.behind)
+      (other_is ∙ ap (λ (one : SectionId). contains awaited one.0) (same_Some section goes.section (sym section_there ∙ goes.there)) ∙ (awaits goes.section).1 goes.awaits) (none_behind goes.behind)
 
   pub let_go_is : IsTrue result ↔ IsLetGoAt l a sections place (point_at k)
   let_go_is = (forward, back)

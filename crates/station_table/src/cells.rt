@@ -69,7 +69,6 @@ fn points_at(alloc: Global, route: &Route, side: Side) -> Result<Vec<PointId>, A
 }
 
 /// The points on a path that are written at a side.
-#[tactic(auto, using(crate::proofs::PointsOnPath::one_more, crate::proofs::PointsOnPath::not_there, crate::proofs::PointsOnPath::no_point, crate::proofs::PointsOnPath::all))]
 fn points_on(
     alloc: Global,
     path: &[Port],

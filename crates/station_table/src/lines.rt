@@ -1,12 +1,16 @@
 //! The lines of the table, in either form.
 
-ghost use Rattle.std.specs.Prelude.{◌≡◌, ◌++◌, map, codes, IfOk, OnOk};
+ghost use Rattle.std.specs.Prelude.{◌≡◌, ◌<◌, ◌++◌, length, map, codes, IfOk, OnOk};
 ghost use Rattle.std.specs.List.{flat_map};
 ghost use Rattle.csv.specs.Writing.{default_writer, row_text};
-ghost use Rattle.station_table.specs.Lines.{barred, heads, line_text, lines_text, rule_text};
+ghost use Rattle.control_table.specs.Topology.{IsRoute};
+ghost use Rattle.station_table.specs.Lines.{IsTable, barred, heads, line_text, rule_text};
+ghost use Rattle.station_table.specs.Row.{IsRowOf, Row};
 
 use crate::form::Form;
-use crate::row::Row;
+use crate::row::{Row, row_of};
+use control_table::Checked;
+use control_table::layout::{Route, RouteId};
 use csv::WriterBuilder;
 use std::alloc::{AllocError, Global};
 
@@ -48,7 +52,7 @@ fn csv_line(alloc: Global, cells: &[&[u8]]) -> Result<Vec<u8>, AllocError>
 }
 
 /// The line of a row.
-fn line(alloc: Global, form: Form, row: &Row) -> Result<Vec<u8>, AllocError>
+fn line<'a>(alloc: Global, form: Form, row: &'a Row<'a>) -> Result<Vec<u8>, AllocError>
     ensures { IfOk result (λ line. line.items ≡ line_text form row.now) }
 {
     let cells = [
@@ -85,21 +89,31 @@ fn heads(form: Form) -> &'static str
     }
 }
 
-/// Adds the lines of rows to a text.
-fn add_lines(alloc: Global, form: Form, rows: &[Row], text: &mut Vec<u8>) -> Result<(), AllocError>
-    ensures { OnOk result (text.new.items ≡ text.old.items ++ flat_map (line_text form) rows.now) }
+/// Adds the line of a route, of which this is the entry, to a text.
+fn add_line(
+    alloc: Global,
+    form: Form,
+    table: &Checked,
+    id: RouteId,
+    entry: &Route,
+    text: &mut Vec<u8>,
+) -> Result<(), AllocError>
+    requires there { id.0 < length table.now.routes }
+    requires entry { IsRoute table.now id entry.now }
+    ensures { OnOk result ((row : Row) × IsRowOf table.now id entry.now row × (text.new.items ≡ text.old.items ++ line_text form row)) }
 {
-    for row in rows {
-        text.extend_from_slice(&line(alloc, form, row)?)?;
-    }
-    Ok(())
+    let row = row_of(alloc, table, id, entry)?;
+    let line = line(alloc, form, &row)?;
+    text.extend_from_slice(&line)
 }
 
-/// The heads, and the lines of rows.
-pub(crate) fn lines(alloc: Global, form: Form, rows: &[Row]) -> Result<Vec<u8>, AllocError>
-    ensures { IfOk result (λ text. text.items ≡ lines_text form rows.now) }
+/// The heads, and a line for each route, in the order of the table.
+pub(crate) fn lines(alloc: Global, form: Form, table: &Checked) -> Result<Vec<u8>, AllocError>
+    ensures { IfOk result (λ text. IsTable form table.now text.items) }
 {
     let mut text = Vec::from_slice(alloc, heads(form).as_bytes())?;
-    add_lines(alloc, form, rows, &mut text)?;
+    for (place, entry) in table.layout().routes().iter().enumerate() {
+        add_line(alloc, form, table, RouteId(place), entry, &mut text)?;
+    }
     Ok(text)
 }

@@ -1,10 +1,9 @@
 //! At which section a route lets the points go that it requires.
 
-ghost use Rattle.std.specs.Prelude.{◌≡◌, ◌<◌, ◌&&◌, ◌↔◌, not, false, length, IfOk, IsTrue, slice_get, string_bytes};
+ghost use Rattle.std.specs.Prelude.{◌≡◌, ◌<◌, ◌&&◌, ◌↔◌, not, length, IfOk, IsTrue, Some, slice_get, string_bytes};
 ghost use Rattle.std.specs.FinSet.{contains};
 ghost use Rattle.std.specs.List.{list_any};
-ghost use Rattle.std.specs.Option.{option_map_or};
-ghost use Rattle.station_table.specs.Row.{IsLetGoAt, IsLetGoCell, IsLetGoText, IsRequired, name_there, point_at};
+ghost use Rattle.station_table.specs.Row.{IsLetGoAt, IsLetGoCell, IsLetGoText, IsRequired, point_at};
 
 use crate::cells::{parted, spaced, with_word};
 use crate::conflict_reasons::either;
@@ -12,28 +11,8 @@ use crate::entry_names::{point_name, section_name};
 use crate::listed_places::{Listing, listed, lists_one};
 use control_table::Checked;
 use control_table::bit_row::BitRow;
-use control_table::layout::{Layout, PointId, RouteId, SectionId};
+use control_table::layout::{PointId, RouteId, SectionId};
 use std::alloc::{AllocError, Global};
-
-/// The name of the section at a place of a path.
-fn name_there<'a>(layout: &'a Layout, sections: &[SectionId], place: usize) -> &'a str
-    ensures { result.now ≡ name_there layout.now sections.now place }
-{
-    match sections.get(place) {
-        Some(section) => section_name(layout, *section),
-        None => "",
-    }
-}
-
-/// Whether a row has the section at a place.
-fn has_there(awaited: BitRow, sections: &[SectionId], place: usize) -> bool
-    ensures { result ≡ option_map_or (λ section. contains awaited section.0) (slice_get sections.now place) false }
-{
-    match sections.get(place) {
-        Some(section) => awaited.contains(section.0),
-        None => false,
-    }
-}
 
 /// Whether a row has one of some sections.
 fn has_one(awaited: BitRow, sections: &[SectionId]) -> bool
@@ -76,13 +55,22 @@ struct LetGoAt<'a> {
     ghost place_there: { place < length sections.now },
 }
 
+impl<'a> LetGoAt<'a> {
+    /// The section there.
+    fn section(&self) -> SectionId
+        ensures { slice_get self.now.sections.now self.now.place ≡ Some result }
+    {
+        self.sections[self.place]
+    }
+}
+
 /// Whether a point is let go there.
 fn is_let_go(at: &LetGoAt<'_>, point: usize) -> bool
     ensures { IsTrue result ↔ IsLetGoAt at.now.table.now at.now.route at.now.sections.now at.now.place (point_at point) }
 {
     let is_required = is_required(at.table, at.route, point);
     let awaited = at.table.awaited(at.route, PointId(point));
-    let awaits_there = has_there(awaited, at.sections, at.place);
+    let awaits_there = awaited.contains(at.section().0);
     let (_, behind) = at.sections.split_at(at.place + 1);
     let awaits_behind = has_one(awaited, behind);
     both_without(is_required, awaits_there, awaits_behind)
@@ -118,7 +106,7 @@ fn let_go_text(alloc: Global, at: &LetGoAt<'_>) -> Result<String, AllocError>
 {
     let names = listed(alloc, at)?;
     let names = spaced(alloc, &names)?;
-    let name = name_there(at.table.layout(), at.sections, at.place);
+    let name = section_name(at.table.layout(), at.section());
     let text = with_word(alloc, name, names.as_str())?;
     Ok(text)
 }

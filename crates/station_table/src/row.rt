@@ -5,7 +5,6 @@ ghost use Rattle.control_table.specs.Topology.{IsRoute};
 ghost use Rattle.control_table.specs.sci_telegram.declared.message.Side.TheVariants as side;
 ghost use Rattle.station_table.specs.Names.{aspect_word, exit_name, parted, signal_name, spaced};
 ghost use Rattle.station_table.specs.Row.{IsLetGoCell, IsRowOf, flank_texts, names_of_points, points_at};
-ghost use Rattle.station_table.specs.Lines.{AreRows};
 
 use crate::cells::{flank_cell, points_cell, sections_cell};
 use crate::conflicts::conflicts_cell;
@@ -18,16 +17,16 @@ use std::alloc::{AllocError, Global};
 use std::marker::Model;
 
 /// The cells that name a route.
-#[derive(Drop)]
-pub(crate) struct NameCells {
+#[derive(Clone, Copy)]
+pub(crate) struct NameCells<'a> {
     /// The name of the route.
-    pub(crate) route: String,
+    pub(crate) route: &'a str,
     /// The signal at which it begins.
-    pub(crate) entry: String,
+    pub(crate) entry: &'a str,
     /// The signal or the border at which it ends.
-    pub(crate) exit: String,
+    pub(crate) exit: &'a str,
     /// The aspect at which it is passed.
-    pub(crate) aspect: String,
+    pub(crate) aspect: &'a str,
 }
 
 /// The cells of points.
@@ -45,8 +44,8 @@ pub(crate) struct PointCells {
 
 /// The cells of a row.
 #[derive(Drop)]
-pub(crate) struct Row {
-    pub(crate) names: NameCells,
+pub(crate) struct Row<'a> {
+    pub(crate) names: NameCells<'a>,
     pub(crate) points: PointCells,
     /// The sections over which the route leads.
     pub(crate) sections: String,
@@ -56,17 +55,17 @@ pub(crate) struct Row {
     pub(crate) conflicts: String,
 }
 
-impl Model for Row {
+impl<'a> Model for Row<'a> {
     ghost use Rattle.std.specs.Prelude.{string_bytes};
     ghost use Rattle.station_table.specs.Row as row;
 
     ghost Value = { row.Row };
 
     ghost view = { λ r. record {
-      route = string_bytes r.names.route;
-      entry = string_bytes r.names.entry;
-      exit = string_bytes r.names.exit;
-      aspect = string_bytes r.names.aspect;
+      route = r.names.route.now;
+      entry = r.names.entry.now;
+      exit = r.names.exit.now;
+      aspect = r.names.aspect.now;
       right = string_bytes r.points.right;
       left = string_bytes r.points.left;
       flank = string_bytes r.points.flank;
@@ -78,22 +77,18 @@ impl Model for Row {
 }
 
 /// The cells that name a route.
-fn name_cells(alloc: Global, layout: &Layout, route: &Route) -> Result<NameCells, AllocError>
-    ensures route { IfOk result (λ cells. string_bytes cells.route ≡ route.now.name) }
-    ensures entry { IfOk result (λ cells. string_bytes cells.entry ≡ signal_name layout.now route.now.entry) }
-    ensures exit { IfOk result (λ cells. string_bytes cells.exit ≡ exit_name layout.now route.now.exit) }
-    ensures aspect { IfOk result (λ cells. string_bytes cells.aspect ≡ aspect_word route.now.aspect) }
+fn name_cells<'a>(layout: &'a Layout, route: &'a Route) -> NameCells<'a>
+    ensures route { result.route.now ≡ route.now.name }
+    ensures entry { result.entry.now ≡ signal_name layout.now route.now.entry }
+    ensures exit { result.exit.now ≡ exit_name layout.now route.now.exit }
+    ensures aspect { result.aspect.now ≡ aspect_word route.now.aspect }
 {
-    let name = String::from_str(alloc, route.name().as_str())?;
-    let entry = String::from_str(alloc, signal_name(layout, route.entry()))?;
-    let exit = String::from_str(alloc, exit_name(layout, route.exit()))?;
-    let aspect = String::from_str(alloc, aspect_word(route.aspect()))?;
-    Ok(NameCells {
-        route: name,
-        entry,
-        exit,
-        aspect,
-    })
+    NameCells {
+        route: route.name().as_str(),
+        entry: signal_name(layout, route.entry()),
+        exit: exit_name(layout, route.exit()),
+        aspect: aspect_word(route.aspect()),
+    }
 }
 
 /// The cells of the points of a route.
@@ -123,13 +118,18 @@ fn point_cells(
 }
 
 /// The row of a route, of which this is the entry.
-fn row_of(alloc: Global, table: &Checked, id: RouteId, entry: &Route) -> Result<Row, AllocError>
+pub(crate) fn row_of<'a>(
+    alloc: Global,
+    table: &'a Checked,
+    id: RouteId,
+    entry: &'a Route,
+) -> Result<Row<'a>, AllocError>
     requires there { id.0 < length table.now.routes }
     requires entry { IsRoute table.now id entry.now }
     ensures { IfOk result (λ row. IsRowOf table.now id entry.now row) }
 {
     let layout = table.layout();
-    let names = name_cells(alloc, layout, entry)?;
+    let names = name_cells(layout, entry);
     let points = point_cells(alloc, table, id, entry)?;
     let sections = sections_cell(alloc, layout, table.sections(id))?;
     let approach = sections_cell(alloc, layout, entry.approach())?;
@@ -141,15 +141,4 @@ fn row_of(alloc: Global, table: &Checked, id: RouteId, entry: &Route) -> Result<
         approach,
         conflicts,
     })
-}
-
-/// The rows of all routes, in the order of the table.
-pub(crate) fn rows(alloc: Global, table: &Checked) -> Result<Vec<Row>, AllocError>
-    ensures { IfOk result (λ rows. AreRows table.now (length table.now.routes) rows.items) }
-{
-    let mut rows = Vec::new(alloc);
-    for (place, entry) in table.layout().routes().iter().enumerate() {
-        rows.push(row_of(alloc, table, RouteId(place), entry)?)?;
-    }
-    Ok(rows)
 }

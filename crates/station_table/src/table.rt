@@ -8,10 +8,8 @@ ghost use Rattle.station_table.specs.Table.{Explained, Explains, Leaves, Tabled}
 
 use crate::form::Form;
 use crate::lines::lines;
-use crate::row::rows;
-use control_table::Checked;
 use station_check::{Failure, table_of, tell};
-use std::alloc::{AllocError, Global};
+use std::alloc::Global;
 use std::io::Write;
 
 /// Writes the control table of the text of a layout. Where it is sound, the table is written to `out`, and the status
@@ -41,22 +39,24 @@ pub fn table_text<W: Write, E: Write>(
     }
 }
 
-/// The text of a control table.
-fn text_of(alloc: Global, form: Form, table: &Checked) -> Result<Vec<u8>, AllocError>
-    ensures { IfOk result (λ text. IsTable form table.now text.items) }
+/// The control table of a text.
+fn table_lines(alloc: Global, text: &str, form: Form) -> Result<Vec<u8>, Failure>
+    ensures is { IfOk result (λ lines. (site : Site) × IsSound text.now site × IsTable form site lines.items) }
+    ensures explains { IfErr result (Explains text.now) }
 {
-    let rows = rows(alloc, table)?;
-    lines(alloc, form, &rows)
+    let table = table_of(alloc, text)?;
+    let lines = lines(alloc, form, &table)?;
+    Ok(lines)
 }
 
 /// Writes the control table of a text at once.
+#[tactic(auto, using(crate::proofs::Tables::leaves_same))]
 fn write_table<W: Write>(alloc: Global, text: &str, form: Form, out: &mut W) -> Result<(), Failure>
     ensures done { OnOk result ((site : Site) × IsSound text.now site × Tabled form site (W.contents out.old) (W.contents out.new)) }
     ensures faulty { ((site : Site) → IsSound text.now site → ⊥) → IsErr result × (out.new ≡ out.old) }
     ensures explains { IfErr result (λ failure. Explains text.now failure × Leaves failure out.old out.new) }
 {
-    let table = table_of(alloc, text)?;
-    let lines = text_of(alloc, form, &table)?;
+    let lines = table_lines(alloc, text, form)?;
     out.write_all(&lines)?;
     out.flush()?;
     Ok(())
