@@ -1,14 +1,15 @@
 -- Words of a line, one after the other.
-use Rattle.std.proofs.Common.{◌≡◌, ℕ, ◌+◌, ◌<◌, ◌≤◌, List, [], ◌∷◌, ◌++◌, length, drop, get_or, refl, ap, sym, subst, ◌∙◌, append_assoc, append-nil}
+use Rattle.std.proofs.Common.{◌≡◌, ℕ, ◌+◌, ◌<◌, ◌≤◌, List, [], ◌∷◌, ◌++◌, codes, length, drop, get_or, refl, ap, sym, subst, ◌∙◌, append_assoc, append-nil}
 use Rattle.std.proofs.lemmas.List.{drop_more, drop_all}
 use Rattle.std.specs.List.{flat_map, join_with_byte}
+use Rattle.ixl_rules.specs.sci_telegram.declared.message.Initialisation.{Initialisation}
 use Rattle.ixl_rules.specs.sci_telegram.declared.message.Initialisation.TheVariants.{InitialisationRequest, StartInitialisation, InitialisationCompleted, VersionCheck, VersionAnswer}
 use Rattle.ixl_rules.specs.sci_telegram.declared.message.PointMessage.TheVariants.{MovePoint, PointPosition, Timeout}
 use Rattle.ixl_rules.specs.sci_telegram.declared.message.SignalMessage.TheVariants.{IndicateAspect, IndicatedAspect}
 use Rattle.ixl_rules.specs.sci_telegram.declared.message.DetectionMessage.TheVariants.{OccupancyStatus}
 use Rattle.ixl_rules.specs.sci_telegram.declared.message.Message.{Message}
-use Rattle.ixl_rules.specs.sci_telegram.declared.message.Message.TheVariants.{Initialisation, Point, Signal, Detection}
-use Rattle.station_decode.specs.Telegrams.{message_words}
+use Rattle.ixl_rules.specs.sci_telegram.declared.message.Message.TheVariants as says
+use Rattle.station_decode.specs.Telegrams.{message_words, step_words}
 use Rattle.station_decode.specs.inside.Spaced.{spaced}
 
 -- words behind one, and behind several
@@ -22,6 +23,22 @@ joined-more w (next ∷ ws) more =
     append_assoc w (32 ∷ join_with_byte 32 (next ∷ ws)) (spaced more)
     ∙ ap (λ rest. w ++ (32 ∷ rest)) (joined-more next ws more)
 
+-- the words of a step behind those of its protocol
+step-joined : (protocol : List ℕ) (step : Initialisation) → join_with_byte 32 (protocol ∷ step_words step) ≡ protocol ++ (codes " " ++ join_with_byte 32 (step_words step))
+step-joined protocol InitialisationRequest = refl
+step-joined protocol StartInitialisation = refl
+step-joined protocol InitialisationCompleted = refl
+step-joined protocol (VersionCheck version) = refl
+step-joined protocol (VersionAnswer agreement version) = refl
+
+pub step-added : (protocol : List ℕ) (step : Initialisation) (old one two new : List ℕ)
+    → one ≡ old ++ protocol → two ≡ one ++ codes " " → new ≡ two ++ join_with_byte 32 (step_words step) → new ≡ old ++ join_with_byte 32 (protocol ∷ step_words step)
+step-added protocol step old one two new first second third =
+    third ∙ ap (λ t. t ++ join_with_byte 32 (step_words step)) (second ∙ ap (λ t. t ++ codes " ") first)
+    ∙ append_assoc (old ++ protocol) (codes " ") (join_with_byte 32 (step_words step))
+    ∙ append_assoc old protocol (codes " " ++ join_with_byte 32 (step_words step))
+    ∙ ap (λ t. old ++ t) (sym (step-joined protocol step))
+
 -- a message has a first word
 pub record Begins (words : List (List ℕ)) : Type 0 where
   pub first : List ℕ
@@ -29,17 +46,17 @@ pub record Begins (words : List (List ℕ)) : Type 0 where
   pub is : words ≡ first ∷ others
 
 pub message-begins : (message : Message) → Begins (message_words message)
-message-begins (Initialisation protocol InitialisationRequest) = record { first = _; others = _; is = refl }
-message-begins (Initialisation protocol StartInitialisation) = record { first = _; others = _; is = refl }
-message-begins (Initialisation protocol InitialisationCompleted) = record { first = _; others = _; is = refl }
-message-begins (Initialisation protocol (VersionCheck version)) = record { first = _; others = _; is = refl }
-message-begins (Initialisation protocol (VersionAnswer agreement version)) = record { first = _; others = _; is = refl }
-message-begins (Point (MovePoint side)) = record { first = _; others = _; is = refl }
-message-begins (Point (PointPosition position)) = record { first = _; others = _; is = refl }
-message-begins (Point Timeout) = record { first = _; others = _; is = refl }
-message-begins (Signal (IndicateAspect aspect)) = record { first = _; others = _; is = refl }
-message-begins (Signal (IndicatedAspect aspect)) = record { first = _; others = _; is = refl }
-message-begins (Detection (OccupancyStatus occupancy)) = record { first = _; others = _; is = refl }
+message-begins (says.Initialisation protocol InitialisationRequest) = record { first = _; others = _; is = refl }
+message-begins (says.Initialisation protocol StartInitialisation) = record { first = _; others = _; is = refl }
+message-begins (says.Initialisation protocol InitialisationCompleted) = record { first = _; others = _; is = refl }
+message-begins (says.Initialisation protocol (VersionCheck version)) = record { first = _; others = _; is = refl }
+message-begins (says.Initialisation protocol (VersionAnswer agreement version)) = record { first = _; others = _; is = refl }
+message-begins (says.Point (MovePoint side)) = record { first = _; others = _; is = refl }
+message-begins (says.Point (PointPosition position)) = record { first = _; others = _; is = refl }
+message-begins (says.Point Timeout) = record { first = _; others = _; is = refl }
+message-begins (says.Signal (IndicateAspect aspect)) = record { first = _; others = _; is = refl }
+message-begins (says.Signal (IndicatedAspect aspect)) = record { first = _; others = _; is = refl }
+message-begins (says.Detection (OccupancyStatus occupancy)) = record { first = _; others = _; is = refl }
 
 -- words behind a message
 message-more : (message : Message) (more : List (List ℕ)) → join_with_byte 32 (message_words message) ++ spaced more ≡ join_with_byte 32 (message_words message ++ more)

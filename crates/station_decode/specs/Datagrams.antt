@@ -94,11 +94,12 @@ numbers_text pdu = codes " SN " ++ (decimal pdu.sequence_number ++ (codes " CS "
 abbrev pub stamps_text : Pdu → List ℕ
 stamps_text pdu = codes " TS " ++ (decimal pdu.time_stamp ++ (codes " CTS " ++ decimal pdu.confirmed_time_stamp))
 
+-- a PDU between ends that are called so
+abbrev pub text_between : List ℕ → List ℕ → Pdu → List ℕ
+text_between sender receiver pdu = ends_text sender receiver pdu.body ++ (numbers_text pdu ++ (stamps_text pdu ++ body_text sender receiver pdu.body))
+
 abbrev pub pdu_text : Option Site → Pdu → List ℕ
-pdu_text site pdu =
-    let sender = node_word site pdu.sender
-    in let receiver = node_word site pdu.receiver
-    in ends_text sender receiver pdu.body ++ (numbers_text pdu ++ (stamps_text pdu ++ body_text sender receiver pdu.body))
+pdu_text site pdu = text_between (node_word site pdu.sender) (node_word site pdu.receiver) pdu
 
 -- ---- a datagram
 

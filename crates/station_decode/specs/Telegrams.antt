@@ -6,30 +6,34 @@ use Rattle.std.specs.List.{join_with_byte}
 use Rattle.std.specs.Str.{bytes_eq}
 use Rattle.hex.specs.Hex.{encode_lower}
 use Rattle.ixl_rules.specs.sci_telegram.declared.fault.SciFault.{SciFault}
+use Rattle.ixl_rules.specs.sci_telegram.declared.message.Initialisation.{Initialisation}
 use Rattle.ixl_rules.specs.sci_telegram.declared.message.Initialisation.TheVariants.{InitialisationRequest, StartInitialisation, InitialisationCompleted, VersionCheck, VersionAnswer}
 use Rattle.ixl_rules.specs.sci_telegram.declared.message.PointMessage.TheVariants.{MovePoint, PointPosition, Timeout}
 use Rattle.ixl_rules.specs.sci_telegram.declared.message.SignalMessage.TheVariants.{IndicateAspect, IndicatedAspect}
 use Rattle.ixl_rules.specs.sci_telegram.declared.message.DetectionMessage.TheVariants.{OccupancyStatus}
 use Rattle.ixl_rules.specs.sci_telegram.declared.message.Message.{Message}
-use Rattle.ixl_rules.specs.sci_telegram.declared.message.Message.TheVariants.{Initialisation, Point, Signal, Detection}
+use Rattle.ixl_rules.specs.sci_telegram.declared.message.Message.TheVariants as says
 use Rattle.ixl_rules.specs.sci_telegram.declared.telegram.Telegram.{Telegram}
 use Rattle.ixl_rules.specs.sci_telegram.TelegramRead.{reading}
 use Rattle.station_decode.specs.Words.{protocol_word, agreement_word, side_word, position_word, aspect_word, occupancy_word, telegram_fault_words}
 
+-- which step of an initialisation a telegram is
+abbrev pub step_words : Initialisation → List (List ℕ)
+step_words InitialisationRequest = codes "initialisation" ∷ codes "request" ∷ []
+step_words StartInitialisation = codes "start" ∷ codes "initialisation" ∷ []
+step_words InitialisationCompleted = codes "initialisation" ∷ codes "completed" ∷ []
+step_words (VersionCheck version) = codes "version" ∷ codes "check" ∷ decimal version ∷ []
+step_words (VersionAnswer agreement version) = codes "version" ∷ codes "answer" ∷ agreement_word agreement ∷ decimal version ∷ []
+
 -- What a telegram says. Of the telegrams that every protocol has, the words begin with the protocol.
 abbrev pub message_words : Message → List (List ℕ)
-message_words (Initialisation protocol InitialisationRequest) = protocol_word protocol ∷ codes "initialisation" ∷ codes "request" ∷ []
-message_words (Initialisation protocol StartInitialisation) = protocol_word protocol ∷ codes "start" ∷ codes "initialisation" ∷ []
-message_words (Initialisation protocol InitialisationCompleted) = protocol_word protocol ∷ codes "initialisation" ∷ codes "completed" ∷ []
-message_words (Initialisation protocol (VersionCheck version)) = protocol_word protocol ∷ codes "version" ∷ codes "check" ∷ decimal version ∷ []
-message_words (Initialisation protocol (VersionAnswer agreement version)) =
-    protocol_word protocol ∷ codes "version" ∷ codes "answer" ∷ agreement_word agreement ∷ decimal version ∷ []
-message_words (Point (MovePoint side)) = codes "move" ∷ codes "point" ∷ side_word side ∷ []
-message_words (Point (PointPosition position)) = codes "point" ∷ codes "position" ∷ position_word position ∷ []
-message_words (Point Timeout) = codes "point" ∷ codes "timeout" ∷ []
-message_words (Signal (IndicateAspect aspect)) = codes "indicate" ∷ codes "aspect" ∷ aspect_word aspect ∷ []
-message_words (Signal (IndicatedAspect aspect)) = codes "indicated" ∷ codes "aspect" ∷ aspect_word aspect ∷ []
-message_words (Detection (OccupancyStatus occupancy)) = codes "occupancy" ∷ codes "status" ∷ occupancy_word occupancy ∷ []
+message_words (says.Initialisation protocol step) = protocol_word protocol ∷ step_words step
+message_words (says.Point (MovePoint side)) = codes "move" ∷ codes "point" ∷ side_word side ∷ []
+message_words (says.Point (PointPosition position)) = codes "point" ∷ codes "position" ∷ position_word position ∷ []
+message_words (says.Point Timeout) = codes "point" ∷ codes "timeout" ∷ []
+message_words (says.Signal (IndicateAspect aspect)) = codes "indicate" ∷ codes "aspect" ∷ aspect_word aspect ∷ []
+message_words (says.Signal (IndicatedAspect aspect)) = codes "indicated" ∷ codes "aspect" ∷ aspect_word aspect ∷ []
+message_words (says.Detection (OccupancyStatus occupancy)) = codes "occupancy" ∷ codes "status" ∷ occupancy_word occupancy ∷ []
 
 -- A name of a telegram, behind a word for it, where the PDU calls that end otherwise.
 abbrev pub name_words : List ℕ → List ℕ → List ℕ → List (List ℕ)

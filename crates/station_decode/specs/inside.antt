@@ -1,2 +1,3 @@
 -- What contracts inside the crate say. No promise names any of it.
+pub mod Decoded
 pub mod Spaced

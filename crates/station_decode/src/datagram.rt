@@ -1,7 +1,7 @@
 //! The line for a datagram.
 
 ghost use Rattle.std.specs.Prelude.{◌≡◌, ◌++◌, IfOk, OnOk, option_copied, string_bytes};
-ghost use Rattle.station_decode.specs.Datagrams.{body_text, closing_text, datagram_text, ends_text, fault_text, numbers_text, opening_text, pdu_text, stamps_text, version_word};
+ghost use Rattle.station_decode.specs.Datagrams.{body_text, closing_text, datagram_text, ends_text, fault_text, numbers_text, opening_text, pdu_text, stamps_text, text_between, version_word};
 
 use crate::item::{Ends, push_items};
 use crate::node::{key_in, node_word};
@@ -45,6 +45,13 @@ fn pdu_words(alloc: Global, layout: Option<&Layout>, pdu: &Pdu) -> Result<String
         sender: sender.as_str(),
         receiver: receiver.as_str(),
     };
+    words_between(alloc, ends, pdu)
+}
+
+/// The words for a PDU between these ends.
+fn words_between(alloc: Global, ends: Ends<'_>, pdu: &Pdu) -> Result<String, AllocError>
+    ensures { IfOk result (λ text. string_bytes text ≡ text_between ends.entry.sender.now ends.entry.receiver.now pdu.now) }
+{
     let mut text = ends_words(alloc, ends, &pdu.body)?;
     push_numbers(&mut text, pdu)?;
     push_stamps(&mut text, pdu)?;

@@ -1,7 +1,8 @@
 //! A datagram that is given in hexadecimal digits, put into words.
 
-ghost use Rattle.std.specs.Prelude.{◌≡◌, ◌≤◌, IfErr, IfOk, IsErr, OnOk, option_copied};
+ghost use Rattle.std.specs.Prelude.{◌≡◌, ◌≤◌, IfErr, IfOk, IsErr, OnOk, option_copied, string_bytes};
 ghost use Rattle.station_decode.specs.DecodedLine.{CanDecode, Explained, Explains, IsDecoded, IsLayout, IsNoLayout, Leaves};
+ghost use Rattle.station_decode.specs.inside.Decoded.{AreWords};
 
 use crate::datagram::datagram_words;
 use crate::failure::{Failure, tell_failure};
@@ -39,7 +40,8 @@ pub fn decode_text<W: Write, E: Write>(
     }
 }
 
-/// Judges the layout and then the word, and writes the line.
+/// Writes the line for a datagram.
+#[tactic(auto, using(crate::proofs::DecodedWords::leaves_same, crate::proofs::DecodedWords::can_decode))]
 fn decode<W: Write>(
     alloc: Global,
     layout: Option<&str>,
@@ -50,12 +52,21 @@ fn decode<W: Write>(
     ensures faulty { (CanDecode (option_copied layout.entry) word.now → ⊥) → IsErr result × (out.new ≡ out.old) }
     ensures explains { IfErr result (λ failure. Explains (option_copied layout.entry) word.now failure × Leaves failure out.old out.new) }
 {
-    let layout = read_layout(alloc, layout)?;
-    let bytes = hexadecimal_or_none(word)?;
-    let words = datagram_words(alloc, layout.as_ref(), &bytes)?;
+    let words = decoded(alloc, layout, word)?;
     out.writeln(words.as_str())?;
     out.flush()?;
     Ok(())
+}
+
+/// Judges the layout and then the word, and puts the bytes into words.
+fn decoded(alloc: Global, layout: Option<&str>, word: &str) -> Result<String, Failure>
+    ensures said { IfOk result (λ text. AreWords (option_copied layout.entry) word.now (string_bytes text)) }
+    ensures explains { IfErr result (Explains (option_copied layout.entry) word.now) }
+{
+    let layout = read_layout(alloc, layout)?;
+    let bytes = hexadecimal_or_none(word)?;
+    let words = datagram_words(alloc, layout.as_ref(), &bytes)?;
+    Ok(words)
 }
 
 /// The layout of a text, where there is a text.

@@ -3,7 +3,7 @@
 ghost use Rattle.std.specs.Prelude.{◌≡◌, ◌++◌, OnOk, string_bytes};
 ghost use Rattle.std.specs.List.{join_with_byte};
 ghost use Rattle.ixl_rules.specs.sci_telegram.declared.message.Message.TheVariants as says;
-ghost use Rattle.station_decode.specs.Telegrams.{message_words};
+ghost use Rattle.station_decode.specs.Telegrams.{message_words, step_words};
 
 use crate::word_table::{
     agreement_word, aspect_word, occupancy_word, position_word, protocol_word, side_word,
@@ -35,19 +35,23 @@ fn push_initialisation(
 ) -> Result<(), AllocError>
     ensures { OnOk result (string_bytes text.new ≡ string_bytes text.old ++ join_with_byte 32 (message_words (says.Initialisation protocol message.now))) }
 {
-    let protocol = protocol_word(protocol);
-    match message {
-        Initialisation::InitialisationRequest => write!(text, "{protocol} initialisation request"),
-        Initialisation::StartInitialisation => write!(text, "{protocol} start initialisation"),
-        Initialisation::InitialisationCompleted => {
-            write!(text, "{protocol} initialisation completed")
-        }
-        Initialisation::VersionCheck { version } => {
-            write!(text, "{protocol} version check {version}")
-        }
+    text.push_str(protocol_word(protocol))?;
+    text.push_str(" ")?;
+    push_step(text, message)
+}
+
+/// Adds which step of an initialisation a telegram is.
+fn push_step(text: &mut String, step: &Initialisation) -> Result<(), AllocError>
+    ensures { OnOk result (string_bytes text.new ≡ string_bytes text.old ++ join_with_byte 32 (step_words step.now)) }
+{
+    match step {
+        Initialisation::InitialisationRequest => text.push_str("initialisation request"),
+        Initialisation::StartInitialisation => text.push_str("start initialisation"),
+        Initialisation::InitialisationCompleted => text.push_str("initialisation completed"),
+        Initialisation::VersionCheck { version } => write!(text, "version check {version}"),
         Initialisation::VersionAnswer { agreement, version } => {
             let agreement = agreement_word(*agreement);
-            write!(text, "{protocol} version answer {agreement} {version}")
+            write!(text, "version answer {agreement} {version}")
         }
     }
 }
@@ -65,7 +69,7 @@ fn push_point(text: &mut String, message: &PointMessage) -> Result<(), AllocErro
             let position = position_word(*position);
             write!(text, "point position {position}")
         }
-        PointMessage::Timeout => write!(text, "point timeout"),
+        PointMessage::Timeout => text.push_str("point timeout"),
     }
 }
 
