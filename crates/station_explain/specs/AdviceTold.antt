@@ -1,6 +1,6 @@
 -- What is told behind the line of a fault.
 use Rattle.std.specs.Prelude.{◌≡◌, ◌⊎◌, ◌≤◌, ℕ, List, length, take, Option, None, Ok}
-use Rattle.std.specs.Option.{unwrap_or}
+use Rattle.std.specs.Option.{option_map, unwrap_or}
 use Rattle.std.specs.Io.KnownBytes.{Appends}
 use Rattle.control_table.specs.layout.Entries.{Site}
 use Rattle.control_table.specs.layout.NamesResolved.{layout_in}
@@ -22,7 +22,8 @@ use Rattle.station_explain.specs.RouteDetails.{table_advice}
 use Rattle.station_explain.specs.SharedAdvice.{double_told, port_told}
 use Rattle.station_explain.specs.UnknownAdvice.{unknown_told}
 use Rattle.station_explain.specs.declared.advice.Advice.{Advice}
-use Rattle.station_explain.specs.declared.advice.Advice.TheVariants.{Broken, Layout, Nothing}
+use Rattle.station_explain.specs.declared.advice.Advice.TheVariants.{Broken, Entry, Layout, Nothing}
+use Rattle.station_explain.specs.declared.advice.EntryAdvice.{EntryAdvice}
 
 -- The advice for a text that is no TOML: the place behind some beginning of it, where reading stopped; or the fault alone,
 -- where memory was lacking when it was read once more.
@@ -41,23 +42,23 @@ IsByWritten text advice_of advice =
     (document : Members) × (document_of (parse_document text) ≡ Ok document) × (w : LayoutText) × (text_of document ≡ Ok w) × (advice ≡ advice_of w)
 
 -- What the document tells of a fault, where that is found.
-unfoldable pub document_told : Members → LayoutFault → Option Advice
+unfoldable pub document_told : Members → LayoutFault → Option EntryAdvice
 document_told document (fault.MissingKey place) = missing_told document place
 document_told document (fault.WrongKind place) = wrong_told document place
 document_told document f = None
 
 unfoldable pub document_advice : Members → LayoutFault → Advice
-document_advice document f = unwrap_or (document_told document f) (Layout f)
+document_advice document f = unwrap_or (option_map Entry (document_told document f)) (Layout f)
 
 -- What the text writes tells of a fault, where that is found.
-unfoldable pub written_told : LayoutText → LayoutFault → Option Advice
+unfoldable pub written_told : LayoutText → LayoutFault → Option EntryAdvice
 written_told w (fault.UnknownName place) = unknown_told w place
 written_told w (fault.DoubleName place) = double_told w place
 written_told w (fault.DoubleJoint place) = port_told w place
 written_told w f = None
 
 unfoldable pub written_advice : LayoutText → LayoutFault → Advice
-written_advice w f = unwrap_or (written_told w f) (Layout f)
+written_advice w f = unwrap_or (option_map Entry (written_told w f)) (Layout f)
 
 -- The advice for a fault of a layout.
 abbrev pub IsFaultAdvice : List ℕ → LayoutFault → Advice → Type 0

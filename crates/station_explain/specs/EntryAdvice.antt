@@ -8,8 +8,8 @@ use Rattle.layout_text.specs.declared.fault.TableName.{TableName}
 use Rattle.layout_text.specs.declared.fault.TableName.TheVariants as named
 use Rattle.station_explain.specs.FieldKeys.{all_keys, is_required, key_text, kind_of}
 use Rattle.station_explain.specs.ValueForms.{misfit}
-use Rattle.station_explain.specs.declared.advice.Advice.{Advice}
-use Rattle.station_explain.specs.declared.advice.Advice.TheVariants.{Absent, Missing, Wrong}
+use Rattle.station_explain.specs.declared.advice.EntryAdvice.{EntryAdvice}
+use Rattle.station_explain.specs.declared.advice.EntryAdvice.TheVariants.{Absent, Missing, Wrong}
 use Rattle.station_explain.specs.declared.advice.Spot.TheVariants.{Entry}
 use Rattle.station_explain.specs.declared.field_key.FieldKey.{FieldKey}
 
@@ -30,22 +30,22 @@ first_lacking fields (key ∷ keys) = if is_required key && is_none (get_member 
 abbrev pub lacking_in : Place → Data → Option FieldKey
 lacking_in place d = option_and_then (λ fields. first_lacking fields (all_keys place.table)) (as_table d)
 
-abbrev pub missing_told : Members → Place → Option Advice
+abbrev pub missing_told : Members → Place → Option EntryAdvice
 missing_told document place =
     if place.entry == 0 then Some (Absent place.table)
     else option_map (Missing place) (option_and_then (lacking_in place) (entry_data place document))
 
 -- ---- a value of another kind or form
 
-abbrev pub wrong_at : Place → Members → FieldKey → Option Advice
+abbrev pub wrong_at : Place → Members → FieldKey → Option EntryAdvice
 wrong_at place fields key = option_and_then (misfit place key) (get_member (key_text key) fields)
 
-abbrev pub first_wrong : Place → Members → List FieldKey → Option Advice
+abbrev pub first_wrong : Place → Members → List FieldKey → Option EntryAdvice
 first_wrong place fields [] = None
 first_wrong place fields (key ∷ keys) = option_or (wrong_at place fields key) (first_wrong place fields keys)
 
-unfoldable pub wrong_field : Place → Data → Option Advice
+unfoldable pub wrong_field : Place → Data → Option EntryAdvice
 wrong_field place d = if place.entry == 0 then None else option_and_then (λ fields. first_wrong place fields (all_keys place.table)) (as_table d)
 
-abbrev pub wrong_told : Members → Place → Option Advice
+abbrev pub wrong_told : Members → Place → Option EntryAdvice
 wrong_told document place = option_map (λ d. unwrap_or (wrong_field place d) (Wrong (Entry place) (kind_of d))) (entry_data place document)

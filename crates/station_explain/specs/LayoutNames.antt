@@ -3,6 +3,7 @@ use Rattle.std.specs.Prelude.{ℕ, List, Option, slice_get, option_and_then}
 use Rattle.std.specs.Option.{option_map}
 use Rattle.layout_text.specs.declared.entries.PortName.{PortName}
 use Rattle.control_table.specs.layout.declared.ids.PointId.{PointId}
+use Rattle.control_table.specs.layout.declared.ids.RouteId.{RouteId}
 use Rattle.control_table.specs.layout.declared.port.Port.{Port}
 use Rattle.control_table.specs.layout.declared.port.Element.{Element}
 use Rattle.control_table.specs.layout.declared.port.Element.TheVariants as element
@@ -17,6 +18,9 @@ module _ (l : Site) where
   -- by its place in its list
   unfoldable pub signal_name : ℕ → Option (List ℕ)
   signal_name n = option_map (λ signal. signal.name) (slice_get l.signals n)
+
+  unfoldable pub route_name : RouteId → Option (List ℕ)
+  route_name r = option_map (λ route. route.name) (slice_get l.routes r.0)
 
   unfoldable pub element_name : Element → Option (List ℕ)
   element_name (element.Track t) = option_map (λ track. track.name) (slice_get l.tracks t.0)

@@ -16,7 +16,7 @@ use Rattle.control_table.specs.declared.fault.TableFault.{TableFault}
 use Rattle.control_table.specs.declared.fault.TableFault.TheVariants as fault
 use Rattle.station_explain.specs.FaultWords.{route_at_fault}
 use Rattle.station_explain.specs.Joints.{joined_to, may_pass, signal_at}
-use Rattle.station_explain.specs.LayoutNames.{exit_name, leg_names, point_name, port_name, signal_name}
+use Rattle.station_explain.specs.LayoutNames.{exit_name, leg_names, point_name, port_name, route_name, signal_name}
 use Rattle.station_explain.specs.Places.{some_and}
 use Rattle.station_explain.specs.Repeats.{repeated_detail}
 use Rattle.station_explain.specs.RouteSides.{guard, unused_leg}
@@ -24,9 +24,12 @@ use Rattle.station_explain.specs.RouteStart.{is_written, start_of}
 use Rattle.station_explain.specs.Search.{first_of, first_step}
 use Rattle.station_explain.specs.SideDetails.{contrary_detail, lacking_at, lacking_detail, wrong_detail}
 use Rattle.station_explain.specs.declared.advice.Advice.{Advice}
-use Rattle.station_explain.specs.declared.advice.Advice.TheVariants.{Path, Points, Table, Unanswered, Unwritten, WithItself}
+use Rattle.station_explain.specs.declared.advice.Advice.TheVariants as advised
 use Rattle.station_explain.specs.declared.detail.PathDetail.{PathDetail}
 use Rattle.station_explain.specs.declared.detail.PathDetail.TheVariants.{Empty, DeadEnd, Astray, OpenLeg, EndsElsewhere, EndsAtEntry, InTheWay}
+use Rattle.station_explain.specs.declared.detail.RouteAdvice.{RouteAdvice}
+use Rattle.station_explain.specs.declared.detail.RouteDetail.{RouteDetail}
+use Rattle.station_explain.specs.declared.detail.RouteDetail.TheVariants.{Path, Points, Unanswered, Unwritten, WithItself}
 
 -- a route stands in a list of extra conflicts
 unfoldable pub is_listed : List RouteId → RouteId → Bool
@@ -58,12 +61,12 @@ module _ (l : Site) where
 
   -- ---- the point of a path that isn't written
 
-  abbrev pub unwritten_point : RouteEntry → FaultyRoute → Element → Option Advice
-  unwritten_point r at (element.Point p) = if is_written r.points p then None else option_map (Unwritten at) (point_name l p)
-  unwritten_point r at _ = None
+  abbrev pub unwritten_point : RouteEntry → Element → Option RouteDetail
+  unwritten_point r (element.Point p) = if is_written r.points p then None else option_map Unwritten (point_name l p)
+  unwritten_point r _ = None
 
-  unfoldable pub unwritten_at : RouteEntry → FaultyRoute → Port → Option Advice
-  unwritten_at r at left = unwritten_point r at left.element
+  unfoldable pub unwritten_at : RouteEntry → Port → Option RouteDetail
+  unwritten_at r left = unwritten_point r left.element
 
   -- ---- the leg that is open
 
@@ -121,28 +124,32 @@ module _ (l : Site) where
   unfoldable pub lists : RouteId → RouteId → Bool
   lists a b = some_and (λ r. is_listed r.extra b) (slice_get l.routes a.0)
 
-  unfoldable pub unanswered : FaultyRoute → RouteId → Option Advice
-  unanswered at other =
-      if other.0 == at.id.0 then Some (WithItself at)
-      else (if lists other at.id then None else option_map (λ r. Unanswered at r.name) (slice_get l.routes other.0))
+  unfoldable pub unanswered : RouteId → RouteId → Option RouteDetail
+  unanswered id other =
+      if other.0 == id.0 then Some WithItself
+      else (if lists other id then None else option_map Unanswered (route_name l other))
 
   -- ---- by the fault
 
-  unfoldable pub detail_of : RouteEntry → FaultyRoute → TableFault → Option Advice
-  detail_of r at (fault.PathBroken _) = option_map (Path at) (broken_detail r)
-  detail_of r at (fault.PathRepeats _) = option_map (Path at) (repeated_detail l r)
-  detail_of r at (fault.PointMissing _) = first_of (unwritten_at r at) r.path
-  detail_of r at (fault.PointWrong _) = option_map (Points at) (wrong_detail l r)
-  detail_of r at (fault.FlankMissing _) = option_map (Path at) (lacking_detail l r)
-  detail_of r at (fault.FlankOpen _) = option_map (Path at) (open_detail r)
-  detail_of r at (fault.FlankContradicts _) = option_map (Points at) (contrary_detail l r)
-  detail_of r at (fault.SignalPlace _) = option_map (Path at) (exit_detail r)
-  detail_of r at (fault.NotSymmetric _) = first_of (unanswered at) r.extra
-  detail_of r at fault.OutOfMemory = None
+  unfoldable pub detail_of : RouteEntry → RouteId → TableFault → Option RouteDetail
+  detail_of r id (fault.PathBroken _) = option_map Path (broken_detail r)
+  detail_of r id (fault.PathRepeats _) = option_map Path (repeated_detail l r)
+  detail_of r id (fault.PointMissing _) = first_of (unwritten_at r) r.path
+  detail_of r id (fault.PointWrong _) = option_map Points (wrong_detail l r)
+  detail_of r id (fault.FlankMissing _) = option_map Path (lacking_detail l r)
+  detail_of r id (fault.FlankOpen _) = option_map Path (open_detail r)
+  detail_of r id (fault.FlankContradicts _) = option_map Points (contrary_detail l r)
+  detail_of r id (fault.SignalPlace _) = option_map Path (exit_detail r)
+  detail_of r id (fault.NotSymmetric _) = first_of (unanswered id) r.extra
+  detail_of r id fault.OutOfMemory = None
 
-  unfoldable pub table_detail : TableFault → Option Advice
-  table_detail f = option_and_then (λ at. option_and_then (λ r. detail_of r at f) (slice_get l.routes at.id.0)) (route_at_fault f)
+  -- what is told of the route of a fault
+  abbrev pub detail_at : TableFault → FaultyRoute → RouteEntry → Option RouteAdvice
+  detail_at f route r = option_map (λ detail. record { route = route; detail = detail }) (detail_of r route.id f)
+
+  unfoldable pub table_detail : TableFault → Option RouteAdvice
+  table_detail f = option_and_then (λ route. option_and_then (detail_at f route) (slice_get l.routes route.id.0)) (route_at_fault f)
 
 -- The advice for a fault of a table: what is wrong with its route, by name, where that is found, and otherwise what the fault means.
 abbrev pub table_advice : Site → TableFault → Advice
-table_advice l f = unwrap_or (table_detail l f) (Table f)
+table_advice l f = unwrap_or (option_map advised.Route (table_detail l f)) (advised.Table f)

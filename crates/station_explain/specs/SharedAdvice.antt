@@ -13,8 +13,8 @@ use Rattle.layout_text.specs.declared.fault.TableName.TheVariants as named
 use Rattle.station_explain.specs.Joints.{same_end}
 use Rattle.station_explain.specs.Places.{counted, some_and}
 use Rattle.station_explain.specs.Search.{first_of}
-use Rattle.station_explain.specs.declared.advice.Advice.{Advice}
-use Rattle.station_explain.specs.declared.advice.Advice.TheVariants.{Shared}
+use Rattle.station_explain.specs.declared.advice.EntryAdvice.{EntryAdvice}
+use Rattle.station_explain.specs.declared.advice.EntryAdvice.TheVariants.{Shared}
 use Rattle.station_explain.specs.declared.advice.Common.{Common}
 use Rattle.station_explain.specs.declared.advice.Common.TheVariants as common
 
@@ -101,36 +101,36 @@ module _ (w : LayoutText) where
   first_having what = first_of (place_having what) (named.Station ∷ named.Section ∷ named.Track ∷ named.Point ∷ named.Border ∷ named.Joint ∷ named.Signal ∷ named.Detector ∷ named.Route ∷ [])
 
   -- An entry has something that the first one which has it has too, if that is another one.
-  abbrev pub shared_by : Place → Common → Place → Option Advice
+  abbrev pub shared_by : Place → Common → Place → Option EntryAdvice
   shared_by place what first = if same_place first place then None else Some (Shared place what first)
 
-  unfoldable pub shared_with : Place → Common → Option Advice
+  unfoldable pub shared_with : Place → Common → Option EntryAdvice
   shared_with place what = option_and_then (shared_by place what) (first_having what)
 
   -- ---- a name, an identity or a section
 
-  abbrev pub name_shared : Place → Option Advice
+  abbrev pub name_shared : Place → Option EntryAdvice
   name_shared place = option_and_then (λ name. shared_with place (common.Name name)) (name_in place.table (place.entry - 1))
 
-  abbrev pub id_shared : Place → Option Advice
+  abbrev pub id_shared : Place → Option EntryAdvice
   id_shared place = option_and_then (λ id. shared_with place (common.Id id)) (id_in place.table (place.entry - 1))
 
-  abbrev pub detector_shared : Place → Option Advice
+  abbrev pub detector_shared : Place → Option EntryAdvice
   detector_shared place =
       option_and_then (λ d. first_of (λ section. shared_with place (common.Section section)) d.sections) (slice_get w.detectors (place.entry - 1))
 
   -- The advice where an entry has a name, an identity or a section that an earlier one has.
-  abbrev pub double_told : Place → Option Advice
+  abbrev pub double_told : Place → Option EntryAdvice
   double_told place = option_or (name_shared place) (option_or (id_shared place) (detector_shared place))
 
   -- ---- a port
 
-  abbrev pub port_in : Place → TableName → Option Advice
+  abbrev pub port_in : Place → TableName → Option EntryAdvice
   port_in place named.Joint =
       option_and_then (λ joint. option_or (shared_with place (common.Joint joint.first)) (shared_with place (common.Joint joint.second))) (slice_get w.joints (place.entry - 1))
   port_in place named.Signal = option_and_then (λ signal. shared_with place (common.Signal signal.at)) (slice_get w.signals (place.entry - 1))
   port_in place _ = None
 
   -- The advice where an entry stands at a port at which an earlier one stands.
-  abbrev pub port_told : Place → Option Advice
+  abbrev pub port_told : Place → Option EntryAdvice
   port_told place = port_in place place.table

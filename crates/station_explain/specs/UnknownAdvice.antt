@@ -11,8 +11,8 @@ use Rattle.layout_text.specs.declared.fault.TableName.TheVariants as named
 use Rattle.station_explain.specs.FieldKeys.{item_key}
 use Rattle.station_explain.specs.Places.{counted}
 use Rattle.station_explain.specs.SharedAdvice.{place_having}
-use Rattle.station_explain.specs.declared.advice.Advice.{Advice}
-use Rattle.station_explain.specs.declared.advice.Advice.TheVariants.{Unknown}
+use Rattle.station_explain.specs.declared.advice.EntryAdvice.{EntryAdvice}
+use Rattle.station_explain.specs.declared.advice.EntryAdvice.TheVariants.{Unknown}
 use Rattle.station_explain.specs.declared.advice.Common.TheVariants as common
 use Rattle.station_explain.specs.declared.advice.Missed.{Missed}
 use Rattle.station_explain.specs.declared.advice.Missed.TheVariants as missing
@@ -58,21 +58,21 @@ module _ (w : LayoutText) where
   is_there (missing.Route name) = is_entry named.Route name
   is_there (missing.Unreported name) = false
 
-  unfoldable pub missed : Spot → Missed → Option Advice
+  unfoldable pub missed : Spot → Missed → Option EntryAdvice
   missed at what = if is_there what then None else Some (Unknown at what)
 
   -- the first item under a key that names what isn't there, counted from 1 behind so many others
-  abbrev pub first_missed : {A : Type 0} → Place → FieldKey → (A → Missed) → ℕ → List A → Option Advice
+  abbrev pub first_missed : {A : Type 0} → Place → FieldKey → (A → Missed) → ℕ → List A → Option EntryAdvice
   first_missed place key name_of n [] = None
   first_missed place key name_of n (x ∷ xs) = option_or (missed (spot_of place key (counted n)) (name_of x)) (first_missed place key name_of (counted n) xs)
 
   -- ---- the names of an entry
 
-  unfoldable pub points_missed : Place → RouteText → Option Advice
+  unfoldable pub points_missed : Place → RouteText → Option EntryAdvice
   points_missed place r =
       option_or (first_missed place key.Points (λ point. missing.Point point.0) 0 r.points) (first_missed place key.Flank (λ point. missing.Point point.0) 0 r.flank)
 
-  unfoldable pub route_missed : Place → RouteText → Option Advice
+  unfoldable pub route_missed : Place → RouteText → Option EntryAdvice
   route_missed place r =
       option_or (missed (Entry place) (missing.Signal r.entry))
       (option_or (missed (Entry place) (missing.Exit r.exit))
@@ -81,10 +81,10 @@ module _ (w : LayoutText) where
       (option_or (first_missed place key.Approach (λ name. missing.Section name) 0 r.approach)
       (first_missed place key.Extra (λ name. missing.Route name) 0 r.extra)))))
 
-  abbrev pub joint_missed : Place → WrittenJoint → Option Advice
+  abbrev pub joint_missed : Place → WrittenJoint → Option EntryAdvice
   joint_missed place joint = option_or (missed (Entry place) (missing.Port joint.first)) (missed (Entry place) (missing.Port joint.second))
 
-  abbrev pub detector_missed : Place → ℕ → Option Advice
+  abbrev pub detector_missed : Place → ℕ → Option EntryAdvice
   detector_missed place n = option_and_then (λ d. first_missed place key.Sections (λ name. missing.Section name) 0 d.sections) (slice_get w.detectors n)
 
   -- what an entry names that names one thing; of a section its own name, since no detection controller reports it
@@ -95,12 +95,12 @@ module _ (w : LayoutText) where
   named_by named.Signal n = option_map (λ signal. missing.Port signal.at) (slice_get w.signals n)
   named_by _ n = None
 
-  abbrev pub unknown_in : Place → TableName → ℕ → Option Advice
+  abbrev pub unknown_in : Place → TableName → ℕ → Option EntryAdvice
   unknown_in place named.Joint n = option_and_then (joint_missed place) (slice_get w.joints n)
   unknown_in place named.Detector n = detector_missed place n
   unknown_in place named.Route n = option_and_then (route_missed place) (slice_get w.routes n)
   unknown_in place table n = option_and_then (missed (Entry place)) (named_by table n)
 
   -- The advice where an entry names something that isn't there, or is of another kind.
-  abbrev pub unknown_told : Place → Option Advice
+  abbrev pub unknown_told : Place → Option EntryAdvice
   unknown_told place = unknown_in place place.table (place.entry - 1)

@@ -8,8 +8,8 @@ use Rattle.layout_text.specs.Values.{is_dot, is_name}
 use Rattle.layout_text.specs.declared.fault.Place.{Place}
 use Rattle.station_explain.specs.FieldKeys.{item_key, kind_of}
 use Rattle.station_explain.specs.Places.{counted, some_and}
-use Rattle.station_explain.specs.declared.advice.Advice.{Advice}
-use Rattle.station_explain.specs.declared.advice.Advice.TheVariants.{Wrong}
+use Rattle.station_explain.specs.declared.advice.EntryAdvice.{EntryAdvice}
+use Rattle.station_explain.specs.declared.advice.EntryAdvice.TheVariants.{Wrong}
 use Rattle.station_explain.specs.declared.advice.Spot.TheVariants.{Field, Item}
 use Rattle.station_explain.specs.declared.field_key.FieldKey.{FieldKey}
 use Rattle.station_explain.specs.declared.field_key.FieldKey.TheVariants as key
@@ -75,22 +75,22 @@ fits k d = some_and (text_fits k) (as_str d)
 -- ---- what is wrong with a value
 
 -- The first item of the array under a key that isn't as another key wants its value, counted from 1 behind so many others.
-abbrev pub unfit_item : Place → FieldKey → FieldKey → ℕ → Items → Option Advice
+abbrev pub unfit_item : Place → FieldKey → FieldKey → ℕ → Items → Option EntryAdvice
 unfit_item place key one n no_items = None
 unfit_item place key one n (item d ds) =
     if fits one d then unfit_item place key one (counted n) ds else Some (Wrong (Item place key (counted n)) (kind_of d))
 
 -- It isn't as its key wants it: an array by an item, and otherwise itself.
-abbrev pub unfit_value : Place → FieldKey → Data → Option Advice
+abbrev pub unfit_value : Place → FieldKey → Data → Option EntryAdvice
 unfit_value place key d = if fits key d then None else Some (Wrong (Field place key) (kind_of d))
 
-abbrev pub unfit_items : Place → FieldKey → FieldKey → Data → Option Items → Option Advice
+abbrev pub unfit_items : Place → FieldKey → FieldKey → Data → Option Items → Option EntryAdvice
 unfit_items place key one d None = unfit_value place key d
 unfit_items place key one d (Some items) = unfit_item place key one 0 items
 
-abbrev pub misfit_by : Place → FieldKey → Data → Option FieldKey → Option Advice
+abbrev pub misfit_by : Place → FieldKey → Data → Option FieldKey → Option EntryAdvice
 misfit_by place key d None = unfit_value place key d
 misfit_by place key d (Some one) = unfit_items place key one d (as_array d)
 
-unfoldable pub misfit : Place → FieldKey → Data → Option Advice
+unfoldable pub misfit : Place → FieldKey → Data → Option EntryAdvice
 misfit place key d = misfit_by place key d (item_key key)

@@ -1,17 +1,17 @@
 //! What is told in a second line.
 
 ghost use Rattle.std.specs.Prelude.{◌≡◌, IfOk, Some};
-ghost use Rattle.station_explain.specs.Advice.{advice_line};
+ghost use Rattle.station_explain.specs.Advice.{advice_line, entry_advice_words, route_advice_words};
 
-use crate::detail::{PathDetail, PointDetail};
+use crate::detail::{RouteAdvice, RouteDetail};
 use crate::entry_words::PlaceWords;
 use crate::fault_words::{layout_sentence, table_sentence};
 use crate::field_key::{FieldKey, Kind};
 use crate::text_place::TextPlace;
 use arrayvec::ArrayString;
+use control_table::TableFault;
 use control_table::layout::{LayoutFault, Place, TableName};
 use control_table::sci_telegram::Name;
-use control_table::{FaultyRoute, TableFault};
 use layout_text::PortName;
 use std::fmt;
 
@@ -23,7 +23,22 @@ const ADVICE_LENGTH: usize = 640;
 pub(crate) enum Advice {
     /// The text is no TOML from a place on.
     Broken(TextPlace),
-    /// A key of the layout isn't there.
+    /// This is wrong with an entry.
+    Entry(EntryAdvice),
+    /// Another fault of the layout.
+    Layout(LayoutFault),
+    /// This is wrong with a route.
+    Route(RouteAdvice),
+    /// Another fault of the table.
+    Table(TableFault),
+    /// There is no fault.
+    Nothing,
+}
+
+/// What is told of an entry of a layout, or of the key of its entries.
+#[derive(Drop)]
+pub(crate) enum EntryAdvice {
+    /// The key isn't there.
     Absent(TableName),
     /// An entry lacks a key.
     Missing(Place, FieldKey),
@@ -33,22 +48,6 @@ pub(crate) enum Advice {
     Shared(Place, Common, Place),
     /// An entry, or an item of an array in it, names this, which isn't there or is of another kind than is wanted.
     Unknown(Spot, Missed),
-    /// Another fault of the layout.
-    Layout(LayoutFault),
-    /// This is wrong with the path of a route.
-    Path(FaultyRoute, PathDetail),
-    /// This is wrong with the points of a route.
-    Points(FaultyRoute, PointDetail),
-    /// This point of a route's path isn't written.
-    Unwritten(FaultyRoute, Name),
-    /// A route lists itself as an extra conflict.
-    WithItself(FaultyRoute),
-    /// A route lists another as an extra conflict, which doesn't list it.
-    Unanswered(FaultyRoute, Name),
-    /// Another fault of the table.
-    Table(TableFault),
-    /// There is no fault.
-    Nothing,
 }
 
 /// Where something stands in a layout.
@@ -96,6 +95,74 @@ pub(crate) enum Missed {
     Unreported(Name),
 }
 
+impl fmt::Display for EntryAdvice {
+    ghost output = { λ advice. Some (entry_advice_words advice) };
+
+    #[tactic(auto, unfolding(crate::specs::Advice::entry_advice_words))]
+    fn fmt<W: fmt::Write>(&self, f: &mut fmt::Formatter<W>) -> fmt::Result {
+        match self {
+            EntryAdvice::Absent(table) => write!(f, "the key `{table}` is missing"),
+            EntryAdvice::Missing(place, key) => {
+                let at = PlaceWords(*place);
+                let key = key.word();
+                let wanted = Spot::Entry(*place).form();
+                write!(f, "{at} has no `{key}`: it has to be {wanted}")
+            }
+            EntryAdvice::Wrong(spot, kind) => {
+                let at = spot.sentence();
+                let kind = kind.sentence();
+                let wanted = spot.form();
+                write!(f, "{at} is {kind}, and has to be {wanted}")
+            }
+            EntryAdvice::Shared(place, common, first) => {
+                let at = PlaceWords(*place);
+                let common = common.sentence();
+                let first = PlaceWords(*first);
+                write!(f, "{at} {common} {first}")
+            }
+            EntryAdvice::Unknown(spot, missed) => {
+                let at = spot.sentence();
+                let missed = missed.sentence();
+                write!(f, "{at} {missed}")
+            }
+        }
+    }
+}
+
+impl fmt::Display for RouteAdvice {
+    ghost output = { λ advice. Some (route_advice_words advice) };
+
+    #[tactic(auto, unfolding(crate::specs::Advice::route_advice_words))]
+    fn fmt<W: fmt::Write>(&self, f: &mut fmt::Formatter<W>) -> fmt::Result {
+        let route = &self.route;
+        match &self.detail {
+            RouteDetail::Path(detail) => {
+                let detail = detail.sentence();
+                write!(f, "the path of {route} {detail}")
+            }
+            RouteDetail::Points(detail) => {
+                let detail = detail.sentence();
+                write!(f, "{route} {detail}")
+            }
+            RouteDetail::Unwritten(point) => {
+                let point = point.as_str();
+                write!(
+                    f,
+                    "point {point} lies on the path of {route} and isn't written under its `points`"
+                )
+            }
+            RouteDetail::WithItself => write!(f, "under `extra` {route} lists itself"),
+            RouteDetail::Unanswered(other) => {
+                let other = other.as_str();
+                write!(
+                    f,
+                    "under `extra` {route} lists route {other}, which doesn't list it"
+                )
+            }
+        }
+    }
+}
+
 impl fmt::Display for Advice {
     ghost output = { λ advice. Some (advice_line advice) };
 
@@ -110,57 +177,12 @@ impl fmt::Display for Advice {
                     "the text is no TOML from line {line}, column {column} on\n"
                 )
             }
-            Advice::Absent(table) => write!(f, "the key `{table}` is missing\n"),
-            Advice::Missing(place, key) => {
-                let at = PlaceWords(*place);
-                let key = key.word();
-                let wanted = Spot::Entry(*place).form();
-                write!(f, "{at} has no `{key}`: it has to be {wanted}\n")
-            }
-            Advice::Wrong(spot, kind) => {
-                let at = spot.sentence();
-                let kind = kind.sentence();
-                let wanted = spot.form();
-                write!(f, "{at} is {kind}, and has to be {wanted}\n")
-            }
-            Advice::Shared(place, common, first) => {
-                let at = PlaceWords(*place);
-                let common = common.sentence();
-                let first = PlaceWords(*first);
-                write!(f, "{at} {common} {first}\n")
-            }
-            Advice::Unknown(spot, missed) => {
-                let at = spot.sentence();
-                let missed = missed.sentence();
-                write!(f, "{at} {missed}\n")
-            }
+            Advice::Entry(advice) => write!(f, "{advice}\n"),
             Advice::Layout(fault) => {
                 let words = layout_sentence(*fault);
                 write!(f, "{words}\n")
             }
-            Advice::Path(route, detail) => {
-                let detail = detail.sentence();
-                write!(f, "the path of {route} {detail}\n")
-            }
-            Advice::Points(route, detail) => {
-                let detail = detail.sentence();
-                write!(f, "{route} {detail}\n")
-            }
-            Advice::Unwritten(route, point) => {
-                let point = point.as_str();
-                write!(
-                    f,
-                    "point {point} lies on the path of {route} and isn't written under its `points`\n"
-                )
-            }
-            Advice::WithItself(route) => write!(f, "under `extra` {route} lists itself\n"),
-            Advice::Unanswered(route, other) => {
-                let other = other.as_str();
-                write!(
-                    f,
-                    "under `extra` {route} lists route {other}, which doesn't list it\n"
-                )
-            }
+            Advice::Route(advice) => write!(f, "{advice}\n"),
             Advice::Table(fault) => {
                 let words = table_sentence(fault);
                 write!(f, "{words}\n")

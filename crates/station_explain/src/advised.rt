@@ -7,7 +7,7 @@ ghost use Rattle.station_explain.specs.AdviceTold.{IsAdvice, IsBroken, IsByDocum
 ghost use Rattle.station_explain.specs.RouteDetails.{table_advice};
 ghost use Rattle.station_explain.specs.declared.advice.Advice.TheVariants as advised;
 
-use crate::advice::Advice;
+use crate::advice::{Advice, EntryAdvice};
 use crate::entry_advice::{missing_told, wrong_told};
 use crate::route_detail::table_detail;
 use crate::shared::{double_told, port_told};
@@ -47,7 +47,7 @@ fn table_advice(layout: &Layout, fault: &TableFault) -> Advice
     ensures { result ≡ table_advice layout.now fault.now }
 {
     match table_detail(layout, fault) {
-        Some(advice) => advice,
+        Some(advice) => Advice::Route(advice),
         None => Advice::Table(*fault),
     }
 }
@@ -81,7 +81,7 @@ fn broken(alloc: Global, text: &str) -> Advice
 
 /// What the document of a text tells of a fault.
 #[tactic(auto, unfolding(crate::specs::AdviceTold::document_told))]
-fn document_told(document: &Table, fault: LayoutFault) -> Option<Advice>
+fn document_told(document: &Table, fault: LayoutFault) -> Option<EntryAdvice>
     ensures { result ≡ document_told (table_view document.now) fault }
 {
     match fault {
@@ -97,7 +97,7 @@ fn document_advice(document: &Table, fault: LayoutFault) -> Advice
     ensures { result ≡ document_advice (table_view document.now) fault }
 {
     match document_told(document, fault) {
-        Some(advice) => advice,
+        Some(advice) => Advice::Entry(advice),
         None => Advice::Layout(fault),
     }
 }
@@ -114,7 +114,7 @@ fn by_document(alloc: Global, text: &str, fault: LayoutFault) -> Advice
 
 /// What a text that is written so tells of a fault.
 #[tactic(auto, unfolding(crate::specs::AdviceTold::written_told))]
-fn written_told(written: &WrittenLayout, fault: LayoutFault) -> Option<Advice>
+fn written_told(written: &WrittenLayout, fault: LayoutFault) -> Option<EntryAdvice>
     ensures { result ≡ written_told written.now fault }
 {
     match fault {
@@ -131,7 +131,7 @@ fn written_advice(written: &WrittenLayout, fault: LayoutFault) -> Advice
     ensures { result ≡ written_advice written.now fault }
 {
     match written_told(written, fault) {
-        Some(advice) => advice,
+        Some(advice) => Advice::Entry(advice),
         None => Advice::Layout(fault),
     }
 }

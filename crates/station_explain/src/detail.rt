@@ -1,7 +1,30 @@
 //! What may be wrong with a route.
 
+use control_table::FaultyRoute;
 use control_table::sci_telegram::{Name, Side};
 use layout_text::PortName;
+
+/// What is told of a route.
+#[derive(Drop)]
+pub(crate) struct RouteAdvice {
+    pub(crate) route: FaultyRoute,
+    pub(crate) detail: RouteDetail,
+}
+
+/// What is wrong with a route.
+#[derive(Drop)]
+pub(crate) enum RouteDetail {
+    /// This is wrong with its path.
+    Path(PathDetail),
+    /// This is wrong with its points.
+    Points(PointDetail),
+    /// This point of its path isn't written.
+    Unwritten(Name),
+    /// It lists itself as an extra conflict.
+    WithItself,
+    /// It lists another as an extra conflict, which doesn't list it.
+    Unanswered(Name),
+}
 
 /// What is wrong with the path of a route.
 #[derive(Drop)]

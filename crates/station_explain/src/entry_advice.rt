@@ -6,7 +6,7 @@ ghost use Rattle.toml.specs.View.{view, table_view};
 ghost use Rattle.layout_text.specs.Messages.{table_text};
 ghost use Rattle.station_explain.specs.EntryAdvice.{entry_data, first_lacking, first_wrong, missing_told, wrong_at, wrong_field, wrong_told};
 
-use crate::advice::{Advice, Spot};
+use crate::advice::{EntryAdvice, Spot};
 use crate::field_key::{FieldKey, keys_of, kind_of};
 use crate::value_forms::misfit;
 use layout_text::{Place, TableName};
@@ -62,26 +62,26 @@ fn first_lacking(fields: &Table, keys: &[FieldKey]) -> Option<FieldKey>
 }
 
 /// The advice where a key is missing at a place: the first one that the entry there has to have, and lacks.
-pub(crate) fn missing_told(document: &Table, place: Place) -> Option<Advice>
+pub(crate) fn missing_told(document: &Table, place: Place) -> Option<EntryAdvice>
     ensures { result ≡ missing_told (table_view document.now) place }
 {
     if place.entry == 0 {
-        return Some(Advice::Absent(place.table));
+        return Some(EntryAdvice::Absent(place.table));
     }
     let fields = entry_data(document, place)?.as_table()?;
     let key = first_lacking(fields, keys_of(place.table))?;
-    Some(Advice::Missing(place, key))
+    Some(EntryAdvice::Missing(place, key))
 }
 
 /// What is wrong with what stands under a key of an entry.
-fn wrong_at(place: Place, fields: &Table, key: FieldKey) -> Option<Advice>
+fn wrong_at(place: Place, fields: &Table, key: FieldKey) -> Option<EntryAdvice>
     ensures { result ≡ wrong_at place (table_view fields.now) key }
 {
     misfit(place, key, member(fields, key.word())?)
 }
 
 /// What is wrong with the first of these keys of an entry under which another value stands than is wanted.
-fn first_wrong(place: Place, fields: &Table, keys: &[FieldKey]) -> Option<Advice>
+fn first_wrong(place: Place, fields: &Table, keys: &[FieldKey]) -> Option<EntryAdvice>
     ensures { result ≡ first_wrong place (table_view fields.now) keys.now }
 {
     for key in keys {
@@ -94,7 +94,7 @@ fn first_wrong(place: Place, fields: &Table, keys: &[FieldKey]) -> Option<Advice
 
 /// What is wrong with a key of an entry that has this value.
 #[tactic(auto, unfolding(crate::specs::EntryAdvice::wrong_field))]
-fn wrong_field(place: Place, value: &Value) -> Option<Advice>
+fn wrong_field(place: Place, value: &Value) -> Option<EntryAdvice>
     ensures { result ≡ wrong_field place (view value.now) }
 {
     if place.entry == 0 {
@@ -105,10 +105,10 @@ fn wrong_field(place: Place, value: &Value) -> Option<Advice>
 }
 
 /// The advice where a value is of another kind or form than is wanted.
-pub(crate) fn wrong_told(document: &Table, place: Place) -> Option<Advice>
+pub(crate) fn wrong_told(document: &Table, place: Place) -> Option<EntryAdvice>
     ensures { result ≡ wrong_told (table_view document.now) place }
 {
     let value = entry_data(document, place)?;
-    let itself = Advice::Wrong(Spot::Entry(place), kind_of(value));
+    let itself = EntryAdvice::Wrong(Spot::Entry(place), kind_of(value));
     Some(wrong_field(place, value).unwrap_or(itself))
 }

@@ -1,9 +1,9 @@
 //! What the entries of a layout are called.
 
 ghost use Rattle.std.specs.Prelude.{◌≡◌};
-ghost use Rattle.station_explain.specs.LayoutNames.{element_name, exit_name, leg_names, point_name, port_name, signal_name};
+ghost use Rattle.station_explain.specs.LayoutNames.{element_name, exit_name, leg_names, point_name, port_name, route_name, signal_name};
 
-use control_table::layout::{Element, Exit, Layout, PointId, Port};
+use control_table::layout::{Element, Exit, Layout, PointId, Port, RouteId};
 use control_table::sci_telegram::Name;
 use layout_text::PortName;
 
@@ -21,6 +21,14 @@ pub(crate) fn signal_name(layout: &Layout, place: usize) -> Option<Name>
     ensures { result ≡ signal_name layout.now place }
 {
     Some(layout.signals().get(place)?.name)
+}
+
+/// The name of a route.
+#[tactic(auto, unfolding(crate::specs::LayoutNames::route_name))]
+pub(crate) fn route_name(layout: &Layout, route: RouteId) -> Option<Name>
+    ensures { result ≡ route_name layout.now route }
+{
+    Some(*layout.routes().get(route.0)?.name())
 }
 
 /// The name of an element.

@@ -3,12 +3,11 @@
 ghost use Rattle.std.specs.Prelude.{◌≡◌, Some};
 ghost use Rattle.station_explain.specs.FaultWords.{route_at_fault};
 ghost use Rattle.station_explain.specs.Search.{first_of};
-ghost use Rattle.station_explain.specs.RouteDetails.{break_at, detail_of, exit_detail, in_the_way, is_exit, is_listed, is_signal, lists, open_at, path_detail, step_detail, table_detail, unanswered, unwritten_at};
+ghost use Rattle.station_explain.specs.RouteDetails.{break_at, detail_of, elsewhere, exit_detail, in_the_way, is_exit, is_listed, is_signal, lists, open_at, path_detail, step_detail, table_detail, unanswered, unwritten_at};
 
-use crate::advice::Advice;
-use crate::detail::PathDetail;
+use crate::detail::{PathDetail, RouteAdvice, RouteDetail};
 use crate::joints::{joined_to, may_pass, same_element, same_port, signal_at};
-use crate::layout_names::{exit_name, leg_names, point_name, port_name, signal_name};
+use crate::layout_names::{exit_name, leg_names, point_name, port_name, route_name, signal_name};
 use crate::repeats::repeated_detail;
 use crate::route_sides::{guard, unused_leg};
 use crate::route_start::{is_written, start_of};
@@ -31,29 +30,24 @@ fn break_at(layout: &Layout, before: Port, left: Port) -> Option<PathDetail>
     }
 }
 
-/// The advice for a point of a path that isn't written, if the path leaves one by this port.
+/// The point that a path leaves by this port, if it isn't written.
 #[tactic(auto, unfolding(crate::specs::RouteDetails::unwritten_at))]
-fn unwritten_at(layout: &Layout, route: &Route, at: FaultyRoute, left: Port) -> Option<Advice>
-    ensures { result ≡ unwritten_at layout.now route.now at left }
+fn unwritten_at(layout: &Layout, route: &Route, left: Port) -> Option<RouteDetail>
+    ensures { result ≡ unwritten_at layout.now route.now left }
 {
     match left.element {
         Element::Point(point) if is_written(route.points(), point) => None,
-        Element::Point(point) => Some(Advice::Unwritten(at, point_name(layout, point)?)),
+        Element::Point(point) => Some(RouteDetail::Unwritten(point_name(layout, point)?)),
         _ => None,
     }
 }
 
-/// The advice for the first point of a path that isn't written.
-fn first_unwritten(
-    layout: &Layout,
-    route: &Route,
-    at: &FaultyRoute,
-    path: &[Port],
-) -> Option<Advice>
-    ensures { result ≡ first_of (unwritten_at layout.now route.now at.now) path.now }
+/// The first point of a path that isn't written.
+fn first_unwritten(layout: &Layout, route: &Route, path: &[Port]) -> Option<RouteDetail>
+    ensures { result ≡ first_of (unwritten_at layout.now route.now) path.now }
 {
     for left in path {
-        if let Some(found) = unwritten_at(layout, route, *at, *left) {
+        if let Some(found) = unwritten_at(layout, route, *left) {
             return Some(found);
         }
     }
@@ -163,6 +157,14 @@ fn first_in_the_way(layout: &Layout, exit: Exit, path: &[Port]) -> Option<PathDe
     None
 }
 
+/// That a path ends at a port where the exit isn't.
+fn elsewhere(layout: &Layout, exit: Exit, last: Port) -> Option<PathDetail>
+    ensures { result ≡ elsewhere layout.now exit last }
+{
+    let end = port_name(layout, last)?;
+    Some(PathDetail::EndsElsewhere(end, exit_name(layout, exit)?))
+}
+
 /// What is wrong with the exit of a route, or which signal stands in the way.
 #[tactic(auto, unfolding(crate::specs::RouteDetails::exit_detail))]
 fn exit_detail(layout: &Layout, route: &Route) -> Option<PathDetail>
@@ -170,8 +172,7 @@ fn exit_detail(layout: &Layout, route: &Route) -> Option<PathDetail>
 {
     let last = *route.path().last()?;
     if !is_exit(layout, route.exit(), last) {
-        let end = port_name(layout, last)?;
-        return Some(PathDetail::EndsElsewhere(end, exit_name(layout, route.exit())?));
+        return elsewhere(layout, route.exit(), last);
     }
     if is_signal(route.exit(), route.entry().0) {
         return Some(PathDetail::EndsAtEntry(signal_name(layout, route.entry().0)?));
@@ -198,53 +199,52 @@ fn lists(layout: &Layout, route: RouteId, other: RouteId) -> bool
     }
 }
 
-/// The advice for a route that another lists, if it is this one, or doesn't list it.
+/// What is wrong with a route that lists another one, if it is the same, or if that doesn't list it.
 #[tactic(auto, unfolding(crate::specs::RouteDetails::unanswered))]
-fn unanswered(layout: &Layout, at: FaultyRoute, other: RouteId) -> Option<Advice>
-    ensures { result ≡ unanswered layout.now at other }
+fn unanswered(layout: &Layout, route: RouteId, other: RouteId) -> Option<RouteDetail>
+    ensures { result ≡ unanswered layout.now route other }
 {
-    if other.0 == at.id.0 {
-        return Some(Advice::WithItself(at));
+    if other.0 == route.0 {
+        return Some(RouteDetail::WithItself);
     }
-    if lists(layout, other, at.id) {
+    if lists(layout, other, route) {
         return None;
     }
-    Some(Advice::Unanswered(at, *layout.routes().get(other.0)?.name()))
+    Some(RouteDetail::Unanswered(route_name(layout, other)?))
 }
 
-/// The advice for the first of these routes that a route lists, and that is the route itself or doesn't list it.
-fn first_unanswered(layout: &Layout, at: &FaultyRoute, extra: &[RouteId]) -> Option<Advice>
-    ensures { result ≡ first_of (unanswered layout.now at.now) extra.now }
+/// The first of these routes that a route lists, and that is the route itself or doesn't list it.
+fn first_unanswered(layout: &Layout, route: RouteId, extra: &[RouteId]) -> Option<RouteDetail>
+    ensures { result ≡ first_of (unanswered layout.now route) extra.now }
 {
     for other in extra {
-        if let Some(found) = unanswered(layout, *at, *other) {
+        if let Some(found) = unanswered(layout, route, *other) {
             return Some(found);
         }
     }
     None
 }
 
-/// The advice for a route that has a fault.
+/// What is wrong with a route that has a fault.
 #[tactic(auto, unfolding(crate::specs::RouteDetails::detail_of, crate::specs::RouteDetails::path_detail, crate::specs::RouteDetails::broken_detail, crate::specs::RouteDetails::open_detail, crate::specs::SideDetails::lacking_detail))]
-fn detail_of(layout: &Layout, route: &Route, at: FaultyRoute, fault: &TableFault) -> Option<Advice>
-    ensures { result ≡ detail_of layout.now route.now at fault.now }
+fn detail_of(layout: &Layout, route: &Route, id: RouteId, fault: &TableFault) -> Option<RouteDetail>
+    ensures { result ≡ detail_of layout.now route.now id fault.now }
 {
     match fault {
         TableFault::PathBroken(_) if route.path().is_empty() => {
-            Some(Advice::Path(at, PathDetail::Empty))
+            Some(RouteDetail::Path(PathDetail::Empty))
         }
-        TableFault::PathRepeats(_) => Some(Advice::Path(at, repeated_detail(layout, route)?)),
-        TableFault::PointMissing(_) => first_unwritten(layout, route, &at, route.path()),
-        TableFault::PointWrong(_) => Some(Advice::Points(at, wrong_detail(layout, route)?)),
+        TableFault::PathRepeats(_) => Some(RouteDetail::Path(repeated_detail(layout, route)?)),
+        TableFault::PointMissing(_) => first_unwritten(layout, route, route.path()),
+        TableFault::PointWrong(_) => Some(RouteDetail::Points(wrong_detail(layout, route)?)),
         TableFault::PathBroken(_) | TableFault::FlankMissing(_) | TableFault::FlankOpen(_) => {
-            Some(Advice::Path(at, path_detail(layout, route, fault)?))
+            Some(RouteDetail::Path(path_detail(layout, route, fault)?))
         }
-        TableFault::FlankContradicts(_) => Some(Advice::Points(
-            at,
-            contrary_detail(layout, route)?,
-        )),
-        TableFault::SignalPlace(_) => Some(Advice::Path(at, exit_detail(layout, route)?)),
-        TableFault::NotSymmetric(_) => first_unanswered(layout, &at, route.extra()),
+        TableFault::FlankContradicts(_) => Some(RouteDetail::Points(contrary_detail(
+            layout, route,
+        )?)),
+        TableFault::SignalPlace(_) => Some(RouteDetail::Path(exit_detail(layout, route)?)),
+        TableFault::NotSymmetric(_) => first_unanswered(layout, id, route.extra()),
         TableFault::OutOfMemory => None,
     }
 }
@@ -267,12 +267,13 @@ pub(crate) fn route_at_fault(fault: &TableFault) -> Option<FaultyRoute>
     }
 }
 
-/// The advice for a fault of the table: what is wrong with its route, by name, where that is found.
+/// What is told of a fault of the table: what is wrong with its route, by name, where that is found.
 #[tactic(auto, unfolding(crate::specs::RouteDetails::table_detail))]
-pub(crate) fn table_detail(layout: &Layout, fault: &TableFault) -> Option<Advice>
+pub(crate) fn table_detail(layout: &Layout, fault: &TableFault) -> Option<RouteAdvice>
     ensures { result ≡ table_detail layout.now fault.now }
 {
-    let at = route_at_fault(fault)?;
-    let route = layout.routes().get(at.id.0)?;
-    detail_of(layout, route, at, fault)
+    let route = route_at_fault(fault)?;
+    let entry = layout.routes().get(route.id.0)?;
+    let detail = detail_of(layout, entry, route.id, fault)?;
+    Some(RouteAdvice { route, detail })
 }

@@ -32,19 +32,13 @@ impl fmt::Display for Part {
         match self {
             Part::Nothing => Ok(()),
             Part::Name(name) => f.write_str(name.as_str()),
-            Part::Port(port) => {
-                let port = PortWords(*port);
-                write!(f, "{port}")
-            }
+            Part::Port(port) => PortWords(*port).fmt(f),
             Part::Side(side) => f.write_str(side_word(*side)),
-            Part::Id(id) => write!(f, "{id}"),
-            Part::Number(number) => write!(f, "{number}"),
-            Part::Integer(value) => write!(f, "{value}"),
-            Part::Place(place) => {
-                let at = PlaceWords(*place);
-                write!(f, "{at}")
-            }
-            Part::Route(route) => write!(f, "{route}"),
+            Part::Id(id) => id.fmt(f),
+            Part::Number(number) => number.fmt(f),
+            Part::Integer(value) => value.fmt(f),
+            Part::Place(place) => PlaceWords(*place).fmt(f),
+            Part::Route(route) => route.fmt(f),
         }
     }
 }

@@ -6,7 +6,7 @@ ghost use Rattle.station_explain.specs.Search.{first_of};
 ghost use Rattle.station_explain.specs.declared.advice.Common.TheVariants as common;
 ghost use Rattle.station_explain.specs.SharedAdvice.{detector_shared, double_told, entries, has, id_in, id_shared, joins, name_in, name_shared, place_having, port_told, reports, same_place, same_port_name, shared_with};
 
-use crate::advice::{Advice, Common};
+use crate::advice::{Common, EntryAdvice};
 use crate::joints::same_end;
 use control_table::sci_telegram::Name;
 use layout_text::{Place, PortName, TableName, WrittenDetector, WrittenJoint, WrittenLayout};
@@ -207,18 +207,18 @@ fn first_having(written: &WrittenLayout, what: &Common, tables: &[TableName]) ->
 
 /// What an entry has, if an earlier one has it.
 #[tactic(auto, unfolding(crate::specs::SharedAdvice::shared_with))]
-fn shared_with(written: &WrittenLayout, place: Place, what: &Common) -> Option<Advice>
+fn shared_with(written: &WrittenLayout, place: Place, what: &Common) -> Option<EntryAdvice>
     ensures { result ≡ shared_with written.now place what.now }
 {
     let first = first_having(written, what, TABLES)?;
     if same_place(first, place) {
         return None;
     }
-    Some(Advice::Shared(place, *what, first))
+    Some(EntryAdvice::Shared(place, *what, first))
 }
 
 /// The name of an entry, if an earlier one has it.
-fn name_shared(written: &WrittenLayout, place: Place) -> Option<Advice>
+fn name_shared(written: &WrittenLayout, place: Place) -> Option<EntryAdvice>
     ensures { result ≡ name_shared written.now place }
 {
     let before = place.entry.saturating_sub(1);
@@ -227,7 +227,7 @@ fn name_shared(written: &WrittenLayout, place: Place) -> Option<Advice>
 }
 
 /// The identity of an entry, if an earlier one has it.
-fn id_shared(written: &WrittenLayout, place: Place) -> Option<Advice>
+fn id_shared(written: &WrittenLayout, place: Place) -> Option<EntryAdvice>
     ensures { result ≡ id_shared written.now place }
 {
     let before = place.entry.saturating_sub(1);
@@ -236,7 +236,7 @@ fn id_shared(written: &WrittenLayout, place: Place) -> Option<Advice>
 }
 
 /// The first of these sections of a detection controller that an earlier one reports too.
-fn first_shared(written: &WrittenLayout, place: Place, sections: &[Name]) -> Option<Advice>
+fn first_shared(written: &WrittenLayout, place: Place, sections: &[Name]) -> Option<EntryAdvice>
     ensures { result ≡ first_of (λ section. shared_with written.now place (common.Section section)) sections.now }
 {
     for section in sections {
@@ -248,7 +248,7 @@ fn first_shared(written: &WrittenLayout, place: Place, sections: &[Name]) -> Opt
 }
 
 /// The first section of a detection controller that an earlier one reports too.
-fn detector_shared(written: &WrittenLayout, place: Place) -> Option<Advice>
+fn detector_shared(written: &WrittenLayout, place: Place) -> Option<EntryAdvice>
     ensures { result ≡ detector_shared written.now place }
 {
     let detector = written.detectors.get(place.entry.saturating_sub(1))?;
@@ -256,7 +256,7 @@ fn detector_shared(written: &WrittenLayout, place: Place) -> Option<Advice>
 }
 
 /// The advice where an entry has a name, an identity or a section that an earlier one has.
-pub(crate) fn double_told(written: &WrittenLayout, place: Place) -> Option<Advice>
+pub(crate) fn double_told(written: &WrittenLayout, place: Place) -> Option<EntryAdvice>
     ensures { result ≡ double_told written.now place }
 {
     if let Some(found) = name_shared(written, place) {
@@ -269,7 +269,7 @@ pub(crate) fn double_told(written: &WrittenLayout, place: Place) -> Option<Advic
 }
 
 /// The advice where an entry stands at a port at which an earlier one stands.
-pub(crate) fn port_told(written: &WrittenLayout, place: Place) -> Option<Advice>
+pub(crate) fn port_told(written: &WrittenLayout, place: Place) -> Option<EntryAdvice>
     ensures { result ≡ port_told written.now place }
 {
     let before = place.entry.saturating_sub(1);

@@ -4,7 +4,7 @@ ghost use Rattle.std.specs.Prelude.{◌≡◌};
 ghost use Rattle.station_explain.specs.declared.advice.Missed.TheVariants as missing;
 ghost use Rattle.station_explain.specs.UnknownAdvice.{detector_missed, first_missed, is_entry, is_there, joint_missed, missed, name_missed, named_by, points_missed, route_missed, spot_of, table_of, unknown_told};
 
-use crate::advice::{Advice, Common, Missed, Spot};
+use crate::advice::{Common, EntryAdvice, Missed, Spot};
 use crate::field_key::FieldKey;
 use crate::shared::{entry_at, place_having};
 use control_table::sci_telegram::{Name, Side};
@@ -49,13 +49,13 @@ fn is_there(written: &WrittenLayout, what: &Missed) -> bool
 
 /// The advice where something is named, unless it is there.
 #[tactic(auto, unfolding(crate::specs::UnknownAdvice::missed))]
-fn missed(written: &WrittenLayout, at: Spot, what: &Missed) -> Option<Advice>
+fn missed(written: &WrittenLayout, at: Spot, what: &Missed) -> Option<EntryAdvice>
     ensures { result ≡ missed written.now at what.now }
 {
     if is_there(written, what) {
         return None;
     }
-    Some(Advice::Unknown(at, *what))
+    Some(EntryAdvice::Unknown(at, *what))
 }
 
 /// Where an item under a key of an entry stands. A table has no items.
@@ -116,7 +116,7 @@ fn first_missed<T: Naming>(
     place: Place,
     key: FieldKey,
     items: &[T],
-) -> Option<Advice>
+) -> Option<EntryAdvice>
     ensures { result ≡ first_missed written.now place key (T.named key) 0 items.now }
 {
     let mut at: usize = 0;
@@ -131,7 +131,7 @@ fn first_missed<T: Naming>(
 
 /// The advice for the first point of a route that isn't there: of those on its path, or of its flank.
 #[tactic(auto, unfolding(crate::specs::UnknownAdvice::points_missed))]
-fn points_missed(written: &WrittenLayout, place: Place, route: &WrittenRoute) -> Option<Advice>
+fn points_missed(written: &WrittenLayout, place: Place, route: &WrittenRoute) -> Option<EntryAdvice>
     ensures { result ≡ points_missed written.now place route.now }
 {
     if let Some(found) = first_missed(written, place, FieldKey::Points, &route.points) {
@@ -142,7 +142,7 @@ fn points_missed(written: &WrittenLayout, place: Place, route: &WrittenRoute) ->
 
 /// The advice for the first name of a route that isn't that of an entry of the kind that is wanted.
 #[tactic(auto, unfolding(crate::specs::UnknownAdvice::route_missed))]
-fn route_missed(written: &WrittenLayout, place: Place, route: &WrittenRoute) -> Option<Advice>
+fn route_missed(written: &WrittenLayout, place: Place, route: &WrittenRoute) -> Option<EntryAdvice>
     ensures { result ≡ route_missed written.now place route.now }
 {
     let itself = Spot::Entry(place);
@@ -165,7 +165,7 @@ fn route_missed(written: &WrittenLayout, place: Place, route: &WrittenRoute) -> 
 }
 
 /// The advice for the first port of a joint that isn't there.
-fn joint_missed(written: &WrittenLayout, place: Place, joint: WrittenJoint) -> Option<Advice>
+fn joint_missed(written: &WrittenLayout, place: Place, joint: WrittenJoint) -> Option<EntryAdvice>
     ensures { result ≡ joint_missed written.now place joint }
 {
     let itself = Spot::Entry(place);
@@ -176,7 +176,7 @@ fn joint_missed(written: &WrittenLayout, place: Place, joint: WrittenJoint) -> O
 }
 
 /// The advice for the first section of a detection controller that isn't there.
-fn detector_missed(written: &WrittenLayout, place: Place, before: usize) -> Option<Advice>
+fn detector_missed(written: &WrittenLayout, place: Place, before: usize) -> Option<EntryAdvice>
     ensures { result ≡ detector_missed written.now place before }
 {
     let sections = written.detectors.get(before)?.sections();
@@ -210,7 +210,7 @@ fn named_by(written: &WrittenLayout, table: TableName, before: usize) -> Option<
 
 /// The advice for the first name of the entry at a place that isn't that of an entry of the kind that is wanted; of a section for
 /// its own name, since no detection controller reports it.
-pub(crate) fn unknown_told(written: &WrittenLayout, place: Place) -> Option<Advice>
+pub(crate) fn unknown_told(written: &WrittenLayout, place: Place) -> Option<EntryAdvice>
     ensures { result ≡ unknown_told written.now place }
 {
     let before = place.entry.saturating_sub(1);

@@ -5,9 +5,9 @@ ghost use Rattle.std.specs.Char.{is_ascii_hexdigit};
 ghost use Rattle.std.specs.List.{list_all};
 ghost use Rattle.toml.specs.View.{items_view, view, table_view};
 ghost use Rattle.layout_text.specs.Values.{is_name};
-ghost use Rattle.station_explain.specs.ValueForms.{fits, is_code_text, is_end_word, is_id, is_port_text, misfit, side_fits, sides_fit, text_fits, unfit_item};
+ghost use Rattle.station_explain.specs.ValueForms.{fits, is_code_text, is_end_word, is_id, is_port_text, is_side_word, misfit, side_fits, sides_fit, text_fits, unfit_item};
 
-use crate::advice::{Advice, Spot};
+use crate::advice::{EntryAdvice, Spot};
 use crate::field_key::{FieldKey, kind_of};
 use control_table::sci_telegram::Name;
 use layout_text::Place;
@@ -40,12 +40,7 @@ fn is_id(value: &Value) -> bool
 fn is_end_word(word: &str) -> bool
     ensures { result ≡ is_end_word word.now }
 {
-    word == "a"
-        || word == "b"
-        || word == "tip"
-        || word == "left"
-        || word == "right"
-        || word == "end"
+    matches!(word, "a" | "b" | "tip" | "left" | "right" | "end")
 }
 
 /// Whether a text has the form of a port.
@@ -94,12 +89,19 @@ fn text_fits(key: FieldKey, text: &str) -> bool
     }
 }
 
+/// Whether a word is that of a side.
+fn is_side_word(word: &str) -> bool
+    ensures { result ≡ is_side_word word.now }
+{
+    matches!(word, "left" | "right")
+}
+
 /// Whether a member of a table is a point with its side.
 fn side_fits(point: &str, side: &Value) -> bool
     ensures { result ≡ side_fits point.now (view side.now) }
 {
     match side.as_str() {
-        Some(word) => is_name(point) && (word == "left" || word == "right"),
+        Some(word) => is_name(point) && is_side_word(word),
         None => false,
     }
 }
@@ -135,14 +137,14 @@ fn fits(key: FieldKey, value: &Value) -> bool
 }
 
 /// What is wrong with the first item of the array under a key that isn't as another key wants its value.
-fn unfit_item(place: Place, key: FieldKey, one: FieldKey, items: &[Value]) -> Option<Advice>
+fn unfit_item(place: Place, key: FieldKey, one: FieldKey, items: &[Value]) -> Option<EntryAdvice>
     ensures { result ≡ unfit_item place key one 0 (items_view items.now) }
 {
     let mut at: usize = 0;
     for item in items {
         at = at.saturating_add(1);
         if !fits(one, item) {
-            return Some(Advice::Wrong(Spot::Item(place, key, at), kind_of(item)));
+            return Some(EntryAdvice::Wrong(Spot::Item(place, key, at), kind_of(item)));
         }
     }
     None
@@ -150,7 +152,7 @@ fn unfit_item(place: Place, key: FieldKey, one: FieldKey, items: &[Value]) -> Op
 
 /// What is wrong with the value under a key, if it hasn't the form that the key wants.
 #[tactic(auto, unfolding(crate::specs::ValueForms::misfit))]
-pub(crate) fn misfit(place: Place, key: FieldKey, value: &Value) -> Option<Advice>
+pub(crate) fn misfit(place: Place, key: FieldKey, value: &Value) -> Option<EntryAdvice>
     ensures { result ≡ misfit place key (view value.now) }
 {
     if let Some(one) = key.of_items() {
@@ -161,5 +163,5 @@ pub(crate) fn misfit(place: Place, key: FieldKey, value: &Value) -> Option<Advic
     if fits(key, value) {
         return None;
     }
-    Some(Advice::Wrong(Spot::Field(place, key), kind_of(value)))
+    Some(EntryAdvice::Wrong(Spot::Field(place, key), kind_of(value)))
 }
