@@ -1,5 +1,5 @@
 -- Addresses that stand under their names, one more at a time.
-use Rattle.std.proofs.Common.{◌≡◌, ◌⊎◌, ℕ, zero, suc, ◌≤◌, ◌<◌, List, [], ◌∷◌, ◌++◌, length, Some, None, slice_get, length-append, refl, ap, subst, ◌∙◌, inl, inr, arith}
+use Rattle.std.proofs.Common.{◌≡◌, ◌⊎◌, ℕ, zero, suc, ◌≤◌, ◌<◌, ◌-◌, List, [], ◌∷◌, ◌++◌, length, Some, None, slice_get, length-append, refl, ap, subst, ◌∙◌, inl, inr, arith}
 use Rattle.std.specs.List.{Contains}
 use Rattle.std.specs.declared.net.socket_addr.SocketAddr.{SocketAddr}
 use Rattle.std.proofs.lemmas.List.Elements.{Contains-get_or}
@@ -50,6 +50,17 @@ something_at (x ∷ xs) (suc k) within = something_at xs k (omega arith)
 
 abbrev pub AreSoFar : Members → List (List ℕ) → List SocketAddr → Type 0
 AreSoFar document names addresses = StandUnder document names addresses × Distinct addresses × (length addresses ≤ length names)
+
+pub none_yet : (document : Members) (names : List (List ℕ)) → AreSoFar document names []
+none_yet document names = (
+  λ place address at. absurd (omega (arith, slice_get_within [] place address at)),
+  λ place behind address earlier within. absurd (omega (arith, within)),
+  omega arith,
+)
+
+pub fewer_left : (names : List (List ℕ)) (addresses : List SocketAddr) (name : List ℕ) (address : SocketAddr) → slice_get names (length addresses) ≡ Some name
+    → length names - length (addresses ++ address ∷ []) < length names - length addresses
+fewer_left names addresses name address next = omega (arith, length-append addresses (address ∷ []), slice_get_within names (length addresses) name next)
 
 pub one_more : (document : Members) (names : List (List ℕ)) (addresses : List SocketAddr) (name : List ℕ) (address : SocketAddr)
     → AreSoFar document names addresses → slice_get names (length addresses) ≡ Some name → StandsUnder document name address → (Contains addresses address → ⊥)

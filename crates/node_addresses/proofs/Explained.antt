@@ -1,12 +1,14 @@
 -- Which fault a text has, by where reading it stops.
-use Rattle.std.proofs.Common.{◌≡◌, ℕ, List, None, Some, sym, subst}
+use Rattle.std.proofs.Common.{◌≡◌, ℕ, List, length, None, Some, slice_get, sym, subst}
 use Rattle.std.specs.declared.net.socket_addr.SocketAddr.{SocketAddr}
 use Rattle.toml.specs.Data.{Members}
 use Rattle.toml.specs.Parse.{parse_document}
 use Rattle.ixl_rules.specs.layout.Entries.{Site}
+use Rattle.replay_lines.specs.Names.{node_names}
 use Rattle.node_addresses.specs.declared.fault.AddressesFault.{AddressesFault}
 use Rattle.node_addresses.specs.declared.fault.AddressesFault.TheVariants.{Toml, MissingNode, WrongAddress, DoubleAddress, UnknownNode, WrongName, OutOfMemory}
-use Rattle.node_addresses.specs.Addresses.{AreOfNodes, IsFault, no_toml, at_node, at_key, IsSound, StopsAtNode, UnlessMemory, unknown_key}
+use Rattle.node_addresses.specs.Addresses.{AreOfNodes, HasNone, IsFault, no_toml, at_node, at_key, IsSound, StopsAtNode, UnlessMemory, unknown_key}
+use Rattle.node_addresses.proofs.AddressesSoFar.{AreSoFar}
 use Rattle.node_addresses.proofs.Refuted.{refuted}
 
 -- what is told unless memory was refused leads to what follows
@@ -27,6 +29,12 @@ anyway (DoubleAddress name) said = said
 anyway (UnknownNode name) said = said
 anyway WrongName said = said
 anyway OutOfMemory said = tt
+
+-- reading stops at the node that comes next
+pub stops_there : (site : Site) (document : Members) (before : List SocketAddr) (name : List ℕ) (fault : AddressesFault) → AreSoFar document (node_names site) before
+    → slice_get (node_names site) (length before) ≡ Some name → HasNone document name before fault → UnlessMemory fault (StopsAtNode site document fault)
+stops_there site document before name fault found next why =
+    anyway fault (record { before = before; each = found.0; once = found.1; name = name; is_next = next; why = why })
 
 module _ (site : Site) (text : List ℕ) where
   pub document_fault : (fault : AddressesFault) → UnlessMemory fault ((fault ≡ Toml) × (parse_document text ≡ None)) → UnlessMemory fault (IsFault site text fault)

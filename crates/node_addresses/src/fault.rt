@@ -41,7 +41,7 @@ impl fmt::Display for AddressesFault {
                 let name = name.as_str();
                 write!(f, "{title} at {name}")
             }
-            None => write!(f, "{title}"),
+            None => f.write_str(title),
         }
     }
 }

@@ -18,6 +18,7 @@ mod memory;
 mod node_clock;
 mod node_socket;
 mod other_end;
+mod record_lines;
 mod recorded;
 mod replayed;
 mod stream_lines;

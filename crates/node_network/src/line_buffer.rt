@@ -100,11 +100,10 @@ impl LineBuffer {
         requires few { length bytes.now ≤ 512 }
         ensures { self.new ≡ record self.old { behind = bytes.now } }
     {
-        let mut piece = ArrayVec::new();
-        for byte in bytes {
-            piece.push(*byte);
+        // So many always fit.
+        if let Ok(piece) = ArrayVec::try_from(bytes) {
+            self.piece = piece;
+            self.taken = 0;
         }
-        self.piece = piece;
-        self.taken = 0;
     }
 }

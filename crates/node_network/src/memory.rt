@@ -149,40 +149,6 @@ impl MemoryOutside {
     {
         self.sent.pop_front()
     }
-
-    /// A call of the network is made. It tells whether this is the one that fails.
-    fn fails(&mut self) -> bool
-        ensures failing { self.new ≡ record self.old { failing = self.old.failing - 1 } }
-        ensures fails { Decides result (self.old.failing ≡ 1) }
-    {
-        let fails = self.failing == 1;
-        self.failing = self.failing.saturating_sub(1);
-        fails
-    }
-
-    /// The oldest datagram that waits.
-    fn take_datagram(&mut self) -> Option<Arrived>
-        ensures log { self.new.log ≡ self.old.log }
-        ensures latest { self.new.latest ≡ self.old.latest }
-    {
-        if self.fails() {
-            return None;
-        }
-        let (from, bytes) = self.datagrams.pop_front()?;
-        arrived(from, &bytes)
-    }
-
-    /// The oldest line that waits.
-    fn take_line(&mut self) -> NextLine
-        ensures log { self.new.log ≡ self.old.log }
-        ensures latest { self.new.latest ≡ self.old.latest }
-    {
-        match self.lines.pop_front() {
-            Some(text) => NextLine::Text(text),
-            None if self.closed => NextLine::Closed,
-            None => NextLine::Nothing,
-        }
-    }
 }
 
 impl Outside for MemoryOutside {
@@ -207,13 +173,13 @@ impl Outside for MemoryOutside {
     }
 
     fn next_line(&mut self, alloc: Global) -> Result<NextLine, AllocError> {
-        let line = self.take_line();
+        let line = take_line(&mut self.lines, self.closed);
         self.log.add(heard_line(alloc, &line));
         Ok(line)
     }
 
     fn next_datagram(&mut self) -> Option<Arrived> {
-        let arrived = self.take_datagram();
+        let arrived = take_datagram(&mut self.failing, &mut self.datagrams);
         self.log.add(heard_datagram(self.alloc, &arrived));
         arrived
     }
@@ -234,7 +200,7 @@ impl Outside for MemoryOutside {
 
     fn send(&mut self, to: NodeId, bytes: &[u8]) {
         self.log.add(sent(self.alloc, to, bytes));
-        if !self.fails() {
+        if !fails(&mut self.failing) {
             // Where no memory is left it is lost.
             let _ = keep_datagram(self.alloc, &mut self.sent, to, bytes);
         }
@@ -264,6 +230,37 @@ fn keep_datagram<N: Copy>(
 {
     datagrams.push_back((node, Vec::from_slice(alloc, bytes)?))?;
     Ok(())
+}
+
+/// A call of the network is made, where one of the next calls fails. It tells whether this is the one.
+fn fails(failing: &mut u64) -> bool
+    ensures failing { failing.new ≡ failing.old - 1 }
+    ensures fails { Decides result (failing.old ≡ 1) }
+{
+    let fails = *failing == 1;
+    *failing = failing.saturating_sub(1);
+    fails
+}
+
+/// Takes the oldest line, if one waits.
+fn take_line(lines: &mut VecDeque<String>, closed: bool) -> NextLine {
+    match lines.pop_front() {
+        Some(text) => NextLine::Text(text),
+        None if closed => NextLine::Closed,
+        None => NextLine::Nothing,
+    }
+}
+
+/// Takes the oldest datagram, if one waits and the call doesn't fail.
+fn take_datagram(
+    failing: &mut u64,
+    datagrams: &mut VecDeque<(Option<NodeId>, Vec<u8>)>,
+) -> Option<Arrived> {
+    if fails(failing) {
+        return None;
+    }
+    let (from, bytes) = datagrams.pop_front()?;
+    arrived(from, &bytes)
 }
 
 /// A datagram that came. One that is too long is cut.

@@ -50,7 +50,7 @@ impl<'a, O: Outside, W: Write, E: Eprint> Recorded<'a, O, W, E> {
     fn note(&mut self, entry: Entry<'_>)
         ensures { self.new.outside ≡ self.old.outside }
     {
-        if self.is_whole && !self.writes(entry) {
+        if self.is_whole && !writes(self.alloc, self.layout, &mut self.recorder, entry) {
             self.is_whole = false;
             // Where this fails it isn't told.
             let _ = self
@@ -58,15 +58,13 @@ impl<'a, O: Outside, W: Write, E: Eprint> Recorded<'a, O, W, E> {
                 .eprintln("the record can't be written any more");
         }
     }
+}
 
-    /// Writes the line of a call. It tells whether it was written whole.
-    fn writes(&mut self, entry: Entry<'_>) -> bool
-        ensures { self.new.outside ≡ self.old.outside }
-    {
-        match entry_line(self.alloc, self.layout, entry) {
-            Ok(line) => self.recorder.writeln(line.as_str()).is_ok(),
-            Err(_) => false,
-        }
+/// Writes the line of a call to a record. It tells whether it was written whole.
+fn writes<W: Write>(alloc: Global, layout: &Layout, recorder: &mut W, entry: Entry<'_>) -> bool {
+    match entry_line(alloc, layout, entry) {
+        Ok(line) => recorder.writeln(line.as_str()).is_ok(),
+        Err(_) => false,
     }
 }
 

@@ -3,9 +3,10 @@
 ghost use Rattle.std.specs.Prelude.{◌≡◌, ◌≤◌};
 
 use crate::entry::{Entry, entry_line};
+use crate::record_lines::RecordLines;
 use node_drive::node_lines::ixl_rules::control_table::layout::Layout;
 use node_drive::node_lines::replay_lines::node_named;
-use node_drive::node_lines::replay_words::{Fault, Lines, decimal, hexadecimal_or_none};
+use node_drive::node_lines::replay_words::{Fault, Lines, hexadecimal_or_none};
 use node_drive::node_lines::simulator_event::NodeId;
 use node_drive::{Arrived, BrokenOff, NextLine, Outside, Received};
 use std::alloc::{AllocError, Global};
@@ -15,13 +16,9 @@ use std::alloc::{AllocError, Global};
 pub struct Replayed<'a> {
     alloc: Global,
     layout: &'a Layout,
-    lines: Lines<'a>,
-    /// The next line with its number, if there is one.
-    next: Option<(u64, &'a str)>,
+    lines: RecordLines<'a>,
     /// What the clock read last.
     latest: u64,
-    /// The number of the first line that differs.
-    differs: Option<u64>,
     /// Whether memory was there for each comparison.
     is_whole: bool,
 }
@@ -29,58 +26,23 @@ pub struct Replayed<'a> {
 impl<'a> Replayed<'a> {
     /// What stands behind the first line of a record.
     pub fn new(alloc: Global, layout: &'a Layout, lines: Lines<'a>) -> Replayed<'a> {
-        let mut lines = lines;
-        let next = lines.next();
         Replayed {
             alloc,
             layout,
-            lines,
-            next,
+            lines: RecordLines::new(lines),
             latest: 0,
-            differs: None,
             is_whole: true,
         }
     }
 
     /// The number of the first line that differs, if one does: one of which the node does something else, or one that is left.
     pub fn difference(&self) -> Option<u64> {
-        match (self.differs, self.next) {
-            (None, Some((number, _))) => Some(number),
-            (differs, _) => differs,
-        }
+        self.lines.difference()
     }
 
     /// Whether memory was there for each comparison.
     pub fn is_whole(&self) -> bool {
         self.is_whole
-    }
-
-    /// The next line was gone through.
-    fn pass(&mut self)
-        ensures { self.new.latest ≡ self.old.latest }
-    {
-        self.next = self.lines.next();
-    }
-
-    /// The next line says something else.
-    fn differ(&mut self)
-        ensures { self.new.latest ≡ self.old.latest }
-    {
-        if let (None, Some((number, _))) = (self.differs, self.next) {
-            self.differs = Some(number);
-        }
-        self.next = None;
-    }
-
-    /// What stands behind these words in the next line, which is gone through.
-    fn behind(&mut self, words: &str) -> Option<&'a str>
-        ensures { self.new.latest ≡ self.old.latest }
-    {
-        let rest = rest_of(self.next, words);
-        if rest.is_some() {
-            self.pass();
-        }
-        rest
     }
 
     /// Whether the next line is that of this call; it is gone through then.
@@ -91,11 +53,7 @@ impl<'a> Replayed<'a> {
             self.is_whole = false;
             return false;
         };
-        let is_next = is_line(self.next, line.as_str());
-        if is_next {
-            self.pass();
-        }
-        is_next
+        self.lines.is_next(line.as_str())
     }
 
     /// The node does this.
@@ -103,20 +61,9 @@ impl<'a> Replayed<'a> {
         ensures { self.new.latest ≡ self.old.latest }
     {
         if !self.is_next(entry) {
-            self.differ();
+            self.lines.differ();
         }
     }
-}
-
-/// The reading of the clock that the next line tells, if it tells one.
-fn reading_in(next: Option<(u64, &str)>) -> Option<u64> {
-    decimal(rest_of(next, "at ")?).ok()
-}
-
-/// What stands behind these words in the next line.
-fn rest_of<'a>(next: Option<(u64, &'a str)>, words: &str) -> Option<&'a str> {
-    let (_, line) = next?;
-    line.strip_prefix(words)
 }
 
 /// A datagram as a line has it, behind its first word.
@@ -128,11 +75,6 @@ fn arrived(layout: &Layout, rest: &str) -> Option<Arrived> {
     Some(Arrived { from, bytes })
 }
 
-/// Whether the next line is this one.
-fn is_line(next: Option<(u64, &str)>, line: &str) -> bool {
-    matches!(next, Some((_, text)) if text == line)
-}
-
 impl<'a> Outside for Replayed<'a> {
     ghost use Rattle.std.specs.Prelude.{None};
 
@@ -141,12 +83,12 @@ impl<'a> Outside for Replayed<'a> {
     fn rest(&mut self) {}
 
     fn read_clock(&mut self) -> u64 {
-        match reading_in(self.next) {
+        match self.lines.reading() {
             Some(reading) if reading >= self.latest => {
                 self.latest = reading;
-                self.pass();
+                self.lines.pass();
             }
-            _ => self.differ(),
+            _ => self.lines.differ(),
         }
         self.latest
     }
@@ -157,17 +99,17 @@ impl<'a> Outside for Replayed<'a> {
 
     /// Behind its last line a record has no more of what came, so the process ends there.
     fn next_line(&mut self, alloc: Global) -> Result<NextLine, AllocError> {
-        if self.next.is_none() || self.is_next(Entry::Closed) {
+        if self.lines.are_over() || self.is_next(Entry::Closed) {
             return Ok(NextLine::Closed);
         }
-        match self.behind("hears ") {
+        match self.lines.behind("hears ") {
             Some(text) => Ok(NextLine::Text(String::from_str(alloc, text)?)),
             None => Ok(NextLine::Nothing),
         }
     }
 
     fn next_datagram(&mut self) -> Option<Arrived> {
-        arrived(self.layout, self.behind("from ")?)
+        arrived(self.layout, self.lines.behind("from ")?)
     }
 
     fn throw_away(&mut self) {

@@ -1,9 +1,9 @@
 -- Which node a link leads to.
-use Rattle.std.proofs.Common.{◌≡◌, ◌∙◌, ◌+◌, ◌-◌, ◌<◌, ◌≤◌, ap, arith, Bool, true, false, cond, get_or, length, List, ℕ, Option, Some, None, refl, sym}
+use Rattle.std.proofs.Common.{◌≡◌, ◌∙◌, ◌+◌, ◌-◌, ◌<◌, ◌≤◌, ap, arith, Bool, true, false, cond, get_or, length, List, ℕ, zero, suc, Option, Some, None, refl, sym}
 use Rattle.std.specs.Prelude.{nat_lt, slice_get}
 use Rattle.std.proofs.lemmas.Bool.Decides.{nat_tests}
 use Rattle.std.proofs.lemmas.Option.{same_Some, slice_get_read}
-use Rattle.node_kinds.specs.simulator_run.Nodes.{Node, Signal, Point, Detector, controller_at, detector_link, links, point_link}
+use Rattle.node_kinds.specs.simulator_run.Nodes.{Node, Signal, Point, Detector, controller_at, detector_link, links, node_at, point_link}
 use Rattle.node_kinds.specs.simulator_run.layout.Entries.{Site}
 
 is_below : (n m : ℕ) → n < m → nat_lt n m ≡ true
@@ -30,6 +30,11 @@ module _ (site : Site) (link signals points : ℕ) (signals_are : signals ≡ le
       ∙ ap (λ b. chosen site link false b (nat_lt link (links site))) (is_past link (point_link site (length site.points)) (omega (arith, past, further, signals_are, points_are)))
       ∙ ap (λ b. chosen site link false false b) (is_below link (links site) (omega (arith, past, further, below, signals_are, points_are)))
       ∙ ap (λ n. Some (Detector n)) (omega (arith, signals_are, points_are))
+
+-- the nodes behind the interlocking are the controllers
+pub at_link : (site : Site) (node : ℕ) → (node ≡ 0 → ⊥) → controller_at site (node - 1) ≡ node_at site node
+at_link site zero isnt = absurd (isnt refl)
+at_link site (suc link) isnt = ap (controller_at site) (omega arith)
 
 -- the entry that was read at a place
 pub entry_is : {Entry : Type 0} (entries same : List Entry) (place : ℕ) (entry one : Entry) → entries ≡ same → place < length same → entry ≡ get_or entries place entry → slice_get same place ≡ Some one → entry ≡ one

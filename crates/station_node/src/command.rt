@@ -14,6 +14,7 @@ use node_kinds::simulator_run::ixl_rules::control_table::layout::Layout;
 use node_kinds::simulator_run::simulator_event::NodeId;
 use node_network::{Lines, Machine, NodeClock, NodeSocket, Recorded};
 use station_check::{table_of, tell};
+use std::alloc::Global;
 use std::fs;
 use std::fs::Files;
 use std::io::{self, Eprint, Read, Write};
@@ -82,8 +83,13 @@ fn begin<
     output: O,
     complaints: E,
 ) -> Result<(), NodeFailure> {
-    let place = judge(rt, table, asked)?;
-    let machine = open(rt, asked, &place.own, input, output, complaints)?;
+    let own = own_of(rt, table.layout(), asked)?;
+    let machine = open(rt, asked, &own, input, output, complaints)?;
+    let place = Place {
+        table,
+        node: own.node,
+        first: own.first,
+    };
     run_asked(rt, asked, place, machine)
 }
 
@@ -96,15 +102,16 @@ fn run_asked<R: Files + Eprint + AllocGlobal, O: Outside + Drop>(
 ) -> Result<(), NodeFailure> {
     match asked.record {
         Some(path) => run_recorded(rt, asked, place, outside, path),
-        None => run_over(rt, asked, place, outside),
+        None => run_over(rt.alloc(), place, asked.for_ms, outside),
     }
 }
 
-/// The table of a station, and a process in it.
+/// A node of the station of this table, and the number of its first PDU.
 #[derive(Drop)]
 struct Place {
     table: Checked,
-    own: Own,
+    node: NodeId,
+    first: u32,
 }
 
 /// What a process is of its own: which node it is, where all nodes are, and the number of its first PDU.
@@ -113,16 +120,6 @@ struct Own {
     node: NodeId,
     addresses: Vec<SocketAddr>,
     first: u32,
-}
-
-/// Judges the name and the addresses in the station of this table.
-fn judge<R: RandomSource + AllocGlobal>(
-    rt: &R,
-    table: Checked,
-    asked: &Asked<'_>,
-) -> Result<Place, NodeFailure> {
-    let own = own_of(rt, table.layout(), asked)?;
-    Ok(Place { table, own })
 }
 
 /// Judges the name and the addresses, and draws the number of the first PDU.
@@ -175,17 +172,17 @@ fn open_socket<'a, R: Net + Timer + Eprint + AllocGlobal>(
     Ok((socket, clock))
 }
 
-/// Runs a node over what it has outside.
-fn run_over<R: AllocGlobal, O: Outside + Drop>(
-    rt: &R,
-    asked: &Asked<'_>,
+/// Runs a node over what it has outside, for so many milliseconds, or for ever.
+fn run_over<O: Outside + Drop>(
+    alloc: Global,
     place: Place,
+    for_ms: Option<u64>,
     outside: O,
 ) -> Result<(), NodeFailure> {
     let mut outside = outside;
-    let Place { table, own } = place;
-    let for_ms = time(asked);
-    run_node(rt.alloc(), table, own.node, own.first, for_ms, &mut outside)?;
+    let Place { table, node, first } = place;
+    let for_ms = for_ms.unwrap_or(u64::MAX);
+    run_node(alloc, table, node, first, for_ms, &mut outside)?;
     Ok(())
 }
 
@@ -198,21 +195,9 @@ fn run_recorded<R: Files + Eprint + AllocGlobal, O: Outside + Drop>(
     path: &str,
 ) -> Result<(), NodeFailure> {
     let copy = place.table.copy(rt.alloc())?;
-    run_noted(rt, asked, copy.layout(), place, outside, path)
-}
-
-/// The same; the record speaks of this layout.
-fn run_noted<R: Files + Eprint + AllocGlobal, O: Outside + Drop>(
-    rt: &R,
-    asked: &Asked<'_>,
-    layout: &Layout,
-    place: Place,
-    outside: O,
-    path: &str,
-) -> Result<(), NodeFailure> {
-    let recorder = begin_record(rt, asked, place.own.first, path)?;
-    let recorded = Recorded::new(rt.alloc(), layout, outside, recorder, rt);
-    run_over(rt, asked, place, recorded)
+    let recorder = begin_record(rt, asked, place.first, path)?;
+    let recorded = Recorded::new(rt.alloc(), copy.layout(), outside, recorder, rt);
+    run_over(rt.alloc(), place, asked.for_ms, recorded)
 }
 
 /// Makes a record, with its first line.
@@ -238,11 +223,6 @@ fn write_head<W: Write>(asked: &Asked<'_>, first: u32, recorder: &mut W) -> io::
         Some(for_ms) => recorder.writeln(format_args!("node {name} first {first} for {for_ms}")),
         None => recorder.writeln(format_args!("node {name} first {first}")),
     }
-}
-
-/// For how many milliseconds the process runs.
-fn time(asked: &Asked<'_>) -> u64 {
-    asked.for_ms.unwrap_or(u64::MAX)
 }
 
 /// The lines of a node: those of its field equipment, or of the operator, who may come and go over a connection.

@@ -1,13 +1,23 @@
 use Rattle.std.proofs.Common.{ap, ◌∙◌, Some, subst, sym}
 use Rattle.std.specs.Option.{option_map}
 use Rattle.node_kinds.specs.Controllers.{detector_kind}
-use Rattle.node_kinds.specs.Openings.{Sections}
+use Rattle.node_kinds.specs.Openings.{Sections, opening_kind, untold}
 use Rattle.node_kinds.specs.inside.ControllerNodes.{detector_now, opening_now}
+use Rattle.node_kinds.specs.node_drive.Beginning.{first_course}
+use Rattle.node_kinds.specs.node_drive.Drives.{CutOff}
 use Rattle.node_kinds.specs.simulator_run.layout.Entries.{DetectorEntry, Site}
-use Rattle.station_node.specs.Processes.{Opens, detector_made, opened, told_sections, waited}
+use Rattle.station_node.specs.Processes.{Opens, detector_made, opened, standing, told_sections, waited, waiting}
 use Rattle.station_node.proofs.Lived.{any_err, controls, controls_cut, map_err, map_ok, not_made_yet}
 use Rattle.station_node.proofs.Places.{entry_is}
 use Rattle.station_node.proofs.controllers.run_detector.Goals as goal
+
+pub returns-in_err-opening-clause-stopped : goal.returns-in_err-opening-clause-stopped
+returns-in_err-opening-clause-stopped g c = any_err c.from_residual.result (λ (entry : DetectorEntry) there.
+    let detectors = c.detectors.ensures ∙ ap (λ (s : Site). s.detectors) c.layout.ensures.entries in
+    let same = entry_is c.detectors.result.now c.args.told.table.now.detectors c.args.place c.index-detectors-place.result entry detectors c.requires.place c.index-detectors-place.is there in
+    let own = c.sections-own.ensures ∙ ap (λ (e : DetectorEntry). e.sections) same in
+    waiting (subst (λ own. CutOff opening_kind c.args.told.for_ms c.args.told.begins (standing (untold c.args.told.table.now (Sections own)) first_course) (g.O.Outside.told c.args.outside.now) (g.O.Outside.told c.open.new.outside))
+    own c.in_err-opening.ensures.stopped))
 
 pub returns-in_err-sensed-clause-stopped : goal.returns-in_err-sensed-clause-stopped
 returns-in_err-sensed-clause-stopped g c = any_err c.from_residual-in_err-sensed.result (λ (entry : DetectorEntry) there.

@@ -1,0 +1,77 @@
+//! The lines of a record that is gone through.
+
+use node_drive::node_lines::replay_words::{Lines, decimal};
+
+/// The lines of a record that is gone through, up to the first that differs.
+#[derive(Drop)]
+pub(crate) struct RecordLines<'a> {
+    lines: Lines<'a>,
+    /// The next line with its number, if there is one.
+    next: Option<(u64, &'a str)>,
+    /// The number of the first line that differs.
+    differs: Option<u64>,
+}
+
+impl<'a> RecordLines<'a> {
+    pub(crate) fn new(lines: Lines<'a>) -> RecordLines<'a> {
+        let mut lines = lines;
+        let next = lines.next();
+        RecordLines {
+            lines,
+            next,
+            differs: None,
+        }
+    }
+
+    /// The number of the first line that differs, or else of the next one.
+    pub(crate) fn difference(&self) -> Option<u64> {
+        match (self.differs, self.next) {
+            (None, Some((number, _))) => Some(number),
+            (differs, _) => differs,
+        }
+    }
+
+    /// Whether there is no next line.
+    pub(crate) fn are_over(&self) -> bool {
+        self.next.is_none()
+    }
+
+    /// The next line was gone through.
+    pub(crate) fn pass(&mut self) {
+        self.next = self.lines.next();
+    }
+
+    /// The next line says something else.
+    pub(crate) fn differ(&mut self) {
+        self.differs = self.difference();
+        self.next = None;
+    }
+
+    /// Whether the next line is this one; it is gone through then.
+    pub(crate) fn is_next(&mut self, line: &str) -> bool {
+        let next = self.next;
+        let is_next = matches!(next, Some((_, text)) if text == line);
+        if is_next {
+            self.pass();
+        }
+        is_next
+    }
+
+    /// What stands behind these words in the next line, which is gone through.
+    pub(crate) fn behind(&mut self, words: &str) -> Option<&'a str> {
+        let rest = rest_of(self.next, words)?;
+        self.pass();
+        Some(rest)
+    }
+
+    /// The reading of the clock that the next line tells, if it tells one.
+    pub(crate) fn reading(&self) -> Option<u64> {
+        decimal(rest_of(self.next, "at ")?).ok()
+    }
+}
+
+/// What stands behind these words in the next line.
+fn rest_of<'a>(next: Option<(u64, &'a str)>, words: &str) -> Option<&'a str> {
+    let (_, line) = next?;
+    line.strip_prefix(words)
+}
