@@ -83,9 +83,11 @@ impl Course {
     pub(crate) fn hear_line(&mut self) -> Option<u64>
         ensures { IfSome result (λ heard. (heard ≡ suc self.old.heard) × (self.new ≡ record self.old { heard = suc self.old.heard })) }
     {
-        let heard = self.heard.checked_add(1)?;
-        self.heard = heard;
-        Some(heard)
+        if self.heard == u64::MAX {
+            return None;
+        }
+        self.heard += 1;
+        Some(self.heard)
     }
 
     /// How many orders were written.

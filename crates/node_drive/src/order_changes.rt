@@ -2,10 +2,9 @@
 
 ghost use Rattle.std.specs.Prelude.{◌≡◌};
 ghost use Rattle.node_drive.specs.Rounds.{new_order};
-ghost use Rattle.node_drive.specs.Same.{is_same_order, is_same_side};
+ghost use Rattle.node_drive.specs.Same.{is_same_order};
 
 use node_lines::Order;
-use node_lines::ixl_rules::control_table::sci_telegram::Side;
 
 /// The order that is to be written: none where it is that of the last line.
 pub(crate) fn new_order(last: Option<Order>, order: Option<Order>) -> Option<Order>
@@ -31,16 +30,7 @@ fn is_same_order(one: Order, other: Order) -> bool
                 until: one,
             },
             Order::Drive { side, until: other },
-        ) => is_same_side(to, side) && one == other,
-        _ => false,
-    }
-}
-
-fn is_same_side(one: Side, other: Side) -> bool
-    ensures { result ≡ is_same_side one other }
-{
-    match (one, other) {
-        (Side::Right, Side::Right) | (Side::Left, Side::Left) => true,
+        ) => to == side && one == other,
         _ => false,
     }
 }

@@ -28,7 +28,7 @@ pub enum NextLine {
 }
 
 /// A line wasn't written whole.
-#[derive(Clone, Copy, Debug, PartialEq, Eq)]
+#[derive(Clone, Copy)]
 pub struct BrokenOff;
 
 /// What a node's process has outside. One list tells of all of it, so that the order of its calls is seen. Nothing of it blocks

@@ -1,11 +1,10 @@
 //! Whether the same is known as before.
 
 ghost use Rattle.std.specs.Prelude.{◌≡◌};
-ghost use Rattle.simulator_run.specs.ixl_rules.Table.{is_same_side};
-ghost use Rattle.node_kinds.specs.Interlockings.{both_same, is_same, is_same_aspect, is_same_authority, is_same_link, is_same_occupancy};
+ghost use Rattle.node_kinds.specs.Interlockings.{both_same, is_same, is_same_aspect, is_same_authority, is_same_link};
 
 use node_drive::node_lines::{Authority, Known, LinkState};
-use simulator_run::ixl_rules::control_table::sci_telegram::{Aspect, Occupancy, Side};
+use simulator_run::ixl_rules::control_table::sci_telegram::Aspect;
 
 /// Whether the same is known of the same thing.
 pub(crate) fn is_same(one: Known, other: Known) -> bool
@@ -25,14 +24,14 @@ pub(crate) fn is_same(one: Known, other: Known) -> bool
                 section: of,
                 occupancy: now,
             },
-        ) => section.0 == of.0 && is_same_occupancy(occupancy, now),
+        ) => section.0 == of.0 && occupancy == now,
         (
             Known::Point { point, side },
             Known::Point {
                 point: of,
                 side: now,
             },
-        ) => { point.0 == of.0 && is_same_side(side, now) }
+        ) => { point.0 == of.0 && side == now }
         (
             Known::Signal { signal, authority },
             Known::Signal {
@@ -65,28 +64,6 @@ fn is_same_link(one: LinkState, other: LinkState) -> bool
 {
     match (one, other) {
         (LinkState::Ready, LinkState::Ready) | (LinkState::Lost, LinkState::Lost) => true,
-        _ => false,
-    }
-}
-
-fn is_same_occupancy(one: Option<Occupancy>, other: Option<Occupancy>) -> bool
-    ensures { result ≡ both_same is_same_occupancy one other }
-{
-    match (one, other) {
-        (None, None) => true,
-        (Some(Occupancy::Clear), Some(Occupancy::Clear)) => true,
-        (Some(Occupancy::Occupied), Some(Occupancy::Occupied)) => true,
-        _ => false,
-    }
-}
-
-fn is_same_side(one: Option<Side>, other: Option<Side>) -> bool
-    ensures { result ≡ both_same is_same_side one other }
-{
-    match (one, other) {
-        (None, None) => true,
-        (Some(Side::Right), Some(Side::Right)) => true,
-        (Some(Side::Left), Some(Side::Left)) => true,
         _ => false,
     }
 }

@@ -173,20 +173,9 @@ fn told(last: Position, report: Result<FieldReport, Fault>) -> (LineMeaning, Opt
 fn unless_again(last: Position, position: Position) -> Option<Position>
     ensures { Comes [] (position_left result) ≡ unless_again (is_same_position last position) (inputs.Sense (sense.Position position)) }
 {
-    if is_same_position(last, position) {
+    if last == position {
         None
     } else {
         Some(position)
     }
-}
-
-fn is_same_position(one: Position, other: Position) -> bool
-    ensures { result ≡ is_same_position one other }
-{
-    matches!(
-        (one, other),
-        (Position::Left, Position::Left)
-            | (Position::Right, Position::Right)
-            | (Position::NoEndPosition, Position::NoEndPosition)
-    )
 }

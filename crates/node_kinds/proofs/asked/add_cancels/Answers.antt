@@ -5,7 +5,7 @@ use Rattle.simulator_run.specs.ixl_rules.declared.command.Command.{Command}
 use Rattle.simulator_run.specs.ixl_rules.declared.command.Command.TheVariants as command
 use Rattle.ixl_state.specs.State.{HasRoute, StateView}
 use Rattle.node_kinds.specs.Interlockings.{cancel_where_set, cancels}
-use Rattle.node_kinds.proofs.Lists.{got_below, got_here, one_over}
+use Rattle.node_kinds.proofs.Lists.{all_over, got_below, got_here, one_over}
 use Rattle.node_kinds.proofs.asked.add_cancels.Goals as goal
 use Rattle.node_kinds.proofs.asked.add_cancels.Goals.{then-is_set+in_ok-push_back, else-is_set}
 
@@ -28,3 +28,11 @@ loop-place-preserved c =
       | else-is_set w ↦ one_over cancel_where_set place routes one c.loop-place.left.items c.if-is_set.left.items wanted [] below here
           (ap (λ b. if b then cancelled else []) (sym w.if-is_set.false ∙ is)) (ap (λ d. d.items) w.left-is ∙ sym (append-nil c.loop-place.left.items)) c.loop-place.invariant
     ]
+
+pub returns : goal.returns
+returns c =
+    let routes = c.args.ixl.now.state.ixl.routes in
+    let rows = ap length (c.rows-place-end.ensures ∙ ap (λ (p : SitedTable). p.table.rows) c.table.ensures.sited) in
+    let each = c.table.ensures.each in
+    let many = ap (λ (s : StateView). length s.ixl.routes) c.state.ensures in
+    all_over cancel_where_set c.loop-place.place routes c.loop-place.left.items (c.args.left.now.items ++ cancels routes) (omega (arith, rows, each, many, c.loop-place-test.false)) c.loop-place.invariant
