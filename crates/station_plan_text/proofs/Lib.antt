@@ -1,1 +1,2 @@
 pub mod LinesKept
+pub mod Folded
