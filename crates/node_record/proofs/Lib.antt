@@ -7,3 +7,4 @@ pub mod RecordsRead
 pub mod FoundEnds
 pub mod FirstWord
 pub mod Charts
+pub mod Stories

@@ -1,14 +1,10 @@
--- The datagrams of a record, line by line, and their lines.
+-- The datagrams of a record, and their lines.
 use Rattle.std.proofs.Common.{◌≡◌, ◌∙◌, ◌+◌, ◌<◌, ℕ, List, [], ◌∷◌, ◌++◌, drop, get_or, length, Option, map, refl, ap, sym, subst, append_assoc, append-nil}
 use Rattle.std.proofs.lemmas.List.{drop_more}
 use Rattle.std.proofs.KnownBytes.{Appends-nil, Appends-trans, Appends-kept}
 use Rattle.std.specs.Io.KnownBytes.{Appends, Keeps}
-use Rattle.std.specs.Option.{option_to_list}
 use Rattle.control_table.specs.layout.Entries.{Site}
 use Rattle.node_record.specs.NodeLines.{line_text, lines_text}
-use Rattle.node_record.specs.NodeTraffic.{Passed, latest_behind, passed_at, traffic}
-use Rattle.node_record.specs.RecordLines.{told}
-use Rattle.node_record.specs.declared.record_line.RecordLine.{RecordLine}
 use Rattle.node_record.specs.inside.Passing.{seen}
 use Rattle.node_record.specs.declared.passage.Passed.{Passed as Code}
 use Rattle.node_record.specs.declared.passage.Way.TheVariants.{Sent}
@@ -20,21 +16,6 @@ split_at all place otherwise within = drop_more all place otherwise within
 -- one that stands nowhere
 abbrev pub nowhere : Code
 nowhere = record { reading = 0; way = Sent 0; bytes = record { ref_ptr = (0, 0); now = [] } }
-
--- one line more
-pub goes_on : (node latest : ℕ) (left behind : List RecordLine) (line : RecordLine) (before after whole : List Passed) → left ≡ line ∷ behind
-    → after ≡ before ++ option_to_list (passed_at node latest (told line) (map told behind)) → before ++ traffic node latest (map told left) ≡ whole
-    → after ++ traffic node (latest_behind latest (told line)) (map told behind) ≡ whole
-goes_on node latest left behind line before after whole split added goes =
-    let this : List Passed = option_to_list (passed_at node latest (told line) (map told behind)) in
-    let later : List Passed = traffic node (latest_behind latest (told line)) (map told behind) in
-    ap (λ t. t ++ later) added
-    ∙ (append_assoc before this later ∙ (ap (λ (l : List RecordLine). before ++ traffic node latest (map told l)) (sym split) ∙ goes))
-
--- no line is left
-pub ends : (node latest : ℕ) (left : List RecordLine) (now whole : List Passed) → left ≡ [] → now ++ traffic node latest (map told left) ≡ whole → now ≡ whole
-ends node latest left now whole none goes =
-    sym (append-nil now) ∙ (ap (λ (l : List RecordLine). now ++ traffic node latest (map told l)) (sym none) ∙ goes)
 
 -- ---- their lines
 

@@ -1,12 +1,17 @@
 -- The first whole line of a text, and those behind it.
-use Rattle.std.proofs.Common.{◌≡◌, ℕ, ◌+◌, ◌<◌, ◌==◌, Bool, true, false, not, cond, List, [], ◌∷◌, ◌++◌, length, Option, Some, None, Bor, Result, Ok, Err, lit<, refl, ap, ◌∙◌, arith}
+use Rattle.std.proofs.Common.{◌≡◌, ℕ, ◌+◌, ◌<◌, ◌==◌, Bool, true, false, not, cond, List, [], ◌∷◌, ◌++◌, length, Option, Some, None, Bor, Result, Ok, Err, lit<, refl, ap, append_assoc, sym, ◌∙◌, arith}
 use Rattle.std.specs.Iterator.{MakesProgress, item_count}
 use Rattle.std.specs.List.{slice_split, onto_first, before_first, after_first, position_or_len}
 use Rattle.std.specs.Option.{MatchOption}
 use Rattle.std.proofs.lemmas.List.Splits.{slice_split_first, length-slice_split}
 use Rattle.std.proofs.lemmas.Str.Pattern.{IsSplitOnceResult, split_once_first}
+use Rattle.control_table.specs.layout.Entries.{Site}
+use Rattle.replay_lines.specs.Text.{at_line}
 use Rattle.replay_lines.specs.declared.text.SessionFault.{SessionFault}
-use Rattle.node_record.specs.Records.{but_last, whole_lines}
+use Rattle.replay_words.specs.Cut.{words}
+use Rattle.replay_words.specs.declared.fault.Fault.{Fault}
+use Rattle.node_record.specs.RecordLines.{Line, line_said}
+use Rattle.node_record.specs.Records.{but_last, lines_said, whole_lines}
 
 -- a text without the byte is its own only part
 split-without : (p : ℕ → Bool) (bs : List ℕ) → position_or_len p bs ≡ length bs → slice_split p bs ≡ bs ∷ []
@@ -59,3 +64,20 @@ progress can before after item first e callable = record {
 abbrev pub behind : {A : Type 0} → List A → Result (List A) SessionFault → Result (List A) SessionFault
 behind kept (Ok more) = Ok (kept ++ more)
 behind kept (Err fault) = Err fault
+
+-- ---- what they tell
+
+-- one more line is kept
+behind-one : (kept : List Line) (number : ℕ) (this : Line) (more : Result (List Line) SessionFault) → behind (kept ++ this ∷ []) more ≡ behind kept (at_line number (Ok this) more)
+behind-one kept number this (Ok more) = ap Ok (append_assoc kept (this ∷ []) more)
+behind-one kept number this (Err fault) = refl
+
+-- what a line tells is kept
+pub behind_next : (site : Site) (kept new : List Line) (number : ℕ) (text : List ℕ) (old rest : List (ℕ × List ℕ)) (whole : Result (List Line) SessionFault) (this : Line)
+    → old ≡ (number, text) ∷ rest → line_said site (words text) ≡ Ok this → new ≡ kept ++ this ∷ [] → behind kept (lines_said site old) ≡ whole → behind new (lines_said site rest) ≡ whole
+behind_next site kept new number text old rest whole this split says more before_it =
+    ap (λ (list : List Line). behind list (lines_said site rest)) more
+    ∙ behind-one kept number this (lines_said site rest)
+    ∙ sym (ap (λ (read : Result Line Fault). behind kept (at_line number read (lines_said site rest))) says)
+    ∙ sym (ap (λ (left : List (ℕ × List ℕ)). behind kept (lines_said site left)) split)
+    ∙ before_it

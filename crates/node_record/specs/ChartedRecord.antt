@@ -36,7 +36,7 @@ window_of cut begin end = record { from = micros_or begin cut.from; to = min (mi
 -- A text is the chart of a story: it draws the changes of each lane of which the node tells, in the row of that lane, and each mark.
 pub record IsTextOf (l : Site) (role : Role) (cut : Cut) (story : NodeStory) (text : List ℕ) : Type 0 where
   pub rows : List DrawnRow
-  pub drawn : map seen_row rows ≡ filter (λ drawn. is_row_of l role drawn.row) (drawn_rows l (window_of cut story.begin story.end) story.changes.items)
+  pub drawn : map seen_row rows ≡ filter (λ drawn. is_row_of l.detectors role drawn.row) (drawn_rows l (window_of cut story.begin story.end) story.changes.items)
   pub picture : Picture
   pub is : IsChartOf l (window_of cut story.begin story.end) rows story.happenings.items picture
   pub text_is : text ≡ svg_text picture

@@ -26,11 +26,18 @@ why_text FromNoPartner = codes "from no partner"
 why_text ThrownAway = codes "thrown away"
 why_text Unread = codes "not read"
 
+-- to whom a datagram was sent, and what became of one that came
+abbrev pub sent_text : List ℕ → List ℕ → List ℕ
+sent_text own to = codes "sent by " ++ (own ++ (codes " to " ++ to))
+
+abbrev pub came_text : List ℕ → Reception → List ℕ
+came_text own Delivered = codes "delivered to " ++ own
+came_text own other = codes "not delivered to " ++ (own ++ (codes ", " ++ why_text other))
+
 -- what became of a datagram in the record of this node
 abbrev pub way_text : Site → ℕ → Way → List ℕ
-way_text site node (Sent to) = codes "sent by " ++ (node_text site node ++ (codes " to " ++ node_text site to))
-way_text site node (Came from Delivered) = codes "delivered to " ++ node_text site node
-way_text site node (Came from other) = codes "not delivered to " ++ (node_text site node ++ (codes ", " ++ why_text other))
+way_text site node (Sent to) = sent_text (node_text site node) (node_text site to)
+way_text site node (Came from reception) = came_text (node_text site node) reception
 
 -- the reading, in milliseconds; what became of the datagram; and its words under the key and with the names of the layout
 abbrev pub line_text : Site → ℕ → Passed → List ℕ

@@ -1,7 +1,7 @@
 -- Which rows the chart of a node's record has.
-use Rattle.std.specs.Prelude.{ℕ, ◌==◌, ◌&&◌, not, Bool, true, false, Option, Some, None, slice_get}
+use Rattle.std.specs.Prelude.{ℕ, ◌==◌, ◌&&◌, not, Bool, true, false, List, Option, Some, None, slice_get}
 use Rattle.std.specs.List.{list_any}
-use Rattle.control_table.specs.layout.Entries.{DetectorEntry, Site}
+use Rattle.control_table.specs.layout.Entries.{DetectorEntry}
 use Rattle.lane_chart.specs.declared.subject.Row.{Row}
 use Rattle.lane_chart.specs.declared.subject.Sort.{Sort}
 use Rattle.lane_chart.specs.declared.subject.Sort.TheVariants as sort
@@ -31,20 +31,20 @@ abbrev pub is_owned : Option DetectorEntry → ℕ → Bool
 is_owned (Some detector) section = owns detector section
 is_owned None section = false
 
-abbrev pub has_section : Site → ℕ → ℕ → Bool
-has_section l detector section = is_owned (slice_get l.detectors detector) section
+abbrev pub has_section : List DetectorEntry → ℕ → ℕ → Bool
+has_section detectors detector section = is_owned (slice_get detectors detector) section
 
-abbrev pub is_detector_sort : Site → ℕ → ℕ → Sort → Bool
-is_detector_sort l detector place sort.DetectorNode = place == detector
-is_detector_sort l detector place sort.Section = has_section l detector place
-is_detector_sort l detector place other = false
+abbrev pub is_detector_sort : List DetectorEntry → ℕ → ℕ → Sort → Bool
+is_detector_sort detectors detector place sort.DetectorNode = place == detector
+is_detector_sort detectors detector place sort.Section = has_section detectors detector place
+is_detector_sort detectors detector place other = false
 
-abbrev pub is_detector_row : Site → ℕ → Row → Bool
-is_detector_row l detector row = is_detector_sort l detector row.place row.subject.sort
+abbrev pub is_detector_row : List DetectorEntry → ℕ → Row → Bool
+is_detector_row detectors detector row = is_detector_sort detectors detector row.place row.subject.sort
 
 -- An interlocking tells of all but the controllers themselves. A controller tells of its signal, its point or its sections.
-abbrev pub is_row_of : Site → Role → Row → Bool
-is_row_of l role.Interlocking row = not (is_controller row.subject.sort)
-is_row_of l (role.Signal place) row = is_signal_row row.subject.sort && row.place == place
-is_row_of l (role.Point place) row = is_point_row row.subject.sort && row.place == place
-is_row_of l (role.Detector place) row = is_detector_row l place row
+abbrev pub is_row_of : List DetectorEntry → Role → Row → Bool
+is_row_of detectors role.Interlocking row = not (is_controller row.subject.sort)
+is_row_of detectors (role.Signal place) row = is_signal_row row.subject.sort && row.place == place
+is_row_of detectors (role.Point place) row = is_point_row row.subject.sort && row.place == place
+is_row_of detectors (role.Detector place) row = is_detector_row detectors place row

@@ -78,31 +78,13 @@ fn addresses_line(fault: AddressesFault) -> Result<ArrayString<LINE_LENGTH>, fmt
     Ok(line)
 }
 
-/// An address that is none of IPv4, as it is told.
-#[derive(Clone, Copy)]
-struct NoIpv4Text {
-    /// The name of its node.
-    name: Name,
-}
-
-impl fmt::Display for NoIpv4Text {
-    ghost use Rattle.std.specs.Prelude.{Some};
-
-    ghost output = { λ text. Some (no_ipv4_line text.name) };
-
-    fn fmt<W: fmt::Write>(&self, f: &mut fmt::Formatter<W>) -> fmt::Result {
-        let name = self.name.as_str();
-        write!(f, "capture fault 3 NoIpv4 at {name}\n")
-    }
-}
-
-/// The line of an address that is none of IPv4.
-fn no_ipv4_line(text: NoIpv4Text) -> Result<ArrayString<LINE_LENGTH>, fmt::Error>
-    ensures { IfOk result (λ line. line.bytes ≡ no_ipv4_line text.name) }
+/// The line of an address that is none of IPv4: that of the node of this name.
+fn no_ipv4_line(name: &str) -> Result<ArrayString<LINE_LENGTH>, fmt::Error>
+    ensures { IfOk result (λ line. line.bytes ≡ no_ipv4_line name.now) }
 {
     use std::fmt::Write;
     let mut line = ArrayString::new();
-    write!(line, "{text}")?;
+    write!(line, "capture fault 3 NoIpv4 at {name}\n")?;
     Ok(line)
 }
 
@@ -118,7 +100,7 @@ pub(crate) fn tell_ends_failure<E: Write>(failure: &EndsFailure, err: &mut E)
             }
         }
         EndsFailure::NoIpv4(name) => {
-            if let Ok(line) = no_ipv4_line(NoIpv4Text { name: *name }) {
+            if let Ok(line) = no_ipv4_line(name.as_str()) {
                 write_as_taken(line.as_str().as_bytes(), err);
             }
         }

@@ -41,50 +41,50 @@ fn owns(detector: &Detector, section: usize) -> bool
 }
 
 /// Whether a detector has a section.
-fn has_section(layout: &Layout, detector: usize, section: usize) -> bool
-    ensures { result ≡ has_section layout.now detector section }
+fn has_section(detectors: &[Detector], detector: usize, section: usize) -> bool
+    ensures { result ≡ has_section detectors.now detector section }
 {
-    match layout.detectors().get(detector) {
+    match detectors.get(detector) {
         Some(detector) => owns(detector, section),
         None => false,
     }
 }
 
 /// Whether a row is one that a detector tells of.
-fn is_detector_row(layout: &Layout, detector: usize, row: Row) -> bool
-    ensures { result ≡ is_detector_row layout.now detector row }
+fn is_detector_row(detectors: &[Detector], detector: usize, row: Row) -> bool
+    ensures { result ≡ is_detector_row detectors.now detector row }
 {
     match row.subject.sort {
         Sort::DetectorNode => row.place == detector,
-        Sort::Section => has_section(layout, detector, row.place),
+        Sort::Section => has_section(detectors, detector, row.place),
         _ => false,
     }
 }
 
 /// Whether a row is one that a node tells of.
-fn is_row_of(layout: &Layout, role: Role, row: Row) -> bool
-    ensures { result ≡ is_row_of layout.now role row }
+fn is_row_of(detectors: &[Detector], role: Role, row: Row) -> bool
+    ensures { result ≡ is_row_of detectors.now role row }
 {
     match role {
         Role::Interlocking => !is_controller(row.subject.sort),
         Role::Signal(place) => is_signal_row(row.subject.sort) && row.place == place,
         Role::Point(place) => is_point_row(row.subject.sort) && row.place == place,
-        Role::Detector(place) => is_detector_row(layout, place, row),
+        Role::Detector(place) => is_detector_row(detectors, place, row),
     }
 }
 
 /// Those of some rows that a node tells of, in order.
 fn rows_of(
     alloc: Global,
-    layout: &Layout,
+    detectors: &[Detector],
     role: Role,
     drawn: Vec<DrawnRow>,
 ) -> Result<Vec<DrawnRow>, AllocError>
-    ensures { IfOk result (λ rows. map seen_row rows.items ≡ filter (λ drawn. is_row_of layout.now role drawn.row) (map seen_row drawn.items)) }
+    ensures { IfOk result (λ rows. map seen_row rows.items ≡ filter (λ drawn. is_row_of detectors.now role drawn.row) (map seen_row drawn.items)) }
 {
     let mut rows = Vec::new(alloc);
     for one in drawn {
-        if is_row_of(layout, role, one.row) {
+        if is_row_of(detectors, role, one.row) {
             rows.push(one)?;
         }
     }
@@ -99,8 +99,8 @@ pub(crate) fn node_rows(
     window: Window,
     changes: &[Change],
 ) -> Result<Vec<DrawnRow>, AllocError>
-    ensures { IfOk result (λ rows. map seen_row rows.items ≡ filter (λ drawn. is_row_of layout.now role drawn.row) (drawn_rows layout.now window changes.now)) }
+    ensures { IfOk result (λ rows. map seen_row rows.items ≡ filter (λ drawn. is_row_of layout.now.detectors role drawn.row) (drawn_rows layout.now window changes.now)) }
 {
     let drawn = drawn_rows(alloc, layout, window, changes)?;
-    rows_of(alloc, layout, role, drawn)
+    rows_of(alloc, layout.detectors(), role, drawn)
 }

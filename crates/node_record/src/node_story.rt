@@ -1,9 +1,11 @@
 //! What changes by a node's record, and what is marked in its chart.
 
-ghost use Rattle.std.specs.Prelude.{◌≡◌, ◌++◌, ◌∷◌, [], IfOk, OnOk, map};
+ghost use Rattle.std.specs.Prelude.{◌≡◌, ◌++◌, IfOk, OnOk, map};
+ghost use Rattle.std.specs.Option.{option_map, option_to_list};
 ghost use Rattle.replay_words.specs.Read.{decimal};
 ghost use Rattle.node_record.specs.Courses.{parted};
 ghost use Rattle.node_record.specs.NodeChanges.{IsStoryOf, TellsLines, begin_of, begins_at, change_by, is_answer, is_marked, mark_by, said_at, seen_mark};
+ghost use Rattle.node_record.specs.inside.Marking.{marked};
 
 use crate::capture::stamp;
 use crate::course::{Course, first_course, parted, step_of};
@@ -28,6 +30,15 @@ pub(crate) struct NodeStory {
     pub(crate) end: u64,
 }
 
+/// What is marked in the chart: by which line, when, the node whose record begins, and in which words.
+#[derive(Clone, Copy)]
+struct Mark<'a> {
+    line: usize,
+    time: u64,
+    node: Option<usize>,
+    words: &'a str,
+}
+
 /// Adds what was told of a lane at a reading, if something was.
 fn add_change(
     changes: &mut Vec<Change>,
@@ -46,27 +57,6 @@ fn add_change(
         time,
         lane,
         seen,
-    })?;
-    Ok(())
-}
-
-/// Adds a mark.
-fn add_mark(
-    alloc: Global,
-    happenings: &mut Vec<Happening>,
-    line: usize,
-    time: u64,
-    node: Option<usize>,
-    words: &str,
-) -> Result<(), AllocError>
-    ensures { OnOk result (map seen_mark happenings.new.items ≡ map seen_mark happenings.old.items ++ record { line = line; time = time; node = node; words = words.now } ∷ []) }
-{
-    let words = String::from_str(alloc, words)?;
-    happenings.push(Happening {
-        line,
-        time,
-        node,
-        words,
     })?;
     Ok(())
 }
@@ -91,65 +81,88 @@ fn is_marked(kind: &str, text: &str) -> bool
 }
 
 /// At its first reading a node begins.
-fn add_begin(
-    alloc: Global,
-    happenings: &mut Vec<Happening>,
-    node: usize,
-    line: usize,
-    text: &str,
-) -> Result<(), AllocError>
-    ensures { OnOk result (map seen_mark happenings.new.items ≡ map seen_mark happenings.old.items ++ begins_at node line (decimal text.now)) }
+fn begins_at(node: usize, line: usize, text: &str) -> Option<Mark<'static>>
+    ensures { option_to_list (option_map marked result) ≡ begins_at node line (decimal text.now) }
 {
     match decimal(text) {
-        Ok(reading) => {
-            let time = stamp(reading);
-            add_mark(alloc, happenings, line, time, Some(node), "begins")
-        }
-        Err(_) => Ok(()),
+        Ok(reading) => Some(Mark {
+            line,
+            time: stamp(reading),
+            node: Some(node),
+            words: "begins",
+        }),
+        Err(_) => None,
     }
 }
 
-/// Adds the mark of a line of an interlocking, if it has one.
-fn add_said(
-    alloc: Global,
-    happenings: &mut Vec<Happening>,
+/// The mark of a line of an interlocking, if it has one.
+fn said_at<'a>(
     role: Role,
     course: Course,
     line: usize,
     kind: &str,
-    text: &str,
-) -> Result<(), AllocError>
-    ensures { OnOk result (map seen_mark happenings.new.items ≡ map seen_mark happenings.old.items ++ said_at role course line kind.now text.now) }
+    text: &'a str,
+) -> Option<Mark<'a>>
+    ensures { option_to_list (option_map marked result) ≡ said_at role course line kind.now text.now }
 {
     match role {
-        Role::Interlocking if is_marked(kind, text) => {
-            let time = stamp(course.reading);
-            add_mark(alloc, happenings, line, time, None, text)
-        }
-        _ => Ok(()),
+        Role::Interlocking if is_marked(kind, text) => Some(Mark {
+            line,
+            time: stamp(course.reading),
+            node: None,
+            words: text,
+        }),
+        _ => None,
     }
 }
 
-/// Adds the mark of a line, if it has one.
-fn add_happening(
-    alloc: Global,
-    happenings: &mut Vec<Happening>,
+/// The mark of a line, if it has one.
+fn mark_by<'a>(
     role: Role,
     node: usize,
     course: Course,
     number: usize,
-    line: &str,
-) -> Result<(), AllocError>
-    ensures { OnOk result (map seen_mark happenings.new.items ≡ map seen_mark happenings.old.items ++ mark_by role node course number (parted line.now).0 (parted line.now).1) }
+    line: &'a str,
+) -> Option<Mark<'a>>
+    ensures { option_to_list (option_map marked result) ≡ mark_by role node course number (parted line.now).0 (parted line.now).1 }
 {
     let (kind, text) = parted(line);
     if kind != "at" {
-        return add_said(alloc, happenings, role, course, number, kind, text);
+        return said_at(role, course, number, kind, text);
     }
     match course.first {
-        Some(_) => Ok(()),
-        None => add_begin(alloc, happenings, node, number, text),
+        Some(_) => None,
+        None => begins_at(node, number, text),
     }
+}
+
+/// Adds a mark, if there is one.
+fn add_mark(
+    alloc: Global,
+    happenings: &mut Vec<Happening>,
+    mark: Option<Mark<'_>>,
+) -> Result<(), AllocError>
+    ensures { OnOk result (map seen_mark happenings.new.items ≡ map seen_mark happenings.old.items ++ option_to_list (option_map marked mark.entry)) }
+{
+    let Some(
+        Mark {
+            line,
+            time,
+            node,
+            words,
+        },
+    ) = mark
+    else {
+        return Ok(());
+    };
+    let words = String::from_str(alloc, words)?;
+    happenings.push(Happening {
+        line,
+        time,
+        node,
+        words,
+    })?;
+    Ok(())
 }
 
 fn begin_of(first: Option<u64>) -> u64
@@ -189,7 +202,8 @@ fn story_from(
     let mut course = first_course();
     for (number, line) in lines {
         let place = number as usize;
-        add_happening(alloc, &mut happenings, role, node, course, place, line)?;
+        let mark = mark_by(role, node, course, place, line);
+        add_mark(alloc, &mut happenings, mark)?;
         let this = step_of(layout, role, course, line);
         add_change(&mut changes, place, this.time, this.told)?;
         course = this.course;

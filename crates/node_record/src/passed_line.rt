@@ -1,37 +1,24 @@
 //! The line for a datagram of a record.
 
-ghost use Rattle.std.specs.Prelude.{◌≡◌, IfOk, Some, string_bytes};
-ghost use Rattle.node_record.specs.NodeLines.{line_text, way_text, why_text};
+ghost use Rattle.std.specs.Prelude.{◌≡◌, IfOk, string_bytes};
+ghost use Rattle.node_record.specs.NodeLines.{came_text, line_text, name_or_none, sent_text, way_text, why_text};
 ghost use Rattle.node_record.specs.inside.Passing.{seen};
 
 use crate::passage::{Passed, Reception, Way};
 use control_table::layout::Layout;
+use control_table::sci_telegram::Name;
 use replay_lines::node_name;
 use simulator_event::NodeId;
 use station_decode::datagram_words;
 use std::alloc::{AllocError, Global};
-use std::fmt;
 
 /// A node as a line calls it: by its name, and by `_` where the layout lacks it.
-#[derive(Clone, Copy)]
-struct NodeText<'a> {
-    layout: &'a Layout,
-    node: usize,
-}
-
-impl<'a> fmt::Display for NodeText<'a> {
-    ghost use Rattle.node_record.specs.NodeLines.{node_text};
-
-    ghost output = { λ text. Some (node_text text.layout.now text.node) };
-
-    fn fmt<W: fmt::Write>(&self, f: &mut fmt::Formatter<W>) -> fmt::Result {
-        match node_name(self.layout, NodeId(self.node)) {
-            Some(name) => {
-                let name = name.as_str();
-                write!(f, "{name}")
-            }
-            None => write!(f, "_"),
-        }
+fn name_or_none(name: &Option<Name>) -> &str
+    ensures { result.now ≡ name_or_none name.now }
+{
+    match name {
+        Some(name) => name.as_str(),
+        None => "_",
     }
 }
 
@@ -47,24 +34,38 @@ pub(crate) fn why_text(reception: Reception) -> &'static str
     }
 }
 
+/// To whom a datagram was sent, as a line tells it.
+fn sent_text(alloc: Global, own: &str, to: &str) -> Result<String, AllocError>
+    ensures { IfOk result (λ text. string_bytes text ≡ sent_text own.now to.now) }
+{
+    format!(in alloc; "sent by {own} to {to}")
+}
+
+/// What became of a datagram that came, as a line tells it.
+fn came_text(alloc: Global, own: &str, reception: Reception) -> Result<String, AllocError>
+    ensures { IfOk result (λ text. string_bytes text ≡ came_text own.now reception) }
+{
+    match reception {
+        Reception::Delivered => format!(in alloc; "delivered to {own}"),
+        _ => {
+            let why = why_text(reception);
+            format!(in alloc; "not delivered to {own}, {why}")
+        }
+    }
+}
+
 /// What became of a datagram, as a line tells it.
 fn way_text(alloc: Global, layout: &Layout, node: usize, way: Way) -> Result<String, AllocError>
     ensures { IfOk result (λ text. string_bytes text ≡ way_text layout.now node way) }
 {
-    let own = NodeText { layout, node };
+    let own = node_name(layout, NodeId(node));
+    let own = name_or_none(&own);
     match way {
         Way::Sent { to } => {
-            let to = NodeText { layout, node: to };
-            format!(in alloc; "sent by {own} to {to}")
+            let to = node_name(layout, NodeId(to));
+            sent_text(alloc, own, name_or_none(&to))
         }
-        Way::Came {
-            reception: Reception::Delivered,
-            ..
-        } => format!(in alloc; "delivered to {own}"),
-        Way::Came { reception, .. } => {
-            let why = why_text(reception);
-            format!(in alloc; "not delivered to {own}, {why}")
-        }
+        Way::Came { reception, .. } => came_text(alloc, own, reception),
     }
 }
 

@@ -2,7 +2,7 @@
 
 ghost use Rattle.std.specs.Prelude.{◌≡◌};
 ghost use Rattle.replay_words.specs.Cut.{words};
-ghost use Rattle.node_record.specs.Records.{first_said, head_behind, head_said, is_head, time_said};
+ghost use Rattle.node_record.specs.Records.{first_said, head_behind, head_said, head_words, is_head, time_said};
 
 use crate::record_line::node_of;
 use control_table::layout::Layout;
@@ -22,13 +22,17 @@ pub(crate) fn read_head(layout: &Layout, name: &str, line: &str) -> Result<Head,
     ensures { result ≡ head_said layout.now name.now (words line.now) }
 {
     let node = node_of(layout, name)?;
-    let mut words = Words::of(line);
-    let (Some(kind), Some(word), Some(first), Some(number)) = (
-        words.next(),
-        words.next(),
-        words.next(),
-        words.next(),
-    ) else {
+    head_words(name, node, Words::of(line))
+}
+
+/// What the words of a first line tell of the node of this name and place.
+fn head_words(name: &str, node: usize, mut words: Words<'_>) -> Result<Head, Fault>
+    ensures { result ≡ head_words name.now node words.entry }
+{
+    let (Some(kind), Some(word)) = (words.next(), words.next()) else {
+        return Err(Fault::Words);
+    };
+    let (Some(first), Some(number)) = (words.next(), words.next()) else {
         return Err(Fault::Words);
     };
     if !is_head(kind, first) {

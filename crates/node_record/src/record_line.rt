@@ -116,13 +116,10 @@ fn bytes_of(alloc: Global, digits: &str) -> Result<Vec<u8>, Fault>
 fn throws_away(mut words: Words<'_>) -> Result<RecordLine, Fault>
     ensures { Gives told (throws_away words.entry) result }
 {
-    let (Some(word), None) = (words.next(), words.next()) else {
-        return Err(Fault::Words);
-    };
-    if word != "away" {
-        return Err(Fault::Words);
+    match (words.next(), words.next()) {
+        (Some("away"), None) => Ok(RecordLine::ThrowsAway),
+        _ => Err(Fault::Words),
     }
-    Ok(RecordLine::ThrowsAway)
 }
 
 fn alone(mut words: Words<'_>) -> Result<RecordLine, Fault>

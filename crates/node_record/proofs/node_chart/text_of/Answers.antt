@@ -21,8 +21,8 @@ returns c =
     in text_told (λ text. text.items) site role c.args.cut story picture c.svg.result (λ text text_is. record {
       rows = rows;
       drawn = c.in_ok-rows.ensures
-          ∙ ap (λ (changes : List Change). filter (λ (drawn : Drawn). is_row_of site role drawn.row) (drawn_rows site c.window_of-window.result changes)) c.deref.ensures.value
-          ∙ ap (λ (part : Window). filter (λ (drawn : Drawn). is_row_of site role drawn.row) (drawn_rows site part story.changes.items)) c.window_of-window.ensures;
+          ∙ ap (λ (changes : List Change). filter (λ (drawn : Drawn). is_row_of site.detectors role drawn.row) (drawn_rows site c.window_of-window.result changes)) c.deref.ensures.value
+          ∙ ap (λ (part : Window). filter (λ (drawn : Drawn). is_row_of site.detectors role drawn.row) (drawn_rows site part story.changes.items)) c.window_of-window.ensures;
       picture = picture;
       is = subst (λ (part : Window). IsChartOf site part rows story.happenings.items picture) c.window_of-window.ensures
           (subst (λ (happenings : List Happening). IsChartOf site c.window_of-window.result rows happenings picture) c.deref-3.ensures.value

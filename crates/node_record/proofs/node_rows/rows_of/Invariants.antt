@@ -7,5 +7,5 @@ use Rattle.node_record.proofs.node_rows.rows_of.Given as goal
 -- those that were kept, and behind them those of the rest
 abbrev pub invariant-loop-one : goal.invariant-loop-one
 invariant-loop-one l =
-    map seen_row l.rows.items ++ filter (λ drawn. is_row_of l.layout l.role drawn.row) (map seen_row l.one-iterator.rest.items)
-    ≡ filter (λ drawn. is_row_of l.layout l.role drawn.row) (map seen_row l.fn.drawn.items)
+    map seen_row l.rows.items ++ filter (λ drawn. is_row_of l.detectors l.role drawn.row) (map seen_row l.one-iterator.rest.items)
+    ≡ filter (λ drawn. is_row_of l.detectors l.role drawn.row) (map seen_row l.fn.drawn.items)
