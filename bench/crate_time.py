@@ -11,6 +11,7 @@ import shutil
 import sys
 import tempfile
 
+from first_run import crates_of
 from gate_times import load_rt, used
 
 # which runs are timed, by the flag that asks for one alone
@@ -45,7 +46,8 @@ def main(words):
     rt.rtlib.guarded()
     rt.Crate.cuts_libraries = True
     rt.Crate.allowed = rt.handles_of(str(root))
-    crates = {it.name: it for it in rt.crates_of(str(root))}
+    rt.rtlib.Crate = rt.Crate
+    crates = {it.name: it for it in crates_of(rt)}
     well = True
     for name in names:
         for tests in kinds:

@@ -71,7 +71,9 @@ def crates_of(rt):
 def build_libraries(rt, name):
     below = next(it for it in crates_of(rt) if it.name == name).below()
     held = rt.rtlib.lock(below)
-    rt.share_work(True)
+    # some kits share what their checks keep, if they are told to
+    if hasattr(rt, "share_work"):
+        rt.share_work(True)
     # its first call sets the handler of a signal, which only the main thread may
     rt.rtlib.guarded()
     built = SideBySide(rt, below).are_built()
