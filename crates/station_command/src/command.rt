@@ -18,7 +18,7 @@ use std::alloc::Global;
 use std::convert::AsStr;
 
 /// What a command line asks for.
-#[derive(Clone, Copy, Debug)]
+#[derive(Clone, Copy)]
 pub enum Asked<'a> {
     /// `check FILE [--explain] [--digest]`: whether the layout in a file is sound, with what is wrong in words, and with a digest of its text.
     Check {

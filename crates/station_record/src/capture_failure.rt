@@ -11,7 +11,7 @@ use std::io;
 use std::io::Write;
 
 /// Why there is no capture of a session.
-#[derive(Debug, Drop)]
+#[derive(Drop)]
 pub(crate) enum CaptureFailure {
     /// A text is faulty, memory is lacking, or the capture couldn't be written.
     Station(StationFailure),

@@ -19,7 +19,7 @@ const MICROS: u64 = 1000;
 
 /// Which part of a session is drawn, in milliseconds of true time. Without them it begins with the session, and it ends with it
 /// at the latest.
-#[derive(Clone, Copy, Debug)]
+#[derive(Clone, Copy)]
 pub struct Cut {
     /// Where it begins.
     pub from: Option<u64>,

@@ -16,7 +16,7 @@ use std::{fmt, io};
 const LINE_LENGTH: usize = 40;
 
 /// Why nothing is drawn.
-#[derive(Debug, Drop)]
+#[derive(Drop)]
 pub enum ChartFailure {
     /// A text is faulty, memory is lacking, or the chart couldn't be written.
     Station(StationFailure),

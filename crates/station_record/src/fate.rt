@@ -3,7 +3,7 @@
 use station_run::replay::simulator::{NodeId, Refused};
 
 /// What becomes of a datagram on the network of a station. The network may refuse to deliver or to lose it.
-#[derive(Clone, Copy, Debug)]
+#[derive(Clone, Copy)]
 pub enum Fate {
     /// A node sends it to another.
     Sent {

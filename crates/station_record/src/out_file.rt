@@ -12,7 +12,7 @@ use std::io::Write;
 
 /// What `station capture` is asked: the texts of the layout and of the record, where the nodes are found, where the capture
 /// goes, and whether a file that is there is written over.
-#[derive(Clone, Copy, Debug)]
+#[derive(Clone, Copy)]
 pub struct Asked<'a> {
     pub layout: &'a str,
     pub recording: &'a str,
