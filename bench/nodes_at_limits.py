@@ -3,18 +3,19 @@
 examples/machines/field.py; and lets the small station rest for a million rounds over memory. It prints what was seen, and ends with
 status 1 where a link was lost, a round wasn't kept, or memory grew.
 
-    python3 bench/nodes_at_limits.py STATION NODE_TESTS [--layout FILE] [limits] [flood] [million]
+    python3 bench/nodes_at_limits.py STATION STORED_RUNS [--layout FILE] [limits] [flood] [million]
 
 limits   all 80 links come up, and for 30 s they stay up, and the interlocking keeps its rounds of 10 ms, as its record has them
 flood    the same; then a controller is ended, and random bytes and copies of its datagrams come from its address, more and more of
          them: the other links stay up, and it is told up to which rate rounds are kept
-million  the program of `node_tests` plays the small station at rest with made clocks: 1,000,000 rounds take no more memory than 20,000
+million  the program of `stored_runs` plays the small station at rest with made clocks: 1,000,000 rounds take no more memory than 20,000
 """
 import argparse
 import itertools
 import os
 import pathlib
 import random
+import shutil
 import socket
 import subprocess
 import sys
@@ -154,9 +155,12 @@ def million(program):
     """The processor time and the memory of the small station at rest."""
     seen = {}
     for rounds in (20_000, 1_000_000):
-        process = subprocess.Popen([program, "rest", str(rounds)], stdout=subprocess.PIPE, text=True)
-        said = process.stdout.read().strip()
-        _, status, used = os.wait4(process.pid, 0)
+        with tempfile.TemporaryDirectory() as folder:
+            shutil.copy(TOP / "crates/stored_runs/data/small.toml", folder)
+            pathlib.Path(folder, "runs").write_text(f"rest small.toml {rounds}\n")
+            process = subprocess.Popen([program], cwd=folder, stdout=subprocess.PIPE, text=True)
+            said = process.stdout.read().splitlines()[-1]
+            _, status, used = os.wait4(process.pid, 0)
         seen[rounds] = used.ru_maxrss
         print(f"million: {said}: {used.ru_utime + used.ru_stime:.1f} s, {used.ru_maxrss} KB", flush=True)
         # each link is told as lost once: at the start, before it is ready
@@ -168,14 +172,14 @@ def million(program):
 def main():
     words = argparse.ArgumentParser(description=__doc__, formatter_class=argparse.RawDescriptionHelpFormatter)
     words.add_argument("station")
-    words.add_argument("node_tests")
+    words.add_argument("stored_runs")
     words.add_argument("--layout", default=str(TOP / "crates/stored_runs/data/layouts/at_every_limit.toml"))
     words.add_argument("kinds", nargs="*", default=["limits", "flood", "million"])
     given = words.parse_args()
     well = True
     for kind in given.kinds:
         if kind == "million":
-            well &= million(os.path.abspath(given.node_tests))
+            well &= million(os.path.abspath(given.stored_runs))
             continue
         with tempfile.TemporaryDirectory() as folder:
             station = Station(os.path.abspath(given.station), os.path.abspath(given.layout), folder)

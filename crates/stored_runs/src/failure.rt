@@ -1,7 +1,7 @@
 //! Why the list of runs isn't carried out to its end.
 
 use crate::restarts::fault::Fault;
-use std::alloc::AllocError;
+use std::alloc::{AllocError, AllocFailed};
 use std::io;
 
 /// Why the list of runs isn't carried out to its end.
@@ -17,6 +17,10 @@ pub(crate) enum Failure {
     Layout,
     /// A node isn't made anew in all runs of a list.
     Restarts(Fault),
+    /// A socket can't be opened.
+    Socket,
+    /// The process of a node ended before its time.
+    Ended,
     OutOfMemory,
     /// An answer can't be written.
     NotWritten,
@@ -31,6 +35,8 @@ impl Failure {
             Failure::Change => "error: there is nothing to change",
             Failure::Layout => "error: a layout is not sound",
             Failure::Restarts(fault) => fault.text(),
+            Failure::Socket => "error: a socket cannot be opened",
+            Failure::Ended => "error: a process ended before its time",
             Failure::OutOfMemory => "out of memory",
             Failure::NotWritten => "error: an answer cannot be written",
         }
@@ -39,6 +45,12 @@ impl Failure {
 
 impl From<AllocError> for Failure {
     fn from(_error: AllocError) -> Failure {
+        Failure::OutOfMemory
+    }
+}
+
+impl<T: Drop> From<AllocFailed<T>> for Failure {
+    fn from(_error: AllocFailed<T>) -> Failure {
         Failure::OutOfMemory
     }
 }

@@ -3,7 +3,7 @@
 use crate::failure::Failure;
 use crate::files::{parts, read};
 use crate::restarts::lists;
-use crate::{cases, charts, datagrams, nodes, pairs, plans, stations, tables};
+use crate::{cases, charts, datagrams, node_stories, nodes, pairs, plans, stations, tables};
 use station_table::Form;
 use std::io::{BufWriter, Write};
 
@@ -35,6 +35,8 @@ fn carry_out<W: Write>(rt: &HostRuntime, run: &str, out: &mut W) -> Result<(), F
         "decode" => datagrams::decode_named(rt, files, out),
         "decode-node" | "capture-node" | "chart-node" => nodes::carry_out(rt, kind, files, out),
         "plain-decode" => datagrams::decode_plain(rt, files, out),
+        "stories" => node_stories::tell(rt, files, out),
+        "rest" => node_stories::rest(rt, files, out),
         "pair" => pairs::run_file(rt, files, out),
         "each-pair" => pairs::run_each(rt, files, out),
         _ => stations::carry_out(rt, kind, files, out),

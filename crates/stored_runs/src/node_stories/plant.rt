@@ -1,14 +1,14 @@
 //! The small station: its nodes, their equipment, and the network between them.
 
-use crate::any_node::Beginning;
-use crate::changes::Seen;
-use crate::desk::Others;
-use crate::failure::{Failure, OUT_OF_MEMORY};
-use crate::gear::Gear;
-use crate::place::Place;
-use crate::process::{Makes, Process, put};
-use crate::script::{Act, Row};
-use crate::station::{NAMES, P1, S1, S3, S4, name};
+use crate::failure::Failure;
+use crate::node_stories::any_node::Beginning;
+use crate::node_stories::changes::Seen;
+use crate::node_stories::desk::Others;
+use crate::node_stories::gear::Gear;
+use crate::node_stories::place::Place;
+use crate::node_stories::process::{Makes, Process, put};
+use crate::node_stories::script::{Act, Row};
+use crate::node_stories::station::{NAMES, P1, S1, S3, S4, name};
 use node_kinds::simulator_run::ixl_rules::control_table::sci_telegram::Position;
 use node_kinds::simulator_run::simulator_event::NodeId;
 use station_node::node_network::MemoryOutside;
@@ -100,7 +100,7 @@ impl<'m, M: Makes<P>, P: Process> Plant<'m, M, P> {
         };
         place.tell_contacts(&mut self.seen);
         if self.places.push(place).is_err() {
-            self.seen.fail(OUT_OF_MEMORY);
+            self.seen.fail(Failure::OutOfMemory);
         }
     }
 

@@ -1,11 +1,11 @@
 //! The record of a node's whole process, and whether it is the same once more.
 
-use crate::desk::{Desk, Others};
 use crate::failure::Failure;
-use crate::plant::{BEGINS, Plant, Played, STEP};
-use crate::process::{Makes, Process, fresh_memory};
-use crate::script::{LATE, LATE_ROUNDS};
-use crate::station::{SMALL, name};
+use crate::node_stories::desk::{Desk, Others};
+use crate::node_stories::plant::{BEGINS, Plant, Played, STEP};
+use crate::node_stories::process::{Makes, Process, fresh_memory};
+use crate::node_stories::script::{LATE, LATE_ROUNDS};
+use crate::node_stories::station::{Station, name};
 use node_kinds::node_drive::Outside;
 use node_kinds::simulator_run::ixl_rules::control_table::Checked;
 use node_kinds::simulator_run::simulator_event::NodeId;
@@ -25,24 +25,24 @@ const FOR_MS: u64 = STEP * LATE_ROUNDS;
 /// numbered otherwise.
 pub(crate) fn verdict<M: Makes<P>, P: Process>(
     rt: &HostRuntime,
-    table: &Checked,
+    station: Station<'_>,
     makes: &M,
     number: usize,
 ) -> Result<&'static str, Failure> {
     let mut record = Vec::new(rt.alloc());
-    if record_node::<M, P>(rt, table, makes, number, &mut record) {
-        Ok(judged(rt.alloc(), number, &record))
+    if record_node::<M, P>(rt, station.table, makes, number, &mut record) {
+        Ok(judged(rt.alloc(), station.text, number, &record))
     } else {
-        Err(Failure("error: a process ended before its time"))
+        Err(Failure::Ended)
     }
 }
 
 /// What comes of the lines of a record behind its first one.
-fn judged(alloc: Global, number: usize, record: &[u8]) -> &'static str {
+fn judged(alloc: Global, layout: &str, number: usize, record: &[u8]) -> &'static str {
     let (front, _) = record.split_at(record.len() / 2);
-    let whole = replayed(alloc, number, FIRST, record);
-    let half = replayed(alloc, number, FIRST, front);
-    let other = replayed(alloc, number, OTHER_FIRST, record);
+    let whole = replayed(alloc, layout, number, FIRST, record);
+    let half = replayed(alloc, layout, number, FIRST, front);
+    let other = replayed(alloc, layout, number, OTHER_FIRST, record);
     match (whole, half, other) {
         (0, 0, 3) => "the same, and differs with other numbers",
         (0, 0, _) => "the same with other numbers",
@@ -52,20 +52,20 @@ fn judged(alloc: Global, number: usize, record: &[u8]) -> &'static str {
 }
 
 /// With which status a record that begins with this number is replayed: 0 where it is the same, and 3 where it differs.
-fn replayed(alloc: Global, number: usize, first: u32, lines: &[u8]) -> u8 {
+fn replayed(alloc: Global, layout: &str, number: usize, first: u32, lines: &[u8]) -> u8 {
     let Ok(lines) = str::from_utf8(lines) else {
         return 1;
     };
     let name = name(number);
     match format!(in alloc; "node {name} first {first} for {FOR_MS}\n{lines}") {
-        Ok(record) => status(alloc, name, record.as_str()),
+        Ok(record) => status(alloc, layout, name, record.as_str()),
         Err(_) => 1,
     }
 }
 
-fn status(alloc: Global, name: &str, record: &str) -> u8 {
+fn status(alloc: Global, layout: &str, name: &str, record: &str) -> u8 {
     let (mut out, mut err) = (Vec::new(alloc), Vec::new(alloc));
-    let status = replay_node_text(alloc, SMALL, name, record, &mut out, &mut err);
+    let status = replay_node_text(alloc, layout, name, record, &mut out, &mut err);
     let is_same = out.as_slice() == b"same\n".as_slice();
     if is_same == (status == 0) { status } else { 1 }
 }

@@ -1,16 +1,15 @@
 //! What is played, and what is told of it.
 
-use crate::changes::Seen;
 use crate::failure::Failure;
-use crate::plant::{Plant, Played};
-use crate::process::{Makes, Process};
-use crate::records::verdict;
-use crate::script::{
+use crate::node_stories::changes::Seen;
+use crate::node_stories::plant::{Plant, Played};
+use crate::node_stories::process::{Makes, Process};
+use crate::node_stories::records::verdict;
+use crate::node_stories::script::{
     APPROACH_ROUNDS, APPROACH_UNKNOWN, DONE_NO_MORE, MADE_ANEW, MADE_ANEW_ROUNDS, NEVER_DONE,
     PROCEED, PROCEED_ROUNDS, REST, Row, SILENT_ROUNDS, TWO_RESTARTS, TWO_RESTARTS_ROUNDS,
 };
-use crate::station::{D1, INTERLOCKING, NAMES, P1, S1, S3, S4, name};
-use node_kinds::simulator_run::ixl_rules::control_table::Checked;
+use crate::node_stories::station::{D1, INTERLOCKING, NAMES, P1, S1, S3, S4, Station, name};
 use std::alloc::Global;
 use std::io::Write;
 use std::mem;
@@ -104,14 +103,14 @@ const STORIES: &[Story] = &[
 /// Plays all stories, and writes what was seen of each.
 pub(crate) fn tell_all<M: Makes<P>, P: Process, W: Write>(
     rt: &HostRuntime,
-    table: &Checked,
+    station: Station<'_>,
     over_memory: &M,
     over_sockets: &M,
     out: &mut W,
 ) -> Result<(), Failure> {
     tell_stories::<M, P, W>(rt.alloc(), over_memory, over_sockets, out)?;
     tell_failing::<M, P, W>(rt.alloc(), over_memory, out)?;
-    tell_records::<M, P, W>(rt, table, over_memory, out)
+    tell_records::<M, P, W>(rt, station, over_memory, out)
 }
 
 fn tell_stories<M: Makes<P>, P: Process, W: Write>(
@@ -207,12 +206,12 @@ fn is_same<M: Makes<P>, P: Process>(makes: &M, played: Played, wanted: &str) -> 
 /// Runs the whole process of each node while the others are played, and writes what comes of its record.
 fn tell_records<M: Makes<P>, P: Process, W: Write>(
     rt: &HostRuntime,
-    table: &Checked,
+    station: Station<'_>,
     makes: &M,
     out: &mut W,
 ) -> Result<(), Failure> {
     for number in 0..NAMES.len() {
-        let verdict = verdict::<M, P>(rt, table, makes, number)?;
+        let verdict = verdict::<M, P>(rt, station, makes, number)?;
         write_verdict(number, verdict, out)?;
     }
     Ok(())

@@ -2,9 +2,9 @@
 
 ghost use Rattle.std.specs.Prelude.{◌≡◌};
 
-use crate::any_node::{AnyNode, Beginning, drive_once, made};
-use crate::desk::{Addressed, Desk, Nobody, Wire, opened};
 use crate::failure::Failure;
+use crate::node_stories::any_node::{AnyNode, Beginning, drive_once, made};
+use crate::node_stories::desk::{Addressed, Desk, Nobody, Wire, opened};
 use node_kinds::node_drive::{Course, NodeFault};
 use node_kinds::simulator_run::ixl_rules::control_table::Checked;
 use station_node::node_network::MemoryOutside;
@@ -96,8 +96,8 @@ struct Driven<'a> {
 
 impl<'a> Model for Driven<'a> {
     ghost use Rattle.std.specs.Prelude.{◌≡◌, ◌≤◌, Some};
-    ghost use Rattle.node_tests.specs.Reached.{reached};
-    ghost use Rattle.node_tests.specs.declared.any_node.AnyNode.{AnyNode};
+    ghost use Rattle.stored_runs.specs.Reached.{reached};
+    ghost use Rattle.stored_runs.specs.declared.node_stories.any_node.AnyNode.{AnyNode};
 
     ghost Value = { Unit {0} };
 

@@ -31,7 +31,7 @@ pub(crate) fn opened<'a>(
         NodeClock::start(net, 0),
         NodeSocket::open(net, alloc, addresses, NodeId(number)),
     ) else {
-        return Err(Failure("error: a socket cannot be opened"));
+        return Err(Failure::Socket);
     };
     let nothing: &'static [u8] = &[];
     let lines = Lines::of_field(nothing, Vec::new(alloc));

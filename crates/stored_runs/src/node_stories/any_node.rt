@@ -1,9 +1,9 @@
 //! A node of any kind.
 
 ghost use Rattle.std.specs.Prelude.{◌≡◌, ◌≤◌, IfOk, OnOk};
-ghost use Rattle.node_tests.specs.Reached.{reached};
+ghost use Rattle.stored_runs.specs.Reached.{reached};
 
-use crate::station::{D1, INTERLOCKING, P1, S1};
+use crate::node_stories::station::{D1, INTERLOCKING, P1, S1};
 use node_kinds::node_drive::{Course, Node, NodeFault, Outside, drive};
 use node_kinds::simulator_run::ixl_rules::control_table::Checked;
 use node_kinds::simulator_run::ixl_rules::control_table::sci_telegram::{Occupancy, Position};

@@ -1,6 +1,6 @@
 //! What happens in a story, and when.
 
-use crate::station::{D1, INTERLOCKING, S1};
+use crate::node_stories::station::{D1, INTERLOCKING, S1};
 
 /// What happens before a round.
 #[derive(Clone, Copy)]

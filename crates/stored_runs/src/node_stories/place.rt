@@ -1,10 +1,10 @@
 //! A node with its equipment.
 
-use crate::changes::Seen;
-use crate::failure::OUT_OF_MEMORY;
-use crate::gear::Gear;
-use crate::process::Process;
-use crate::station::{D1, P1, name};
+use crate::failure::Failure;
+use crate::node_stories::changes::Seen;
+use crate::node_stories::gear::Gear;
+use crate::node_stories::process::Process;
+use crate::node_stories::station::{D1, P1, name};
 use node_kinds::node_drive::NodeFault;
 use node_kinds::node_drive::node_lines::read_order;
 use node_kinds::simulator_run::ixl_rules::control_table::sci_telegram::Position;
@@ -39,7 +39,7 @@ impl<P: Process> Place<P> {
         self.process.memory().fail_after(failing);
         match self.process.round(alloc) {
             Ok(()) => {}
-            Err(NodeFault::OutOfMemory) => seen.fail(OUT_OF_MEMORY),
+            Err(NodeFault::OutOfMemory) => seen.fail(Failure::OutOfMemory),
             Err(_) => seen.note(name(self.number), "ended"),
         }
         self.process.memory().fail_after(0)
@@ -81,7 +81,7 @@ impl<P: Process> Place<P> {
     fn answer(&mut self, alloc: Global, number: u64, seen: &mut Seen) {
         match format!(in alloc; "done {number}") {
             Ok(line) => self.bring_line(line.as_str(), seen),
-            Err(_) => seen.fail(OUT_OF_MEMORY),
+            Err(_) => seen.fail(Failure::OutOfMemory),
         }
     }
 }
