@@ -5,6 +5,8 @@
 mod asked;
 mod changes;
 mod comparison;
+mod contacts;
+mod controller_node;
 mod controller_steps;
 mod detector_node;
 mod equipment;

@@ -6,34 +6,32 @@ ghost use Rattle.simulator_run.specs.layout.declared.entries.Point.{Point as Ent
 ghost use Rattle.simulator_run.specs.object_host.declared.input.Input.TheVariants as inputs;
 ghost use Rattle.simulator_run.specs.object_host.declared.sense.Sense.TheVariants as sense;
 ghost use Rattle.node_drive.specs.Kinds.{Comes};
-ghost use Rattle.node_kinds.specs.Controllers.{drive_order, is_same_position, told_to_point, unless_again};
-ghost use Rattle.node_kinds.specs.inside.ControllerSteps.{position_left, unanswered};
+ghost use Rattle.node_kinds.specs.Controllers.{drive_order, is_same_position, unless_again};
+ghost use Rattle.node_kinds.specs.inside.ControllerSteps.{sense_left};
 ghost use Rattle.node_kinds.specs.Made.{made_at};
 ghost use Rattle.node_kinds.specs.inside.ControllerNodes.{point_now};
 
-use crate::controller_steps::{INTERLOCKING, Stepped};
+use crate::contacts::Contacts;
+use crate::controller_node::ControllerNode;
+use crate::controller_steps::Stepped;
+use node_drive::LineMeaning;
 use node_drive::node_lines::replay_words::Fault;
-use node_drive::node_lines::{FieldReport, Order, read_report};
-use node_drive::{LineMeaning, Node, Outgoing};
+use node_drive::node_lines::{FieldReport, Order};
 use simulator_run::ixl_rules::control_table::Checked;
-use simulator_run::ixl_rules::control_table::layout::Layout;
 use simulator_run::ixl_rules::control_table::sci_telegram::Position;
 use simulator_run::ixl_rules::rasta_core::Millis;
-use simulator_run::object_host::{Input, Sense};
+use simulator_run::object_host::Sense;
 use simulator_run::point_ctl::{Drive, Point};
-use simulator_run::simulator_event::NodeId;
 use std::alloc::{AllocError, Global};
 
-/// The controller of a point, in a station of this layout.
-#[derive(Drop)]
-pub struct PointNode<'a> {
-    layout: &'a Layout,
-    stepped: Stepped<Point>,
-    /// Where its contacts told last that it lies.
+/// Where the contacts of a point told last that it lies.
+#[derive(Clone, Copy)]
+pub struct PointContacts {
     last: Position,
-    /// What they told that has to come.
-    left: Option<Position>,
 }
+
+/// The controller of a point, in a station of this layout.
+pub type PointNode<'a> = ControllerNode<'a, PointContacts>;
 
 impl<'a> PointNode<'a> {
     /// The controller of the point at this place, which lies so. It is made at this reading of its clock, and numbers its PDUs from
@@ -62,86 +60,57 @@ impl<'a> PointNode<'a> {
             reading,
             first_sequence_number,
         )?;
-        Ok(PointNode {
+        Ok(ControllerNode {
             layout,
             stepped,
-            last: position,
+            contacts: PointContacts { last: position },
             left: None,
         })
     }
 }
 
-impl<'a> Node for PointNode<'a> {
-    ghost use Rattle.simulator_run.specs.object_host.declared.input.Input.{Input as HostInput};
-    ghost use Rattle.simulator_run.specs.point_ctl.Drive.{PointState};
+impl Contacts for PointContacts {
+    ghost use Rattle.std.specs.Prelude.{Some, refl};
+    ghost use Rattle.simulator_run.specs.point_ctl.Drive.{drive_of};
     ghost use Rattle.simulator_run.specs.sci_telegram.declared.message.Position.{Position as Lies};
-    ghost use Rattle.node_kinds.specs.Controllers.{Controller, point_kind};
-    ghost use Rattle.node_kinds.specs.inside.ControllerNodes.{point_now};
+    ghost use Rattle.node_kinds.specs.Controllers.{drive_order, position_after, told_to_point};
 
-    ghost State = { Controller PointState Lies };
+    type Object = Point;
 
-    ghost Input = { HostInput };
+    ghost Kept = { Lies };
 
-    ghost does = { point_kind };
+    ghost kept = { λ contacts. contacts.last };
 
-    ghost node = { point_now };
+    ghost order = { λ point. Some (drive_order (drive_of point)) };
 
-    fn is_partner(&self, other: NodeId) -> bool {
-        other.0 == INTERLOCKING.0
+    ghost meaning = { told_to_point };
+
+    ghost after = { position_after };
+
+    fn order_of(&self, point: &Point) -> Option<Order> {
+        Some(drive_order(point.drive()))
     }
 
-    fn hear(&mut self, _alloc: Global, reading: u64, bytes: &[u8]) -> Result<(), AllocError> {
-        self.stepped.hear(reading, bytes);
-        Ok(())
+    fn told(&self, report: Result<FieldReport, Fault>) -> (LineMeaning, Option<Sense>) {
+        match report {
+            Ok(FieldReport::Done { number }) => (LineMeaning::InForce(number), None),
+            Ok(FieldReport::Section { .. }) => (LineMeaning::Faulty(Fault::Name), None),
+            Ok(FieldReport::Point(position)) => {
+                (LineMeaning::Comes, unless_again(self.last, position))
+            }
+            Err(fault) => (LineMeaning::Faulty(fault), None),
+        }
     }
 
-    fn tick(&mut self, _alloc: Global, reading: u64) -> Result<(), AllocError> {
-        self.stepped.step(reading, Input::Tick);
-        Ok(())
+    fn note(&mut self, sense: Sense) {
+        if let Sense::Position(position) = sense {
+            self.last = position;
+        }
     }
 
-    #[tactic(auto, using(crate::proofs::ReportLines::unanswered_is))]
-    fn take_line(
-        &mut self,
-        _alloc: Global,
-        _reading: u64,
-        text: &str,
-    ) -> Result<LineMeaning, AllocError> {
-        let (meaning, left) = told(self.last, read_report(self.layout, text));
-        self.left = left;
-        Ok(meaning)
-    }
+    ghost ticked = { λ kept. refl };
 
-    fn step_on(&mut self, _alloc: Global, reading: u64) -> Result<bool, AllocError> {
-        let Some(position) = self.left else {
-            return Ok(false);
-        };
-        self.left = None;
-        self.last = position;
-        self.stepped
-            .step(reading, Input::Sense(Sense::Position(position)));
-        Ok(true)
-    }
-
-    fn order(&self) -> Option<Order> {
-        Some(drive_order(self.stepped.object().drive()))
-    }
-
-    fn is_done(&self) -> bool {
-        false
-    }
-
-    fn take_datagram(&mut self) -> Option<Outgoing> {
-        self.stepped.take_first()
-    }
-
-    fn take_saying(&mut self) -> Option<String> {
-        None
-    }
-
-    fn tell_all(&mut self, _alloc: Global, _reading: u64) -> Result<(), AllocError> {
-        Ok(())
-    }
+    ghost heard = { λ bytes kept. refl };
 }
 
 /// The order of a drive.
@@ -157,25 +126,13 @@ fn drive_order(drive: Option<Drive>) -> Order
     }
 }
 
-/// What a line of its equipment tells a point that was told last to lie so, and what of it has to come.
-fn told(last: Position, report: Result<FieldReport, Fault>) -> (LineMeaning, Option<Position>)
-    ensures { unanswered result.0 (position_left result.1) ≡ told_to_point last report }
-{
-    match report {
-        Ok(FieldReport::Done { number }) => (LineMeaning::InForce(number), None),
-        Ok(FieldReport::Section { .. }) => (LineMeaning::Faulty(Fault::Name), None),
-        Ok(FieldReport::Point(position)) => (LineMeaning::Comes, unless_again(last, position)),
-        Err(fault) => (LineMeaning::Faulty(fault), None),
-    }
-}
-
 /// A position, unless it is the one that was told last.
-fn unless_again(last: Position, position: Position) -> Option<Position>
-    ensures { Comes [] (position_left result) ≡ unless_again (is_same_position last position) (inputs.Sense (sense.Position position)) }
+fn unless_again(last: Position, position: Position) -> Option<Sense>
+    ensures { Comes [] (sense_left result) ≡ unless_again (is_same_position last position) (inputs.Sense (sense.Position position)) }
 {
     if last == position {
         None
     } else {
-        Some(position)
+        Some(Sense::Position(position))
     }
 }

@@ -5,7 +5,7 @@ use Rattle.simulator_run.specs.object_host.Host.{HostState}
 use Rattle.simulator_run.specs.object_host.Step.{host_step}
 use Rattle.simulator_run.specs.object_host.declared.input.Input.{Input}
 use Rattle.simulator_run.specs.object_host.declared.input.Input.TheVariants as inputs
-use Rattle.simulator_run.specs.object_host.declared.sense.Sense.TheVariants as sense
+use Rattle.simulator_run.specs.object_host.declared.sense.Sense.{Sense}
 use Rattle.simulator_run.specs.rasta_core.Outbox.{spellings}
 use Rattle.simulator_run.specs.sci_telegram.declared.message.Occupancy.{Occupancy}
 use Rattle.simulator_run.specs.sci_telegram.declared.message.Position.{Position}
@@ -41,14 +41,10 @@ unanswered (line_meaning.InForce number) left = InForce number
 unanswered line_meaning.Comes left = Comes [] left
 unanswered (line_meaning.Faulty fault) left = Faulty fault
 
--- the inputs that are left of what contacts told: of a point, of a detector, and before a controller is made
-abbrev pub position_left : Option Position → List Input
-position_left None = []
-position_left (Some position) = inputs.Sense (sense.Position position) ∷ []
-
-abbrev pub section_left : Option (ℕ × Occupancy) → List Input
-section_left None = []
-section_left (Some told) = inputs.Sense (sense.Section told.0 told.1) ∷ []
+-- the inputs that are left of what contacts told: of a controller, and before it is made
+abbrev pub sense_left : Option Sense → List Input
+sense_left None = []
+sense_left (Some told) = inputs.Sense told ∷ []
 
 abbrev pub opens : Contact → Opens
 opens (contact.Lies position) = Lies position
