@@ -1,6 +1,6 @@
 -- Lists that grow by what comes of one entry after the other.
-use Rattle.std.proofs.Common.{◌≡◌, ◌∙◌, ℕ, ◌+◌, ◌<◌, List, [], ◌∷◌, ◌++◌, length, map, take, get_or, ap, sym, append_assoc}
-use Rattle.std.proofs.lemmas.List.{flat_map_more, map-append, take_more}
+use Rattle.std.proofs.Common.{◌≡◌, ◌∙◌, ℕ, ◌+◌, ◌<◌, ◌≤◌, List, [], ◌∷◌, ◌++◌, length, map, take, get_or, ap, sym, append_assoc}
+use Rattle.std.proofs.lemmas.List.{flat_map_more, map-append, take_all, take_more}
 use Rattle.std.specs.List.{flat_map}
 
 module _ {X A : Type 0} (start : List A) (xs : List X) (i : ℕ) (x : X) where
@@ -19,3 +19,11 @@ module _ {X A : Type 0} (start : List A) (xs : List X) (i : ℕ) (x : X) where
       → before ≡ start ++ flat_map f (take i xs) → after ≡ before ++ f x → after ≡ start ++ flat_map f (take (i + 1) xs)
   grows_by_all f before after within at was more =
       more ∙ (ap (λ b. b ++ f x) was ∙ (flat_map_more f start (take i xs) x ∙ ap (λ l. start ++ flat_map f l) (one_more within at)))
+
+-- and when no entry is left
+module _ {X A : Type 0} (start : List A) (xs : List X) (i : ℕ) (now : List A) where
+  pub grown : (f : X → A) → length xs ≤ i → now ≡ start ++ map f (take i xs) → now ≡ start ++ map f xs
+  grown f past so_far = so_far ∙ ap (λ l. start ++ map f l) (take_all i xs past)
+
+  pub grown_by_all : (f : X → List A) → length xs ≤ i → now ≡ start ++ flat_map f (take i xs) → now ≡ start ++ flat_map f xs
+  grown_by_all f past so_far = so_far ∙ ap (λ l. start ++ flat_map f l) (take_all i xs past)

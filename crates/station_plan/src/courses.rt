@@ -10,13 +10,18 @@ impl Sketch {
     /// for circles, depth first. It goes over all elements: first from those at whose left there is nothing.
     pub(crate) fn lay_courses(&mut self, joints: &[Joint]) -> Result<(), AllocError> {
         self.straighten(joints);
+        self.visit_leftmost()?;
+        for element in 0..self.elements.len() {
+            self.visit(element)?;
+        }
+        Ok(())
+    }
+
+    fn visit_leftmost(&mut self) -> Result<(), AllocError> {
         for element in 0..self.elements.len() {
             if !self.has_left(element) {
                 self.visit(element)?;
             }
-        }
-        for element in 0..self.elements.len() {
-            self.visit(element)?;
         }
         Ok(())
     }
@@ -87,13 +92,14 @@ impl Sketch {
     }
 
     fn open(&mut self, element: usize) -> Result<(), AllocError> {
-        if let Some(facts) = self.elements.get_mut(element) {
-            if !facts.is_visited {
-                facts.is_visited = true;
-                facts.is_open = true;
-                self.stack.push((element, 0))?;
-            }
+        if self.facts(element).is_visited {
+            return Ok(());
         }
+        if let Some(facts) = self.facts_mut(element) {
+            facts.is_visited = true;
+            facts.is_open = true;
+        }
+        self.stack.push((element, 0))?;
         Ok(())
     }
 

@@ -51,9 +51,14 @@ impl Sketch {
         self.pieces = piece.saturating_add(1);
         let mut found = Vec::new(self.alloc);
         self.find(start, piece, false, &mut found)?;
+        self.spread(piece, &mut found)
+    }
+
+    /// Goes from what is found to all that hangs together with it.
+    fn spread(&mut self, piece: usize, found: &mut Vec<usize>) -> Result<(), AllocError> {
         for turn in 0..self.elements.len() {
             if turn < found.len() {
-                self.reach_from(found[turn], piece, &mut found)?;
+                self.reach_from(found[turn], piece, found)?;
             }
         }
         Ok(())

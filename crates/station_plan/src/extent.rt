@@ -1,5 +1,6 @@
 //! How far marks reach.
 
+use crate::element_marks::moved;
 use crate::thing::{Subject, Thing};
 use crate::units::{Units, count};
 use drawing::{Anchor, Frame, Mark, Shape, Spot};
@@ -119,26 +120,23 @@ fn written(at: Spot, anchor: Anchor, letters: usize) -> Extent {
     }
 }
 
+/// A length that is written without a sign.
+fn length(units: u32) -> Units {
+    Units(i32::try_from(units).unwrap_or(i32::MAX))
+}
+
 /// How far a mark reaches.
 pub(crate) fn reach(mark: &Mark) -> Extent {
     match &mark.shape {
         Shape::Line { from, to } => around(*from, Units(3)).with(around(*to, Units(3))),
         Shape::Polyline(spots) | Shape::Polygon(spots) => all_around(spots.as_slice()),
-        Shape::Circle { centre, radius } => {
-            let radius = i32::try_from(*radius).unwrap_or(i32::MAX);
-            around(*centre, Units(radius) + Units(1))
-        }
+        Shape::Circle { centre, radius } => around(*centre, length(*radius) + Units(1)),
         Shape::Rectangle {
             corner,
             width,
             height,
         } => {
-            let width = i32::try_from(*width).unwrap_or(i32::MAX);
-            let height = i32::try_from(*height).unwrap_or(i32::MAX);
-            let end = Spot {
-                x: corner.x.saturating_add(width),
-                y: corner.y.saturating_add(height),
-            };
+            let end = moved(*corner, length(*width).0, length(*height).0);
             around(*corner, Units(1)).with(around(end, Units(1)))
         }
         Shape::Text { at, anchor, words } => written(*at, *anchor, words.len()),

@@ -44,24 +44,11 @@ fn class_of(
 fn title_of(alloc: Global, subject: &Subject) -> Result<String, AllocError> {
     let kind = kind_word(subject);
     let name = name_of(subject);
-    match subject {
-        Subject::Joint(_, end) => {
-            let end = end_word(*end);
-            format!(in alloc; "{kind} {name}.{end}")
-        }
-        _ => format!(in alloc; "{kind} {name}"),
-    }
-}
-
-/// Marks, and more behind them.
-fn joined(marks: Vec<Mark>, more: Vec<Mark>) -> Result<Vec<Mark>, AllocError>
-    ensures { IfOk result (λ all. all.items ≡ marks.items ++ more.items) }
-{
-    let mut all = marks;
-    for mark in more {
-        all.push(mark)?;
-    }
-    Ok(all)
+    let (dot, end) = match subject {
+        Subject::Joint(_, end) => (".", end_word(*end)),
+        _ => ("", ""),
+    };
+    format!(in alloc; "{kind} {name}{dot}{end}")
 }
 
 /// A thing as a group.
@@ -72,8 +59,8 @@ fn group(alloc: Global, thing: Thing) -> Result<Group, AllocError>
         subject,
         marked,
         state,
-        marks,
-        more,
+        mut marks,
+        mut more,
     } = thing;
     let id = id_of(alloc, &subject)?;
     let class = class_of(
@@ -84,7 +71,7 @@ fn group(alloc: Global, thing: Thing) -> Result<Group, AllocError>
         state.as_str(),
     )?;
     let title = title_of(alloc, &subject)?;
-    let marks = joined(marks, more)?;
+    marks.append(&mut more)?;
     Ok(Group {
         id,
         class,

@@ -32,6 +32,15 @@ pub(crate) struct Room {
     is_occupied: bool,
 }
 
+impl Room {
+    /// Makes room for texts that reach so far above and below it.
+    fn write(&mut self, above: Units, below: Units) {
+        self.above = self.above.or_more(above);
+        self.below = self.below.or_more(below);
+        self.is_occupied = true;
+    }
+}
+
 /// A row of which nothing is known yet.
 const NOTHING: Room = Room {
     y: Units(0),
@@ -85,20 +94,14 @@ impl Sketch {
         let left = self.signal_height(element, false, Units(26));
         let right = self.signal_height(element, true, Units(27));
         if let Some(room) = self.rows.get_mut(row) {
-            room.above = room.above.or_more(above).or_more(left);
-            room.below = room.below.or_more(below).or_more(right);
-            room.is_occupied = true;
+            room.write(above.or_more(left), below.or_more(right));
         }
     }
 
     /// Makes room for level lines.
     fn pass_links(&mut self) {
         for link in &self.links {
-            if let Some(slot) = link.slot {
-                if let Some(room) = self.rows.get_mut(link.above) {
-                    room.slots = room.slots.max(slot.saturating_add(1));
-                }
-            }
+            pass_link(&mut self.rows, *link);
         }
     }
 
@@ -127,8 +130,8 @@ impl Sketch {
 
     /// How far the texts of an element reach above and below its row.
     fn texts(&self, element: usize) -> (Units, Units) {
-        let name = lines(self.written(element).name);
-        let section = lines(self.section_name(element));
+        let name = lines(self.written(element).name_letters);
+        let section = lines(self.section_letters(element));
         match self.numbers.element(element) {
             Element::Track(_) => (Units(16) + more(name), Units(17) + more(section)),
             Element::Point(_) => {
@@ -148,10 +151,20 @@ impl Sketch {
         let Some(place) = self.level_port(element, right) else {
             return Units(0);
         };
-        match self.port(place).signal {
+        match self.port(place).signal_letters {
             0 => Units(0),
             letters => one + more(lines(letters)),
         }
+    }
+}
+
+/// Makes room for the level line of a link below a row, where it has one there.
+fn pass_link(rows: &mut Vec<Room>, link: Link) {
+    let Some(slot) = link.slot else {
+        return;
+    };
+    if let Some(room) = rows.get_mut(link.above) {
+        room.slots = room.slots.max(slot.saturating_add(1));
     }
 }
 

@@ -18,18 +18,18 @@ pub(crate) const WRAP: usize = 10;
 #[derive(Clone, Copy)]
 pub(crate) struct Label {
     /// How many letters its name has.
-    pub(crate) name: usize,
+    pub(crate) name_letters: usize,
     /// The section in which it lies, if it lies in one.
     section: Option<SectionId>,
     /// How many letters the section's name has, if an element of this kind may tell it.
-    section_name: usize,
+    section_letters: usize,
 }
 
 /// What is written where nothing is.
 pub(crate) const UNWRITTEN: Label = Label {
-    name: 0,
+    name_letters: 0,
     section: None,
-    section_name: 0,
+    section_letters: 0,
 };
 
 /// How wide a name is.
@@ -58,9 +58,9 @@ pub(crate) fn letters(name: Option<Name>) -> usize {
 fn label_of(layout: &Layout, element: Element) -> Label {
     let section = section_of(layout, element);
     Label {
-        name: letters(element_name(layout, element)),
+        name_letters: letters(element_name(layout, element)),
         section,
-        section_name: section_letters(layout, element, section),
+        section_letters: section_letters(layout, element, section),
     }
 }
 
@@ -96,11 +96,11 @@ impl Sketch {
 
     /// How many letters of its section's name are written at an element. A section is named once on each row on which it lies
     /// without a break: at its tracks, or at its points where it has no track.
-    pub(crate) fn section_name(&self, element: usize) -> usize {
+    pub(crate) fn section_letters(&self, element: usize) -> usize {
         if self.is_named_before(element) {
             return 0;
         }
-        self.written(element).section_name
+        self.written(element).section_letters
     }
 
     /// Whether what lies at the left of an element on its row is of the same kind and section.

@@ -29,6 +29,23 @@ pub(crate) struct Link {
     pub(crate) is_flat: bool,
 }
 
+impl Link {
+    /// A link of which nothing more is known yet.
+    fn new(from: Place, to: Place, is_crossover: bool, chain: Option<usize>) -> Link {
+        Link {
+            from,
+            to,
+            is_crossover,
+            chain,
+            above: 0,
+            slot: None,
+            left: Units(0),
+            right: Units(0),
+            is_flat: false,
+        }
+    }
+}
+
 impl Sketch {
     /// Finds the links of the layout. A link within one chain makes a chain without elements.
     pub(crate) fn lay_links(&mut self) -> Result<(), AllocError> {
@@ -52,17 +69,7 @@ impl Sketch {
             chain = Some(self.chains);
             self.chains = self.chains.saturating_add(1);
         }
-        self.links.push(Link {
-            from,
-            to,
-            is_crossover,
-            chain,
-            above: 0,
-            slot: None,
-            left: Units(0),
-            right: Units(0),
-            is_flat: false,
-        })?;
+        self.links.push(Link::new(from, to, is_crossover, chain))?;
         Ok(())
     }
 

@@ -5,16 +5,13 @@ use crate::yard::{FAR, Place};
 use control_table::layout::{End, PointId, Route};
 use control_table::sci_telegram::{Aspect, Side};
 
-/// What a leg is joined to.
-#[derive(Drop)]
-enum Joined {
-    /// To nothing, or where the line turns back.
-    Open,
-    /// To the leg of a point.
-    Leg,
-    /// To anything else.
-    Other,
-}
+/// What a leg may be joined to, the best first: to anything but a leg, to the leg of a point, and to nothing, or where the line
+/// turns back.
+const OTHER: u8 = 0;
+
+const LEG: u8 = 1;
+
+const OPEN: u8 = 2;
 
 /// The base of the number of a way, whose digits are at most `FAR`.
 const BASE: usize = 1001;
@@ -37,14 +34,17 @@ impl Sketch {
 
     fn mark_fast(&mut self, points: &[(PointId, Side)]) {
         for (point, side) in points {
-            let end = match side {
-                Side::Left => End::Left,
-                Side::Right => End::Right,
+            let place = Place {
+                element: self.numbers.point(point.0),
+                end: leg(*side),
             };
-            let element = self.numbers.point(point.0);
-            if let Some(port) = self.port_mut(Place { element, end }) {
-                port.is_fast = true;
-            }
+            self.set_fast(place);
+        }
+    }
+
+    fn set_fast(&mut self, place: Place) {
+        if let Some(port) = self.port_mut(place) {
+            port.is_fast = true;
         }
     }
 
@@ -93,12 +93,12 @@ impl Sketch {
     }
 
     /// What a leg is joined to.
-    fn joined_to(&self, place: Place) -> Joined {
+    fn joined_to(&self, place: Place) -> u8 {
         match self.port(place).next {
-            None => Joined::Open,
+            None => OPEN,
             Some(mate) => match mate.end {
-                End::Left | End::Right => Joined::Leg,
-                End::A | End::B | End::Tip | End::End => Joined::Other,
+                End::Left | End::Right => LEG,
+                End::A | End::B | End::Tip | End::End => OTHER,
             },
         }
     }
@@ -117,14 +117,19 @@ impl Sketch {
         if is_left_fast != self.port(right).is_fast {
             return Some(if is_left_fast { End::Left } else { End::Right });
         }
-        match (self.joined_to(left), self.joined_to(right)) {
-            (Joined::Open, Joined::Open) => Some(End::Left),
-            (Joined::Leg, Joined::Leg) => None,
-            (Joined::Other, Joined::Other) => {
-                Some(better(self.way_behind(left), self.way_behind(right)))
-            }
-            (Joined::Open, _) | (Joined::Leg, Joined::Other) => Some(End::Right),
-            (_, Joined::Open) | (Joined::Other, Joined::Leg) => Some(End::Left),
+        let joined = self.joined_to(left);
+        let other = self.joined_to(right);
+        if joined != other {
+            return Some(if joined < other {
+                End::Left
+            } else {
+                End::Right
+            });
+        }
+        match joined {
+            OPEN => Some(End::Left),
+            LEG => None,
+            _ => Some(better(self.way_behind(left), self.way_behind(right))),
         }
     }
 
@@ -178,6 +183,14 @@ impl Sketch {
             .saturating_add(FAR.saturating_sub(ways.longest))
             .saturating_mul(BASE)
             .saturating_add(mate.element)
+    }
+}
+
+/// The leg at a side.
+fn leg(side: Side) -> End {
+    match side {
+        Side::Left => End::Left,
+        Side::Right => End::Right,
     }
 }
 

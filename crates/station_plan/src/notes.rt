@@ -98,16 +98,20 @@ fn draw_lines(marks: &mut Marks, at: Spot, lines: &[(Sample, &str)]) -> Result<(
 
 /// Draws a line of the legend: a sample, and what it means.
 fn draw_line(marks: &mut Marks, at: Spot, sample: &Sample, words: &str) -> Result<(), AllocError> {
+    draw_sample(marks, at, sample)?;
+    marks.text("label", moved(at, 30, 0), Anchor::Start, words)
+}
+
+fn draw_sample(marks: &mut Marks, at: Spot, sample: &Sample) -> Result<(), AllocError> {
     match sample {
-        Sample::Line(class) => marks.line(class, moved(at, 0, -4), moved(at, 22, -4))?,
+        Sample::Line(class) => marks.line(class, moved(at, 0, -4), moved(at, 22, -4)),
         Sample::Guard => {
             marks.line("flank-sample", moved(at, 4, -4), moved(at, 22, -4))?;
-            marks.circle("guard", moved(at, 4, -4), 4)?;
+            marks.circle("guard", moved(at, 4, -4), 4)
         }
         Sample::Lamps(first, second) => {
             marks.circle(first, moved(at, 8, -4), 4)?;
-            marks.circle(second, moved(at, 16, -4), 4)?;
+            marks.circle(second, moved(at, 16, -4), 4)
         }
     }
-    marks.text("label", moved(at, 30, 0), Anchor::Start, words)
 }

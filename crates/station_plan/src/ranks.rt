@@ -2,22 +2,25 @@
 
 use crate::lists::at;
 use crate::sketch::Sketch;
-use crate::yard::{FAR, Place, Ways};
+use crate::yard::{ElementFacts, FAR, Place, Ways};
 use control_table::layout::Element;
 
 impl Sketch {
     /// Finds the ranks of all elements, and the ways from them to both sides.
     pub(crate) fn lay_ranks(&mut self) {
-        for turn in 0..self.order.len() {
-            let element = at(&self.order, turn, 0);
-            self.measure(element, true);
-        }
-        for turn in (0..self.order.len()).rev() {
-            let element = at(&self.order, turn, 0);
-            self.measure(element, false);
-        }
+        self.measure_all(true);
+        self.order.reverse();
+        self.measure_all(false);
         let longest = self.settle_ranks();
         self.lay_beside(longest);
+    }
+
+    /// Finds the ways from all elements to a side, in an order in which what lies there comes first.
+    fn measure_all(&mut self, right: bool) {
+        for turn in 0..self.order.len() {
+            let element = at(&self.order, turn, 0);
+            self.measure(element, right);
+        }
     }
 
     /// The ways from an element to a side.
@@ -56,16 +59,11 @@ impl Sketch {
 
     /// Finds the ranks by the ways to the left, and tells how many elements the longest one has.
     fn settle_ranks(&mut self) -> usize {
-        let mut longest: usize = 1;
-        for facts in &self.elements {
-            longest = longest.max(facts.left.longest);
-        }
+        let longest = longest_of(&self.elements);
         let borders = self.numbers.border(0);
         for element in 0..self.elements.len() {
             if let Some(facts) = self.facts_mut(element) {
-                let is_last = borders <= element && facts.is_flipped;
-                let way = if is_last { longest } else { facts.left.longest };
-                facts.rank = way.saturating_sub(1);
+                facts.settle_rank(borders <= element, longest);
             }
         }
         longest
@@ -101,9 +99,16 @@ impl Sketch {
     /// Moves a piece to the right.
     fn shift(&mut self, piece: usize, by: usize) {
         for facts in self.elements.iter_mut() {
-            if facts.piece == Some(piece) {
-                facts.rank = facts.rank.saturating_add(by);
-            }
+            facts.shift(piece, by);
         }
     }
+}
+
+/// How many elements the longest way to the left has.
+fn longest_of(elements: &[ElementFacts]) -> usize {
+    let mut longest: usize = 1;
+    for facts in elements {
+        longest = longest.max(facts.left.longest);
+    }
+    longest
 }

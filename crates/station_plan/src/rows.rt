@@ -27,6 +27,16 @@ fn is_new(spot: usize) -> bool {
     spot % 2 == 0
 }
 
+impl Strand {
+    /// Whether it is placed between two spots.
+    fn lies_between(self, above: usize, below: usize) -> bool {
+        match self.row {
+            Some(row) => above < spot_of(row) && spot_of(row) < below,
+            None => false,
+        }
+    }
+}
+
 impl Sketch {
     /// Places all chains, piece by piece: first the longest chain, and then always the longest that hangs at what is placed,
     /// where it costs least. A piece lies below all that is placed before, but for a line that hangs at nothing, which may
@@ -87,15 +97,23 @@ impl Sketch {
     /// Whether a chain hangs at one that is placed.
     fn hangs(&self, chain: usize) -> bool {
         for link in &self.links {
-            let (from, to) = (link.from.element, link.to.element);
-            let is_part = link.chain == Some(chain)
-                || self.facts(from).chain == Some(chain)
-                || self.facts(to).chain == Some(chain);
-            if is_part && (self.row_of(from).is_some() || self.row_of(to).is_some()) {
+            if self.has_part(*link, chain) && self.is_placed(*link) {
                 return true;
             }
         }
         false
+    }
+
+    /// Whether a chain is one of those that a link joins, or the link itself.
+    fn has_part(&self, link: Link, chain: usize) -> bool {
+        link.chain == Some(chain)
+            || self.facts(link.from.element).chain == Some(chain)
+            || self.facts(link.to.element).chain == Some(chain)
+    }
+
+    /// Whether an end of a link is placed.
+    fn is_placed(&self, link: Link) -> bool {
+        self.row_of(link.from.element).is_some() || self.row_of(link.to.element).is_some()
     }
 
     /// Places a chain where it costs least, on a row or on a new one.
@@ -121,11 +139,7 @@ impl Sketch {
     /// Makes a new row.
     fn make_room(&mut self, row: usize) {
         for strand in self.strands.iter_mut() {
-            if let Some(other) = strand.row {
-                if row <= other {
-                    strand.row = Some(other.saturating_add(1));
-                }
-            }
+            strand.make_room(row);
         }
         self.row_count = self.row_count.saturating_add(1);
     }
@@ -214,11 +228,8 @@ impl Sketch {
         let (low, high) = self.ranks(link);
         let mut count: usize = 0;
         for strand in &self.strands {
-            if let Some(row) = strand.row {
-                let lies_between = above < spot_of(row) && spot_of(row) < below;
-                if lies_between && strand.touches(low, high) {
-                    count = count.saturating_add(1);
-                }
+            if strand.lies_between(above, below) && strand.touches(low, high) {
+                count = count.saturating_add(1);
             }
         }
         count

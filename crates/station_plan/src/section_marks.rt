@@ -144,7 +144,7 @@ fn draw_track_label(
     element: usize,
     name: &Name,
 ) -> Result<(), AllocError> {
-    if sketch.section_name(element) == 0 {
+    if sketch.section_letters(element) == 0 {
         return Ok(());
     }
     let (left, right) = sketch.row_line(element);
@@ -160,11 +160,11 @@ fn draw_point_label(
     element: usize,
     name: &Name,
 ) -> Result<(), AllocError> {
-    if sketch.section_name(element) == 0 {
+    if sketch.section_letters(element) == 0 {
         return Ok(());
     }
     let up = sketch.is_drawn_up(element);
-    let beyond = LINE.times(count(lines(sketch.written(element).name)));
+    let beyond = LINE.times(count(lines(sketch.written(element).name_letters)));
     let y = if up {
         sketch.y(element) + Units(16) + beyond
     } else {

@@ -200,7 +200,17 @@ pub(crate) fn route_words(
     let name = route.name().as_str();
     let entry = exit_word(layout, Exit::Signal(route.entry()));
     let exit = exit_word(layout, route.exit());
-    let aspect = aspect_word(route.aspect());
+    words_for(alloc, name, entry, exit, aspect_word(route.aspect()))
+}
+
+/// What is said of a route of a name, between these ends.
+fn words_for(
+    alloc: Global,
+    name: &str,
+    entry: &str,
+    exit: &str,
+    aspect: &str,
+) -> Result<String, AllocError> {
     format!(in alloc; "route {name} from {entry} to {exit}, {aspect}")
 }
 

@@ -28,7 +28,7 @@ pub(crate) struct Sketch {
     pub(crate) pieces: usize,
     /// The elements at which the search for circles is, each with how many of its ports were tried.
     pub(crate) stack: Vec<(usize, usize)>,
-    /// The elements, from right to left.
+    /// The elements, from right to left, and from left to right once the ways to the right are found.
     pub(crate) order: Vec<usize>,
     /// How many chains there are.
     pub(crate) chains: usize,

@@ -34,7 +34,7 @@ impl Sketch {
 
     /// How much room the signal at a port takes.
     fn signal_width(&self, place: Place) -> Units {
-        match self.port(place).signal {
+        match self.port(place).signal_letters {
             0 => Units(0),
             letters => SIGNAL.or_more(width(letters) + Units(8)),
         }
@@ -60,7 +60,7 @@ impl Sketch {
     fn parting(&self, element: usize, right: bool) -> Option<usize> {
         let port = self.port(self.level_port(element, right)?);
         let mate = port.next?;
-        if port.signal > 0 && mate.end == self.main(mate.element) {
+        if port.signal_letters > 0 && mate.end == self.main(mate.element) {
             Some(mate.element)
         } else {
             None
@@ -103,13 +103,17 @@ impl Sketch {
     }
 
     fn half_of_track(&self, element: usize) -> Units {
-        let above = width(self.written(element).name) + BESIDE + self.signal_room(element, false);
-        let below = width(self.section_name(element)) + BESIDE + self.signal_room(element, true);
+        let above = width(self.written(element).name_letters)
+            + BESIDE
+            + self.signal_room(element, false);
+        let below = width(self.section_letters(element)) + BESIDE + self.signal_room(element, true);
         (LEAST.or_more(above).or_more(below) + Units(1)).half()
     }
 
     fn half_of_point(&self, element: usize) -> Units {
-        let text = width(self.written(element).name).or_more(width(self.section_name(element)));
+        let text = width(self.written(element).name_letters).or_more(width(self.section_letters(
+            element,
+        )));
         let clear = self
             .clearance(element, false)
             .or_more(self.clearance(element, true));
@@ -117,12 +121,12 @@ impl Sketch {
     }
 
     fn half_of_border(&self, element: usize) -> Units {
-        let text = (width(self.written(element).name) + Units(8)).half();
+        let text = (width(self.written(element).name_letters) + Units(8)).half();
         let place = Place {
             element,
             end: End::End,
         };
-        let signal = match self.port(place).signal {
+        let signal = match self.port(place).signal_letters {
             0 => Units(0),
             _ => Units(17),
         };

@@ -56,6 +56,29 @@ pub(crate) struct ElementFacts {
     pub(crate) far: Units,
 }
 
+impl ElementFacts {
+    /// Finds its rank by the way to its left. A border at the right has that of the longest way.
+    pub(crate) fn settle_rank(&mut self, is_border: bool, longest: usize) {
+        let is_last = is_border && self.is_flipped;
+        let way = if is_last { longest } else { self.left.longest };
+        self.rank = way.saturating_sub(1);
+    }
+
+    /// Moves it to the right by so many ranks, if it is part of a piece.
+    pub(crate) fn shift(&mut self, piece: usize, by: usize) {
+        if self.piece == Some(piece) {
+            self.rank = self.rank.saturating_add(by);
+        }
+    }
+
+    /// Lays it at the right of a plan of this width, if it lies the other way round.
+    pub(crate) fn align(&mut self, width: Units) {
+        if self.is_flipped {
+            self.x = width - self.half;
+        }
+    }
+}
+
 /// An element of which nothing is found yet.
 pub(crate) const UNKNOWN: ElementFacts = ElementFacts {
     is_flipped: false,
@@ -86,7 +109,7 @@ pub(crate) struct PortFacts {
     /// The same, where the joint goes on from left to right.
     pub(crate) next: Option<Place>,
     /// How many letters the name of the signal has that stands there, or 0.
-    pub(crate) signal: usize,
+    pub(crate) signal_letters: usize,
     /// Whether it is a leg over which a route runs that isn't slow.
     pub(crate) is_fast: bool,
     /// The number by which the two ends of a joint know one another that isn't drawn as a line.
@@ -97,7 +120,7 @@ pub(crate) struct PortFacts {
 pub(crate) const UNJOINED: PortFacts = PortFacts {
     mate: None,
     next: None,
-    signal: 0,
+    signal_letters: 0,
     is_fast: false,
     connector: None,
 };
@@ -159,7 +182,7 @@ impl Sketch {
         for signal in signals {
             let place = self.numbers.place(signal.at);
             if let Some(port) = self.port_mut(place) {
-                port.signal = letters(Some(signal.name));
+                port.signal_letters = letters(Some(signal.name));
             }
         }
     }

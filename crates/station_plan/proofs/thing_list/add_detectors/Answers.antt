@@ -1,7 +1,7 @@
 use Rattle.std.proofs.Common.{◌∙◌, [], ◌∷◌, ◌++◌, ap}
 use Rattle.station_plan.specs.Subjects.{detector_subject, subjects_of}
 use Rattle.station_plan.specs.declared.thing.Subject.TheVariants as subject
-use Rattle.station_plan.proofs.Grown.{grows}
+use Rattle.station_plan.proofs.Grown.{grown, grows}
 use Rattle.station_plan.proofs.thing_list.add_detectors.Goals as goal
 
 pub loop-number-preserved : goal.loop-number-preserved
@@ -11,3 +11,9 @@ loop-number-preserved c = (
       ∙ ap (λ n. subjects_of c.loop-number.things.items ++ subject.Detector n ∷ []) c.name.ensures),
   c.in_ok-add.ensures.drawn,
 )
+
+pub returns : goal.returns
+returns c = record {
+  listed = grown (subjects_of c.args.things.now.items) c.args.detectors.now c.loop-number.number (subjects_of c.loop-number.things.items) detector_subject c.loop-number-test.false c.loop-number.invariant.0;
+  drawn = c.loop-number.invariant.1;
+}

@@ -1,6 +1,6 @@
 use Rattle.std.proofs.Common.{◌∙◌, [], ◌∷◌, ◌++◌, ap}
 use Rattle.station_plan.specs.Subjects.{subjects_of}
-use Rattle.station_plan.proofs.Grown.{grows}
+use Rattle.station_plan.proofs.Grown.{grown, grows}
 use Rattle.station_plan.proofs.thing_list.add_placed.Goals as goal
 
 pub loop-one-preserved : goal.loop-one-preserved
@@ -9,3 +9,9 @@ loop-one-preserved c = (
       c.loop-one-test.true c.one-item.is c.loop-one.invariant.0 (c.in_ok-add.ensures.listed ∙ ap (λ s. subjects_of c.loop-one.things.items ++ s ∷ []) c.in_ok-thing_of.ensures.stands),
   c.in_ok-add.ensures.drawn,
 )
+
+pub returns : goal.returns
+returns c = record {
+  listed = grown (subjects_of c.args.things.now.items) c.args.placed.now c.loop-one.one-index (subjects_of c.loop-one.things.items) (λ one. one.subject) c.loop-one-test.false c.loop-one.invariant.0;
+  drawn = c.loop-one.invariant.1;
+}
