@@ -210,9 +210,9 @@ pub fn chart(
         happenings,
     };
     let bottom = ROWS.saturating_add(height_of(rows));
-    let groups = groups_of(alloc, station, scene, rows, bottom)?;
     let title = String::from_str(alloc, station)?;
     let style = String::from_str(alloc, STYLE)?;
+    let groups = groups_of(alloc, station, scene, rows, bottom)?;
     Ok(Picture {
         title,
         style,

@@ -62,11 +62,24 @@ fn route_name(routes: &[Route], route: RouteId) -> &str {
     }
 }
 
+/// The states that a line alone tells.
+const TOLD_BY_LINE: &[&str] = &[
+    "none",
+    "stop",
+    "clear",
+    "free",
+    "ready",
+    "driven-left",
+    "driven-right",
+];
+
 /// The word that is written for what is seen: none where its line alone tells it.
 fn written_word(seen: Seen) -> &'static str {
-    match state_word(seen) {
-        "none" | "stop" | "clear" | "free" | "ready" | "driven-left" | "driven-right" => "",
-        word => word,
+    let word = state_word(seen);
+    if TOLD_BY_LINE.contains(&word) {
+        ""
+    } else {
+        word
     }
 }
 
