@@ -8,7 +8,6 @@ use control_table::layout::{Point, Route, Signal};
 use control_table::sci_telegram::Name;
 
 /// The place of the signal of a name.
-#[tactic(auto, using(crate::proofs::PlaceFound::found, crate::proofs::PlaceFound::goes_on, crate::proofs::PlaceFound::nowhere))]
 pub fn signal_place(signals: &[Signal], name: &str) -> Option<usize>
     ensures { result ≡ position (λ signal. bytes_eq signal.name name.now) signals.now }
 {
@@ -21,7 +20,6 @@ pub fn signal_place(signals: &[Signal], name: &str) -> Option<usize>
 }
 
 /// The place of the point of a name.
-#[tactic(auto, using(crate::proofs::PlaceFound::found, crate::proofs::PlaceFound::goes_on, crate::proofs::PlaceFound::nowhere))]
 pub(crate) fn point_place(points: &[Point], name: &str) -> Option<usize>
     ensures { result ≡ position (λ point. bytes_eq point.name name.now) points.now }
 {
@@ -34,7 +32,6 @@ pub(crate) fn point_place(points: &[Point], name: &str) -> Option<usize>
 }
 
 /// The place of the section of a name.
-#[tactic(auto, using(crate::proofs::PlaceFound::found, crate::proofs::PlaceFound::goes_on, crate::proofs::PlaceFound::nowhere))]
 pub(crate) fn section_place(sections: &[Name], name: &str) -> Option<usize>
     ensures { result ≡ position (λ section. bytes_eq section name.now) sections.now }
 {
@@ -47,7 +44,6 @@ pub(crate) fn section_place(sections: &[Name], name: &str) -> Option<usize>
 }
 
 /// The place of the route of a name.
-#[tactic(auto, using(crate::proofs::PlaceFound::found, crate::proofs::PlaceFound::goes_on, crate::proofs::PlaceFound::nowhere))]
 pub fn route_place(routes: &[Route], name: &str) -> Option<usize>
     ensures { result ≡ position (λ route. bytes_eq route.name name.now) routes.now }
 {
