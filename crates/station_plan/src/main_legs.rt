@@ -5,14 +5,6 @@ use crate::yard::{FAR, Place};
 use control_table::layout::{End, PointId, Route};
 use control_table::sci_telegram::{Aspect, Side};
 
-/// What a leg may be joined to, the best first: to anything but a leg, to the leg of a point, and to nothing, or where the line
-/// turns back.
-const OTHER: u8 = 0;
-
-const LEG: u8 = 1;
-
-const OPEN: u8 = 2;
-
 /// The base of the number of a way, whose digits are at most `FAR`.
 const BASE: usize = 1001;
 
@@ -92,14 +84,16 @@ impl Sketch {
         }
     }
 
-    /// What a leg is joined to.
-    fn joined_to(&self, place: Place) -> u8 {
+    /// Whether a leg is joined to nothing, or the line turns back there.
+    fn is_open(&self, place: Place) -> bool {
+        self.port(place).next.is_none()
+    }
+
+    /// Whether a leg is joined to the leg of a point.
+    fn is_to_leg(&self, place: Place) -> bool {
         match self.port(place).next {
-            None => OPEN,
-            Some(mate) => match mate.end {
-                End::Left | End::Right => LEG,
-                End::A | End::B | End::Tip | End::End => OTHER,
-            },
+            Some(mate) => matches!(mate.end, End::Left | End::Right),
+            None => false,
         }
     }
 
@@ -117,19 +111,17 @@ impl Sketch {
         if is_left_fast != self.port(right).is_fast {
             return Some(if is_left_fast { End::Left } else { End::Right });
         }
-        let joined = self.joined_to(left);
-        let other = self.joined_to(right);
-        if joined != other {
-            return Some(if joined < other {
-                End::Left
-            } else {
-                End::Right
-            });
+        if self.is_open(right) {
+            return Some(End::Left);
         }
-        match joined {
-            OPEN => Some(End::Left),
-            LEG => None,
-            _ => Some(better(self.way_behind(left), self.way_behind(right))),
+        if self.is_open(left) {
+            return Some(End::Right);
+        }
+        match (self.is_to_leg(left), self.is_to_leg(right)) {
+            (true, true) => None,
+            (true, false) => Some(End::Right),
+            (false, true) => Some(End::Left),
+            (false, false) => Some(better(self.way_behind(left), self.way_behind(right))),
         }
     }
 

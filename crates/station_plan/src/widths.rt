@@ -103,17 +103,16 @@ impl Sketch {
     }
 
     fn half_of_track(&self, element: usize) -> Units {
-        let above = width(self.written(element).name_letters)
-            + BESIDE
-            + self.signal_room(element, false);
-        let below = width(self.section_letters(element)) + BESIDE + self.signal_room(element, true);
+        let name = width(self.written(element).name_letters);
+        let section = width(self.section_letters(element));
+        let above = name + BESIDE + self.signal_room(element, false);
+        let below = section + BESIDE + self.signal_room(element, true);
         (LEAST.or_more(above).or_more(below) + Units(1)).half()
     }
 
     fn half_of_point(&self, element: usize) -> Units {
-        let text = width(self.written(element).name_letters).or_more(width(self.section_letters(
-            element,
-        )));
+        let name = width(self.written(element).name_letters);
+        let text = name.or_more(width(self.section_letters(element)));
         let clear = self
             .clearance(element, false)
             .or_more(self.clearance(element, true));
