@@ -1,3 +1,5 @@
+pub mod AdviceFrames
 pub mod Entries
+pub mod Found
 pub mod SentenceEnds
 pub mod SignalFound

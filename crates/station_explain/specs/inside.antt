@@ -1,1 +1,3 @@
+pub mod EntryFrame
+pub mod RouteFrame
 pub mod Sentences

@@ -2,11 +2,13 @@
 
 ghost use Rattle.std.specs.Prelude.{◌≡◌, IfOk, Some};
 ghost use Rattle.station_explain.specs.Advice.{advice_line, entry_advice_words, route_advice_words};
+ghost use Rattle.station_explain.specs.inside.EntryFrame.{about, wrong_words};
+ghost use Rattle.station_explain.specs.inside.Sentences.{sentence_words};
 
-use crate::detail::{RouteAdvice, RouteDetail};
-use crate::entry_words::PlaceWords;
+use crate::detail::RouteAdvice;
 use crate::fault_words::{layout_sentence, table_sentence};
 use crate::field_key::{FieldKey, Kind};
+use crate::sentence::{Sentence, bare, words};
 use crate::text_place::TextPlace;
 use arrayvec::ArrayString;
 use control_table::TableFault;
@@ -95,71 +97,62 @@ pub(crate) enum Missed {
     Unreported(Name),
 }
 
+impl EntryAdvice {
+    /// What it is about.
+    #[tactic(auto, unfolding(crate::specs::inside::EntryFrame::about))]
+    fn about(&self) -> Spot
+        ensures { result ≡ about self.now }
+    {
+        match self {
+            EntryAdvice::Absent(table) => Spot::Entry(Place {
+                table: *table,
+                entry: 0,
+            }),
+            EntryAdvice::Missing(place, _) | EntryAdvice::Shared(place, _, _) => {
+                Spot::Entry(*place)
+            }
+            EntryAdvice::Wrong(spot, _) | EntryAdvice::Unknown(spot, _) => *spot,
+        }
+    }
+
+    /// What is wrong with that.
+    #[tactic(auto, unfolding(crate::specs::inside::EntryFrame::wrong_words))]
+    fn sentence(&self) -> Sentence
+        ensures { sentence_words result ≡ wrong_words self.now }
+    {
+        match self {
+            EntryAdvice::Absent(_) => bare("is missing"),
+            EntryAdvice::Missing(place, key) => words(
+                "has no `",
+                key.word(),
+                "`: it has to be ",
+                Spot::Entry(*place).form(),
+            ),
+            EntryAdvice::Wrong(spot, kind) => kind.sentence(spot.form()),
+            EntryAdvice::Shared(_, common, first) => common.sentence(*first),
+            EntryAdvice::Unknown(_, missed) => missed.sentence(),
+        }
+    }
+}
+
 impl fmt::Display for EntryAdvice {
     ghost output = { λ advice. Some (entry_advice_words advice) };
 
-    #[tactic(auto, unfolding(crate::specs::Advice::entry_advice_words))]
     fn fmt<W: fmt::Write>(&self, f: &mut fmt::Formatter<W>) -> fmt::Result {
-        match self {
-            EntryAdvice::Absent(table) => write!(f, "the key `{table}` is missing"),
-            EntryAdvice::Missing(place, key) => {
-                let at = PlaceWords(*place);
-                let key = key.word();
-                let wanted = Spot::Entry(*place).form();
-                write!(f, "{at} has no `{key}`: it has to be {wanted}")
-            }
-            EntryAdvice::Wrong(spot, kind) => {
-                let at = spot.sentence();
-                let kind = kind.sentence();
-                let wanted = spot.form();
-                write!(f, "{at} is {kind}, and has to be {wanted}")
-            }
-            EntryAdvice::Shared(place, common, first) => {
-                let at = PlaceWords(*place);
-                let common = common.sentence();
-                let first = PlaceWords(*first);
-                write!(f, "{at} {common} {first}")
-            }
-            EntryAdvice::Unknown(spot, missed) => {
-                let at = spot.sentence();
-                let missed = missed.sentence();
-                write!(f, "{at} {missed}")
-            }
-        }
+        let at = self.about().sentence();
+        let what = self.sentence();
+        write!(f, "{at} {what}")
     }
 }
 
 impl fmt::Display for RouteAdvice {
     ghost output = { λ advice. Some (route_advice_words advice) };
 
-    #[tactic(auto, unfolding(crate::specs::Advice::route_advice_words))]
     fn fmt<W: fmt::Write>(&self, f: &mut fmt::Formatter<W>) -> fmt::Result {
+        let before = self.detail.before_route();
         let route = &self.route;
-        match &self.detail {
-            RouteDetail::Path(detail) => {
-                let detail = detail.sentence();
-                write!(f, "the path of {route} {detail}")
-            }
-            RouteDetail::Points(detail) => {
-                let detail = detail.sentence();
-                write!(f, "{route} {detail}")
-            }
-            RouteDetail::Unwritten(point) => {
-                let point = point.as_str();
-                write!(
-                    f,
-                    "point {point} lies on the path of {route} and isn't written under its `points`"
-                )
-            }
-            RouteDetail::WithItself => write!(f, "under `extra` {route} lists itself"),
-            RouteDetail::Unanswered(other) => {
-                let other = other.as_str();
-                write!(
-                    f,
-                    "under `extra` {route} lists route {other}, which doesn't list it"
-                )
-            }
-        }
+        let behind = self.detail.behind_route();
+        write!(f, "{before}{route} {behind}")
     }
 }
 

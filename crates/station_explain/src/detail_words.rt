@@ -2,9 +2,10 @@
 
 ghost use Rattle.std.specs.Prelude.{◌≡◌};
 ghost use Rattle.station_explain.specs.DetailWords.{path_words, point_words};
+ghost use Rattle.station_explain.specs.inside.RouteFrame.{before_words, behind_words};
 ghost use Rattle.station_explain.specs.inside.Sentences.{sentence_words};
 
-use crate::detail::{PathDetail, PointDetail};
+use crate::detail::{PathDetail, PointDetail, RouteDetail};
 use crate::route_sides::other;
 use crate::sentence::{Part, Sentence, bare, four, one, to_three, two};
 
@@ -112,6 +113,41 @@ impl PointDetail {
                 "requires point ",
                 Part::Name(*name),
                 " at both sides",
+            ),
+        }
+    }
+}
+
+impl RouteDetail {
+    /// What is told before the route is named.
+    #[tactic(auto, unfolding(crate::specs::inside::RouteFrame::before_words, crate::specs::inside::Sentences::part_words))]
+    pub(crate) fn before_route(&self) -> Sentence
+        ensures { sentence_words result ≡ before_words self.now }
+    {
+        match self {
+            RouteDetail::Path(_) => bare("the path of "),
+            RouteDetail::Points(_) => bare(""),
+            RouteDetail::Unwritten(point) => {
+                one("point ", Part::Name(*point), " lies on the path of ")
+            }
+            RouteDetail::WithItself | RouteDetail::Unanswered(_) => bare("under `extra` "),
+        }
+    }
+
+    /// What is told behind the route.
+    #[tactic(auto, unfolding(crate::specs::inside::RouteFrame::behind_words, crate::specs::inside::Sentences::part_words))]
+    pub(crate) fn behind_route(&self) -> Sentence
+        ensures { sentence_words result ≡ behind_words self.now }
+    {
+        match self {
+            RouteDetail::Path(detail) => detail.sentence(),
+            RouteDetail::Points(detail) => detail.sentence(),
+            RouteDetail::Unwritten(_) => bare("and isn't written under its `points`"),
+            RouteDetail::WithItself => bare("lists itself"),
+            RouteDetail::Unanswered(other) => one(
+                "lists route ",
+                Part::Name(*other),
+                ", which doesn't list it",
             ),
         }
     }

@@ -1,8 +1,8 @@
 //! What is told of an entry, in words.
 
-ghost use Rattle.std.specs.Prelude.{◌≡◌, Some};
+ghost use Rattle.std.specs.Prelude.{◌≡◌, ◌++◌, Some, codes};
 ghost use Rattle.station_explain.specs.EntryWords.{common_words, entry_form, missed_words, place_words, spot_form, spot_words};
-ghost use Rattle.station_explain.specs.inside.Sentences.{sentence_words};
+ghost use Rattle.station_explain.specs.inside.Sentences.{part_words, sentence_words};
 
 use crate::advice::{Common, Missed, Spot};
 use crate::field_key::FieldKey;
@@ -96,11 +96,19 @@ impl Spot {
     }
 }
 
+/// That an entry has something, as another one.
+#[tactic(auto, unfolding(crate::specs::inside::Sentences::part_words))]
+fn shared(begin: &'static str, part: Part, first: Place) -> Sentence
+    ensures { sentence_words result ≡ (begin.now ++ (part_words part ++ codes ", as")) ++ (codes " " ++ place_words first) }
+{
+    to_three("", Part::Nothing, begin, part, ", as ", Part::Place(first))
+}
+
 impl Common {
     /// That an entry has it, as another one.
     #[tactic(auto, unfolding(crate::specs::EntryWords::common_words, crate::specs::inside::Sentences::part_words))]
-    pub(crate) fn sentence(&self) -> Sentence
-        ensures { sentence_words result ≡ common_words self.now }
+    pub(crate) fn sentence(&self, first: Place) -> Sentence
+        ensures { sentence_words result ≡ common_words self.now ++ (codes " " ++ place_words first) }
     {
         let (begin, part) = match self {
             Common::Name(name) => ("has the name ", Part::Name(*name)),
@@ -109,7 +117,7 @@ impl Common {
             Common::Joint(port) => ("joins ", Part::Port(*port)),
             Common::Signal(port) => ("stands at ", Part::Port(*port)),
         };
-        one(begin, part, ", as")
+        shared(begin, part, first)
     }
 }
 

@@ -1,11 +1,11 @@
 //! The keys of entries, and what may stand under them.
 
-ghost use Rattle.std.specs.Prelude.{◌≡◌};
+ghost use Rattle.std.specs.Prelude.{◌≡◌, ◌++◌, codes};
 ghost use Rattle.toml.specs.View.{view};
 ghost use Rattle.station_explain.specs.FieldKeys.{all_keys, form_words, is_required, item_key, key_text, kind_of, kind_word, kind_words};
 ghost use Rattle.station_explain.specs.inside.Sentences.{sentence_words};
 
-use crate::sentence::{Part, Sentence, bare, to_one};
+use crate::sentence::{Part, Sentence, two, words};
 use layout_text::TableName;
 use toml::Value;
 
@@ -169,14 +169,20 @@ impl Kind {
         }
     }
 
-    /// The kind as it is told: an integer by its digits.
+    /// That a value is of the kind, an integer by its digits, and what is wanted.
     #[tactic(auto, unfolding(crate::specs::FieldKeys::kind_words, crate::specs::inside::Sentences::part_words))]
-    pub(crate) fn sentence(&self) -> Sentence
-        ensures { sentence_words result ≡ kind_words self.now }
+    pub(crate) fn sentence(&self, wanted: &'static str) -> Sentence
+        ensures { sentence_words result ≡ codes "is " ++ (kind_words self.now ++ (codes ", and has to be " ++ wanted.now)) }
     {
         match self {
-            Kind::Integer(value) => to_one("", Part::Integer(*value)),
-            other => bare(other.word()),
+            Kind::Integer(value) => two(
+                "is ",
+                Part::Integer(*value),
+                ", and has to be ",
+                Part::Nothing,
+                wanted,
+            ),
+            other => words("is ", other.word(), ", and has to be ", wanted),
         }
     }
 }

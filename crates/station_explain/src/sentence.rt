@@ -85,6 +85,29 @@ pub(crate) fn bare(words: &'static str) -> Sentence
     one("", Part::Nothing, words)
 }
 
+/// A sentence of four texts.
+#[tactic(auto, unfolding(crate::specs::inside::Sentences::part_words))]
+pub(crate) fn words(
+    begin: &'static str,
+    then: &'static str,
+    on: &'static str,
+    end: &'static str,
+) -> Sentence
+    ensures { sentence_words result ≡ begin.now ++ (then.now ++ (on.now ++ end.now)) }
+{
+    four(
+        begin,
+        Part::Nothing,
+        then,
+        Part::Nothing,
+        on,
+        Part::Nothing,
+        "",
+        Part::Nothing,
+        end,
+    )
+}
+
 /// A sentence with one part.
 #[tactic(auto, unfolding(crate::specs::inside::Sentences::part_words))]
 pub(crate) fn one(begin: &'static str, part: Part, end: &'static str) -> Sentence
