@@ -1,18 +1,28 @@
 //! What the entries of a layout are called.
 
-ghost use Rattle.std.specs.Prelude.{◌≡◌};
+ghost use Rattle.std.specs.Prelude.{◌≡◌, slice_get};
 ghost use Rattle.station_explain.specs.LayoutNames.{element_name, exit_name, leg_names, point_name, port_name, route_name, signal_name};
 
 use control_table::layout::{Element, Exit, Layout, PointId, Port, RouteId};
 use control_table::sci_telegram::Name;
 use layout_text::PortName;
 
+/// The item of a list at a place, counted from 0.
+pub(crate) fn item_at<T: Copy>(items: &[T], place: usize) -> Option<T>
+    ensures { result ≡ slice_get items.now place }
+{
+    items.get(place).copied()
+}
+
 /// The name of a point.
 #[tactic(auto, unfolding(crate::specs::LayoutNames::point_name))]
 pub(crate) fn point_name(layout: &Layout, point: PointId) -> Option<Name>
     ensures { result ≡ point_name layout.now point }
 {
-    Some(layout.points().get(point.0)?.name)
+    match item_at(layout.points(), point.0) {
+        Some(point) => Some(point.name),
+        None => None,
+    }
 }
 
 /// The name of a signal, by its place in the layout.
@@ -20,7 +30,10 @@ pub(crate) fn point_name(layout: &Layout, point: PointId) -> Option<Name>
 pub(crate) fn signal_name(layout: &Layout, place: usize) -> Option<Name>
     ensures { result ≡ signal_name layout.now place }
 {
-    Some(layout.signals().get(place)?.name)
+    match item_at(layout.signals(), place) {
+        Some(signal) => Some(signal.name),
+        None => None,
+    }
 }
 
 /// The name of a route.
@@ -37,9 +50,12 @@ pub(crate) fn element_name(layout: &Layout, element: Element) -> Option<Name>
     ensures { result ≡ element_name layout.now element }
 {
     match element {
-        Element::Track(track) => Some(layout.tracks().get(track.0)?.name),
+        Element::Track(track) => match item_at(layout.tracks(), track.0) {
+            Some(track) => Some(track.name),
+            None => None,
+        },
         Element::Point(point) => point_name(layout, point),
-        Element::Border(border) => layout.borders().get(border.0).copied(),
+        Element::Border(border) => item_at(layout.borders(), border.0),
     }
 }
 
@@ -72,6 +88,6 @@ pub(crate) fn exit_name(layout: &Layout, exit: Exit) -> Option<Name>
 {
     match exit {
         Exit::Signal(signal) => signal_name(layout, signal.0),
-        Exit::Border(border) => layout.borders().get(border.0).copied(),
+        Exit::Border(border) => item_at(layout.borders(), border.0),
     }
 }

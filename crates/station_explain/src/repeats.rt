@@ -7,7 +7,7 @@ ghost use Rattle.station_explain.specs.Repeats.{back_at, comes_back, comes_twice
 
 use crate::detail::PathDetail;
 use crate::joints::same_element;
-use crate::layout_names::element_name;
+use crate::layout_names::{element_name, item_at};
 use control_table::layout::{Element, Layout, Port, Route, SectionId};
 
 /// Whether an element comes twice on a path.
@@ -42,8 +42,14 @@ fn section_of(layout: &Layout, element: Element) -> Option<SectionId>
     ensures { result ≡ section_of layout.now element }
 {
     match element {
-        Element::Track(track) => Some(layout.tracks().get(track.0)?.section),
-        Element::Point(point) => Some(layout.points().get(point.0)?.section),
+        Element::Track(track) => match item_at(layout.tracks(), track.0) {
+            Some(track) => Some(track.section),
+            None => None,
+        },
+        Element::Point(point) => match item_at(layout.points(), point.0) {
+            Some(point) => Some(point.section),
+            None => None,
+        },
         Element::Border(_) => None,
     }
 }

@@ -7,7 +7,9 @@ ghost use Rattle.station_explain.specs.RouteDetails.{break_at, detail_of, elsewh
 
 use crate::detail::{PathDetail, RouteAdvice, RouteDetail};
 use crate::joints::{joined_to, may_pass, same_element, same_port, signal_at};
-use crate::layout_names::{exit_name, leg_names, point_name, port_name, route_name, signal_name};
+use crate::layout_names::{
+    exit_name, item_at, leg_names, point_name, port_name, route_name, signal_name,
+};
 use crate::repeats::repeated_detail;
 use crate::route_sides::{guard, unused_leg};
 use crate::route_start::{is_written, start_of};
@@ -109,7 +111,7 @@ fn is_exit(layout: &Layout, exit: Exit, port: Port) -> bool
     ensures { result ≡ is_exit layout.now exit port }
 {
     match exit {
-        Exit::Signal(signal) => match layout.signals().get(signal.0) {
+        Exit::Signal(signal) => match item_at(layout.signals(), signal.0) {
             Some(signal) => same_port(signal.at, port),
             None => false,
         },

@@ -3,6 +3,7 @@
 ghost use Rattle.std.specs.Prelude.{◌≡◌};
 ghost use Rattle.station_explain.specs.RouteStart.{is_written, start_of};
 
+use crate::layout_names::item_at;
 use control_table::layout::{Layout, PointId, Port, Route};
 use control_table::sci_telegram::Side;
 
@@ -10,7 +11,10 @@ use control_table::sci_telegram::Side;
 pub(crate) fn start_of(layout: &Layout, route: &Route) -> Option<Port>
     ensures { result ≡ start_of layout.now route.now }
 {
-    Some(layout.signals().get(route.entry().0)?.at)
+    match item_at(layout.signals(), route.entry().0) {
+        Some(signal) => Some(signal.at),
+        None => None,
+    }
 }
 
 /// Whether a point is written.

@@ -65,13 +65,28 @@ fn name_in(written: &WrittenLayout, table: TableName, before: usize) -> Option<N
     match table {
         TableName::Station => Some(written.station.name),
         TableName::Section => entry_at(&written.sections, before),
-        TableName::Track => Some(entry_at(&written.tracks, before)?.name),
-        TableName::Point => Some(entry_at(&written.points, before)?.name),
+        TableName::Track => match entry_at(&written.tracks, before) {
+            Some(track) => Some(track.name),
+            None => None,
+        },
+        TableName::Point => match entry_at(&written.points, before) {
+            Some(point) => Some(point.name),
+            None => None,
+        },
         TableName::Border => entry_at(&written.borders, before),
         TableName::Joint => None,
-        TableName::Signal => Some(entry_at(&written.signals, before)?.name),
-        TableName::Detector => Some(written.detectors.get(before)?.name),
-        TableName::Route => Some(written.routes.get(before)?.name),
+        TableName::Signal => match entry_at(&written.signals, before) {
+            Some(signal) => Some(signal.name),
+            None => None,
+        },
+        TableName::Detector => match written.detectors.get(before) {
+            Some(detector) => Some(detector.name),
+            None => None,
+        },
+        TableName::Route => match written.routes.get(before) {
+            Some(route) => Some(route.name),
+            None => None,
+        },
     }
 }
 
@@ -82,9 +97,18 @@ fn id_in(written: &WrittenLayout, table: TableName, before: usize) -> Option<u32
 {
     match table {
         TableName::Station => Some(written.station.id),
-        TableName::Point => Some(entry_at(&written.points, before)?.id),
-        TableName::Signal => Some(entry_at(&written.signals, before)?.id),
-        TableName::Detector => Some(written.detectors.get(before)?.id),
+        TableName::Point => match entry_at(&written.points, before) {
+            Some(point) => Some(point.id),
+            None => None,
+        },
+        TableName::Signal => match entry_at(&written.signals, before) {
+            Some(signal) => Some(signal.id),
+            None => None,
+        },
+        TableName::Detector => match written.detectors.get(before) {
+            Some(detector) => Some(detector.id),
+            None => None,
+        },
         _ => None,
     }
 }

@@ -188,10 +188,22 @@ fn named_by(written: &WrittenLayout, table: TableName, before: usize) -> Option<
     ensures { result ≡ named_by written.now table before }
 {
     match table {
-        TableName::Section => Some(Missed::Unreported(entry_at(&written.sections, before)?)),
-        TableName::Track => Some(Missed::Section(entry_at(&written.tracks, before)?.section)),
-        TableName::Point => Some(Missed::Section(entry_at(&written.points, before)?.section)),
-        TableName::Signal => Some(Missed::Port(entry_at(&written.signals, before)?.at)),
+        TableName::Section => match entry_at(&written.sections, before) {
+            Some(name) => Some(Missed::Unreported(name)),
+            None => None,
+        },
+        TableName::Track => match entry_at(&written.tracks, before) {
+            Some(track) => Some(Missed::Section(track.section)),
+            None => None,
+        },
+        TableName::Point => match entry_at(&written.points, before) {
+            Some(point) => Some(Missed::Section(point.section)),
+            None => None,
+        },
+        TableName::Signal => match entry_at(&written.signals, before) {
+            Some(signal) => Some(Missed::Port(signal.at)),
+            None => None,
+        },
         _ => None,
     }
 }
