@@ -1,9 +1,9 @@
 //! What the entries of a layout are called.
 
-ghost use Rattle.std.specs.Prelude.{◌≡◌, slice_get};
+ghost use Rattle.std.specs.Prelude.{◌≡◌, option_map, slice_get};
 ghost use Rattle.station_explain.specs.LayoutNames.{element_name, exit_name, leg_names, point_name, port_name, route_name, signal_name};
 
-use control_table::layout::{Element, Exit, Layout, PointId, Port, RouteId};
+use control_table::layout::{Element, Exit, Layout, PointId, Port, Route, RouteId};
 use control_table::sci_telegram::Name;
 use layout_text::PortName;
 
@@ -36,12 +36,22 @@ pub(crate) fn signal_name(layout: &Layout, place: usize) -> Option<Name>
     }
 }
 
+/// A route of the layout.
+pub(crate) fn route_at(layout: &Layout, route: RouteId) -> Option<&Route>
+    ensures { option_map (λ r. r.now) result ≡ slice_get layout.now.routes route.0 }
+{
+    layout.routes().get(route.0)
+}
+
 /// The name of a route.
 #[tactic(auto, unfolding(crate::specs::LayoutNames::route_name))]
 pub(crate) fn route_name(layout: &Layout, route: RouteId) -> Option<Name>
     ensures { result ≡ route_name layout.now route }
 {
-    Some(*layout.routes().get(route.0)?.name())
+    match route_at(layout, route) {
+        Some(route) => Some(*route.name()),
+        None => None,
+    }
 }
 
 /// The name of an element.

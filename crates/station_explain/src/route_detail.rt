@@ -1,14 +1,15 @@
 //! What is wrong with a route: the first thing that fails the test of its fault.
 
-ghost use Rattle.std.specs.Prelude.{◌≡◌, Some};
+ghost use Rattle.std.specs.Prelude.{◌≡◌, Some, option_map};
 ghost use Rattle.station_explain.specs.FaultWords.{route_at_fault};
 ghost use Rattle.station_explain.specs.Search.{first_of};
+ghost use Rattle.station_explain.specs.declared.detail.RouteDetail.TheVariants.{Path, Points};
 ghost use Rattle.station_explain.specs.RouteDetails.{break_at, detail_of, elsewhere, exit_detail, in_the_way, is_exit, is_listed, is_signal, lists, open_at, path_detail, step_detail, table_detail, unanswered, unwritten_at};
 
-use crate::detail::{PathDetail, RouteAdvice, RouteDetail};
+use crate::detail::{PathDetail, PointDetail, RouteAdvice, RouteDetail};
 use crate::joints::{joined_to, may_pass, same_element, same_port, signal_at};
 use crate::layout_names::{
-    exit_name, item_at, leg_names, point_name, port_name, route_name, signal_name,
+    exit_name, item_at, leg_names, point_name, port_name, route_at, route_name, signal_name,
 };
 use crate::repeats::repeated_detail;
 use crate::route_sides::{guard, unused_leg};
@@ -195,7 +196,7 @@ fn is_listed(extra: &[RouteId], other: RouteId) -> bool
 fn lists(layout: &Layout, route: RouteId, other: RouteId) -> bool
     ensures { result ≡ lists layout.now route other }
 {
-    match layout.routes().get(route.0) {
+    match route_at(layout, route) {
         Some(entry) => is_listed(entry.extra(), other),
         None => false,
     }
@@ -227,6 +228,26 @@ fn first_unanswered(layout: &Layout, route: RouteId, extra: &[RouteId]) -> Optio
     None
 }
 
+/// What is wrong with a route, if this is wrong with its path.
+fn of_path(detail: Option<PathDetail>) -> Option<RouteDetail>
+    ensures { result ≡ option_map Path detail }
+{
+    match detail {
+        Some(detail) => Some(RouteDetail::Path(detail)),
+        None => None,
+    }
+}
+
+/// What is wrong with a route, if this is wrong with its points.
+fn of_points(detail: Option<PointDetail>) -> Option<RouteDetail>
+    ensures { result ≡ option_map Points detail }
+{
+    match detail {
+        Some(detail) => Some(RouteDetail::Points(detail)),
+        None => None,
+    }
+}
+
 /// What is wrong with a route that has a fault.
 #[tactic(auto, unfolding(crate::specs::RouteDetails::detail_of, crate::specs::RouteDetails::path_detail, crate::specs::RouteDetails::broken_detail, crate::specs::RouteDetails::open_detail, crate::specs::SideDetails::lacking_detail))]
 fn detail_of(layout: &Layout, route: &Route, id: RouteId, fault: &TableFault) -> Option<RouteDetail>
@@ -236,16 +257,14 @@ fn detail_of(layout: &Layout, route: &Route, id: RouteId, fault: &TableFault) ->
         TableFault::PathBroken(_) if route.path().is_empty() => {
             Some(RouteDetail::Path(PathDetail::Empty))
         }
-        TableFault::PathRepeats(_) => Some(RouteDetail::Path(repeated_detail(layout, route)?)),
+        TableFault::PathRepeats(_) => of_path(repeated_detail(layout, route)),
         TableFault::PointMissing(_) => first_unwritten(layout, route, route.path()),
-        TableFault::PointWrong(_) => Some(RouteDetail::Points(wrong_detail(layout, route)?)),
+        TableFault::PointWrong(_) => of_points(wrong_detail(layout, route)),
         TableFault::PathBroken(_) | TableFault::FlankMissing(_) | TableFault::FlankOpen(_) => {
-            Some(RouteDetail::Path(path_detail(layout, route, fault)?))
+            of_path(path_detail(layout, route, fault))
         }
-        TableFault::FlankContradicts(_) => Some(RouteDetail::Points(contrary_detail(
-            layout, route,
-        )?)),
-        TableFault::SignalPlace(_) => Some(RouteDetail::Path(exit_detail(layout, route)?)),
+        TableFault::FlankContradicts(_) => of_points(contrary_detail(layout, route)),
+        TableFault::SignalPlace(_) => of_path(exit_detail(layout, route)),
         TableFault::NotSymmetric(_) => first_unanswered(layout, id, route.extra()),
         TableFault::OutOfMemory => None,
     }
@@ -275,7 +294,7 @@ pub(crate) fn table_detail(layout: &Layout, fault: &TableFault) -> Option<RouteA
     ensures { result ≡ table_detail layout.now fault.now }
 {
     let route = route_at_fault(fault)?;
-    let entry = layout.routes().get(route.id.0)?;
+    let entry = route_at(layout, route.id)?;
     let detail = detail_of(layout, entry, route.id, fault)?;
     Some(RouteAdvice { route, detail })
 }

@@ -222,8 +222,10 @@ fn name_shared(written: &WrittenLayout, place: Place) -> Option<EntryAdvice>
     ensures { result ≡ name_shared written.now place }
 {
     let before = place.entry.saturating_sub(1);
-    let name = name_in(written, place.table, before)?;
-    shared_with(written, place, &Common::Name(name))
+    match name_in(written, place.table, before) {
+        Some(name) => shared_with(written, place, &Common::Name(name)),
+        None => None,
+    }
 }
 
 /// The identity of an entry, if an earlier one has it.
@@ -231,8 +233,10 @@ fn id_shared(written: &WrittenLayout, place: Place) -> Option<EntryAdvice>
     ensures { result ≡ id_shared written.now place }
 {
     let before = place.entry.saturating_sub(1);
-    let id = id_in(written, place.table, before)?;
-    shared_with(written, place, &Common::Id(id))
+    match id_in(written, place.table, before) {
+        Some(id) => shared_with(written, place, &Common::Id(id)),
+        None => None,
+    }
 }
 
 /// The first of these sections of a detection controller that an earlier one reports too.
