@@ -74,11 +74,13 @@ pub(crate) fn element_name(layout: &Layout, element: Element) -> Option<Name>
 pub(crate) fn port_name(layout: &Layout, port: Port) -> Option<PortName>
     ensures { result ≡ port_name layout.now port }
 {
-    let element = element_name(layout, port.element)?;
-    Some(PortName {
-        element,
-        end: port.end,
-    })
+    match element_name(layout, port.element) {
+        Some(element) => Some(PortName {
+            element,
+            end: port.end,
+        }),
+        None => None,
+    }
 }
 
 /// A leg and what is joined to it, by name.
@@ -86,9 +88,10 @@ pub(crate) fn port_name(layout: &Layout, port: Port) -> Option<PortName>
 pub(crate) fn leg_names(layout: &Layout, leg: Port, from: Port) -> Option<(PortName, PortName)>
     ensures { result ≡ leg_names layout.now leg from }
 {
-    let leg = port_name(layout, leg)?;
-    let from = port_name(layout, from)?;
-    Some((leg, from))
+    match (port_name(layout, leg), port_name(layout, from)) {
+        (Some(leg), Some(from)) => Some((leg, from)),
+        _ => None,
+    }
 }
 
 /// The name of the signal or the border at which a route ends.

@@ -34,7 +34,10 @@ fn twice_at(layout: &Layout, path: &[Port], left: Port) -> Option<PathDetail>
     if !comes_twice(path, left.element) {
         return None;
     }
-    Some(PathDetail::Twice(element_name(layout, left.element)?))
+    match element_name(layout, left.element) {
+        Some(name) => Some(PathDetail::Twice(name)),
+        None => None,
+    }
 }
 
 /// The section in which an element lies. A border lies in none.

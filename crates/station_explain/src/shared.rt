@@ -1,6 +1,6 @@
 //! Which earlier entry has what a later one has too.
 
-ghost use Rattle.std.specs.Prelude.{◌≡◌, slice_get};
+ghost use Rattle.std.specs.Prelude.{◌≡◌, option_map, slice_get};
 ghost use Rattle.control_table.specs.layout.Known.{same_name};
 ghost use Rattle.station_explain.specs.Search.{first_of};
 ghost use Rattle.station_explain.specs.declared.advice.Common.TheVariants as common;
@@ -57,6 +57,13 @@ pub(crate) fn entry_at<T: Copy>(entries: &Vec<T>, before: usize) -> Option<T>
     entries.get(before).copied()
 }
 
+/// A detection controller, by its place counted from 0.
+pub(crate) fn detector_at(written: &WrittenLayout, before: usize) -> Option<&WrittenDetector>
+    ensures { option_map (λ d. d.now) result ≡ slice_get written.now.detectors before }
+{
+    written.detectors.get(before)
+}
+
 /// The name of an entry of a table, by its place counted from 0.
 #[tactic(auto, unfolding(crate::specs::SharedAdvice::name_in))]
 fn name_in(written: &WrittenLayout, table: TableName, before: usize) -> Option<Name>
@@ -79,7 +86,7 @@ fn name_in(written: &WrittenLayout, table: TableName, before: usize) -> Option<N
             Some(signal) => Some(signal.name),
             None => None,
         },
-        TableName::Detector => match written.detectors.get(before) {
+        TableName::Detector => match detector_at(written, before) {
             Some(detector) => Some(detector.name),
             None => None,
         },
@@ -105,7 +112,7 @@ fn id_in(written: &WrittenLayout, table: TableName, before: usize) -> Option<u32
             Some(signal) => Some(signal.id),
             None => None,
         },
-        TableName::Detector => match written.detectors.get(before) {
+        TableName::Detector => match detector_at(written, before) {
             Some(detector) => Some(detector.id),
             None => None,
         },
@@ -144,7 +151,7 @@ fn has(written: &WrittenLayout, table: TableName, before: usize, what: &Common) 
             Some(own) => own == *id,
             None => false,
         },
-        (Common::Section(section), TableName::Detector) => match written.detectors.get(before) {
+        (Common::Section(section), TableName::Detector) => match detector_at(written, before) {
             Some(detector) => reports(detector, *section),
             None => false,
         },
@@ -255,8 +262,10 @@ fn first_shared(written: &WrittenLayout, place: Place, sections: &[Name]) -> Opt
 fn detector_shared(written: &WrittenLayout, place: Place) -> Option<EntryAdvice>
     ensures { result ≡ detector_shared written.now place }
 {
-    let detector = written.detectors.get(place.entry.saturating_sub(1))?;
-    first_shared(written, place, detector.sections())
+    match detector_at(written, place.entry.saturating_sub(1)) {
+        Some(detector) => first_shared(written, place, detector.sections()),
+        None => None,
+    }
 }
 
 /// The advice where an entry has a name, an identity or a section that an earlier one has.

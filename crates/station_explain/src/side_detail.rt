@@ -117,8 +117,10 @@ pub(crate) fn lacking_at(
     if is_on_path(route.path(), point) || is_written(route.flank(), point) {
         return None;
     }
-    let (leg, from) = leg_names(layout, leg, from)?;
-    Some(PathDetail::FlankLacks(leg, from, side))
+    match leg_names(layout, leg, from) {
+        Some((leg, from)) => Some(PathDetail::FlankLacks(leg, from, side)),
+        None => None,
+    }
 }
 
 /// A point that is required at a side, if the path requires it at the other side too.
@@ -135,7 +137,10 @@ fn contrary(
     if !requires_on(layout, start, path, point, other(side)) {
         return None;
     }
-    Some(PointDetail::BothSides(point_name(layout, point)?))
+    match point_name(layout, point) {
+        Some(name) => Some(PointDetail::BothSides(name)),
+        None => None,
+    }
 }
 
 /// The point that the path requires at both sides, of those behind a port.
