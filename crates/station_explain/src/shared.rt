@@ -1,6 +1,7 @@
 //! Which earlier entry has what a later one has too.
 
 ghost use Rattle.std.specs.Prelude.{◌≡◌, option_map, slice_get};
+ghost use Rattle.std.specs.Option.{option_or};
 ghost use Rattle.control_table.specs.layout.Known.{same_name};
 ghost use Rattle.station_explain.specs.Search.{first_of};
 ghost use Rattle.station_explain.specs.declared.advice.Common.TheVariants as common;
@@ -281,23 +282,30 @@ pub(crate) fn double_told(written: &WrittenLayout, place: Place) -> Option<Entry
     detector_shared(written, place)
 }
 
+/// The first port of a joint that an earlier one joins too.
+fn joint_shared(written: &WrittenLayout, place: Place, joint: WrittenJoint) -> Option<EntryAdvice>
+    ensures { result ≡ option_or (shared_with written.now place (common.Joint joint.first)) (shared_with written.now place (common.Joint joint.second)) }
+{
+    if let Some(found) = shared_with(written, place, &Common::Joint(joint.first)) {
+        return Some(found);
+    }
+    shared_with(written, place, &Common::Joint(joint.second))
+}
+
 /// The advice where an entry stands at a port at which an earlier one stands.
 pub(crate) fn port_told(written: &WrittenLayout, place: Place) -> Option<EntryAdvice>
     ensures { result ≡ port_told written.now place }
 {
     let before = place.entry.saturating_sub(1);
     match place.table {
-        TableName::Joint => {
-            let joint = entry_at(&written.joints, before)?;
-            if let Some(found) = shared_with(written, place, &Common::Joint(joint.first)) {
-                return Some(found);
-            }
-            shared_with(written, place, &Common::Joint(joint.second))
-        }
-        TableName::Signal => {
-            let signal = entry_at(&written.signals, before)?;
-            shared_with(written, place, &Common::Signal(signal.at))
-        }
+        TableName::Joint => match entry_at(&written.joints, before) {
+            Some(joint) => joint_shared(written, place, joint),
+            None => None,
+        },
+        TableName::Signal => match entry_at(&written.signals, before) {
+            Some(signal) => shared_with(written, place, &Common::Signal(signal.at)),
+            None => None,
+        },
         _ => None,
     }
 }
