@@ -1,5 +1,5 @@
 -- What is told in one frame: of an entry behind it, and of a route around it.
-use Rattle.std.proofs.Common.{◌≡◌, ◌∙◌, ℕ, List, ◌++◌, append_assoc, ap, refl, sym}
+use Rattle.std.proofs.Common.{◌≡◌, ◌∙◌, ℕ, List, ◌++◌, append_assoc, ap, refl}
 use Rattle.std.specs.Prelude.{codes}
 use Rattle.control_table.specs.Messages.{route_text}
 use Rattle.control_table.specs.declared.fault.FaultyRoute.{FaultyRoute}
