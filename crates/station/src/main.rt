@@ -16,10 +16,9 @@ use panel_page::PAGE;
 use station_command::{
     Asked, Error, Failure, is_memory, lines_of, read_words, text_of, texts_of, words,
 };
-use station_explain::explain_text;
+use station_layout::{Form, explain_text, plan_text, table_text};
 use station_node::node_network::WaitedStream;
 use station_node::{self, Asked as Node, layout_digest, replay_node_text};
-use station_plan_text::plan_text;
 use station_record::station_decode::decode_text;
 use station_record::station_run::replay::station_check::check_text;
 use station_record::station_run::replay::{replay_text, sim_text};
@@ -27,7 +26,6 @@ use station_record::station_run::{self, Asked as Run, Limits, PageAsked, PanelAs
 use station_record::{
     Asked as Capture, Cut, Endpoint, capture_to_file, chart_text, decode_session_text,
 };
-use station_table::{Form, table_text};
 use std::io::{BufWriter, IsTerminal};
 use std::process::ExitCode;
 

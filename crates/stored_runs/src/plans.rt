@@ -3,7 +3,7 @@
 use crate::failure::Failure;
 use crate::files::{NOTHING, parts, read};
 use crate::status::write_told;
-use station_plan_text::plan_text;
+use station_layout::plan_text;
 use std::alloc::Global;
 use std::io;
 use std::io::Write;

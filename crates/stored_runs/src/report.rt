@@ -2,7 +2,7 @@
 
 use crate::failure::Failure;
 use crate::status::write_end;
-use station_explain::explain_text;
+use station_layout::explain_text;
 use station_record::station_run::replay::station_check::check_text;
 use std::alloc::{AllocError, Global};
 use std::io;

@@ -4,7 +4,7 @@ use crate::failure::Failure;
 use crate::files::{parts, read};
 use crate::restarts::lists;
 use crate::{cases, charts, datagrams, node_stories, nodes, pairs, plans, stations, tables};
-use station_table::Form;
+use station_layout::Form;
 use std::io::{BufWriter, Write};
 
 /// The file that names what is run.

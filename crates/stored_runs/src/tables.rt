@@ -3,7 +3,7 @@
 use crate::failure::Failure;
 use crate::files::read;
 use crate::status::write_end;
-use station_table::{Form, table_text};
+use station_layout::{Form, table_text};
 use std::alloc::Global;
 use std::io;
 use std::io::Write;

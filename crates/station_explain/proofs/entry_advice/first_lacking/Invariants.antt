@@ -1,7 +1,0 @@
-use Rattle.std.proofs.Common.{◌≡◌, drop}
-use Rattle.toml.specs.View.{table_view}
-use Rattle.station_explain.specs.EntryAdvice.{first_lacking}
-use Rattle.station_explain.proofs.entry_advice.first_lacking.Given as goal
-
-abbrev pub invariant-loop-key : goal.invariant-loop-key
-invariant-loop-key l = first_lacking (table_view l.fields) (drop l.key-index l.keys) ≡ first_lacking (table_view l.fields) l.keys

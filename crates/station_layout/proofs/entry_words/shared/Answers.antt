@@ -1,0 +1,10 @@
+use Rattle.std.proofs.Common.{◌∙◌, sym}
+use Rattle.std.specs.Prelude.{codes, ◌++◌}
+use Rattle.station_layout.specs.EntryWords.{place_words}
+use Rattle.station_layout.specs.inside.Sentences.{part_words}
+use Rattle.station_layout.proofs.AdviceFrames.{around}
+use Rattle.station_layout.proofs.entry_words.shared.Goals as goal
+
+pub returns : goal.returns
+unfolding part_words
+returns c = c.to_three.ensures ∙ sym (around c.args.begin.now (part_words c.args.part) (codes ", as") (codes " " ++ place_words c.args.first))

@@ -1,0 +1,106 @@
+//! What the entries of a layout are called.
+
+ghost use Rattle.std.specs.Prelude.{◌≡◌, option_map, slice_get};
+ghost use Rattle.station_layout.specs.LayoutNames.{element_name, exit_name, leg_names, point_name, port_name, route_name, signal_name};
+
+use control_table::layout::{Element, Exit, Layout, PointId, Port, Route, RouteId};
+use control_table::sci_telegram::Name;
+use layout_text::PortName;
+
+/// The item of a list at a place, counted from 0.
+pub(crate) fn item_at<T: Copy>(items: &[T], place: usize) -> Option<T>
+    ensures { result ≡ slice_get items.now place }
+{
+    items.get(place).copied()
+}
+
+/// The name of a point.
+#[tactic(auto, unfolding(crate::specs::LayoutNames::point_name))]
+pub(crate) fn point_name(layout: &Layout, point: PointId) -> Option<Name>
+    ensures { result ≡ point_name layout.now point }
+{
+    match item_at(layout.points(), point.0) {
+        Some(point) => Some(point.name),
+        None => None,
+    }
+}
+
+/// The name of a signal, by its place in the layout.
+#[tactic(auto, unfolding(crate::specs::LayoutNames::signal_name))]
+pub(crate) fn signal_name(layout: &Layout, place: usize) -> Option<Name>
+    ensures { result ≡ signal_name layout.now place }
+{
+    match item_at(layout.signals(), place) {
+        Some(signal) => Some(signal.name),
+        None => None,
+    }
+}
+
+/// A route of the layout.
+pub(crate) fn route_at(layout: &Layout, route: RouteId) -> Option<&Route>
+    ensures { option_map (λ r. r.now) result ≡ slice_get layout.now.routes route.0 }
+{
+    layout.routes().get(route.0)
+}
+
+/// The name of a route.
+#[tactic(auto, unfolding(crate::specs::LayoutNames::route_name))]
+pub(crate) fn route_name(layout: &Layout, route: RouteId) -> Option<Name>
+    ensures { result ≡ route_name layout.now route }
+{
+    match route_at(layout, route) {
+        Some(route) => Some(*route.name()),
+        None => None,
+    }
+}
+
+/// The name of an element.
+#[tactic(auto, unfolding(crate::specs::LayoutNames::element_name))]
+pub(crate) fn element_name(layout: &Layout, element: Element) -> Option<Name>
+    ensures { result ≡ element_name layout.now element }
+{
+    match element {
+        Element::Track(track) => match item_at(layout.tracks(), track.0) {
+            Some(track) => Some(track.name),
+            None => None,
+        },
+        Element::Point(point) => point_name(layout, point),
+        Element::Border(border) => item_at(layout.borders(), border.0),
+    }
+}
+
+/// A port by the name of its element.
+#[tactic(auto, unfolding(crate::specs::LayoutNames::port_name))]
+pub(crate) fn port_name(layout: &Layout, port: Port) -> Option<PortName>
+    ensures { result ≡ port_name layout.now port }
+{
+    match element_name(layout, port.element) {
+        Some(element) => Some(PortName {
+            element,
+            end: port.end,
+        }),
+        None => None,
+    }
+}
+
+/// A leg and what is joined to it, by name.
+#[tactic(auto, unfolding(crate::specs::LayoutNames::leg_names))]
+pub(crate) fn leg_names(layout: &Layout, leg: Port, from: Port) -> Option<(PortName, PortName)>
+    ensures { result ≡ leg_names layout.now leg from }
+{
+    match (port_name(layout, leg), port_name(layout, from)) {
+        (Some(leg), Some(from)) => Some((leg, from)),
+        _ => None,
+    }
+}
+
+/// The name of the signal or the border at which a route ends.
+#[tactic(auto, unfolding(crate::specs::LayoutNames::exit_name))]
+pub(crate) fn exit_name(layout: &Layout, exit: Exit) -> Option<Name>
+    ensures { result ≡ exit_name layout.now exit }
+{
+    match exit {
+        Exit::Signal(signal) => signal_name(layout, signal.0),
+        Exit::Border(border) => item_at(layout.borders(), border.0),
+    }
+}

@@ -1,0 +1,49 @@
+//! The words for ports and sides.
+
+ghost use Rattle.std.specs.Prelude.{◌≡◌, Some};
+ghost use Rattle.station_layout.specs.PortWords.{end_word, port_words, side_word};
+
+use control_table::sci_telegram::Side;
+use layout_text::{End, PortName};
+use std::fmt;
+
+/// The word for a side.
+#[tactic(auto, unfolding(crate::specs::PortWords::side_word))]
+pub(crate) fn side_word(side: Side) -> &'static str
+    ensures { result.now ≡ side_word side }
+{
+    match side {
+        Side::Left => "left",
+        Side::Right => "right",
+    }
+}
+
+/// The word for a port of an element.
+#[tactic(auto, unfolding(crate::specs::PortWords::end_word))]
+fn end_word(end: End) -> &'static str
+    ensures { result.now ≡ end_word end }
+{
+    match end {
+        End::A => "a",
+        End::B => "b",
+        End::Tip => "tip",
+        End::Left => "left",
+        End::Right => "right",
+        End::End => "end",
+    }
+}
+
+/// A port as it is written.
+#[derive(Clone, Copy)]
+pub(crate) struct PortWords(pub(crate) PortName);
+
+impl fmt::Display for PortWords {
+    ghost output = { λ port. Some (port_words port.0) };
+
+    #[tactic(auto, unfolding(crate::specs::PortWords::port_words))]
+    fn fmt<W: fmt::Write>(&self, f: &mut fmt::Formatter<W>) -> fmt::Result {
+        let element = self.0.element.as_str();
+        let end = end_word(self.0.end);
+        write!(f, "{element}.{end}")
+    }
+}

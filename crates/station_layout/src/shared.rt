@@ -1,0 +1,311 @@
+//! Which earlier entry has what a later one has too.
+
+ghost use Rattle.std.specs.Prelude.{◌≡◌, option_map, slice_get};
+ghost use Rattle.std.specs.Option.{option_or};
+ghost use Rattle.control_table.specs.layout.Known.{same_name};
+ghost use Rattle.station_layout.specs.Search.{first_of};
+ghost use Rattle.station_layout.specs.declared.advice.Common.TheVariants as common;
+ghost use Rattle.station_layout.specs.SharedAdvice.{detector_shared, double_told, entries, has, id_in, id_shared, joins, name_in, name_shared, place_having, port_told, reports, same_place, same_port_name, shared_with};
+
+use crate::advice::{Common, EntryAdvice};
+use crate::joints::same_end;
+use control_table::sci_telegram::Name;
+use layout_text::{Place, PortName, TableName, WrittenDetector, WrittenJoint, WrittenLayout};
+
+/// Whether two names are the same.
+fn same_name(one: Name, other: Name) -> bool
+    ensures { result ≡ same_name one other }
+{
+    one == other
+}
+
+/// Whether two places are the same.
+#[tactic(auto, unfolding(crate::specs::SharedAdvice::same_place))]
+fn same_place(one: Place, other: Place) -> bool
+    ensures { result ≡ same_place one other }
+{
+    one.table == other.table && one.entry == other.entry
+}
+
+/// Whether two ports are the same.
+#[tactic(auto, unfolding(crate::specs::SharedAdvice::same_port_name))]
+fn same_port_name(one: &PortName, other: &PortName) -> bool
+    ensures { result ≡ same_port_name one.now other.now }
+{
+    same_name(one.element, other.element) && same_end(one.end, other.end)
+}
+
+/// Whether a joint joins a port.
+#[tactic(auto, unfolding(crate::specs::SharedAdvice::joins))]
+fn joins(joint: &WrittenJoint, port: &PortName) -> bool
+    ensures { result ≡ joins joint.now port.now }
+{
+    same_port_name(&joint.first, port) || same_port_name(&joint.second, port)
+}
+
+/// Whether a detection controller reports a section.
+#[tactic(auto, unfolding(crate::specs::SharedAdvice::reports))]
+fn reports(detector: &WrittenDetector, section: Name) -> bool
+    ensures { result ≡ reports detector.now section }
+{
+    detector.sections().contains(&section)
+}
+
+/// The entry of a list at a place, counted from 0.
+pub(crate) fn entry_at<T: Copy>(entries: &Vec<T>, before: usize) -> Option<T>
+    ensures { result ≡ slice_get entries.now.items before }
+{
+    entries.get(before).copied()
+}
+
+/// A detection controller, by its place counted from 0.
+pub(crate) fn detector_at(written: &WrittenLayout, before: usize) -> Option<&WrittenDetector>
+    ensures { option_map (λ d. d.now) result ≡ slice_get written.now.detectors before }
+{
+    written.detectors.get(before)
+}
+
+/// The name of an entry of a table, by its place counted from 0.
+#[tactic(auto, unfolding(crate::specs::SharedAdvice::name_in))]
+fn name_in(written: &WrittenLayout, table: TableName, before: usize) -> Option<Name>
+    ensures { result ≡ name_in written.now table before }
+{
+    match table {
+        TableName::Station => Some(written.station.name),
+        TableName::Section => entry_at(&written.sections, before),
+        TableName::Track => match entry_at(&written.tracks, before) {
+            Some(track) => Some(track.name),
+            None => None,
+        },
+        TableName::Point => match entry_at(&written.points, before) {
+            Some(point) => Some(point.name),
+            None => None,
+        },
+        TableName::Border => entry_at(&written.borders, before),
+        TableName::Joint => None,
+        TableName::Signal => match entry_at(&written.signals, before) {
+            Some(signal) => Some(signal.name),
+            None => None,
+        },
+        TableName::Detector => match detector_at(written, before) {
+            Some(detector) => Some(detector.name),
+            None => None,
+        },
+        TableName::Route => match written.routes.get(before) {
+            Some(route) => Some(route.name),
+            None => None,
+        },
+    }
+}
+
+/// The identity of an entry of a table.
+#[tactic(auto, unfolding(crate::specs::SharedAdvice::id_in))]
+fn id_in(written: &WrittenLayout, table: TableName, before: usize) -> Option<u32>
+    ensures { result ≡ id_in written.now table before }
+{
+    match table {
+        TableName::Station => Some(written.station.id),
+        TableName::Point => match entry_at(&written.points, before) {
+            Some(point) => Some(point.id),
+            None => None,
+        },
+        TableName::Signal => match entry_at(&written.signals, before) {
+            Some(signal) => Some(signal.id),
+            None => None,
+        },
+        TableName::Detector => match detector_at(written, before) {
+            Some(detector) => Some(detector.id),
+            None => None,
+        },
+        _ => None,
+    }
+}
+
+/// How many entries of a table are written.
+fn entries(written: &WrittenLayout, table: TableName) -> usize
+    ensures { result ≡ entries written.now table }
+{
+    match table {
+        TableName::Station => 1,
+        TableName::Section => written.sections.len(),
+        TableName::Track => written.tracks.len(),
+        TableName::Point => written.points.len(),
+        TableName::Border => written.borders.len(),
+        TableName::Joint => written.joints.len(),
+        TableName::Signal => written.signals.len(),
+        TableName::Detector => written.detectors.len(),
+        TableName::Route => written.routes.len(),
+    }
+}
+
+/// Whether an entry of a table has something.
+#[tactic(auto, unfolding(crate::specs::SharedAdvice::has))]
+fn has(written: &WrittenLayout, table: TableName, before: usize, what: &Common) -> bool
+    ensures { result ≡ has written.now table before what.now }
+{
+    match (what, table) {
+        (Common::Name(name), _) => match name_in(written, table, before) {
+            Some(own) => same_name(own, *name),
+            None => false,
+        },
+        (Common::Id(id), _) => match id_in(written, table, before) {
+            Some(own) => own == *id,
+            None => false,
+        },
+        (Common::Section(section), TableName::Detector) => match detector_at(written, before) {
+            Some(detector) => reports(detector, *section),
+            None => false,
+        },
+        (Common::Joint(port), TableName::Joint) => match entry_at(&written.joints, before) {
+            Some(joint) => joins(&joint, port),
+            None => false,
+        },
+        (Common::Signal(port), TableName::Signal) => match entry_at(&written.signals, before) {
+            Some(signal) => same_port_name(&signal.at, port),
+            None => false,
+        },
+        _ => false,
+    }
+}
+
+/// The first entry of a table that has something.
+#[tactic(auto, using(crate::proofs::Entries::has_it, crate::proofs::Entries::goes_on, crate::proofs::Entries::has_none), unfolding(crate::specs::SharedAdvice::place_having))]
+pub(crate) fn place_having(
+    written: &WrittenLayout,
+    what: &Common,
+    table: TableName,
+) -> Option<Place>
+    ensures { result ≡ place_having written.now what.now table }
+{
+    for before in 0..entries(written, table) {
+        if has(written, table, before, what) {
+            return Some(Place {
+                table,
+                entry: before.saturating_add(1),
+            });
+        }
+    }
+    None
+}
+
+/// The tables, in the order in which they are read.
+const TABLES: &[TableName] = &[
+    TableName::Station,
+    TableName::Section,
+    TableName::Track,
+    TableName::Point,
+    TableName::Border,
+    TableName::Joint,
+    TableName::Signal,
+    TableName::Detector,
+    TableName::Route,
+];
+
+/// The first entry of these tables that has something.
+fn first_having(written: &WrittenLayout, what: &Common, tables: &[TableName]) -> Option<Place>
+    ensures { result ≡ first_of (place_having written.now what.now) tables.now }
+{
+    for table in tables {
+        if let Some(found) = place_having(written, what, *table) {
+            return Some(found);
+        }
+    }
+    None
+}
+
+/// What an entry has, if an earlier one has it.
+#[tactic(auto, unfolding(crate::specs::SharedAdvice::shared_with))]
+fn shared_with(written: &WrittenLayout, place: Place, what: &Common) -> Option<EntryAdvice>
+    ensures { result ≡ shared_with written.now place what.now }
+{
+    let first = first_having(written, what, TABLES)?;
+    if same_place(first, place) {
+        return None;
+    }
+    Some(EntryAdvice::Shared(place, *what, first))
+}
+
+/// The name of an entry, if an earlier one has it.
+fn name_shared(written: &WrittenLayout, place: Place) -> Option<EntryAdvice>
+    ensures { result ≡ name_shared written.now place }
+{
+    let before = place.entry.saturating_sub(1);
+    match name_in(written, place.table, before) {
+        Some(name) => shared_with(written, place, &Common::Name(name)),
+        None => None,
+    }
+}
+
+/// The identity of an entry, if an earlier one has it.
+fn id_shared(written: &WrittenLayout, place: Place) -> Option<EntryAdvice>
+    ensures { result ≡ id_shared written.now place }
+{
+    let before = place.entry.saturating_sub(1);
+    match id_in(written, place.table, before) {
+        Some(id) => shared_with(written, place, &Common::Id(id)),
+        None => None,
+    }
+}
+
+/// The first of these sections of a detection controller that an earlier one reports too.
+fn first_shared(written: &WrittenLayout, place: Place, sections: &[Name]) -> Option<EntryAdvice>
+    ensures { result ≡ first_of (λ section. shared_with written.now place (common.Section section)) sections.now }
+{
+    for section in sections {
+        if let Some(found) = shared_with(written, place, &Common::Section(*section)) {
+            return Some(found);
+        }
+    }
+    None
+}
+
+/// The first section of a detection controller that an earlier one reports too.
+fn detector_shared(written: &WrittenLayout, place: Place) -> Option<EntryAdvice>
+    ensures { result ≡ detector_shared written.now place }
+{
+    match detector_at(written, place.entry.saturating_sub(1)) {
+        Some(detector) => first_shared(written, place, detector.sections()),
+        None => None,
+    }
+}
+
+/// The advice where an entry has a name, an identity or a section that an earlier one has.
+pub(crate) fn double_told(written: &WrittenLayout, place: Place) -> Option<EntryAdvice>
+    ensures { result ≡ double_told written.now place }
+{
+    if let Some(found) = name_shared(written, place) {
+        return Some(found);
+    }
+    if let Some(found) = id_shared(written, place) {
+        return Some(found);
+    }
+    detector_shared(written, place)
+}
+
+/// The first port of a joint that an earlier one joins too.
+fn joint_shared(written: &WrittenLayout, place: Place, joint: WrittenJoint) -> Option<EntryAdvice>
+    ensures { result ≡ option_or (shared_with written.now place (common.Joint joint.first)) (shared_with written.now place (common.Joint joint.second)) }
+{
+    if let Some(found) = shared_with(written, place, &Common::Joint(joint.first)) {
+        return Some(found);
+    }
+    shared_with(written, place, &Common::Joint(joint.second))
+}
+
+/// The advice where an entry stands at a port at which an earlier one stands.
+pub(crate) fn port_told(written: &WrittenLayout, place: Place) -> Option<EntryAdvice>
+    ensures { result ≡ port_told written.now place }
+{
+    let before = place.entry.saturating_sub(1);
+    match place.table {
+        TableName::Joint => match entry_at(&written.joints, before) {
+            Some(joint) => joint_shared(written, place, joint),
+            None => None,
+        },
+        TableName::Signal => match entry_at(&written.signals, before) {
+            Some(signal) => shared_with(written, place, &Common::Signal(signal.at)),
+            None => None,
+        },
+        _ => None,
+    }
+}

@@ -1,0 +1,209 @@
+//! What a line of a picture says.
+
+ghost use Rattle.std.specs.Prelude.{◌≡◌};
+ghost use Rattle.station_layout.specs.Sightings.{aspect_said, authority_said, driven_said, is_answer, not_shown, occupancy_said, point_sighting, position_said, route_sighting, section_sighting, set_said, side_said, sighting, sighting_of, signal_sighting, time_sighting, verdict};
+
+use crate::named_entries::{route_called, signal_called};
+use control_table::layout::{Layout, PointId, RouteId, SectionId, SignalId};
+use control_table::sci_telegram::{Aspect, Occupancy, Position};
+use replay_lines::{point_named, section_named};
+use replay_words::{Fault, Words, decimal};
+
+/// What a line of a picture says.
+#[derive(Clone, Copy)]
+pub(crate) enum Sighting {
+    /// What a signal shows.
+    Signal(SignalId, Aspect),
+    /// Where a point lies.
+    Point(PointId, Position),
+    /// Whether a section is occupied.
+    Section(SectionId, Occupancy),
+    /// Whether a route is set.
+    Route(RouteId, bool),
+    /// What no plan shows: the time, whether what is seen is safe, or an answer.
+    Other,
+}
+
+/// What a line of a picture says, or the lowest fault of its words.
+pub(crate) fn read_sighting(layout: &Layout, line: &str) -> Result<Sighting, Fault>
+    ensures { result ≡ sighting layout.now line.now }
+{
+    said(layout, Words::of(line))
+}
+
+fn said(layout: &Layout, mut words: Words<'_>) -> Result<Sighting, Fault>
+    ensures { result ≡ sighting_of layout.now words.entry }
+{
+    match words.next() {
+        Some("signal") => signal(layout, words),
+        Some("point") => point(layout, words),
+        Some("section") => section(layout, words),
+        Some("route") => route(layout, words),
+        Some(first) => not_shown(first, words),
+        None => Err(Fault::Words),
+    }
+}
+
+/// A line of what no plan shows: the time, whether what is seen is safe, or an answer.
+fn not_shown(first: &str, words: Words<'_>) -> Result<Sighting, Fault>
+    ensures { result ≡ not_shown first.now words.entry }
+{
+    match first {
+        "time" => time(words),
+        "safe" | "unsafe" => verdict(words),
+        _ if is_answer(first) => Ok(Sighting::Other),
+        _ => Err(Fault::Words),
+    }
+}
+
+/// Whether a line begins so that is an answer.
+fn is_answer(first: &str) -> bool
+    ensures { result ≡ is_answer first.now }
+{
+    first == "ok" || first == "accepted" || first == "refused" || first == "no"
+}
+
+fn time(mut words: Words<'_>) -> Result<Sighting, Fault>
+    ensures { result ≡ time_sighting words.entry }
+{
+    let (Some(millis), None) = (words.next(), words.next()) else {
+        return Err(Fault::Words);
+    };
+    decimal(millis)?;
+    Ok(Sighting::Other)
+}
+
+fn signal(layout: &Layout, mut words: Words<'_>) -> Result<Sighting, Fault>
+    ensures { result ≡ signal_sighting layout.now words.entry }
+{
+    let (Some(name), Some(aspect), Some(authority), None) = (
+        words.next(),
+        words.next(),
+        words.next(),
+        words.next(),
+    ) else {
+        return Err(Fault::Words);
+    };
+    let aspect = aspect_said(aspect)?;
+    let signal = signal_called(layout, name)?;
+    authority_said(layout, authority)?;
+    Ok(Sighting::Signal(signal, aspect))
+}
+
+fn point(layout: &Layout, mut words: Words<'_>) -> Result<Sighting, Fault>
+    ensures { result ≡ point_sighting layout.now words.entry }
+{
+    let (Some(name), Some(position)) = (words.next(), words.next()) else {
+        return Err(Fault::Words);
+    };
+    driven_said(words)?;
+    let position = position_said(position)?;
+    let point = point_named(layout, name)?;
+    Ok(Sighting::Point(point, position))
+}
+
+fn section(layout: &Layout, mut words: Words<'_>) -> Result<Sighting, Fault>
+    ensures { result ≡ section_sighting layout.now words.entry }
+{
+    let (Some(name), Some(occupancy), None) = (words.next(), words.next(), words.next()) else {
+        return Err(Fault::Words);
+    };
+    let occupancy = occupancy_said(occupancy)?;
+    let section = section_named(layout, name)?;
+    Ok(Sighting::Section(section, occupancy))
+}
+
+fn route(layout: &Layout, mut words: Words<'_>) -> Result<Sighting, Fault>
+    ensures { result ≡ route_sighting layout.now words.entry }
+{
+    let (Some(name), Some(state), None) = (words.next(), words.next(), words.next()) else {
+        return Err(Fault::Words);
+    };
+    let is_set = set_said(state)?;
+    let route = route_called(layout, name)?;
+    Ok(Sighting::Route(route, is_set))
+}
+
+/// Whether what is seen is safe stands alone.
+fn verdict(mut words: Words<'_>) -> Result<Sighting, Fault>
+    ensures { result ≡ verdict words.entry }
+{
+    match words.next() {
+        None => Ok(Sighting::Other),
+        Some(_) => Err(Fault::Words),
+    }
+}
+
+fn aspect_said(word: &str) -> Result<Aspect, Fault>
+    ensures { result ≡ aspect_said word.now }
+{
+    match word {
+        "stop" => Ok(Aspect::Stop),
+        "proceed" => Ok(Aspect::Proceed),
+        "slow" => Ok(Aspect::Slow),
+        _ => Err(Fault::Words),
+    }
+}
+
+/// The route that has authority from a signal, or a hyphen.
+fn authority_said(layout: &Layout, word: &str) -> Result<(), Fault>
+    ensures { result ≡ authority_said layout.now word.now }
+{
+    if word == "-" {
+        return Ok(());
+    }
+    route_called(layout, word)?;
+    Ok(())
+}
+
+fn position_said(word: &str) -> Result<Position, Fault>
+    ensures { result ≡ position_said word.now }
+{
+    match word {
+        "left" => Ok(Position::Left),
+        "right" => Ok(Position::Right),
+        "none" => Ok(Position::NoEndPosition),
+        _ => Err(Fault::Words),
+    }
+}
+
+/// To which side a point is driven, if it is.
+fn driven_said(mut words: Words<'_>) -> Result<(), Fault>
+    ensures { result ≡ driven_said words.entry }
+{
+    match (words.next(), words.next(), words.next()) {
+        (None, None, None) => Ok(()),
+        (Some("driven"), Some(side), None) => side_said(side),
+        _ => Err(Fault::Words),
+    }
+}
+
+fn side_said(word: &str) -> Result<(), Fault>
+    ensures { result ≡ side_said word.now }
+{
+    match word {
+        "left" => Ok(()),
+        "right" => Ok(()),
+        _ => Err(Fault::Words),
+    }
+}
+
+fn occupancy_said(word: &str) -> Result<Occupancy, Fault>
+    ensures { result ≡ occupancy_said word.now }
+{
+    match word {
+        "clear" => Ok(Occupancy::Clear),
+        "occupied" => Ok(Occupancy::Occupied),
+        _ => Err(Fault::Words),
+    }
+}
+
+fn set_said(word: &str) -> Result<bool, Fault>
+    ensures { result ≡ set_said word.now }
+{
+    match word {
+        "free" => Ok(false),
+        "set" => Ok(true),
+        _ => Err(Fault::Words),
+    }
+}

@@ -1,0 +1,89 @@
+//! The plan of a text, with what is wrong written where there is none.
+
+ghost use Rattle.std.specs.Prelude.{◌≡◌, ◌≤◌, IfErr, IfOk, IsErr, OnOk, option_copied};
+ghost use Rattle.station_layout.specs.PlanText.{CanPlan, Explained, Explains, ExplainsDrawn, IsDrawn, IsPlanText, IsPlanned, Leaves};
+
+use crate::failure::{Failure, tell_failure};
+use crate::request::{route_asked, sightings_given};
+use crate::seen::seen_in;
+use control_table::Checked;
+use drawing::svg;
+use station_check::table_of;
+use station_plan::{Shown, plan};
+use std::alloc::{AllocError, Global};
+use std::io::Write;
+
+/// Writes the track plan of the text of a layout, as SVG. With the name of a route, its path is drawn thick, and its flank
+/// points and approach sections are marked. With the text of a picture, as `station sim` prints it, the plan shows aspects,
+/// positions, occupied sections and set routes. The status is 0 where the plan was written to `out`. Where the layout isn't
+/// sound, or no route has this name, or a line of the picture is faulty, or memory is lacking, `out` stays as it is, `err`
+/// is told so, and the status is 1. It is 1 also where the plan couldn't be written to its end, of which nothing is told.
+pub fn plan_text<W: Write, E: Write>(
+    alloc: Global,
+    layout: &str,
+    route: Option<&str>,
+    picture: Option<&str>,
+    out: &mut W,
+    err: &mut E,
+) -> u8
+    ensures status { result ≤ 1 }
+    ensures done { result ≡ 0 → IsPlanned layout.now (option_copied route.entry) (option_copied picture.entry) (W.contents out.old) (W.contents out.new) }
+    ensures faulty { (CanPlan layout.now (option_copied route.entry) (option_copied picture.entry) → ⊥) → (result ≡ 1) × (out.new ≡ out.old) }
+    ensures silent { result ≡ 0 → err.new ≡ err.old }
+    // Only a beginning of the line was told where a write to `err` failed.
+    ensures explains { result ≡ 1 → Explained layout.now (option_copied route.entry) (option_copied picture.entry) out.old out.new (E.contents err.old) (E.contents err.new) }
+{
+    match write_plan(alloc, layout, route, picture, out) {
+        Ok(()) => 0,
+        Err(failure) => {
+            tell_failure(&failure, err);
+            1
+        }
+    }
+}
+
+/// Draws the plan, and writes it at once.
+fn write_plan<W: Write>(
+    alloc: Global,
+    layout: &str,
+    route: Option<&str>,
+    picture: Option<&str>,
+    out: &mut W,
+) -> Result<(), Failure>
+    ensures done { OnOk result (IsPlanned layout.now (option_copied route.entry) (option_copied picture.entry) (W.contents out.old) (W.contents out.new)) }
+    ensures faulty { (CanPlan layout.now (option_copied route.entry) (option_copied picture.entry) → ⊥) → IsErr result × (out.new ≡ out.old) }
+    ensures explains { IfErr result (λ failure. Explains layout.now (option_copied route.entry) (option_copied picture.entry) failure × Leaves failure out.old out.new) }
+{
+    let text = drawn(alloc, layout, route, picture)?;
+    out.write_all(&text)?;
+    out.flush()?;
+    Ok(())
+}
+
+/// The plan of a text, as SVG.
+fn drawn(
+    alloc: Global,
+    layout: &str,
+    route: Option<&str>,
+    picture: Option<&str>,
+) -> Result<Vec<u8>, Failure>
+    ensures drawn { IfOk result (λ text. IsDrawn layout.now (option_copied route.entry) (option_copied picture.entry) text.items) }
+    ensures explains { IfErr result (ExplainsDrawn layout.now (option_copied route.entry) (option_copied picture.entry)) }
+{
+    let table = table_of(alloc, layout)?;
+    let route = route_asked(&table, route)?;
+    let sightings = sightings_given(alloc, &table, picture)?;
+    let seen = seen_in(alloc, &table, sightings)?;
+    let shown = Shown { route, seen };
+    let text = plan_of(alloc, &table, &shown)?;
+    Ok(text)
+}
+
+/// The plan of a layout, as SVG.
+fn plan_of(alloc: Global, table: &Checked, shown: &Shown) -> Result<Vec<u8>, AllocError>
+    ensures { IfOk result (λ text. IsPlanText table.now shown.now.seen text.items) }
+{
+    let picture = plan(alloc, table, shown)?;
+    let text = svg(alloc, &picture)?;
+    Ok(text)
+}

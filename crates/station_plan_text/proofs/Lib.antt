@@ -1,2 +1,0 @@
-pub mod LinesKept
-pub mod Folded

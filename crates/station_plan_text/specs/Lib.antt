@@ -1,4 +1,0 @@
-pub mod Names
-pub mod Sightings
-pub mod SeenByLines
-pub mod PlanText

@@ -1,9 +1,0 @@
-pub mod Joined
-pub mod LetGo
-pub mod LetGoOnce
-pub mod ListingLaws
-pub mod OneTable
-pub mod PointsOnPath
-pub mod ReasonLaws
-pub mod Rows
-pub mod Tables

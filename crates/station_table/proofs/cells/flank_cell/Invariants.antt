@@ -1,6 +1,0 @@
-use Rattle.std.proofs.Common.{◌≡◌, map, string_bytes, take}
-use Rattle.station_table.specs.Row.{flank_text}
-use Rattle.station_table.proofs.cells.flank_cell.Given as goal
-
-abbrev pub invariant-loop-entry : goal.invariant-loop-entry
-invariant-loop-entry l = map string_bytes l.texts.items ≡ map (flank_text l.layout) (take l.entry-index l.flank)

@@ -1,6 +1,0 @@
-use Rattle.std.proofs.Common.{◌≡◌, drop}
-use Rattle.station_table.specs.Row.{is_written}
-use Rattle.station_table.proofs.cells.is_written.Given as goal
-
-abbrev pub invariant-loop-other : goal.invariant-loop-other
-invariant-loop-other l = is_written (drop l.other-index l.points) l.side l.point ≡ is_written l.points l.side l.point

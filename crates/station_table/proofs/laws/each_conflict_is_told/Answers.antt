@@ -1,8 +1,0 @@
-use Rattle.station_table.proofs.ListingLaws.{conflict_told, told_conflicts}
-use Rattle.station_table.proofs.laws.each_conflict_is_told.Goals as goal
-
-pub returns-clause-told : goal.returns-clause-told
-returns-clause-told c = conflict_told
-
-pub returns-clause-only : goal.returns-clause-only
-returns-clause-only c = told_conflicts

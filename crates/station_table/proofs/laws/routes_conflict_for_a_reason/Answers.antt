@@ -1,5 +1,0 @@
-use Rattle.station_table.proofs.ReasonLaws.{told_exactly}
-use Rattle.station_table.proofs.laws.routes_conflict_for_a_reason.Goals as goal
-
-pub returns : goal.returns
-returns c = told_exactly
