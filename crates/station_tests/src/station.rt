@@ -556,7 +556,7 @@ fn expect_text(rt: &impl Abort, alloc: Global, words: &[&str], status: i32, text
     if matches!(&answer, Err(error) if is_memory(error)) {
         answer = read_words(alloc, words);
     }
-    let error = answer.expect_err(rt, "nothing is asked");
+    let error = answer.err().expect(rt, "nothing is asked");
     assert!(rt; error.exit_code() == status);
     expect_printed(rt, alloc, &error, status == 2, text);
 }
