@@ -4,7 +4,7 @@ ghost use Rattle.std.specs.Prelude.{◌≡◌, option_map};
 ghost use Rattle.toml.specs.Data.{get_member};
 ghost use Rattle.toml.specs.View.{view, table_view};
 ghost use Rattle.layout_text.specs.Messages.{table_text};
-ghost use Rattle.station_layout.specs.EntryAdvice.{entry_data, first_lacking, first_wrong, lacking_in, missing_told, wrong_at, wrong_field, wrong_told};
+ghost use Rattle.station_layout.specs.EntryAdvice.{entry_data, first_lacking, first_wrong, missing_told, wrong_at, wrong_field, wrong_told};
 
 use crate::advice::{EntryAdvice, Spot};
 use crate::field_key::{FieldKey, keys_of, kind_of};
@@ -61,16 +61,6 @@ fn first_lacking(fields: &Table, keys: &[FieldKey]) -> Option<FieldKey>
     None
 }
 
-/// The first key that an entry of this value has to have, and lacks.
-fn lacking_in(place: Place, value: &Value) -> Option<FieldKey>
-    ensures { result ≡ lacking_in place (view value.now) }
-{
-    match value.as_table() {
-        Some(fields) => first_lacking(fields, keys_of(place.table)),
-        None => None,
-    }
-}
-
 /// The advice where a key is missing at a place: the first one that the entry there has to have, and lacks.
 pub(crate) fn missing_told(document: &Table, place: Place) -> Option<EntryAdvice>
     ensures { result ≡ missing_told (table_view document.now) place }
@@ -78,20 +68,16 @@ pub(crate) fn missing_told(document: &Table, place: Place) -> Option<EntryAdvice
     if place.entry == 0 {
         return Some(EntryAdvice::Absent(place.table));
     }
-    match lacking_in(place, entry_data(document, place)?) {
-        Some(key) => Some(EntryAdvice::Missing(place, key)),
-        None => None,
-    }
+    let fields = entry_data(document, place)?.as_table()?;
+    let key = first_lacking(fields, keys_of(place.table))?;
+    Some(EntryAdvice::Missing(place, key))
 }
 
 /// What is wrong with what stands under a key of an entry.
 fn wrong_at(place: Place, fields: &Table, key: FieldKey) -> Option<EntryAdvice>
     ensures { result ≡ wrong_at place (table_view fields.now) key }
 {
-    match member(fields, key.word()) {
-        Some(value) => misfit(place, key, value),
-        None => None,
-    }
+    misfit(place, key, member(fields, key.word())?)
 }
 
 /// What is wrong with the first of these keys of an entry under which another value stands than is wanted.
@@ -114,10 +100,8 @@ fn wrong_field(place: Place, value: &Value) -> Option<EntryAdvice>
     if place.entry == 0 {
         return None;
     }
-    match value.as_table() {
-        Some(fields) => first_wrong(place, fields, keys_of(place.table)),
-        None => None,
-    }
+    let fields = value.as_table()?;
+    first_wrong(place, fields, keys_of(place.table))
 }
 
 /// The advice where a value is of another kind or form than is wanted.

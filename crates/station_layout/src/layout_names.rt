@@ -19,10 +19,7 @@ pub(crate) fn item_at<T: Copy>(items: &[T], place: usize) -> Option<T>
 pub(crate) fn point_name(layout: &Layout, point: PointId) -> Option<Name>
     ensures { result ≡ point_name layout.now point }
 {
-    match item_at(layout.points(), point.0) {
-        Some(point) => Some(point.name),
-        None => None,
-    }
+    Some(item_at(layout.points(), point.0)?.name)
 }
 
 /// The name of a signal, by its place in the layout.
@@ -30,10 +27,7 @@ pub(crate) fn point_name(layout: &Layout, point: PointId) -> Option<Name>
 pub(crate) fn signal_name(layout: &Layout, place: usize) -> Option<Name>
     ensures { result ≡ signal_name layout.now place }
 {
-    match item_at(layout.signals(), place) {
-        Some(signal) => Some(signal.name),
-        None => None,
-    }
+    Some(item_at(layout.signals(), place)?.name)
 }
 
 /// A route of the layout.
@@ -48,10 +42,7 @@ pub(crate) fn route_at(layout: &Layout, route: RouteId) -> Option<&Route>
 pub(crate) fn route_name(layout: &Layout, route: RouteId) -> Option<Name>
     ensures { result ≡ route_name layout.now route }
 {
-    match route_at(layout, route) {
-        Some(route) => Some(*route.name()),
-        None => None,
-    }
+    Some(*route_at(layout, route)?.name())
 }
 
 /// The name of an element.
@@ -60,10 +51,7 @@ pub(crate) fn element_name(layout: &Layout, element: Element) -> Option<Name>
     ensures { result ≡ element_name layout.now element }
 {
     match element {
-        Element::Track(track) => match item_at(layout.tracks(), track.0) {
-            Some(track) => Some(track.name),
-            None => None,
-        },
+        Element::Track(track) => Some(item_at(layout.tracks(), track.0)?.name),
         Element::Point(point) => point_name(layout, point),
         Element::Border(border) => item_at(layout.borders(), border.0),
     }
@@ -74,13 +62,11 @@ pub(crate) fn element_name(layout: &Layout, element: Element) -> Option<Name>
 pub(crate) fn port_name(layout: &Layout, port: Port) -> Option<PortName>
     ensures { result ≡ port_name layout.now port }
 {
-    match element_name(layout, port.element) {
-        Some(element) => Some(PortName {
-            element,
-            end: port.end,
-        }),
-        None => None,
-    }
+    let element = element_name(layout, port.element)?;
+    Some(PortName {
+        element,
+        end: port.end,
+    })
 }
 
 /// A leg and what is joined to it, by name.
@@ -88,10 +74,9 @@ pub(crate) fn port_name(layout: &Layout, port: Port) -> Option<PortName>
 pub(crate) fn leg_names(layout: &Layout, leg: Port, from: Port) -> Option<(PortName, PortName)>
     ensures { result ≡ leg_names layout.now leg from }
 {
-    match (port_name(layout, leg), port_name(layout, from)) {
-        (Some(leg), Some(from)) => Some((leg, from)),
-        _ => None,
-    }
+    let leg = port_name(layout, leg)?;
+    let from = port_name(layout, from)?;
+    Some((leg, from))
 }
 
 /// The name of the signal or the border at which a route ends.

@@ -34,10 +34,7 @@ fn twice_at(layout: &Layout, path: &[Port], left: Port) -> Option<PathDetail>
     if !comes_twice(path, left.element) {
         return None;
     }
-    match element_name(layout, left.element) {
-        Some(name) => Some(PathDetail::Twice(name)),
-        None => None,
-    }
+    Some(PathDetail::Twice(element_name(layout, left.element)?))
 }
 
 /// The section in which an element lies. A border lies in none.
@@ -45,14 +42,8 @@ fn section_of(layout: &Layout, element: Element) -> Option<SectionId>
     ensures { result ≡ section_of layout.now element }
 {
     match element {
-        Element::Track(track) => match item_at(layout.tracks(), track.0) {
-            Some(track) => Some(track.section),
-            None => None,
-        },
-        Element::Point(point) => match item_at(layout.points(), point.0) {
-            Some(point) => Some(point.section),
-            None => None,
-        },
+        Element::Track(track) => Some(item_at(layout.tracks(), track.0)?.section),
+        Element::Point(point) => Some(item_at(layout.points(), point.0)?.section),
         Element::Border(_) => None,
     }
 }

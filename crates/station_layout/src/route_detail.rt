@@ -40,10 +40,7 @@ fn unwritten_at(layout: &Layout, route: &Route, left: Port) -> Option<RouteDetai
 {
     match left.element {
         Element::Point(point) if is_written(route.points(), point) => None,
-        Element::Point(point) => match point_name(layout, point) {
-            Some(name) => Some(RouteDetail::Unwritten(name)),
-            None => None,
-        },
+        Element::Point(point) => Some(RouteDetail::Unwritten(point_name(layout, point)?)),
         _ => None,
     }
 }
@@ -70,10 +67,8 @@ fn open_at(layout: &Layout, before: Port, left: Port) -> Option<PathDetail>
     if guard(leg, from).is_some() || signal_at(layout.signals(), from).is_some() {
         return None;
     }
-    match leg_names(layout, leg, from) {
-        Some((leg, from)) => Some(PathDetail::OpenLeg(leg, from)),
-        None => None,
-    }
+    let (leg, from) = leg_names(layout, leg, from)?;
+    Some(PathDetail::OpenLeg(leg, from))
 }
 
 /// What is wrong with a step of a path, from one port to that by which the next element is left, by the test of a fault.
@@ -148,10 +143,9 @@ fn in_the_way(layout: &Layout, exit: Exit, left: Port) -> Option<PathDetail>
     if is_signal(exit, place) {
         return None;
     }
-    match (signal_name(layout, place), port_name(layout, left)) {
-        (Some(name), Some(at)) => Some(PathDetail::InTheWay(name, at)),
-        _ => None,
-    }
+    let name = signal_name(layout, place)?;
+    let at = port_name(layout, left)?;
+    Some(PathDetail::InTheWay(name, at))
 }
 
 /// The first signal on a path that stands in the way.
@@ -170,10 +164,8 @@ fn first_in_the_way(layout: &Layout, exit: Exit, path: &[Port]) -> Option<PathDe
 fn elsewhere(layout: &Layout, exit: Exit, last: Port) -> Option<PathDetail>
     ensures { result ≡ elsewhere layout.now exit last }
 {
-    match (port_name(layout, last), exit_name(layout, exit)) {
-        (Some(end), Some(exit)) => Some(PathDetail::EndsElsewhere(end, exit)),
-        _ => None,
-    }
+    let end = port_name(layout, last)?;
+    Some(PathDetail::EndsElsewhere(end, exit_name(layout, exit)?))
 }
 
 /// What is wrong with the exit of a route, or which signal stands in the way.
@@ -221,10 +213,7 @@ fn unanswered(layout: &Layout, route: RouteId, other: RouteId) -> Option<RouteDe
     if lists(layout, other, route) {
         return None;
     }
-    match route_name(layout, other) {
-        Some(name) => Some(RouteDetail::Unanswered(name)),
-        None => None,
-    }
+    Some(RouteDetail::Unanswered(route_name(layout, other)?))
 }
 
 /// The first of these routes that a route lists, and that is the route itself or doesn't list it.

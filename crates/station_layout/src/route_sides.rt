@@ -96,10 +96,7 @@ pub(crate) fn guard(leg: Port, from: Port) -> Option<(PointId, Side)>
         return None;
     }
     match from.element {
-        Element::Point(point) => match side_of(from.end) {
-            Some(side) => Some((point, other(side))),
-            None => None,
-        },
+        Element::Point(point) => Some((point, other(side_of(from.end)?))),
         _ => None,
     }
 }

@@ -11,10 +11,7 @@ use control_table::sci_telegram::Side;
 pub(crate) fn start_of(layout: &Layout, route: &Route) -> Option<Port>
     ensures { result ≡ start_of layout.now route.now }
 {
-    match item_at(layout.signals(), route.entry().0) {
-        Some(signal) => Some(signal.at),
-        None => None,
-    }
+    Some(item_at(layout.signals(), route.entry().0)?.at)
 }
 
 /// Whether a point is written.

@@ -1,7 +1,6 @@
 //! Which earlier entry has what a later one has too.
 
-ghost use Rattle.std.specs.Prelude.{◌≡◌, option_map, slice_get};
-ghost use Rattle.std.specs.Option.{option_or};
+ghost use Rattle.std.specs.Prelude.{◌≡◌, slice_get};
 ghost use Rattle.control_table.specs.layout.Known.{same_name};
 ghost use Rattle.station_layout.specs.Search.{first_of};
 ghost use Rattle.station_layout.specs.declared.advice.Common.TheVariants as common;
@@ -58,13 +57,6 @@ pub(crate) fn entry_at<T: Copy>(entries: &Vec<T>, before: usize) -> Option<T>
     entries.get(before).copied()
 }
 
-/// A detection controller, by its place counted from 0.
-pub(crate) fn detector_at(written: &WrittenLayout, before: usize) -> Option<&WrittenDetector>
-    ensures { option_map (λ d. d.now) result ≡ slice_get written.now.detectors before }
-{
-    written.detectors.get(before)
-}
-
 /// The name of an entry of a table, by its place counted from 0.
 #[tactic(auto, unfolding(crate::specs::SharedAdvice::name_in))]
 fn name_in(written: &WrittenLayout, table: TableName, before: usize) -> Option<Name>
@@ -87,7 +79,7 @@ fn name_in(written: &WrittenLayout, table: TableName, before: usize) -> Option<N
             Some(signal) => Some(signal.name),
             None => None,
         },
-        TableName::Detector => match detector_at(written, before) {
+        TableName::Detector => match written.detectors.get(before) {
             Some(detector) => Some(detector.name),
             None => None,
         },
@@ -113,7 +105,7 @@ fn id_in(written: &WrittenLayout, table: TableName, before: usize) -> Option<u32
             Some(signal) => Some(signal.id),
             None => None,
         },
-        TableName::Detector => match detector_at(written, before) {
+        TableName::Detector => match written.detectors.get(before) {
             Some(detector) => Some(detector.id),
             None => None,
         },
@@ -152,7 +144,7 @@ fn has(written: &WrittenLayout, table: TableName, before: usize, what: &Common) 
             Some(own) => own == *id,
             None => false,
         },
-        (Common::Section(section), TableName::Detector) => match detector_at(written, before) {
+        (Common::Section(section), TableName::Detector) => match written.detectors.get(before) {
             Some(detector) => reports(detector, *section),
             None => false,
         },
@@ -230,10 +222,8 @@ fn name_shared(written: &WrittenLayout, place: Place) -> Option<EntryAdvice>
     ensures { result ≡ name_shared written.now place }
 {
     let before = place.entry.saturating_sub(1);
-    match name_in(written, place.table, before) {
-        Some(name) => shared_with(written, place, &Common::Name(name)),
-        None => None,
-    }
+    let name = name_in(written, place.table, before)?;
+    shared_with(written, place, &Common::Name(name))
 }
 
 /// The identity of an entry, if an earlier one has it.
@@ -241,10 +231,8 @@ fn id_shared(written: &WrittenLayout, place: Place) -> Option<EntryAdvice>
     ensures { result ≡ id_shared written.now place }
 {
     let before = place.entry.saturating_sub(1);
-    match id_in(written, place.table, before) {
-        Some(id) => shared_with(written, place, &Common::Id(id)),
-        None => None,
-    }
+    let id = id_in(written, place.table, before)?;
+    shared_with(written, place, &Common::Id(id))
 }
 
 /// The first of these sections of a detection controller that an earlier one reports too.
@@ -263,10 +251,8 @@ fn first_shared(written: &WrittenLayout, place: Place, sections: &[Name]) -> Opt
 fn detector_shared(written: &WrittenLayout, place: Place) -> Option<EntryAdvice>
     ensures { result ≡ detector_shared written.now place }
 {
-    match detector_at(written, place.entry.saturating_sub(1)) {
-        Some(detector) => first_shared(written, place, detector.sections()),
-        None => None,
-    }
+    let detector = written.detectors.get(place.entry.saturating_sub(1))?;
+    first_shared(written, place, detector.sections())
 }
 
 /// The advice where an entry has a name, an identity or a section that an earlier one has.
@@ -282,30 +268,23 @@ pub(crate) fn double_told(written: &WrittenLayout, place: Place) -> Option<Entry
     detector_shared(written, place)
 }
 
-/// The first port of a joint that an earlier one joins too.
-fn joint_shared(written: &WrittenLayout, place: Place, joint: WrittenJoint) -> Option<EntryAdvice>
-    ensures { result ≡ option_or (shared_with written.now place (common.Joint joint.first)) (shared_with written.now place (common.Joint joint.second)) }
-{
-    if let Some(found) = shared_with(written, place, &Common::Joint(joint.first)) {
-        return Some(found);
-    }
-    shared_with(written, place, &Common::Joint(joint.second))
-}
-
 /// The advice where an entry stands at a port at which an earlier one stands.
 pub(crate) fn port_told(written: &WrittenLayout, place: Place) -> Option<EntryAdvice>
     ensures { result ≡ port_told written.now place }
 {
     let before = place.entry.saturating_sub(1);
     match place.table {
-        TableName::Joint => match entry_at(&written.joints, before) {
-            Some(joint) => joint_shared(written, place, joint),
-            None => None,
-        },
-        TableName::Signal => match entry_at(&written.signals, before) {
-            Some(signal) => shared_with(written, place, &Common::Signal(signal.at)),
-            None => None,
-        },
+        TableName::Joint => {
+            let joint = entry_at(&written.joints, before)?;
+            if let Some(found) = shared_with(written, place, &Common::Joint(joint.first)) {
+                return Some(found);
+            }
+            shared_with(written, place, &Common::Joint(joint.second))
+        }
+        TableName::Signal => {
+            let signal = entry_at(&written.signals, before)?;
+            shared_with(written, place, &Common::Signal(signal.at))
+        }
         _ => None,
     }
 }

@@ -117,10 +117,8 @@ pub(crate) fn lacking_at(
     if is_on_path(route.path(), point) || is_written(route.flank(), point) {
         return None;
     }
-    match leg_names(layout, leg, from) {
-        Some((leg, from)) => Some(PathDetail::FlankLacks(leg, from, side)),
-        None => None,
-    }
+    let (leg, from) = leg_names(layout, leg, from)?;
+    Some(PathDetail::FlankLacks(leg, from, side))
 }
 
 /// A point that is required at a side, if the path requires it at the other side too.
@@ -137,10 +135,7 @@ fn contrary(
     if !requires_on(layout, start, path, point, other(side)) {
         return None;
     }
-    match point_name(layout, point) {
-        Some(name) => Some(PointDetail::BothSides(name)),
-        None => None,
-    }
+    Some(PointDetail::BothSides(point_name(layout, point)?))
 }
 
 /// The point that the path requires at both sides, of those behind a port.

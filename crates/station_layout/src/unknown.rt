@@ -215,18 +215,13 @@ pub(crate) fn unknown_told(written: &WrittenLayout, place: Place) -> Option<Entr
 {
     let before = place.entry.saturating_sub(1);
     match place.table {
-        TableName::Joint => match entry_at(&written.joints, before) {
-            Some(joint) => joint_missed(written, place, joint),
-            None => None,
-        },
+        TableName::Joint => joint_missed(written, place, entry_at(&written.joints, before)?),
         TableName::Detector => detector_missed(written, place, before),
-        TableName::Route => match written.routes.get(before) {
-            Some(route) => route_missed(written, place, route),
-            None => None,
-        },
-        table => match named_by(written, table, before) {
-            Some(what) => missed(written, Spot::Entry(place), &what),
-            None => None,
-        },
+        TableName::Route => route_missed(written, place, written.routes.get(before)?),
+        table => missed(
+            written,
+            Spot::Entry(place),
+            &named_by(written, table, before)?,
+        ),
     }
 }
