@@ -10,27 +10,26 @@ use node_drive::{Arrived, BrokenOff, NextLine, Outside};
 use std::alloc::{AllocError, Global};
 use std::io::{Eprint, Write};
 
-/// What a process has outside, where each call is written to a record as it was answered. A record that can't be written any more is
-/// told once, and the process goes on without it.
+/// What a process has outside, where each call is written to a record as it was answered, if there is one. A record that can't be
+/// written any more is told once, and the process goes on without it.
 #[derive(Drop)]
 pub struct Recorded<'a, O, W, E> {
     alloc: Global,
     layout: &'a Layout,
     outside: O,
-    recorder: W,
+    /// The record, as long as it can be written.
+    recorder: Option<W>,
     /// Where it is told that the record can't be written any more.
     complaints: &'a E,
-    /// Whether each call so far was written.
-    is_whole: bool,
 }
 
-impl<'a, O: Outside, W: Write, E: Eprint> Recorded<'a, O, W, E> {
+impl<'a, O: Outside, W: Write + Drop, E: Eprint> Recorded<'a, O, W, E> {
     /// A process that begins, in a station of this layout.
     pub fn new(
         alloc: Global,
         layout: &'a Layout,
         outside: O,
-        recorder: W,
+        recorder: Option<W>,
         complaints: &'a E,
     ) -> Recorded<'a, O, W, E>
         ensures outside { result.outside ≡ outside }
@@ -42,7 +41,6 @@ impl<'a, O: Outside, W: Write, E: Eprint> Recorded<'a, O, W, E> {
             outside,
             recorder,
             complaints,
-            is_whole: true,
         }
     }
 
@@ -50,8 +48,11 @@ impl<'a, O: Outside, W: Write, E: Eprint> Recorded<'a, O, W, E> {
     fn note(&mut self, entry: Entry<'_>)
         ensures { self.new.outside ≡ self.old.outside }
     {
-        if self.is_whole && !writes(self.alloc, self.layout, &mut self.recorder, entry) {
-            self.is_whole = false;
+        let Some(recorder) = &mut self.recorder else {
+            return;
+        };
+        if !writes(self.alloc, self.layout, recorder, entry) {
+            self.recorder = None;
             // Where this fails it isn't told.
             let _ = self
                 .complaints
@@ -68,7 +69,7 @@ fn writes<W: Write>(alloc: Global, layout: &Layout, recorder: &mut W, entry: Ent
     }
 }
 
-impl<'a, O: Outside, W: Write, E: Eprint> Outside for Recorded<'a, O, W, E> {
+impl<'a, O: Outside, W: Write + Drop, E: Eprint> Outside for Recorded<'a, O, W, E> {
     ghost told = { λ recorded. O.told recorded.outside };
 
     fn rest(&mut self) {

@@ -85,33 +85,7 @@ fn begin<
 ) -> Result<(), NodeFailure> {
     let own = own_of(rt, table.layout(), asked)?;
     let machine = open(rt, asked, &own, input, output, complaints)?;
-    let place = Place {
-        table,
-        node: own.node,
-        first: own.first,
-    };
-    run_asked(rt, asked, place, machine)
-}
-
-/// Runs a node, with a record of it where one is asked for.
-fn run_asked<R: Files + Eprint + AllocGlobal, O: Outside + Drop>(
-    rt: &R,
-    asked: &Asked<'_>,
-    place: Place,
-    outside: O,
-) -> Result<(), NodeFailure> {
-    match asked.record {
-        Some(path) => run_recorded(rt, asked, place, outside, path),
-        None => run_over(rt.alloc(), place, asked.for_ms, outside),
-    }
-}
-
-/// A node of the station of this table, and the number of its first PDU.
-#[derive(Drop)]
-struct Place {
-    table: Checked,
-    node: NodeId,
-    first: u32,
+    run_over(rt, asked, table, &own, machine)
 }
 
 /// What a process is of its own: which node it is, where all nodes are, and the number of its first PDU.
@@ -172,32 +146,33 @@ fn open_socket<'a, R: Net + Timer + Eprint + AllocGlobal>(
     Ok((socket, clock))
 }
 
-/// Runs a node over what it has outside, for so many milliseconds, or for ever.
-fn run_over<O: Outside + Drop>(
-    alloc: Global,
-    place: Place,
-    for_ms: Option<u64>,
+/// Runs a node over what it has outside, for so many milliseconds, or for ever, and records what comes to it and what it does, if that is
+/// asked for.
+fn run_over<R: Files + Eprint + AllocGlobal, O: Outside + Drop>(
+    rt: &R,
+    asked: &Asked<'_>,
+    table: Checked,
+    own: &Own,
     outside: O,
 ) -> Result<(), NodeFailure> {
-    let mut outside = outside;
-    let Place { table, node, first } = place;
-    let for_ms = for_ms.unwrap_or(u64::MAX);
-    run_node(alloc, table, node, first, for_ms, &mut outside)?;
+    let layout = table.layout().copy(rt.alloc())?;
+    let recorder = recorder_for(rt, asked, own.first)?;
+    let mut recorded = Recorded::new(rt.alloc(), &layout, outside, recorder, rt);
+    let for_ms = asked.for_ms.unwrap_or(u64::MAX);
+    run_node(rt.alloc(), table, own.node, own.first, for_ms, &mut recorded)?;
     Ok(())
 }
 
-/// Runs a node, and records what comes to it and what it does.
-fn run_recorded<R: Files + Eprint + AllocGlobal, O: Outside + Drop>(
+/// The record that is asked for, if one is.
+fn recorder_for<R: Files>(
     rt: &R,
     asked: &Asked<'_>,
-    place: Place,
-    outside: O,
-    path: &str,
-) -> Result<(), NodeFailure> {
-    let copy = place.table.copy(rt.alloc())?;
-    let recorder = begin_record(rt, asked, place.first, path)?;
-    let recorded = Recorded::new(rt.alloc(), copy.layout(), outside, recorder, rt);
-    run_over(rt.alloc(), place, asked.for_ms, recorded)
+    first: u32,
+) -> Result<Option<R::File>, NodeFailure> {
+    match asked.record {
+        Some(path) => Ok(Some(begin_record(rt, asked, first, path)?)),
+        None => Ok(None),
+    }
 }
 
 /// Makes a record, with its first line.

@@ -57,15 +57,11 @@ fn replayed(alloc: Global, layout: &str, number: usize, first: u32, lines: &[u8]
         return 1;
     };
     let name = name(number);
-    match format!(in alloc; "node {name} first {first} for {FOR_MS}\n{lines}") {
-        Ok(record) => status(alloc, layout, name, record.as_str()),
-        Err(_) => 1,
-    }
-}
-
-fn status(alloc: Global, layout: &str, name: &str, record: &str) -> u8 {
+    let Ok(record) = format!(in alloc; "node {name} first {first} for {FOR_MS}\n{lines}") else {
+        return 1;
+    };
     let (mut out, mut err) = (Vec::new(alloc), Vec::new(alloc));
-    let status = replay_node_text(alloc, layout, name, record, &mut out, &mut err);
+    let status = replay_node_text(alloc, layout, name, record.as_str(), &mut out, &mut err);
     let is_same = out.as_slice() == b"same\n".as_slice();
     if is_same == (status == 0) { status } else { 1 }
 }
@@ -79,21 +75,18 @@ fn record_node<M: Makes<P>, P: Process>(
     number: usize,
     record: &mut Vec<u8>,
 ) -> bool {
-    let mut plant = Plant::<M, P>::new(makes, with_guest(rt.alloc(), number));
+    // The process of this node is played elsewhere.
+    let played = Played {
+        guest: Some(number),
+        ..Played::new(rt.alloc(), LATE)
+    };
+    let mut plant = Plant::<M, P>::new(makes, played);
     plant.begin();
     let mut memory = fresh_memory(rt.alloc(), BEGINS, STEP);
     // What its contacts have told comes to it.
     plant.exchange(&mut memory);
     let ended = record_beside(rt, table, number, &mut memory, &mut plant, record);
     ended & plant.seen.is_whole()
-}
-
-/// The process of this node is played elsewhere.
-fn with_guest(alloc: Global, number: usize) -> Played {
-    Played {
-        guest: Some(number),
-        ..Played::new(alloc, LATE)
-    }
 }
 
 /// Records a whole process over memory, beside others. It tells whether it ran to its end.
@@ -123,14 +116,13 @@ fn record_whole<'a, O: Outside + Drop>(
     outside: O,
     record: &mut Vec<u8>,
 ) -> bool {
-    let mut recorded = Recorded::new(rt.alloc(), table.layout(), outside, &mut *record, rt);
-    runs(rt.alloc(), table, number, &mut recorded)
-}
-
-/// A whole process. It tells whether it ran to its end.
-fn runs<O: Outside>(alloc: Global, table: &Checked, number: usize, outside: &mut O) -> bool {
-    match table.copy(alloc) {
-        Ok(copy) => run_node(alloc, copy, NodeId(number), FIRST, FOR_MS, outside).is_ok(),
+    let layout = table.layout();
+    let mut recorded = Recorded::new(rt.alloc(), layout, outside, Some(&mut *record), rt);
+    match table.copy(rt.alloc()) {
+        Ok(copy) => {
+            let node = NodeId(number);
+            run_node(rt.alloc(), copy, node, FIRST, FOR_MS, &mut recorded).is_ok()
+        }
         Err(_) => false,
     }
 }
