@@ -40,7 +40,7 @@ def cases():
         for case in (STORED / "data" / file).read_text().rstrip().split("\n\n"):
             title, text = text_of(case)
             _, _, told = told.partition(f"{title}\n")
-            fault = re.match(r"error: layout fault (\d+) ", told)
+            fault = re.match(r"layout fault (\d+) ", told)
             yield title, text, int(fault[1]) if fault else 0
 
 

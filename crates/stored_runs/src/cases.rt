@@ -1,9 +1,10 @@
 //! The cases of a file, one after the other.
 
+use crate::asked::Asked;
 use crate::contents::show_contents;
 use crate::failure::Failure;
-use crate::files::{parts, read};
-use crate::report::{show_behind_comments, show_explained, show_report};
+use crate::files::{NOTHING, parts, read};
+use crate::kind::Kind;
 use std::alloc::{AllocError, Global};
 use std::io::Write;
 
@@ -19,10 +20,13 @@ const OLD: &str = "\n-";
 /// What stands before that which comes in its place.
 const NEW: &str = "\n+";
 
+/// How many lines of comment make a long text.
+const MANY: usize = 2000;
+
 /// Shows each case of a file as a line of the list asks for.
 pub(crate) fn carry_out<W: Write>(
     rt: &HostRuntime,
-    kind: &str,
+    kind: Kind,
     file: &str,
     out: &mut W,
 ) -> Result<(), Failure> {
@@ -34,7 +38,7 @@ pub(crate) fn carry_out<W: Write>(
 }
 
 /// Shows one case, behind its first line.
-fn show<W: Write>(rt: &HostRuntime, kind: &str, case: &str, out: &mut W) -> Result<(), Failure> {
+fn show<W: Write>(rt: &HostRuntime, kind: Kind, case: &str, out: &mut W) -> Result<(), Failure> {
     let title = title_of(case);
     let text = text_of(rt, title, case)?;
     out.writeln(title)?;
@@ -52,14 +56,42 @@ fn title_of(case: &str) -> &str {
 }
 
 /// Shows a text as it is asked for.
-fn show_as<W: Write>(alloc: Global, kind: &str, text: &str, out: &mut W) -> Result<(), Failure> {
+fn show_as<W: Write>(alloc: Global, kind: Kind, text: &str, out: &mut W) -> Result<(), Failure> {
     match kind {
-        "report" => show_report(alloc, text, out)?,
-        "commented" => show_behind_comments(alloc, text, out)?,
-        "explain" => show_explained(alloc, text, out)?,
-        _ => show_contents(alloc, text, out)?,
+        Kind::Contents => show_contents(alloc, text, out),
+        Kind::Commented => {
+            let text = behind_comments(alloc, text)?;
+            show_checked(alloc, Kind::Report, text.as_str(), out)
+        }
+        _ => show_checked(alloc, kind, text, out),
     }
-    Ok(())
+}
+
+/// Shows the report on a text, with a fault explained where that is asked for.
+fn show_checked<W: Write>(
+    alloc: Global,
+    kind: Kind,
+    layout: &str,
+    out: &mut W,
+) -> Result<(), Failure> {
+    let asked = Asked {
+        kind,
+        layout,
+        text: "",
+        word: NOTHING,
+        last: NOTHING,
+    };
+    asked.show(alloc, out)
+}
+
+/// The text behind many lines of comment.
+fn behind_comments(alloc: Global, text: &str) -> Result<String, AllocError> {
+    let mut long = String::new(alloc);
+    for _ in 0..MANY {
+        long.push_str("# nothing stands here\n")?;
+    }
+    long.push_str(text)?;
+    Ok(long)
 }
 
 /// The text of the layout that a title names, with the changes of a case, one after the other.

@@ -45,22 +45,17 @@
 //! Behind the line comes what was written, and last the status.
 #![tactic(auto)]
 
+mod asked;
+mod captures;
 mod cases;
-mod charts;
 mod contents;
-mod datagrams;
 mod failure;
 mod files;
+mod kind;
+mod lines;
 mod node_stories;
-mod nodes;
-mod pairs;
-mod plans;
-mod report;
 mod restarts;
 mod runs;
-mod stations;
-mod status;
-mod tables;
 
 use crate::runs::carry_out_all;
 use std::process::ExitCode;

@@ -14,13 +14,11 @@ mod station;
 mod stories;
 
 use crate::failure::Failure;
-use crate::files::{parts, read};
+use crate::files::{parts, read, table_in};
 use crate::node_stories::desk::Addressed;
 use crate::node_stories::process::{Maker, Seat};
 use crate::node_stories::station::{NAMES, Station};
 use crate::node_stories::stories::{tell_all, tell_rest};
-use node_kinds::simulator_run::ixl_rules::control_table::Checked;
-use station_record::station_run::replay::station_check::table_of;
 use std::alloc::Global;
 use std::io::Write;
 use std::net::{IpAddr, Ipv4Addr, Net, SocketAddr, UdpSocket};
@@ -28,7 +26,7 @@ use std::net::{IpAddr, Ipv4Addr, Net, SocketAddr, UdpSocket};
 /// Plays the stories of the station in a file, and writes what was seen in each.
 pub(crate) fn tell<W: Write>(rt: &HostRuntime, file: &str, out: &mut W) -> Result<(), Failure> {
     let text = read(rt, file)?;
-    let table = table(rt.alloc(), text.as_str())?;
+    let table = table_in(rt.alloc(), text.as_str())?;
     let addresses = free_addresses(rt, rt.alloc(), NAMES.len())?;
     let station = Station {
         text: text.as_str(),
@@ -59,7 +57,7 @@ fn tell_of<'a, W: Write>(
 pub(crate) fn rest<W: Write>(rt: &HostRuntime, words: &str, out: &mut W) -> Result<(), Failure> {
     let (file, rounds) = parts(words, " ")?;
     let text = read(rt, file)?;
-    let table = table(rt.alloc(), text.as_str())?;
+    let table = table_in(rt.alloc(), text.as_str())?;
     let makes = Maker {
         table: &table,
         addressed: None,
@@ -67,14 +65,6 @@ pub(crate) fn rest<W: Write>(rt: &HostRuntime, words: &str, out: &mut W) -> Resu
     match rounds.parse::<u64>() {
         Ok(rounds) => tell_rest::<Maker<'_>, Seat<'_>, W>(rt.alloc(), &makes, out, rounds),
         Err(_) => Err(Failure::Words),
-    }
-}
-
-/// The control table of a layout.
-fn table(alloc: Global, text: &str) -> Result<Checked, Failure> {
-    match table_of(alloc, text) {
-        Ok(table) => Ok(table),
-        Err(_) => Err(Failure::Layout),
     }
 }
 

@@ -1,10 +1,11 @@
-//! The list of runs, and what each of its lines asks for.
+//! The list of runs.
 
+use crate::asked::Asked;
 use crate::failure::Failure;
-use crate::files::{parts, read};
+use crate::files::{NOTHING, parts, read};
+use crate::kind::{Kind, kind_of};
 use crate::restarts::lists;
-use crate::{cases, charts, datagrams, node_stories, nodes, pairs, plans, stations, tables};
-use station_layout::Form;
+use crate::{captures, cases, lines, node_stories};
 use std::io::{BufWriter, Write};
 
 /// The file that names what is run.
@@ -24,21 +25,65 @@ pub(crate) fn carry_out_all(rt: &HostRuntime) -> Result<(), Failure> {
 
 /// Does what a line asks for, and writes what comes of it.
 fn carry_out<W: Write>(rt: &HostRuntime, run: &str, out: &mut W) -> Result<(), Failure> {
-    let (kind, files) = parts(run, " ")?;
+    let (word, words) = parts(run, " ")?;
+    let kind = kind_of(word)?;
     match kind {
-        "report" | "commented" | "explain" | "contents" => cases::carry_out(rt, kind, files, out),
-        "table" => tables::print(rt, files, Form::Markdown, out),
-        "csv" => tables::print(rt, files, Form::Csv, out),
-        "chart" => charts::draw(rt, files, out),
-        "plan" => plans::draw(rt, files, out),
-        "restarts" => lists::carry_out(rt, files, out),
-        "decode" => datagrams::decode_named(rt, files, out),
-        "decode-node" | "capture-node" | "chart-node" => nodes::carry_out(rt, kind, files, out),
-        "plain-decode" => datagrams::decode_plain(rt, files, out),
-        "stories" => node_stories::tell(rt, files, out),
-        "rest" => node_stories::rest(rt, files, out),
-        "pair" => pairs::run_file(rt, files, out),
-        "each-pair" => pairs::run_each(rt, files, out),
-        _ => stations::carry_out(rt, kind, files, out),
+        Kind::Report | Kind::Commented | Kind::Explain | Kind::Contents => {
+            cases::carry_out(rt, kind, words, out)
+        }
+        Kind::Restarts => lists::carry_out(rt, words, out),
+        Kind::Stories => node_stories::tell(rt, words, out),
+        Kind::Rest => node_stories::rest(rt, words, out),
+        _ => with_texts(rt, kind, words, out),
+    }
+}
+
+/// Up to four words of a line, and a hyphen in place of each that isn't there.
+fn four_words(words: &str) -> [&str; 4] {
+    let mut four = [NOTHING; 4];
+    for (place, word) in words.split(' ').enumerate() {
+        if place < four.len() {
+            four[place] = word;
+        }
+    }
+    four
+}
+
+/// Does what a line asks for with the texts of one or two files.
+fn with_texts<W: Write>(
+    rt: &HostRuntime,
+    kind: Kind,
+    words: &str,
+    out: &mut W,
+) -> Result<(), Failure> {
+    let [layout, second, third, last] = four_words(words);
+    let (word, text) = match kind {
+        Kind::Plan | Kind::ChartNode | Kind::DecodeNode | Kind::CaptureNode => (second, third),
+        Kind::PlainDecode => (NOTHING, layout),
+        _ => (third, second),
+    };
+    let layout = read(rt, layout)?;
+    let text = read(rt, text)?;
+    let asked = Asked {
+        kind,
+        layout: layout.as_str(),
+        text: text.as_str(),
+        word,
+        last,
+    };
+    show(rt, asked, out)
+}
+
+/// Shows what comes of it.
+fn show<W: Write>(rt: &HostRuntime, asked: Asked<'_>, out: &mut W) -> Result<(), Failure> {
+    match asked.kind {
+        Kind::EachSim | Kind::EachReplay | Kind::Decode | Kind::PlainDecode => {
+            lines::show_each(rt.alloc(), asked, out)
+        }
+        Kind::EachPair => lines::show_framed(rt.alloc(), asked, out),
+        Kind::Script => lines::judge(rt.alloc(), asked, out),
+        Kind::Capture => Ok(captures::show_session(rt.alloc(), asked, out)?),
+        Kind::CaptureNode => Ok(captures::show_node(rt.alloc(), asked, out)?),
+        _ => asked.show(rt.alloc(), out),
     }
 }

@@ -143,11 +143,7 @@ fn tell<M: Makes<P>, P: Process, W: Write>(
         ..Played::new(alloc, story.script)
     };
     play::<M, P>(makes, played, story.rounds, &mut seen);
-    write_seen(story.name, &seen, out)
-}
-
-fn write_seen<W: Write>(name: &str, seen: &Seen, out: &mut W) -> Result<(), Failure> {
-    let text = seen.text()?;
+    let (name, text) = (story.name, seen.text()?);
     writeln!(out, "{name}:{text}")?;
     Ok(())
 }
@@ -168,16 +164,6 @@ fn tell_failing<M: Makes<P>, P: Process, W: Write>(
     let mut wanted = Seen::new(alloc);
     let played = Played::new(alloc, PROCEED);
     play::<M, P>(makes, played, PROCEED_ROUNDS, &mut wanted);
-    write_same::<M, P, W>(makes, played, &wanted, out)
-}
-
-/// Writes with how many of the failing calls the same is seen.
-fn write_same<M: Makes<P>, P: Process, W: Write>(
-    makes: &M,
-    played: Played,
-    wanted: &Seen,
-    out: &mut W,
-) -> Result<(), Failure> {
     let same = count_same::<M, P>(makes, played, wanted.text()?);
     writeln!(
         out,
@@ -191,16 +177,16 @@ fn count_same<M: Makes<P>, P: Process>(makes: &M, played: Played, wanted: &str) 
     let mut same: u64 = 0;
     for failing in 0..FAILING {
         let failing = failing.saturating_add(1);
-        let is_same = is_same::<M, P>(makes, Played { failing, ..played }, wanted);
-        same = same.saturating_add(u64::from(is_same));
+        let mut seen = Seen::new(played.alloc);
+        play::<M, P>(
+            makes,
+            Played { failing, ..played },
+            PROCEED_ROUNDS,
+            &mut seen,
+        );
+        same = same.saturating_add(u64::from(seen.is(wanted)));
     }
     same
-}
-
-fn is_same<M: Makes<P>, P: Process>(makes: &M, played: Played, wanted: &str) -> bool {
-    let mut seen = Seen::new(played.alloc);
-    play::<M, P>(makes, played, PROCEED_ROUNDS, &mut seen);
-    seen.is(wanted)
 }
 
 /// Runs the whole process of each node while the others are played, and writes what comes of its record.
@@ -212,14 +198,9 @@ fn tell_records<M: Makes<P>, P: Process, W: Write>(
 ) -> Result<(), Failure> {
     for number in 0..NAMES.len() {
         let verdict = verdict::<M, P>(rt, station, makes, number)?;
-        write_verdict(number, verdict, out)?;
+        let name = name(number);
+        writeln!(out, "record of {name}: {verdict}")?;
     }
-    Ok(())
-}
-
-fn write_verdict<W: Write>(number: usize, verdict: &str, out: &mut W) -> Result<(), Failure> {
-    let name = name(number);
-    writeln!(out, "record of {name}: {verdict}")?;
     Ok(())
 }
 
@@ -236,10 +217,6 @@ pub(crate) fn tell_rest<M: Makes<P>, P: Process, W: Write>(
         ..Played::new(alloc, REST)
     };
     play::<M, P>(makes, played, rounds, &mut seen);
-    write_links(rounds, &seen, out)
-}
-
-fn write_links<W: Write>(rounds: u64, seen: &Seen, out: &mut W) -> Result<(), Failure> {
     seen.text()?;
     let (ready, lost) = (seen.ready, seen.lost);
     writeln!(out, "{rounds} rounds: {ready} links ready, {lost} lost")?;

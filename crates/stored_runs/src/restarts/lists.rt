@@ -1,11 +1,10 @@
 //! A line of the list of runs that asks for restarts.
 
 use crate::failure::Failure;
-use crate::files::read;
+use crate::files::{read, table_in};
 use crate::restarts::trials::{List, events_of};
 use control_table::Checked;
 use replay_words::{Words, decimal};
-use station_record::station_run::replay::station_check::table_of;
 use station_record::station_run::replay::{SimLine, node_named, read_lines};
 use std::io::Write;
 
@@ -30,7 +29,8 @@ pub(crate) fn carry_out<W: Write>(
     let Some(line) = line_of(words) else {
         return Err(Failure::Words);
     };
-    let table = table_in(rt, line.layout)?;
+    let layout = read(rt, line.layout)?;
+    let table = table_in(rt.alloc(), layout.as_str())?;
     try_list(rt, &table, line, out)
 }
 
@@ -87,15 +87,6 @@ fn try_word<W: Write>(
     let name = list.name;
     writeln!(out, "{name} {word}: {tally}")?;
     Ok(())
-}
-
-/// The table of a file with a layout.
-fn table_in(rt: &HostRuntime, file: &str) -> Result<Checked, Failure> {
-    let text = read(rt, file)?;
-    match table_of(rt.alloc(), text.as_str()) {
-        Ok(table) => Ok(table),
-        Err(_) => Err(Failure::Layout),
-    }
 }
 
 /// The lines of a file.

@@ -1,0 +1,116 @@
+//! What is asked of texts, and what comes of it.
+
+use crate::failure::Failure;
+use crate::files::NOTHING;
+use crate::kind::Kind;
+use node_record::{Cut as NodeCut, chart_node_text, decode_node_text};
+use simulator_pair_text::pair_text;
+use station_layout::{Form, explain_text, plan_text, table_text};
+use station_record::station_decode::decode_text;
+use station_record::station_run::replay::station_check::check_text;
+use station_record::station_run::replay::{replay_text, sim_text};
+use station_record::{Cut, chart_text, decode_session_text};
+use std::alloc::Global;
+use std::io::Write;
+
+/// What is asked of texts: of a layout and another text, where there is one, with the other words of a line.
+#[derive(Clone, Copy)]
+pub(crate) struct Asked<'a> {
+    pub(crate) kind: Kind,
+    /// The text of a layout, or of a pair.
+    pub(crate) layout: &'a str,
+    pub(crate) text: &'a str,
+    /// A route or a node, or from when on a session is drawn.
+    pub(crate) word: &'a str,
+    /// Up to when a session is drawn.
+    pub(crate) last: &'a str,
+}
+
+impl<'a> Asked<'a> {
+    /// Does it, and writes what comes of it: what was told of a fault or a difference behind the rest, and the status.
+    pub(crate) fn show<W: Write>(self, alloc: Global, out: &mut W) -> Result<(), Failure> {
+        let mut told = Vec::new(alloc);
+        let status = match self.kind {
+            Kind::Report | Kind::Explain | Kind::Table | Kind::Csv | Kind::Plan => {
+                self.tell_layout(alloc, out, &mut told)
+            }
+            Kind::ChartNode | Kind::DecodeNode => self.tell_node(alloc, out, &mut told),
+            Kind::Chart => {
+                let cut = self.cut()?;
+                chart_text(alloc, self.layout, self.text, cut, out, &mut told)
+            }
+            _ => self.tell_session(alloc, out, &mut told),
+        };
+        out.write_all(&told)?;
+        writeln!(out, "status {status}")?;
+        Ok(())
+    }
+
+    /// Tells what is asked of a layout, and answers the status.
+    fn tell_layout<W: Write>(self, alloc: Global, out: &mut W, told: &mut Vec<u8>) -> u8 {
+        let layout = self.layout;
+        match self.kind {
+            Kind::Explain => explain_text(alloc, layout, out, told),
+            Kind::Table => table_text(alloc, layout, Form::Markdown, out, told),
+            Kind::Csv => table_text(alloc, layout, Form::Csv, out, told),
+            Kind::Plan => {
+                let picture = if self.text.is_empty() {
+                    None
+                } else {
+                    Some(self.text)
+                };
+                plan_text(alloc, layout, asked(self.word), picture, out, told)
+            }
+            _ => check_text(alloc, layout, out, told),
+        }
+    }
+
+    /// Tells what is asked of the record of a node, and answers the status.
+    fn tell_node<W: Write>(self, alloc: Global, out: &mut W, told: &mut Vec<u8>) -> u8 {
+        let (layout, record) = (self.layout, self.text);
+        let cut = NodeCut {
+            from: None,
+            to: None,
+        };
+        match self.kind {
+            Kind::ChartNode => chart_node_text(alloc, layout, self.word, record, cut, out, told),
+            _ => decode_node_text(alloc, layout, self.word, record, out, told),
+        }
+    }
+
+    /// Tells what is asked of events, a session, a datagram or a pair, and answers the status.
+    fn tell_session<W: Write>(self, alloc: Global, out: &mut W, told: &mut Vec<u8>) -> u8 {
+        let (layout, text) = (self.layout, self.text);
+        match self.kind {
+            Kind::Replay | Kind::EachReplay => replay_text(alloc, layout, text, out, told),
+            Kind::DecodeSession => decode_session_text(alloc, layout, text, out, told),
+            Kind::Decode => decode_text(alloc, Some(layout), text, out, told),
+            Kind::PlainDecode => decode_text(alloc, None, text, out, told),
+            Kind::Pair | Kind::EachPair => pair_text(alloc, layout, out, told),
+            _ => sim_text(alloc, layout, text, out, told),
+        }
+    }
+
+    /// Which part of a session is drawn.
+    fn cut(self) -> Result<Cut, Failure> {
+        let from = millis(self.word)?;
+        let to = millis(self.last)?;
+        Ok(Cut { from, to })
+    }
+}
+
+/// What a word asks for.
+fn asked(word: &str) -> Option<&str> {
+    if word == NOTHING { None } else { Some(word) }
+}
+
+/// A time in milliseconds, if a word asks for one.
+fn millis(word: &str) -> Result<Option<u64>, Failure> {
+    match asked(word) {
+        Some(word) => match word.parse::<u64>() {
+            Ok(millis) => Ok(Some(millis)),
+            Err(_) => Err(Failure::Words),
+        },
+        None => Ok(None),
+    }
+}
