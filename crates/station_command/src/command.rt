@@ -7,11 +7,12 @@ ghost use Rattle.station_command.specs.CommandWords.{Asks, faults_in, decode_of,
 ghost use Rattle.station_command.specs.inside.Rows.{capture_of_rows, chart_of_rows, check_of_rows, decode_of_rows, files_of, node_of_rows, number_of, panel_of_rows, plan_of_rows, replay_of_rows, request_of_rows, run_of_rows, table_of_rows};
 ghost use Rattle.clap.specs.declared.error.kind.ErrorKind.TheVariants as kind;
 
-use crate::line::{
+use crate::command_table::{
     ADDRESSES, CAPTURE, CHART, CHECK, CLOCK, CSV, DECODE, DIGEST, EXPLAIN, FILE, FOR, FORCE, FROM,
     HEX, LAYOUT, NAME, NODE, OPERATOR, OUT, PANEL, PICTURE, PLAN, PORT, RECORD, REPLAY, ROUTE, RUN,
-    SCRIPT, SECOND, SIM, TABLE, TO, station,
+    SCRIPT, SECOND, SIM, TABLE, TO,
 };
+use crate::line::station;
 use clap::error::ErrorKind;
 use clap::{ArgMatches, Error};
 use std::alloc::Global;
