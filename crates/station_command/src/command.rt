@@ -2,8 +2,10 @@
 
 ghost use Rattle.std.specs.Prelude.{◌≡◌, ◌↔◌, ◌⊎◌, IsTrue, IfOk, IfErr, None, codes, map, option_and_then, option_copied};
 ghost use Rattle.std.specs.Option.{option_map};
-ghost use Rattle.clap.specs.Words.{FailsBy, first_of, found_of, kind_of, rows_of, subcommand_rows_of};
+ghost use Rattle.clap.specs.Words.{FailsBy, app_of, first_of, found_of, kind_of, rows_of, subcommand_rows_of};
 ghost use Rattle.station_command.specs.CommandWords.{Asks, faults_in, decode_of, is_on, request_in, request_of};
+ghost use Rattle.station_command.specs.Line.{station_line};
+ghost use Rattle.station_command.specs.inside.Answers.{Answers, AnswersWords};
 ghost use Rattle.station_command.specs.inside.Rows.{capture_of_rows, chart_of_rows, check_of_rows, decode_of_rows, files_of, node_of_rows, number_of, panel_of_rows, plan_of_rows, replay_of_rows, request_of_rows, run_of_rows, table_of_rows};
 ghost use Rattle.clap.specs.declared.error.kind.ErrorKind.TheVariants as kind;
 
@@ -14,7 +16,7 @@ use crate::command_table::{
 };
 use crate::line::station;
 use clap::error::ErrorKind;
-use clap::{ArgMatches, Error};
+use clap::{ArgMatches, Command, Error};
 use std::alloc::Global;
 use std::convert::AsStr;
 
@@ -379,6 +381,24 @@ fn asked_by<'a>(matches: &ArgMatches<'a>) -> Option<Asked<'a>>
     }
 }
 
+/// What was found on a command line asks for. Where it asks for nothing, the command tells what it takes.
+fn answer<'a>(command: &mut Command<'a>, matches: &ArgMatches<'a>) -> Result<Asked<'a>, Error>
+    ensures { Answers (request_of_rows (subcommand_rows_of matches.now)) result }
+{
+    match asked_by(matches) {
+        Some(asked) => Ok(asked),
+        None => Err(command.error(ErrorKind::MissingRequiredArgument, ASKS_NOTHING)?),
+    }
+}
+
+/// What the words of a command line ask for, read by a command.
+fn asked_in<'a, S: AsStr>(command: &mut Command<'a>, words: &'a [S]) -> Result<Asked<'a>, Error>
+    ensures { app_of command.old ≡ station_line → AnswersWords (map S.text words.entry.now) result }
+{
+    let matches = command.try_get_matches_from_mut(words)?;
+    answer(command, &matches)
+}
+
 /// What the words of a command line ask for, the first of which is the program's name.
 ///
 /// An `Err` has the text to print (help, the version, or what is wrong), and the status to end with.
@@ -388,11 +408,7 @@ pub fn read_words<'a, S: AsStr>(alloc: Global, words: &'a [S]) -> Result<Asked<'
     ensures kinds { FailsBy (faults_in (map S.text words.entry.now)) result }
 {
     let mut command = station(alloc)?;
-    let matches = command.try_get_matches_from_mut(words)?;
-    match asked_by(&matches) {
-        Some(asked) => Ok(asked),
-        None => Err(command.error(ErrorKind::MissingRequiredArgument, ASKS_NOTHING)?),
-    }
+    asked_in(&mut command, words)
 }
 
 /// Whether memory ran out as the words were read.
