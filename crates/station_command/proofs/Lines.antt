@@ -1,5 +1,6 @@
 -- The command line, made of the rows of a table: a command of its arguments, and the line of its commands.
-use Rattle.std.proofs.Common.{◌≡◌, ◌||◌, ℕ, ◌+◌, ◌<◌, List, false, get_or, length, sym, take, ◌∙◌}
+use Rattle.std.proofs.Common.{◌≡◌, ◌||◌, ℕ, ◌+◌, ◌<◌, ◌≤◌, List, ap, false, get_or, length, sym, take, ◌∙◌}
+use Rattle.std.proofs.lemmas.List.{take_all}
 use Rattle.std.proofs.lemmas.List.Sums.{fold_more}
 use Rattle.clap.specs.Words.{AddsArg, AddsSubcommand, with_rule, with_subcommand}
 use Rattle.clap.specs.declared.builder.arg.Arg.{Arg}
@@ -26,3 +27,10 @@ pub joined : (line : App) (entries : List Entry) (i : ℕ) (other : Entry) (befo
 joined line entries i other before command after within was is local adds =
     let next = fold_more (λ line entry. with_subcommand line (line_of_entry entry).top) line entries i other within in
     adds.shape local ∙ ((λ j. with_subcommand (was j) (is j).top) ∙ sym next)
+
+-- and when there is no more
+pub all_taken : (line : App) (arguments : List Argument) (i : ℕ) (now : Command) → length arguments ≤ i → app_of now ≡ with_arguments line (take i arguments) → app_of now ≡ with_arguments line arguments
+all_taken line arguments i now past so_far = so_far ∙ ap (with_arguments line) (take_all i arguments past)
+
+pub all_joined : (line : App) (entries : List Entry) (i : ℕ) (now : Command) → length entries ≤ i → app_of now ≡ with_commands line (take i entries) → app_of now ≡ with_commands line entries
+all_joined line entries i now past so_far = so_far ∙ ap (with_commands line) (take_all i entries past)

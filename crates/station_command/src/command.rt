@@ -3,7 +3,7 @@
 ghost use Rattle.std.specs.Prelude.{◌≡◌, ◌↔◌, ◌⊎◌, IsTrue, IfOk, IfErr, None, codes, map, option_and_then, option_copied};
 ghost use Rattle.std.specs.Option.{option_map};
 ghost use Rattle.clap.specs.Words.{FailsBy, app_of, first_of, found_of, kind_of, rows_of, subcommand_rows_of};
-ghost use Rattle.station_command.specs.CommandWords.{Asks, faults_in, decode_of, is_on, request_in, request_of};
+ghost use Rattle.station_command.specs.CommandWords.{Asks, faults_in, decode_of, is_on, request_in, request_of, run_of};
 ghost use Rattle.station_command.specs.Line.{station_line};
 ghost use Rattle.station_command.specs.inside.Answers.{Answers, AnswersWords};
 ghost use Rattle.station_command.specs.inside.Rows.{capture_of_rows, chart_of_rows, check_of_rows, decode_of_rows, files_of, node_of_rows, number_of, panel_of_rows, plan_of_rows, replay_of_rows, request_of_rows, run_of_rows, table_of_rows};
@@ -202,20 +202,34 @@ fn asked_table<'a>(matches: &ArgMatches<'a>) -> Option<Asked<'a>>
 }
 
 /// The run that is asked for.
-#[tactic(auto, using(crate::proofs::Found::no_file, crate::proofs::Found::no_script, crate::proofs::Found::no_record, crate::proofs::Found::no_time, crate::proofs::Found::no_number))]
 fn asked_run<'a>(matches: &ArgMatches<'a>) -> Option<Asked<'a>>
     ensures { option_map request_of result ≡ run_of_rows (rows_of (found_of matches.now)) }
 {
-    let layout = matches.get_str(FILE)?;
-    let script = matches.get_str(SCRIPT)?;
-    let record = matches.get_str(RECORD)?;
-    let for_ms = number(matches.get_str(FOR)?)?;
-    Some(Asked::Run {
-        layout,
-        script,
-        record,
-        for_ms,
-    })
+    let layout = matches.get_str(FILE);
+    let script = matches.get_str(SCRIPT);
+    let record = matches.get_str(RECORD);
+    let for_ms = number_given(matches, FOR);
+    run_of(layout, script, record, for_ms)
+}
+
+/// What the values of `run` ask for, if for anything.
+fn run_of<'a>(
+    layout: Option<&'a str>,
+    script: Option<&'a str>,
+    recording: Option<&'a str>,
+    for_ms: Option<u64>,
+) -> Option<Asked<'a>>
+    ensures { option_map request_of result ≡ run_of (option_copied layout.entry) (option_copied script.entry) (option_copied recording.entry) for_ms }
+{
+    match (layout, script, recording, for_ms) {
+        (Some(layout), Some(script), Some(record), Some(for_ms)) => Some(Asked::Run {
+            layout,
+            script,
+            record,
+            for_ms,
+        }),
+        _ => None,
+    }
 }
 
 /// The replay that is asked for.

@@ -108,12 +108,18 @@ pub(crate) enum Kind {
     Switch,
 }
 
-/// An argument by its word, with its help.
+/// An argument: its word, how it is given, whether it is needed, and its help.
 #[derive(Clone, Copy)]
-pub(crate) enum Argument {
-    Needed(&'static str, Kind, Help),
-    Optional(&'static str, Kind, Help),
-}
+pub(crate) struct Argument(
+    pub(crate) &'static str,
+    pub(crate) Kind,
+    pub(crate) bool,
+    pub(crate) Help,
+);
+
+const NEEDED: bool = true;
+
+const OPTIONAL: bool = false;
 
 /// A command with its arguments in their order.
 #[derive(Clone, Copy)]
@@ -130,9 +136,9 @@ pub(crate) const COMMANDS: &[Entry] = &[
         word: CHECK,
         help: CommandHelp::Check,
         arguments: &[
-            Argument::Needed(FILE, Kind::File, Help::File),
-            Argument::Optional(EXPLAIN, Kind::Switch, Help::Explain),
-            Argument::Optional(DIGEST, Kind::Switch, Help::Digest),
+            Argument(FILE, Kind::File, NEEDED, Help::File),
+            Argument(EXPLAIN, Kind::Switch, OPTIONAL, Help::Explain),
+            Argument(DIGEST, Kind::Switch, OPTIONAL, Help::Digest),
         ],
     },
     // `plan FILE [--route R] [--picture PICTURE]`
@@ -140,9 +146,9 @@ pub(crate) const COMMANDS: &[Entry] = &[
         word: PLAN,
         help: CommandHelp::Plan,
         arguments: &[
-            Argument::Needed(FILE, Kind::File, Help::File),
-            Argument::Optional(ROUTE, Kind::Option("R"), Help::Route),
-            Argument::Optional(PICTURE, Kind::Option("PICTURE"), Help::Picture),
+            Argument(FILE, Kind::File, NEEDED, Help::File),
+            Argument(ROUTE, Kind::Option("R"), OPTIONAL, Help::Route),
+            Argument(PICTURE, Kind::Option("PICTURE"), OPTIONAL, Help::Picture),
         ],
     },
     // `table FILE [--csv]`
@@ -150,8 +156,8 @@ pub(crate) const COMMANDS: &[Entry] = &[
         word: TABLE,
         help: CommandHelp::Table,
         arguments: &[
-            Argument::Needed(FILE, Kind::File, Help::File),
-            Argument::Optional(CSV, Kind::Switch, Help::Csv),
+            Argument(FILE, Kind::File, NEEDED, Help::File),
+            Argument(CSV, Kind::Switch, OPTIONAL, Help::Csv),
         ],
     },
     // `sim FILE EVENTS`
@@ -159,8 +165,8 @@ pub(crate) const COMMANDS: &[Entry] = &[
         word: SIM,
         help: CommandHelp::Sim,
         arguments: &[
-            Argument::Needed(FILE, Kind::File, Help::File),
-            Argument::Needed(SECOND, Kind::NamedFile("EVENTS"), Help::Events),
+            Argument(FILE, Kind::File, NEEDED, Help::File),
+            Argument(SECOND, Kind::NamedFile("EVENTS"), NEEDED, Help::Events),
         ],
     },
     // `run FILE --script S --record R --for MS`
@@ -168,10 +174,15 @@ pub(crate) const COMMANDS: &[Entry] = &[
         word: RUN,
         help: CommandHelp::Run,
         arguments: &[
-            Argument::Needed(FILE, Kind::File, Help::File),
-            Argument::Needed(SCRIPT, Kind::Option("S"), Help::Script),
-            Argument::Needed(RECORD, Kind::Option("R"), Help::RecordOfRun),
-            Argument::Needed(FOR, Kind::Number("MS", SHORTEST, LONGEST), Help::For),
+            Argument(FILE, Kind::File, NEEDED, Help::File),
+            Argument(SCRIPT, Kind::Option("S"), NEEDED, Help::Script),
+            Argument(RECORD, Kind::Option("R"), NEEDED, Help::RecordOfRun),
+            Argument(
+                FOR,
+                Kind::Number("MS", SHORTEST, LONGEST),
+                NEEDED,
+                Help::For,
+            ),
         ],
     },
     // `panel FILE [--port P] [--record R] [--for MS] [--node ADDRESS]`
@@ -179,11 +190,21 @@ pub(crate) const COMMANDS: &[Entry] = &[
         word: PANEL,
         help: CommandHelp::Panel,
         arguments: &[
-            Argument::Needed(FILE, Kind::File, Help::File),
-            Argument::Optional(PORT, Kind::Number("P", LOWEST, HIGHEST), Help::Port),
-            Argument::Optional(RECORD, Kind::Option("R"), Help::RecordOfPanel),
-            Argument::Optional(FOR, Kind::Number("MS", SHORTEST, LONGEST), Help::ForOfPanel),
-            Argument::Optional(NODE, Kind::Option("ADDRESS"), Help::NodeOfPanel),
+            Argument(FILE, Kind::File, NEEDED, Help::File),
+            Argument(
+                PORT,
+                Kind::Number("P", LOWEST, HIGHEST),
+                OPTIONAL,
+                Help::Port,
+            ),
+            Argument(RECORD, Kind::Option("R"), OPTIONAL, Help::RecordOfPanel),
+            Argument(
+                FOR,
+                Kind::Number("MS", SHORTEST, LONGEST),
+                OPTIONAL,
+                Help::ForOfPanel,
+            ),
+            Argument(NODE, Kind::Option("ADDRESS"), OPTIONAL, Help::NodeOfPanel),
         ],
     },
     // `replay FILE RECORD [--node NAME]`
@@ -191,9 +212,9 @@ pub(crate) const COMMANDS: &[Entry] = &[
         word: REPLAY,
         help: CommandHelp::Replay,
         arguments: &[
-            Argument::Needed(FILE, Kind::File, Help::File),
-            Argument::Needed(SECOND, Kind::NamedFile("RECORD"), Help::Record),
-            Argument::Optional(NODE, Kind::Option("NAME"), Help::RecordedNode),
+            Argument(FILE, Kind::File, NEEDED, Help::File),
+            Argument(SECOND, Kind::NamedFile("RECORD"), NEEDED, Help::Record),
+            Argument(NODE, Kind::Option("NAME"), OPTIONAL, Help::RecordedNode),
         ],
     },
     // `chart FILE RECORD [--node NAME] [--from MS] [--to MS]`
@@ -201,11 +222,11 @@ pub(crate) const COMMANDS: &[Entry] = &[
         word: CHART,
         help: CommandHelp::Chart,
         arguments: &[
-            Argument::Needed(FILE, Kind::File, Help::File),
-            Argument::Needed(SECOND, Kind::NamedFile("RECORD"), Help::Record),
-            Argument::Optional(NODE, Kind::Option("NAME"), Help::RecordedNode),
-            Argument::Optional(FROM, Kind::Number("MS", 0, LATEST), Help::From),
-            Argument::Optional(TO, Kind::Number("MS", 0, LATEST), Help::To),
+            Argument(FILE, Kind::File, NEEDED, Help::File),
+            Argument(SECOND, Kind::NamedFile("RECORD"), NEEDED, Help::Record),
+            Argument(NODE, Kind::Option("NAME"), OPTIONAL, Help::RecordedNode),
+            Argument(FROM, Kind::Number("MS", 0, LATEST), OPTIONAL, Help::From),
+            Argument(TO, Kind::Number("MS", 0, LATEST), OPTIONAL, Help::To),
         ],
     },
     // `decode --hex HEX [--layout FILE]`, or `decode FILE RECORD [--node NAME]`
@@ -213,11 +234,11 @@ pub(crate) const COMMANDS: &[Entry] = &[
         word: DECODE,
         help: CommandHelp::Decode,
         arguments: &[
-            Argument::Optional(HEX, Kind::Option("HEX"), Help::Hex),
-            Argument::Optional(LAYOUT, Kind::Option("FILE"), Help::Layout),
-            Argument::Optional(FILE, Kind::NamedFile("FILE"), Help::File),
-            Argument::Optional(SECOND, Kind::NamedFile("RECORD"), Help::Record),
-            Argument::Optional(NODE, Kind::Option("NAME"), Help::RecordedNode),
+            Argument(HEX, Kind::Option("HEX"), OPTIONAL, Help::Hex),
+            Argument(LAYOUT, Kind::Option("FILE"), OPTIONAL, Help::Layout),
+            Argument(FILE, Kind::NamedFile("FILE"), OPTIONAL, Help::File),
+            Argument(SECOND, Kind::NamedFile("RECORD"), OPTIONAL, Help::Record),
+            Argument(NODE, Kind::Option("NAME"), OPTIONAL, Help::RecordedNode),
         ],
     },
     // `capture FILE RECORD OUT [--addresses ADDRESSES] [--node NAME] [--force]`
@@ -225,16 +246,17 @@ pub(crate) const COMMANDS: &[Entry] = &[
         word: CAPTURE,
         help: CommandHelp::Capture,
         arguments: &[
-            Argument::Needed(FILE, Kind::File, Help::File),
-            Argument::Needed(SECOND, Kind::NamedFile("RECORD"), Help::Record),
-            Argument::Needed(OUT, Kind::File, Help::Out),
-            Argument::Optional(
+            Argument(FILE, Kind::File, NEEDED, Help::File),
+            Argument(SECOND, Kind::NamedFile("RECORD"), NEEDED, Help::Record),
+            Argument(OUT, Kind::File, NEEDED, Help::Out),
+            Argument(
                 ADDRESSES,
                 Kind::Option("ADDRESSES"),
+                OPTIONAL,
                 Help::AddressesOfCapture,
             ),
-            Argument::Optional(NODE, Kind::Option("NAME"), Help::RecordedNode),
-            Argument::Optional(FORCE, Kind::Switch, Help::Force),
+            Argument(NODE, Kind::Option("NAME"), OPTIONAL, Help::RecordedNode),
+            Argument(FORCE, Kind::Switch, OPTIONAL, Help::Force),
         ],
     },
     // `node FILE NAME --addresses ADDRESSES [--operator ADDRESS] [--record R] [--clock MS] [--for MS]`
@@ -242,13 +264,28 @@ pub(crate) const COMMANDS: &[Entry] = &[
         word: NODE,
         help: CommandHelp::Node,
         arguments: &[
-            Argument::Needed(FILE, Kind::File, Help::File),
-            Argument::Needed(NAME, Kind::File, Help::Name),
-            Argument::Needed(ADDRESSES, Kind::Option("ADDRESSES"), Help::Addresses),
-            Argument::Optional(OPERATOR, Kind::Option("ADDRESS"), Help::Operator),
-            Argument::Optional(RECORD, Kind::Option("R"), Help::RecordOfNode),
-            Argument::Optional(CLOCK, Kind::Number("MS", 0, LATEST_CLOCK), Help::Clock),
-            Argument::Optional(FOR, Kind::Number("MS", SHORTEST, LONGEST), Help::ForOfNode),
+            Argument(FILE, Kind::File, NEEDED, Help::File),
+            Argument(NAME, Kind::File, NEEDED, Help::Name),
+            Argument(
+                ADDRESSES,
+                Kind::Option("ADDRESSES"),
+                NEEDED,
+                Help::Addresses,
+            ),
+            Argument(OPERATOR, Kind::Option("ADDRESS"), OPTIONAL, Help::Operator),
+            Argument(RECORD, Kind::Option("R"), OPTIONAL, Help::RecordOfNode),
+            Argument(
+                CLOCK,
+                Kind::Number("MS", 0, LATEST_CLOCK),
+                OPTIONAL,
+                Help::Clock,
+            ),
+            Argument(
+                FOR,
+                Kind::Number("MS", SHORTEST, LONGEST),
+                OPTIONAL,
+                Help::ForOfNode,
+            ),
         ],
     },
 ];

@@ -1,8 +1,7 @@
 -- What the rows of the table of commands are on the command line.
-use Rattle.std.specs.Prelude.{List, fold, true}
+use Rattle.std.specs.Prelude.{List, fold}
 use Rattle.clap.specs.Words.{App, Rule, Text, new_app, new_rule, with_rule, with_subcommand}
 use Rattle.station_command.specs.declared.command_table.Argument.{Argument}
-use Rattle.station_command.specs.declared.command_table.Argument.TheVariants as argument
 use Rattle.station_command.specs.declared.command_table.Entry.{Entry}
 use Rattle.station_command.specs.declared.command_table.Kind.{Kind}
 use Rattle.station_command.specs.declared.command_table.Kind.TheVariants as kind
@@ -16,10 +15,9 @@ rule_of_kind name (kind.Option value) = option_rule name
 rule_of_kind name (kind.Number value low high) = ranged_rule name low high
 rule_of_kind name kind.Switch = switch_rule name
 
--- an argument
+-- an argument: its word, how it is given, and whether it is needed
 abbrev pub rule_of_argument : Argument → Rule
-rule_of_argument (argument.Needed name kind help) = record (rule_of_kind name.now kind) { required = true }
-rule_of_argument (argument.Optional name kind help) = rule_of_kind name.now kind
+rule_of_argument argument = record (rule_of_kind argument.0.now argument.1) { required = argument.2 }
 
 -- a command with more arguments, in their order
 abbrev pub with_arguments : App → List Argument → App
