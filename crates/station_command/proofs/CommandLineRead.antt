@@ -1,5 +1,5 @@
 -- How a command line of `station` is read: which words are taken, and as what.
-use Rattle.std.proofs.Common.{◌≡◌, ℕ, Bool, true, false, List, [], ◌∷◌, ◌++◌, Option, Some, None, Result, is_some, refl, inl, inr, ◌⊎◌, sym, ap, subst, ◌∙◌, codes, nat_eq, fold, if◌then◌else◌}
+use Rattle.std.proofs.Common.{◌≡◌, ℕ, Bool, true, false, List, [], ◌∷◌, ◌++◌, Option, Some, None, Result, Ok, Err, is_some, refl, inl, inr, ◌⊎◌, sym, ap, subst, ◌∙◌, codes, nat_eq, fold, if◌then◌else◌}
 use Rattle.std.proofs.lemmas.Slice.Eq.{bytes_eq-Decides}
 use Rattle.std.specs.Str.{bytes_eq}
 use Rattle.clap.specs.Words.{FailsBy, HasMatchesOf, is_simple, is_simple_and_free, kind_of, subcommand_rows_of}
@@ -18,8 +18,10 @@ use Rattle.station_command.proofs.CommandRules.{capture_rules, chart_rules, chec
 use Rattle.station_command.proofs.Commands.{CommandReads, capture_reads, chart_reads, check_reads, decode_reads, node_reads, panel_reads, plan_reads, replay_reads, run_reads, sim_reads, table_reads}
 use Rattle.station_command.proofs.LineRead.{line_fault}
 use Rattle.station_command.proofs.WordsRead.{Fails, at, fails_within, is_ends, top, word_fails, word_passes}
-use Rattle.station_command.specs.CommandWords.{Request, capture_by, capture_usage, chart_by, chart_usage, check_by, check_usage, decode_by, decode_usage, ends_flags, faults_in, is_flag, node_by, node_usage, panel_by, panel_usage, plan_by, plan_usage, replay_by, replay_usage, request_in, run_by, run_usage, sim_by, sim_usage, table_by, table_usage}
+use Rattle.station_command.specs.CommandWords.{Request, request_of, capture_by, capture_usage, chart_by, chart_usage, check_by, check_usage, decode_by, decode_usage, ends_flags, faults_in, is_flag, node_by, node_usage, panel_by, panel_usage, plan_by, plan_usage, replay_by, replay_usage, request_in, run_by, run_usage, sim_by, sim_usage, table_by, table_usage}
 use Rattle.station_command.specs.Line.{station_line}
+use Rattle.station_command.specs.declared.command.Asked.{Asked}
+use Rattle.station_command.specs.inside.Answers.{Answers, AnswersWords}
 use Rattle.station_command.specs.inside.Rows.{capture_of_rows, chart_of_rows, check_of_rows, decode_of_rows, node_of_rows, panel_of_rows, plan_of_rows, replay_of_rows, request_of_rows, run_of_rows, sim_of_rows, table_of_rows}
 
 -- ---- the flags of the program are those of its help and of its version
@@ -352,3 +354,21 @@ module _ (a : App) (words : List Text) (is : a ≡ station_line) where
   -- where there was no fault, the parse found what was asked for, or that nothing was
   pub meets : (m : ArgMatches) → fault_of station_line words ≡ [] → HasMatchesOf a words m → request_of_rows (subcommand_rows_of m) ≡ request_in words
   meets m none has = ap request_of_rows (parse_rows m has) ∙ was_asked words none
+
+-- what is answered, where the parse had no fault and found this
+answered : (words : List Text) (found : Option Request) (r : Result Asked Error) → fault_of station_line words ≡ [] → found ≡ request_in words → Answers found r → AnswersWords words r
+answered words found (Ok asked) none same answers = (sym same ∙ answers, tt, no_faults words (request_of asked) none (sym same ∙ answers))
+answered words found (Err e) none same (inl memory) = (tt, inl memory, inl memory)
+answered words found (Err e) none same (inr nothing) = (tt, inr (sym same ∙ nothing.1), missing_fault words e none (sym same ∙ nothing.1) nothing.0)
+
+-- what is answered where the parse found these matches, and where it had an error
+module _ (a : App) (words : List Text) (parsed : Result ArgMatches Error) (kinds : is_simple_and_free a ≡ true → FailsBy (fault_of a words) parsed) where
+  pub answered_found : (m : ArgMatches) (r : Result Asked Error) → parsed ≡ Ok m → HasMatchesOf a words m → Answers (request_of_rows (subcommand_rows_of m)) r → a ≡ station_line → AnswersWords words r
+  answered_found m r was has answers is =
+      let none = subst (FailsBy (fault_of station_line words)) was (parse_fails a words is parsed kinds) in
+      answered words (request_of_rows (subcommand_rows_of m)) r none (meets a words is m none has) answers
+
+  pub answered_error : (e : Error) (r : Result Asked Error) → parsed ≡ Err e → r ≡ Err e → a ≡ station_line → AnswersWords words r
+  answered_error e r was gives is =
+      let has = subst (FailsBy (fault_of station_line words)) was (parse_fails a words is parsed kinds) in
+      subst (AnswersWords words) (sym gives) (tt, refuses words e has, faults_of_parse words e has)

@@ -8,7 +8,7 @@ use Rattle.clap.specs.Words.{first_value, found_of, subcommand_name_of, subcomma
 use Rattle.clap.specs.declared.parser.matches.ArgMatches.{ArgMatches}
 use Rattle.clap.proofs.WalkLemmas.{first_value-rows}
 use Rattle.clap.specs.Walk.{Row, Text, first_of, rows_of}
-use Rattle.station_command.specs.CommandWords.{Capture, Chart, Check, Node, Panel, Plan, Replay, Request, Run, Table, both_of, captured, check_of, clock_of, decode_of, is_on, node_of, panel_of, plan_of, run_of, table_of}
+use Rattle.station_command.specs.CommandWords.{Capture, Chart, Check, Node, Panel, Plan, Replay, Request, Table, both_of, captured, check_of, clock_of, decode_of, is_on, node_of, panel_of, plan_of, run_of, table_of}
 use Rattle.station_command.specs.inside.Rows.{capture_of_rows, chart_of_rows, check_of_rows, decode_of_rows, files_of, node_of_rows, number_of, panel_of_rows, plan_of_rows, replay_of_rows, request_by, request_of_rows, run_of_rows, table_of_rows}
 
 -- the replay of two files
@@ -96,51 +96,14 @@ module _ (m : ArgMatches) where
 
   -- ---- `run`
 
-  -- the four that were found, as the request
-  four_found : (a b c t : Text) (n : Option ℕ) → Some a ≡ first_value (found_of m) (codes "FILE") → Some b ≡ first_value (found_of m) (codes "script")
-      → Some c ≡ first_value (found_of m) (codes "record") → Some t ≡ first_value (found_of m) (codes "for") → n ≡ number_of t
-      → run_of (Some a) (Some b) (Some c) n ≡ run_of_rows (rows_of (found_of m))
-  four_found a b c t n e f g h is =
-      let first = value_found (codes "FILE") (Some a) e in
-      let second = value_found (codes "script") (Some b) f in
-      let third = value_found (codes "record") (Some c) g in
-      let time = is ∙ ap (option_and_then number_of) (value_found (codes "for") (Some t) h) in
-      λ i. run_of (first i) (second i) (third i) (time i)
-
-  pub run_found : (a b c t : Text) (n : ℕ) → Some a ≡ first_value (found_of m) (codes "FILE") → Some b ≡ first_value (found_of m) (codes "script")
-      → Some c ≡ first_value (found_of m) (codes "record") → Some t ≡ first_value (found_of m) (codes "for") → Some n ≡ number_of t
-      → Some (Run a b c n) ≡ run_of_rows (rows_of (found_of m))
-  run_found a b c t n e f g h is = four_found a b c t (Some n) e f g h is
-
-  pub no_file : None ≡ first_value (found_of m) (codes "FILE") → None ≡ run_of_rows (rows_of (found_of m))
-  no_file e = ap (λ o. run_of o (FirstOf (codes "script")) (FirstOf (codes "record")) (option_and_then number_of (FirstOf (codes "for")))) (value_found (codes "FILE") None e)
-
-  pub no_script : (a : Text) → Some a ≡ first_value (found_of m) (codes "FILE") → None ≡ first_value (found_of m) (codes "script") → None ≡ run_of_rows (rows_of (found_of m))
-  no_script a e f =
-      let first = value_found (codes "FILE") (Some a) e in
-      let second = value_found (codes "script") None f in
-      λ i. run_of (first i) (second i) (FirstOf (codes "record")) (option_and_then number_of (FirstOf (codes "for")))
-
-  pub no_record : (a b : Text) → Some a ≡ first_value (found_of m) (codes "FILE") → Some b ≡ first_value (found_of m) (codes "script")
-      → None ≡ first_value (found_of m) (codes "record") → None ≡ run_of_rows (rows_of (found_of m))
-  no_record a b e f g =
-      let first = value_found (codes "FILE") (Some a) e in
-      let second = value_found (codes "script") (Some b) f in
-      let third = value_found (codes "record") None g in
-      λ i. run_of (first i) (second i) (third i) (option_and_then number_of (FirstOf (codes "for")))
-
-  pub no_time : (a b c : Text) → Some a ≡ first_value (found_of m) (codes "FILE") → Some b ≡ first_value (found_of m) (codes "script")
-      → Some c ≡ first_value (found_of m) (codes "record") → None ≡ first_value (found_of m) (codes "for") → None ≡ run_of_rows (rows_of (found_of m))
-  no_time a b c e f g h =
-      let first = value_found (codes "FILE") (Some a) e in
-      let second = value_found (codes "script") (Some b) f in
-      let third = value_found (codes "record") (Some c) g in
-      let time = ap (option_and_then number_of) (value_found (codes "for") None h) in
-      λ i. run_of (first i) (second i) (third i) (time i)
-
-  pub no_number : (a b c t : Text) → Some a ≡ first_value (found_of m) (codes "FILE") → Some b ≡ first_value (found_of m) (codes "script")
-      → Some c ≡ first_value (found_of m) (codes "record") → Some t ≡ first_value (found_of m) (codes "for") → None ≡ number_of t → None ≡ run_of_rows (rows_of (found_of m))
-  no_number a b c t e f g h is = four_found a b c t None e f g h is
+  pub run_found : (file script recording : Option Text) (time : Option ℕ) (asked : Option Request) → asked ≡ run_of file script recording time → file ≡ first_value (found_of m) (codes "FILE")
+      → script ≡ first_value (found_of m) (codes "script") → recording ≡ first_value (found_of m) (codes "record")
+      → time ≡ option_and_then number_of (first_of (codes "for") (rows_of (found_of m))) → asked ≡ run_of_rows (rows_of (found_of m))
+  run_found file script recording time asked is e f g h =
+      let file_is = value_found (codes "FILE") file e in
+      let script_is = value_found (codes "script") script f in
+      let record_is = value_found (codes "record") recording g in
+      is ∙ (λ i. run_of (file_is i) (script_is i) (record_is i) (h i))
 
   -- ---- `replay`
 

@@ -1,5 +1,5 @@
 -- The command line of `station`, as it is read.
-use Rattle.std.specs.Prelude.{List, ℕ, Some, true, codes}
+use Rattle.std.specs.Prelude.{List, [], ◌∷◌, ℕ, Some, fold, true, codes}
 use Rattle.clap.specs.Words.{App, Rule, new_app, new_rule, with_rule, with_subcommand}
 use Rattle.clap.specs.declared.builder.action.ArgAction.TheVariants as action
 use Rattle.clap.specs.declared.builder.value_parser.ValueParser.TheVariants as value
@@ -48,13 +48,9 @@ ranged_rule name low high = record (option_rule name) { parser = Some (value.Uns
 abbrev pub time_rule : Rule
 time_rule = record (ranged_rule (codes "for") 1000 600000) { required = true }
 
--- `run`, with the files that it reads
-abbrev pub reading_line : App
-reading_line = with_rule (with_rule (new_app (codes "run")) file_rule) (needed_rule (codes "script"))
-
 -- `run FILE --script S --record R --for MS`
 abbrev pub run_line : App
-run_line = with_rule (with_rule reading_line (needed_rule (codes "record"))) time_rule
+run_line = with_rule (with_rule (with_rule (with_rule (new_app (codes "run")) file_rule) (needed_rule (codes "script"))) (needed_rule (codes "record"))) time_rule
 
 -- the port of a page, in its range
 abbrev pub port_rule : Rule
@@ -74,13 +70,11 @@ moment_rule name = ranged_rule name 0 18446744073709551
 abbrev pub optional_rule : List ℕ → Rule
 optional_rule name = record (new_rule name) { value_names = 1 }
 
--- `decode`, with the options for a datagram
-abbrev pub datagram_line : App
-datagram_line = with_rule (with_rule (new_app (codes "decode")) (option_rule (codes "hex"))) (option_rule (codes "layout"))
-
 -- `decode --hex HEX [--layout FILE]`, or `decode FILE RECORD [--node NAME]`
 abbrev pub decode_line : App
-decode_line = with_rule (with_rule (with_rule datagram_line (optional_rule (codes "FILE"))) (optional_rule (codes "SECOND"))) (option_rule (codes "node"))
+decode_line =
+    let datagram = with_rule (with_rule (new_app (codes "decode")) (option_rule (codes "hex"))) (option_rule (codes "layout"))
+    in with_rule (with_rule (with_rule datagram (optional_rule (codes "FILE"))) (optional_rule (codes "SECOND"))) (option_rule (codes "node"))
 
 -- a command with a layout and a session
 abbrev pub session_line : List ℕ → App
@@ -94,13 +88,11 @@ replay_line = with_rule (session_line (codes "replay")) (option_rule (codes "nod
 abbrev pub out_rule : Rule
 out_rule = record (new_rule (codes "OUT")) { required = true }
 
--- `capture`, with the file to which it goes, and where nodes are found
-abbrev pub going_line : App
-going_line = with_rule (with_rule (session_line (codes "capture")) out_rule) (option_rule (codes "addresses"))
-
 -- `capture FILE RECORD OUT [--addresses ADDRESSES] [--node NAME] [--force]`
 abbrev pub capture_line : App
-capture_line = with_rule (with_rule going_line (option_rule (codes "node"))) (switch_rule (codes "force"))
+capture_line =
+    let going = with_rule (with_rule (session_line (codes "capture")) out_rule) (option_rule (codes "addresses"))
+    in with_rule (with_rule going (option_rule (codes "node"))) (switch_rule (codes "force"))
 
 -- `chart FILE RECORD [--node NAME] [--from MS] [--to MS]`
 abbrev pub chart_line : App
@@ -110,16 +102,12 @@ chart_line = with_rule (with_rule (with_rule (session_line (codes "chart")) (opt
 abbrev pub name_rule : Rule
 name_rule = record (new_rule (codes "NAME")) { required = true }
 
--- `node`, with its name, and where nodes and its operator are reached
-abbrev pub reached_line : App
-reached_line =
-    let plain = with_rule (with_rule (new_app (codes "node")) file_rule) name_rule
-    in with_rule (with_rule plain (needed_rule (codes "addresses"))) (option_rule (codes "operator"))
-
 -- `node FILE NAME --addresses ADDRESSES [--operator ADDRESS] [--record R] [--clock MS] [--for MS]`
 abbrev pub node_line : App
 node_line =
-    with_rule (with_rule (with_rule reached_line (option_rule (codes "record"))) (ranged_rule (codes "clock") 0 9000000000000)) (ranged_rule (codes "for") 1000 600000)
+    let named = with_rule (with_rule (new_app (codes "node")) file_rule) name_rule
+    in let reached = with_rule (with_rule named (needed_rule (codes "addresses"))) (option_rule (codes "operator"))
+    in with_rule (with_rule (with_rule reached (option_rule (codes "record"))) (ranged_rule (codes "clock") 0 9000000000000)) (ranged_rule (codes "for") 1000 600000)
 
 -- `station`, which has a version, and tells its help where no word is given
 abbrev pub alone_line : App
@@ -127,14 +115,11 @@ alone_line =
     let plain = new_app (codes "station")
     in record plain { top = record plain.top { has_version = true; subcommand_required = true; arg_required_else_help = true } }
 
--- `station COMMAND`, where the command tells of a layout
-abbrev pub layout_line : App
-layout_line = with_subcommand (with_subcommand (with_subcommand alone_line check_line.top) plan_line.top) table_line.top
-
--- `station COMMAND`, where the command tells of a layout, or has a station of it do something
-abbrev pub doing_line : App
-doing_line = with_subcommand (with_subcommand (with_subcommand (with_subcommand layout_line sim_line.top) run_line.top) panel_line.top) replay_line.top
+-- the commands, in this order
+abbrev pub command_lines : List App
+command_lines =
+    check_line ∷ plan_line ∷ table_line ∷ sim_line ∷ run_line ∷ panel_line ∷ replay_line ∷ chart_line ∷ decode_line ∷ capture_line ∷ node_line ∷ []
 
 -- `station COMMAND`
 abbrev pub station_line : App
-station_line = with_subcommand (with_subcommand (with_subcommand (with_subcommand doing_line chart_line.top) decode_line.top) capture_line.top) node_line.top
+station_line = fold (λ line command. with_subcommand line command.top) alone_line command_lines

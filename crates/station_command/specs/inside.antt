@@ -1,3 +1,4 @@
 -- What contracts inside the crate say. No promise names any of it.
-pub mod Lines
+pub mod Answers
+pub mod Entries
 pub mod Rows

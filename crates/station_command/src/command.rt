@@ -2,18 +2,21 @@
 
 ghost use Rattle.std.specs.Prelude.{◌≡◌, ◌↔◌, ◌⊎◌, IsTrue, IfOk, IfErr, None, codes, map, option_and_then, option_copied};
 ghost use Rattle.std.specs.Option.{option_map};
-ghost use Rattle.clap.specs.Words.{FailsBy, first_of, found_of, kind_of, rows_of, subcommand_rows_of};
-ghost use Rattle.station_command.specs.CommandWords.{Asks, faults_in, decode_of, is_on, request_in, request_of};
+ghost use Rattle.clap.specs.Words.{FailsBy, app_of, first_of, found_of, kind_of, rows_of, subcommand_rows_of};
+ghost use Rattle.station_command.specs.CommandWords.{Asks, faults_in, decode_of, is_on, request_in, request_of, run_of};
+ghost use Rattle.station_command.specs.Line.{station_line};
+ghost use Rattle.station_command.specs.inside.Answers.{Answers, AnswersWords};
 ghost use Rattle.station_command.specs.inside.Rows.{capture_of_rows, chart_of_rows, check_of_rows, decode_of_rows, files_of, node_of_rows, number_of, panel_of_rows, plan_of_rows, replay_of_rows, request_of_rows, run_of_rows, table_of_rows};
 ghost use Rattle.clap.specs.declared.error.kind.ErrorKind.TheVariants as kind;
 
-use crate::line::{
+use crate::command_table::{
     ADDRESSES, CAPTURE, CHART, CHECK, CLOCK, CSV, DECODE, DIGEST, EXPLAIN, FILE, FOR, FORCE, FROM,
     HEX, LAYOUT, NAME, NODE, OPERATOR, OUT, PANEL, PICTURE, PLAN, PORT, RECORD, REPLAY, ROUTE, RUN,
-    SCRIPT, SECOND, SIM, TABLE, TO, station,
+    SCRIPT, SECOND, SIM, TABLE, TO,
 };
+use crate::line::station;
 use clap::error::ErrorKind;
-use clap::{ArgMatches, Error};
+use clap::{ArgMatches, Command, Error};
 use std::alloc::Global;
 use std::convert::AsStr;
 
@@ -199,20 +202,34 @@ fn asked_table<'a>(matches: &ArgMatches<'a>) -> Option<Asked<'a>>
 }
 
 /// The run that is asked for.
-#[tactic(auto, using(crate::proofs::Found::no_file, crate::proofs::Found::no_script, crate::proofs::Found::no_record, crate::proofs::Found::no_time, crate::proofs::Found::no_number))]
 fn asked_run<'a>(matches: &ArgMatches<'a>) -> Option<Asked<'a>>
     ensures { option_map request_of result ≡ run_of_rows (rows_of (found_of matches.now)) }
 {
-    let layout = matches.get_str(FILE)?;
-    let script = matches.get_str(SCRIPT)?;
-    let record = matches.get_str(RECORD)?;
-    let for_ms = number(matches.get_str(FOR)?)?;
-    Some(Asked::Run {
-        layout,
-        script,
-        record,
-        for_ms,
-    })
+    let layout = matches.get_str(FILE);
+    let script = matches.get_str(SCRIPT);
+    let record = matches.get_str(RECORD);
+    let for_ms = number_given(matches, FOR);
+    run_of(layout, script, record, for_ms)
+}
+
+/// What the values of `run` ask for, if for anything.
+fn run_of<'a>(
+    layout: Option<&'a str>,
+    script: Option<&'a str>,
+    recording: Option<&'a str>,
+    for_ms: Option<u64>,
+) -> Option<Asked<'a>>
+    ensures { option_map request_of result ≡ run_of (option_copied layout.entry) (option_copied script.entry) (option_copied recording.entry) for_ms }
+{
+    match (layout, script, recording, for_ms) {
+        (Some(layout), Some(script), Some(record), Some(for_ms)) => Some(Asked::Run {
+            layout,
+            script,
+            record,
+            for_ms,
+        }),
+        _ => None,
+    }
 }
 
 /// The replay that is asked for.
@@ -378,6 +395,24 @@ fn asked_by<'a>(matches: &ArgMatches<'a>) -> Option<Asked<'a>>
     }
 }
 
+/// What was found on a command line asks for. Where it asks for nothing, the command tells what it takes.
+fn answer<'a>(command: &mut Command<'a>, matches: &ArgMatches<'a>) -> Result<Asked<'a>, Error>
+    ensures { Answers (request_of_rows (subcommand_rows_of matches.now)) result }
+{
+    match asked_by(matches) {
+        Some(asked) => Ok(asked),
+        None => Err(command.error(ErrorKind::MissingRequiredArgument, ASKS_NOTHING)?),
+    }
+}
+
+/// What the words of a command line ask for, read by a command.
+fn asked_in<'a, S: AsStr>(command: &mut Command<'a>, words: &'a [S]) -> Result<Asked<'a>, Error>
+    ensures { app_of command.old ≡ station_line → AnswersWords (map S.text words.entry.now) result }
+{
+    let matches = command.try_get_matches_from_mut(words)?;
+    answer(command, &matches)
+}
+
 /// What the words of a command line ask for, the first of which is the program's name.
 ///
 /// An `Err` has the text to print (help, the version, or what is wrong), and the status to end with.
@@ -387,11 +422,7 @@ pub fn read_words<'a, S: AsStr>(alloc: Global, words: &'a [S]) -> Result<Asked<'
     ensures kinds { FailsBy (faults_in (map S.text words.entry.now)) result }
 {
     let mut command = station(alloc)?;
-    let matches = command.try_get_matches_from_mut(words)?;
-    match asked_by(&matches) {
-        Some(asked) => Ok(asked),
-        None => Err(command.error(ErrorKind::MissingRequiredArgument, ASKS_NOTHING)?),
-    }
+    asked_in(&mut command, words)
 }
 
 /// Whether memory ran out as the words were read.

@@ -2,6 +2,7 @@
 #![tactic(auto)]
 
 mod command;
+mod command_table;
 mod failure;
 mod files;
 mod line;

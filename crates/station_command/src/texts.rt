@@ -2,35 +2,157 @@
 
 pub(crate) const ABOUT: &str = "The interlocking of a railway station";
 
-pub(crate) const FILE: &str = "The layout, a TOML file";
+/// The help of a command.
+#[derive(Clone, Copy)]
+pub(crate) enum CommandHelp {
+    Check,
+    Plan,
+    Table,
+    Sim,
+    Run,
+    Panel,
+    Replay,
+    Chart,
+    Decode,
+    Capture,
+    Node,
+}
 
-pub(crate) const EXPLAIN: &str = "Tells a fault in a second line, in words";
+impl CommandHelp {
+    /// In one line.
+    pub(crate) fn about(self) -> &'static str {
+        match self {
+            CommandHelp::Check => CHECK,
+            CommandHelp::Plan => PLAN,
+            CommandHelp::Table => TABLE,
+            CommandHelp::Sim => SIM,
+            CommandHelp::Run => RUN,
+            CommandHelp::Panel => PANEL,
+            CommandHelp::Replay => REPLAY,
+            CommandHelp::Chart => CHART,
+            CommandHelp::Decode => DECODE,
+            CommandHelp::Capture => CAPTURE,
+            CommandHelp::Node => NODE,
+        }
+    }
 
-pub(crate) const DIGEST: &str = "Prints a SHA-256 of the layout's text in one line more";
+    /// At length.
+    pub(crate) fn details(self) -> &'static str {
+        match self {
+            CommandHelp::Check => CHECK_DETAILS,
+            CommandHelp::Plan => PLAN_DETAILS,
+            CommandHelp::Table => TABLE_DETAILS,
+            CommandHelp::Sim => SIM_DETAILS,
+            CommandHelp::Run => RUN_DETAILS,
+            CommandHelp::Panel => PANEL_DETAILS,
+            CommandHelp::Replay => REPLAY_DETAILS,
+            CommandHelp::Chart => CHART_DETAILS,
+            CommandHelp::Decode => DECODE_DETAILS,
+            CommandHelp::Capture => CAPTURE_DETAILS,
+            CommandHelp::Node => NODE_DETAILS,
+        }
+    }
+}
 
-pub(crate) const ROUTE: &str = "The route that is drawn thick, with its flank points and approach";
+/// The help of an argument.
+#[derive(Clone, Copy)]
+pub(crate) enum Help {
+    File,
+    Explain,
+    Digest,
+    Route,
+    Picture,
+    Csv,
+    Events,
+    Script,
+    RecordOfRun,
+    For,
+    Port,
+    RecordOfPanel,
+    ForOfPanel,
+    NodeOfPanel,
+    Record,
+    RecordedNode,
+    From,
+    To,
+    Hex,
+    Layout,
+    Out,
+    AddressesOfCapture,
+    Force,
+    Name,
+    Addresses,
+    Operator,
+    RecordOfNode,
+    Clock,
+    ForOfNode,
+}
 
-pub(crate) const PICTURE: &str = "What is seen of the station, as sim prints it";
+impl Help {
+    pub(crate) fn words(self) -> &'static str {
+        match self {
+            Help::File => FILE,
+            Help::Explain => EXPLAIN,
+            Help::Digest => DIGEST,
+            Help::Route => ROUTE,
+            Help::Picture => PICTURE,
+            Help::Csv => CSV,
+            Help::Events => EVENTS,
+            Help::Script => SCRIPT,
+            Help::RecordOfRun => RECORD_OF_RUN,
+            Help::For => FOR,
+            Help::Port => PORT,
+            Help::RecordOfPanel => RECORD_OF_PANEL,
+            Help::ForOfPanel => FOR_OF_PANEL,
+            Help::NodeOfPanel => NODE_OF_PANEL,
+            Help::Record => RECORD,
+            Help::RecordedNode => RECORDED_NODE,
+            Help::From => FROM,
+            Help::To => TO,
+            Help::Hex => HEX,
+            Help::Layout => LAYOUT,
+            Help::Out => OUT,
+            Help::AddressesOfCapture => ADDRESSES_OF_CAPTURE,
+            Help::Force => FORCE,
+            Help::Name => NAME,
+            Help::Addresses => ADDRESSES,
+            Help::Operator => OPERATOR,
+            Help::RecordOfNode => RECORD_OF_NODE,
+            Help::Clock => CLOCK,
+            Help::ForOfNode => FOR_OF_NODE,
+        }
+    }
+}
 
-pub(crate) const CSV: &str = "Prints it as CSV, with the heads in the first line";
+const FILE: &str = "The layout, a TOML file";
 
-pub(crate) const EVENTS: &str = "The lines of events";
+const EXPLAIN: &str = "Tells a fault in a second line, in words";
 
-pub(crate) const SCRIPT: &str = "The lines that are applied, each at its time";
+const DIGEST: &str = "Prints a SHA-256 of the layout's text in one line more";
 
-pub(crate) const RECORD_OF_RUN: &str = "The file to which the session is written";
+const ROUTE: &str = "The route that is drawn thick, with its flank points and approach";
 
-pub(crate) const FOR: &str = "How long the station runs, from 1000 to 600000 milliseconds";
+const PICTURE: &str = "What is seen of the station, as sim prints it";
 
-pub(crate) const RECORD: &str = "The recorded session";
+const CSV: &str = "Prints it as CSV, with the heads in the first line";
 
-pub(crate) const HEX: &str = "The bytes of the datagram in hexadecimal digits, a hyphen for none";
+const EVENTS: &str = "The lines of events";
 
-pub(crate) const LAYOUT: &str = "The layout whose key and names are used, a TOML file";
+const SCRIPT: &str = "The lines that are applied, each at its time";
 
-pub(crate) const CHECK: &str = "Checks the layout of a station and its table of routes";
+const RECORD_OF_RUN: &str = "The file to which the session is written";
 
-pub(crate) const CHECK_DETAILS: &str = "Checks the layout of a station and its table of routes.
+const FOR: &str = "How long the station runs, from 1000 to 600000 milliseconds";
+
+const RECORD: &str = "The recorded session";
+
+const HEX: &str = "The bytes of the datagram in hexadecimal digits, a hyphen for none";
+
+const LAYOUT: &str = "The layout whose key and names are used, a TOML file";
+
+const CHECK: &str = "Checks the layout of a station and its table of routes";
+
+const CHECK_DETAILS: &str = "Checks the layout of a station and its table of routes.
 
 A layout is a TOML file that says what lies where (tracks, points, signals, detection sections) and
 which routes there are. It is sound where each route has an unbroken path, names exactly the points
@@ -44,10 +166,9 @@ docs/INTERLOCKING.md has the keys of the file and all faults, examples/ has stat
 
 Example: station check examples/junction.toml";
 
-pub(crate) const PLAN: &str = "Draws the track plan of a layout";
+const PLAN: &str = "Draws the track plan of a layout";
 
-pub(crate) const PLAN_DETAILS: &str =
-    "Draws the track plan of a layout, as an SVG picture on standard output.
+const PLAN_DETAILS: &str = "Draws the track plan of a layout, as an SVG picture on standard output.
 
 It shows the tracks, the points with their two legs, the borders, the signals on the side of the
 direction that they rule, the joints where sections differ, and each section with its detector. With
@@ -56,9 +177,9 @@ positions, occupancies and set routes are shown. The layout has to be sound, as 
 
 Example: station plan examples/junction.toml > junction.svg";
 
-pub(crate) const TABLE: &str = "Prints the control table of a layout";
+const TABLE: &str = "Prints the control table of a layout";
 
-pub(crate) const TABLE_DETAILS: &str = "Prints the control table of a layout, in Markdown.
+const TABLE_DETAILS: &str = "Prints the control table of a layout, in Markdown.
 
 Each route has a row: its name, its entry signal and its exit, the aspect, the points on its path that
 have to lie right and left, the flank points, its sections in order, the points that it holds, each
@@ -67,9 +188,9 @@ each with the reasons (entry, section, point, extra). The layout has to be sound
 
 Example: station table examples/junction.toml";
 
-pub(crate) const SIM: &str = "Applies lines of events to a station of a layout";
+const SIM: &str = "Applies lines of events to a station of a layout";
 
-pub(crate) const SIM_DETAILS: &str = "Applies lines of events to a station of a layout.
+const SIM_DETAILS: &str = "Applies lines of events to a station of a layout.
 
 The station runs in this process: the interlocking, a controller for each signal, point and detector,
 a clock for each, and the network between them. Each line is an event, or asks for something:
@@ -96,9 +217,9 @@ All lines are judged before the first event. Each is then answered on a line of 
 
 Example: station sim examples/small.toml examples/proceed.events";
 
-pub(crate) const RUN: &str = "Runs a station of a layout over loopback sockets";
+const RUN: &str = "Runs a station of a layout over loopback sockets";
 
-pub(crate) const RUN_DETAILS: &str = "Runs a station of a layout over loopback sockets.
+const RUN_DETAILS: &str = "Runs a station of a layout over loopback sockets.
 
 Each node has a UDP socket of its own. About every 10 ms time passes, each datagram that has come is
 delivered, the lines of the script that are due are applied, and every node ticks. Each line of a
@@ -110,20 +231,19 @@ it goes. At the end it prints what is seen of the station.
 
 Example: station run examples/small.toml --script examples/proceed.script --record run.session --for 12000";
 
-pub(crate) const PORT: &str = "The port of the page, from 1 to 65535, else 8080";
+const PORT: &str = "The port of the page, from 1 to 65535, else 8080";
 
-pub(crate) const RECORD_OF_PANEL: &str =
-    "The file to which the session is written, else panel.session";
+const RECORD_OF_PANEL: &str = "The file to which the session is written, else panel.session";
 
-pub(crate) const FOR_OF_PANEL: &str =
+const FOR_OF_PANEL: &str =
     "How long the panel stands, from 1000 to 600000 milliseconds, else until it is stopped";
 
-pub(crate) const NODE_OF_PANEL: &str =
+const NODE_OF_PANEL: &str =
     "The address at which the interlocking's node serves its operator: the panel is joined to it";
 
-pub(crate) const PANEL: &str = "Opens a signaller's panel of a station in a browser";
+const PANEL: &str = "Opens a signaller's panel of a station in a browser";
 
-pub(crate) const PANEL_DETAILS: &str = "Opens a signaller's panel of a station in a browser.
+const PANEL_DETAILS: &str = "Opens a signaller's panel of a station in a browser.
 
 The station runs as by run, and each event is recorded with what it answered. It begins with each point
 at left and each section clear. The address of a page is printed, for a browser on this machine. The
@@ -138,12 +258,12 @@ cancels routes. The node writes the record, so --record isn't taken with --node.
 
 Example: station panel examples/junction.toml";
 
-pub(crate) const RECORDED_NODE: &str =
+const RECORDED_NODE: &str =
     "The name of the node whose record it is, as node writes one with --record";
 
-pub(crate) const REPLAY: &str = "Applies a recorded session to a station of a layout again";
+const REPLAY: &str = "Applies a recorded session to a station of a layout again";
 
-pub(crate) const REPLAY_DETAILS: &str = "Applies a recorded session to a station of a layout again.
+const REPLAY_DETAILS: &str = "Applies a recorded session to a station of a layout again.
 
 The station begins with each point at left and each section clear. Each line of a session is an event
 and what it answered, as EVENT = ANSWER. Where each event answers the same, it prints `same`. Otherwise
@@ -154,13 +274,13 @@ this name that is made anew.
 
 Example: station replay examples/small.toml examples/commands.session";
 
-pub(crate) const FROM: &str = "The moment at which the chart begins, in milliseconds";
+const FROM: &str = "The moment at which the chart begins, in milliseconds";
 
-pub(crate) const TO: &str = "The moment at which the chart ends, in milliseconds";
+const TO: &str = "The moment at which the chart ends, in milliseconds";
 
-pub(crate) const CHART: &str = "Draws a session, or what a node recorded, as a chart";
+const CHART: &str = "Draws a session, or what a node recorded, as a chart";
 
-pub(crate) const CHART_DETAILS: &str =
+const CHART_DETAILS: &str =
     "Draws a session as a chart over true time, as an SVG picture on standard output.
 
 The session is applied again, as by replay. The chart has a lane for each signal (its aspect, its
@@ -173,10 +293,9 @@ interlocking knows, with its commands and answers.
 
 Example: station chart examples/small.toml examples/commands.session > commands.svg";
 
-pub(crate) const DECODE: &str = "Puts a datagram, or those of a session, into words";
+const DECODE: &str = "Puts a datagram, or those of a session, into words";
 
-pub(crate) const DECODE_DETAILS: &str =
-    "Puts a datagram, or those of a session, into words, each in one line.
+const DECODE_DETAILS: &str = "Puts a datagram, or those of a session, into words, each in one line.
 
 With --hex it is one datagram. Its line tells the sender and the receiver, the type, the sequence
 number and the confirmed one (SN, CS), the time stamp and the confirmed one (TS, CTS), and behind a
@@ -193,16 +312,16 @@ that came or was sent tells the reading of the node's clock, what became of it, 
 Examples: station decode examples/small.toml examples/traffic.session
           station decode --hex 32003818020000000100000000000000000000007017000000000000303330331400000000000000000023e6b5e69928e086 --layout examples/small.toml";
 
-pub(crate) const OUT: &str = "The capture, a file that Wireshark reads";
+const OUT: &str = "The capture, a file that Wireshark reads";
 
-pub(crate) const FORCE: &str = "Writes over the capture, if it is there already";
+const FORCE: &str = "Writes over the capture, if it is there already";
 
-pub(crate) const ADDRESSES_OF_CAPTURE: &str =
+const ADDRESSES_OF_CAPTURE: &str =
     "The addresses of the nodes, a TOML file as for node, else made of their places";
 
-pub(crate) const CAPTURE: &str = "Writes the datagrams of a session as a capture";
+const CAPTURE: &str = "Writes the datagrams of a session as a capture";
 
-pub(crate) const CAPTURE_DETAILS: &str =
+const CAPTURE_DETAILS: &str =
     "Writes the datagrams of a session as a capture, a file that Wireshark reads.
 
 The session is applied again, as by replay. Each datagram that is sent stands in the capture at its
@@ -217,24 +336,24 @@ docs/WIRE.md tells how a capture is looked at.
 
 Example: station capture examples/small.toml examples/traffic.session traffic.pcapng";
 
-pub(crate) const NAME: &str = "The name of the node, as the layout has it";
+const NAME: &str = "The name of the node, as the layout has it";
 
-pub(crate) const ADDRESSES: &str = "The addresses of the nodes, a TOML file";
+const ADDRESSES: &str = "The addresses of the nodes, a TOML file";
 
-pub(crate) const OPERATOR: &str =
+const OPERATOR: &str =
     "The loopback address of the operator, in place of standard input and output";
 
-pub(crate) const RECORD_OF_NODE: &str = "The file to which what came and what was done is written";
+const RECORD_OF_NODE: &str = "The file to which what came and what was done is written";
 
-pub(crate) const CLOCK: &str =
+const CLOCK: &str =
     "Where the node's clock begins, from 0 to 9000000000000 milliseconds, else at 0";
 
-pub(crate) const FOR_OF_NODE: &str =
+const FOR_OF_NODE: &str =
     "How long the node runs, from 1000 to 600000 milliseconds, else without end";
 
-pub(crate) const NODE: &str = "Runs one node of a station as a process of its own";
+const NODE: &str = "Runs one node of a station as a process of its own";
 
-pub(crate) const NODE_DETAILS: &str = "Runs one node of a station as a process of its own.
+const NODE_DETAILS: &str = "Runs one node of a station as a process of its own.
 
 NAME is the station's name, for its interlocking, or that of a signal, a point or a detector, for its
 controller. The nodes send each other UDP datagrams. ADDRESSES is a TOML file with a line for each

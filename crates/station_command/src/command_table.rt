@@ -1,0 +1,291 @@
+//! The table of the commands of `station`, each with its files, options and switches.
+
+use crate::texts::{CommandHelp, Help};
+
+/// The commands by their words.
+pub(crate) const CHECK: &str = "check";
+
+pub(crate) const PLAN: &str = "plan";
+
+pub(crate) const TABLE: &str = "table";
+
+pub(crate) const SIM: &str = "sim";
+
+pub(crate) const RUN: &str = "run";
+
+pub(crate) const PANEL: &str = "panel";
+
+pub(crate) const REPLAY: &str = "replay";
+
+pub(crate) const CHART: &str = "chart";
+
+pub(crate) const DECODE: &str = "decode";
+
+pub(crate) const CAPTURE: &str = "capture";
+
+/// This is also the word of an option for records.
+pub(crate) const NODE: &str = "node";
+
+/// The file of the layout, and the one that is applied to it.
+pub(crate) const FILE: &str = "FILE";
+
+pub(crate) const SECOND: &str = "SECOND";
+
+/// The options of a plan.
+pub(crate) const ROUTE: &str = "route";
+
+pub(crate) const PICTURE: &str = "picture";
+
+/// The switches of a check.
+pub(crate) const EXPLAIN: &str = "explain";
+
+pub(crate) const DIGEST: &str = "digest";
+
+/// The switch of a table.
+pub(crate) const CSV: &str = "csv";
+
+/// The options of a run.
+pub(crate) const SCRIPT: &str = "script";
+
+pub(crate) const RECORD: &str = "record";
+
+pub(crate) const FOR: &str = "for";
+
+/// The options of a datagram.
+pub(crate) const HEX: &str = "hex";
+
+pub(crate) const LAYOUT: &str = "layout";
+
+/// The options of a chart.
+pub(crate) const FROM: &str = "from";
+
+pub(crate) const TO: &str = "to";
+
+/// The file and the switch of a capture.
+pub(crate) const OUT: &str = "OUT";
+
+pub(crate) const FORCE: &str = "force";
+
+/// The name of a node, where nodes and an operator are reached, and the first reading of a clock.
+pub(crate) const NAME: &str = "NAME";
+
+pub(crate) const ADDRESSES: &str = "addresses";
+
+pub(crate) const OPERATOR: &str = "operator";
+
+pub(crate) const CLOCK: &str = "clock";
+
+/// The port of a page, the lowest and the highest.
+pub(crate) const PORT: &str = "port";
+
+const LOWEST: u64 = 1;
+
+const HIGHEST: u64 = 65_535;
+
+/// The shortest and the longest run, in milliseconds.
+const SHORTEST: u64 = 1000;
+
+const LONGEST: u64 = 600_000;
+
+/// The last moment of a chart, in milliseconds.
+const LATEST: u64 = 18_446_744_073_709_551;
+
+/// The latest first reading of a node's clock, in milliseconds.
+const LATEST_CLOCK: u64 = 9_000_000_000_000;
+
+/// How an argument is given, and what the help calls its value.
+#[derive(Clone, Copy)]
+pub(crate) enum Kind {
+    /// A file, by its place.
+    File,
+    /// A file, by its place, which the help calls so.
+    NamedFile(&'static str),
+    /// An option with its value.
+    Option(&'static str),
+    /// An option whose value is a number, with the lowest and the highest.
+    Number(&'static str, u64, u64),
+    /// A switch.
+    Switch,
+}
+
+/// An argument: its word, how it is given, whether it is needed, and its help.
+#[derive(Clone, Copy)]
+pub(crate) struct Argument(
+    pub(crate) &'static str,
+    pub(crate) Kind,
+    pub(crate) bool,
+    pub(crate) Help,
+);
+
+const NEEDED: bool = true;
+
+const OPTIONAL: bool = false;
+
+/// A command with its arguments in their order.
+#[derive(Clone, Copy)]
+pub(crate) struct Entry {
+    pub(crate) word: &'static str,
+    pub(crate) help: CommandHelp,
+    pub(crate) arguments: &'static [Argument],
+}
+
+/// The commands, in the order in which the help has them.
+pub(crate) const COMMANDS: &[Entry] = &[
+    // `check FILE [--explain] [--digest]`
+    Entry {
+        word: CHECK,
+        help: CommandHelp::Check,
+        arguments: &[
+            Argument(FILE, Kind::File, NEEDED, Help::File),
+            Argument(EXPLAIN, Kind::Switch, OPTIONAL, Help::Explain),
+            Argument(DIGEST, Kind::Switch, OPTIONAL, Help::Digest),
+        ],
+    },
+    // `plan FILE [--route R] [--picture PICTURE]`
+    Entry {
+        word: PLAN,
+        help: CommandHelp::Plan,
+        arguments: &[
+            Argument(FILE, Kind::File, NEEDED, Help::File),
+            Argument(ROUTE, Kind::Option("R"), OPTIONAL, Help::Route),
+            Argument(PICTURE, Kind::Option("PICTURE"), OPTIONAL, Help::Picture),
+        ],
+    },
+    // `table FILE [--csv]`
+    Entry {
+        word: TABLE,
+        help: CommandHelp::Table,
+        arguments: &[
+            Argument(FILE, Kind::File, NEEDED, Help::File),
+            Argument(CSV, Kind::Switch, OPTIONAL, Help::Csv),
+        ],
+    },
+    // `sim FILE EVENTS`
+    Entry {
+        word: SIM,
+        help: CommandHelp::Sim,
+        arguments: &[
+            Argument(FILE, Kind::File, NEEDED, Help::File),
+            Argument(SECOND, Kind::NamedFile("EVENTS"), NEEDED, Help::Events),
+        ],
+    },
+    // `run FILE --script S --record R --for MS`
+    Entry {
+        word: RUN,
+        help: CommandHelp::Run,
+        arguments: &[
+            Argument(FILE, Kind::File, NEEDED, Help::File),
+            Argument(SCRIPT, Kind::Option("S"), NEEDED, Help::Script),
+            Argument(RECORD, Kind::Option("R"), NEEDED, Help::RecordOfRun),
+            Argument(
+                FOR,
+                Kind::Number("MS", SHORTEST, LONGEST),
+                NEEDED,
+                Help::For,
+            ),
+        ],
+    },
+    // `panel FILE [--port P] [--record R] [--for MS] [--node ADDRESS]`
+    Entry {
+        word: PANEL,
+        help: CommandHelp::Panel,
+        arguments: &[
+            Argument(FILE, Kind::File, NEEDED, Help::File),
+            Argument(
+                PORT,
+                Kind::Number("P", LOWEST, HIGHEST),
+                OPTIONAL,
+                Help::Port,
+            ),
+            Argument(RECORD, Kind::Option("R"), OPTIONAL, Help::RecordOfPanel),
+            Argument(
+                FOR,
+                Kind::Number("MS", SHORTEST, LONGEST),
+                OPTIONAL,
+                Help::ForOfPanel,
+            ),
+            Argument(NODE, Kind::Option("ADDRESS"), OPTIONAL, Help::NodeOfPanel),
+        ],
+    },
+    // `replay FILE RECORD [--node NAME]`
+    Entry {
+        word: REPLAY,
+        help: CommandHelp::Replay,
+        arguments: &[
+            Argument(FILE, Kind::File, NEEDED, Help::File),
+            Argument(SECOND, Kind::NamedFile("RECORD"), NEEDED, Help::Record),
+            Argument(NODE, Kind::Option("NAME"), OPTIONAL, Help::RecordedNode),
+        ],
+    },
+    // `chart FILE RECORD [--node NAME] [--from MS] [--to MS]`
+    Entry {
+        word: CHART,
+        help: CommandHelp::Chart,
+        arguments: &[
+            Argument(FILE, Kind::File, NEEDED, Help::File),
+            Argument(SECOND, Kind::NamedFile("RECORD"), NEEDED, Help::Record),
+            Argument(NODE, Kind::Option("NAME"), OPTIONAL, Help::RecordedNode),
+            Argument(FROM, Kind::Number("MS", 0, LATEST), OPTIONAL, Help::From),
+            Argument(TO, Kind::Number("MS", 0, LATEST), OPTIONAL, Help::To),
+        ],
+    },
+    // `decode --hex HEX [--layout FILE]`, or `decode FILE RECORD [--node NAME]`
+    Entry {
+        word: DECODE,
+        help: CommandHelp::Decode,
+        arguments: &[
+            Argument(HEX, Kind::Option("HEX"), OPTIONAL, Help::Hex),
+            Argument(LAYOUT, Kind::Option("FILE"), OPTIONAL, Help::Layout),
+            Argument(FILE, Kind::NamedFile("FILE"), OPTIONAL, Help::File),
+            Argument(SECOND, Kind::NamedFile("RECORD"), OPTIONAL, Help::Record),
+            Argument(NODE, Kind::Option("NAME"), OPTIONAL, Help::RecordedNode),
+        ],
+    },
+    // `capture FILE RECORD OUT [--addresses ADDRESSES] [--node NAME] [--force]`
+    Entry {
+        word: CAPTURE,
+        help: CommandHelp::Capture,
+        arguments: &[
+            Argument(FILE, Kind::File, NEEDED, Help::File),
+            Argument(SECOND, Kind::NamedFile("RECORD"), NEEDED, Help::Record),
+            Argument(OUT, Kind::File, NEEDED, Help::Out),
+            Argument(
+                ADDRESSES,
+                Kind::Option("ADDRESSES"),
+                OPTIONAL,
+                Help::AddressesOfCapture,
+            ),
+            Argument(NODE, Kind::Option("NAME"), OPTIONAL, Help::RecordedNode),
+            Argument(FORCE, Kind::Switch, OPTIONAL, Help::Force),
+        ],
+    },
+    // `node FILE NAME --addresses ADDRESSES [--operator ADDRESS] [--record R] [--clock MS] [--for MS]`
+    Entry {
+        word: NODE,
+        help: CommandHelp::Node,
+        arguments: &[
+            Argument(FILE, Kind::File, NEEDED, Help::File),
+            Argument(NAME, Kind::File, NEEDED, Help::Name),
+            Argument(
+                ADDRESSES,
+                Kind::Option("ADDRESSES"),
+                NEEDED,
+                Help::Addresses,
+            ),
+            Argument(OPERATOR, Kind::Option("ADDRESS"), OPTIONAL, Help::Operator),
+            Argument(RECORD, Kind::Option("R"), OPTIONAL, Help::RecordOfNode),
+            Argument(
+                CLOCK,
+                Kind::Number("MS", 0, LATEST_CLOCK),
+                OPTIONAL,
+                Help::Clock,
+            ),
+            Argument(
+                FOR,
+                Kind::Number("MS", SHORTEST, LONGEST),
+                OPTIONAL,
+                Help::ForOfNode,
+            ),
+        ],
+    },
+];
