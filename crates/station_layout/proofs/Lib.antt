@@ -7,8 +7,8 @@ pub mod LetGo
 pub mod LetGoOnce
 pub mod LinesKept
 pub mod ListingLaws
+pub mod NamesWritten
 pub mod OneTable
-pub mod PointsOnPath
 pub mod ReasonLaws
 pub mod Rows
 pub mod SentenceEnds
