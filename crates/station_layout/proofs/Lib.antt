@@ -1,6 +1,5 @@
 pub mod AdviceFrames
 pub mod Entries
-pub mod Folded
 pub mod Found
 pub mod Joined
 pub mod LetGo
