@@ -1,14 +1,13 @@
 pub mod AdviceFrames
 pub mod Entries
-pub mod Folded
 pub mod Found
 pub mod Joined
 pub mod LetGo
 pub mod LetGoOnce
 pub mod LinesKept
 pub mod ListingLaws
+pub mod NamesWritten
 pub mod OneTable
-pub mod PointsOnPath
 pub mod ReasonLaws
 pub mod Rows
 pub mod SentenceEnds

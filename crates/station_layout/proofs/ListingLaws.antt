@@ -36,9 +36,6 @@ module _ (Belongs : ℕ → Type 0) where
         let same : k ≡ n = omega (arith, less, behind)
         in false≢true (sym out ∙ decides.1 (subst Belongs same belongs))
 
-  pub one_found : (n count : ℕ) (result : Bool) → n < count → IsTrue result ↔ Belongs n → result ≡ true → IsTrue true ↔ ListsOne Belongs count
-  one_found n count result within decides is = ((λ yes. (n, within, decides.0 is)), (λ some. refl))
-
   -- of some of the first places, or of none
   pub one_or_none : (n : ℕ) → ((k : ℕ) → k < n → Belongs k ⊎ (Belongs k → ⊥)) → ListsOne Belongs n ⊎ ((k : ℕ) → k < n → Belongs k → ⊥)
   one_or_none zero decides = inr (λ k less belongs. omega (arith, less))
@@ -51,9 +48,6 @@ module _ (Belongs : ℕ → Type 0) where
           in inr (λ k less. none_more n false none ((λ yes. absurd (false≢true yes)), (λ belongs. absurd (never belongs))) refl k (omega (arith, less, step)))
     ]
   ]
-
-  pub none_found : (n count : ℕ) → count ≤ n → ((k : ℕ) → k < n → Belongs k → ⊥) → IsTrue false ↔ ListsOne Belongs count
-  none_found n count all none = ((λ yes. absurd (false≢true yes)), (λ some. let within = some.1 in absurd (none some.0 (omega (arith, within, all)) some.2)))
 
 -- ---- all places
 
@@ -129,6 +123,19 @@ module _ (Belongs : ℕ → Type 0) (IsText : ℕ → List ℕ → Type 0) where
           let same : belongs_too.1.0 ≡ text = only_one belongs_too.1.0 text (subst (λ xs. Contains xs text) belongs_too.1.2 has) in
           (n, omega arith, belongs_too.0, subst (IsText n) same belongs_too.1.1)
       last_belongs n last text has (inr none) = absurd (none_there text (subst (λ xs. Contains xs text) none.1 has))
+
+  -- a list without a text has no place that belongs to it
+  pub none_told : (n : ℕ) (texts : List (List ℕ)) → ListsBelow Belongs IsText n texts → texts ≡ [] → ListsOne Belongs n → ⊥
+  none_told n texts below empty one =
+      let told = told_at n one.0 texts below one.1 one.2 in
+      none_there told.0 (subst (λ xs. Contains xs told.0) empty told.2)
+
+  -- any other has one
+  pub one_told : (n : ℕ) (texts : List (List ℕ)) → ListsBelow Belongs IsText n texts → (texts ≡ [] → ⊥) → ListsOne Belongs n
+  one_told n [] below some = absurd (some refl)
+  one_told n (text ∷ more) below some =
+      let told = told_belongs n (text ∷ more) below text (0, omega arith, refl) in
+      (told.0, told.1, told.2)
 
 -- ---- conflicts
 

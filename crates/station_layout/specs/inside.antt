@@ -1,3 +1,6 @@
+pub mod Drawn
 pub mod EntryFrame
+pub mod LetGoTexts
 pub mod RouteFrame
 pub mod Sentences
+pub mod TwoWords

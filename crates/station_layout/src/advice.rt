@@ -8,7 +8,7 @@ ghost use Rattle.station_layout.specs.inside.Sentences.{sentence_words};
 use crate::detail::RouteAdvice;
 use crate::fault_words::{layout_sentence, table_sentence};
 use crate::field_key::{FieldKey, Kind};
-use crate::sentence::{Sentence, bare, words};
+use crate::sentence::{Part, Sentence, bare, two};
 use crate::text_place::TextPlace;
 use arrayvec::ArrayString;
 use control_table::TableFault;
@@ -116,16 +116,17 @@ impl EntryAdvice {
     }
 
     /// What is wrong with that.
-    #[tactic(auto, unfolding(crate::specs::inside::EntryFrame::wrong_words))]
+    #[tactic(auto, unfolding(crate::specs::inside::EntryFrame::wrong_words, crate::specs::inside::Sentences::part_words))]
     fn sentence(&self) -> Sentence
         ensures { sentence_words result ≡ wrong_words self.now }
     {
         match self {
             EntryAdvice::Absent(_) => bare("is missing"),
-            EntryAdvice::Missing(place, key) => words(
+            EntryAdvice::Missing(place, key) => two(
                 "has no `",
-                key.word(),
+                Part::Key(*key),
                 "`: it has to be ",
+                Part::Nothing,
                 Spot::Entry(*place).form(),
             ),
             EntryAdvice::Wrong(spot, kind) => kind.sentence(spot.form()),

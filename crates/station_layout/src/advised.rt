@@ -3,11 +3,11 @@
 ghost use Rattle.std.specs.Prelude.{◌≡◌, ◌⊎◌};
 ghost use Rattle.layout_text.specs.declared.fault.LayoutFault.TheVariants.{OutOfMemory};
 ghost use Rattle.toml.specs.View.{table_view};
-ghost use Rattle.station_layout.specs.AdviceTold.{IsAdvice, IsBroken, IsByDocument, IsByWritten, IsLayoutAdvice, IsTableAdvice, document_advice, document_told, written_advice, written_told};
+ghost use Rattle.station_layout.specs.AdviceTold.{IsAdvice, IsBroken, IsByDocument, IsByWritten, IsLayoutAdvice, IsTableAdvice, document_advice, written_advice};
 ghost use Rattle.station_layout.specs.RouteDetails.{table_advice};
 ghost use Rattle.station_layout.specs.declared.advice.Advice.TheVariants as advised;
 
-use crate::advice::{Advice, EntryAdvice};
+use crate::advice::Advice;
 use crate::entry_advice::{missing_told, wrong_told};
 use crate::route_detail::table_detail;
 use crate::shared::{double_told, port_told};
@@ -79,24 +79,17 @@ fn broken(alloc: Global, text: &str) -> Advice
     }
 }
 
-/// What the document of a text tells of a fault.
-#[tactic(auto, unfolding(crate::specs::AdviceTold::document_told))]
-fn document_told(document: &Table, fault: LayoutFault) -> Option<EntryAdvice>
-    ensures { result ≡ document_told (table_view document.now) fault }
-{
-    match fault {
-        LayoutFault::MissingKey(place) => missing_told(document, place),
-        LayoutFault::WrongKind(place) => wrong_told(document, place),
-        _ => None,
-    }
-}
-
 /// The advice for a fault, by the document of its text.
-#[tactic(auto, unfolding(crate::specs::AdviceTold::document_advice))]
+#[tactic(auto, unfolding(crate::specs::AdviceTold::document_advice, crate::specs::AdviceTold::document_told))]
 fn document_advice(document: &Table, fault: LayoutFault) -> Advice
     ensures { result ≡ document_advice (table_view document.now) fault }
 {
-    match document_told(document, fault) {
+    let told = match fault {
+        LayoutFault::MissingKey(place) => missing_told(document, place),
+        LayoutFault::WrongKind(place) => wrong_told(document, place),
+        _ => None,
+    };
+    match told {
         Some(advice) => Advice::Entry(advice),
         None => Advice::Layout(fault),
     }
@@ -112,25 +105,18 @@ fn by_document(alloc: Global, text: &str, fault: LayoutFault) -> Advice
     }
 }
 
-/// What a text that is written so tells of a fault.
-#[tactic(auto, unfolding(crate::specs::AdviceTold::written_told))]
-fn written_told(written: &WrittenLayout, fault: LayoutFault) -> Option<EntryAdvice>
-    ensures { result ≡ written_told written.now fault }
+/// The advice for a fault, by what its text writes.
+#[tactic(auto, unfolding(crate::specs::AdviceTold::written_advice, crate::specs::AdviceTold::written_told))]
+fn written_advice(written: &WrittenLayout, fault: LayoutFault) -> Advice
+    ensures { result ≡ written_advice written.now fault }
 {
-    match fault {
+    let told = match fault {
         LayoutFault::UnknownName(place) => unknown_told(written, place),
         LayoutFault::DoubleName(place) => double_told(written, place),
         LayoutFault::DoubleJoint(place) => port_told(written, place),
         _ => None,
-    }
-}
-
-/// The advice for a fault, by what its text writes.
-#[tactic(auto, unfolding(crate::specs::AdviceTold::written_advice))]
-fn written_advice(written: &WrittenLayout, fault: LayoutFault) -> Advice
-    ensures { result ≡ written_advice written.now fault }
-{
-    match written_told(written, fault) {
+    };
+    match told {
         Some(advice) => Advice::Entry(advice),
         None => Advice::Layout(fault),
     }

@@ -1,14 +1,10 @@
 //! Why two routes conflict.
 
-ghost use Rattle.std.specs.Prelude.{◌≡◌, ◌⊎◌, ◌||◌, ◌++◌, ◌<◌, ◌↔◌, length, map, IfOk, IsTrue, OnOk, string_bytes};
-ghost use Rattle.control_table.specs.Masks.{AreMasks};
-ghost use Rattle.control_table.specs.Table.{Lists, RequireDifferently, SameEntry, ShareSection};
-ghost use Rattle.control_table.specs.layout.declared.ids.RouteId.{RouteId};
-ghost use Rattle.control_table.specs.layout.Entries.{Site};
+ghost use Rattle.std.specs.Prelude.{◌≡◌, ◌++◌, ◌<◌, length, map, IfOk, OnOk, string_bytes};
 ghost use Rattle.station_layout.specs.Reasons.{AreReasons, reason_words, word_if};
 
+use control_table::Checked;
 use control_table::layout::RouteId;
-use control_table::{Checked, RouteMasks};
 use std::alloc::{AllocError, Global};
 
 /// Which reasons two routes have to conflict.
@@ -24,45 +20,6 @@ pub struct ConflictReasons {
     pub extra: bool,
 }
 
-/// Whether one of two tests holds.
-pub(crate) fn either(one: bool, other: bool) -> bool
-    ensures { result ≡ (one || other) }
-{
-    one || other
-}
-
-/// Whether two routes, which have these masks, have the same entry signal.
-fn same_entry(first: &RouteMasks, second: &RouteMasks) -> bool
-    ensures { (l : Site) (a b : RouteId) → a.0 < length l.routes → b.0 < length l.routes → AreMasks l a first.now → AreMasks l b second.now → IsTrue result ↔ SameEntry l a b }
-{
-    first.entry.0 == second.entry.0
-}
-
-/// Whether they share a section.
-fn share_section(first: &RouteMasks, second: &RouteMasks) -> bool
-    ensures { (l : Site) (a b : RouteId) → AreMasks l a first.now → AreMasks l b second.now → IsTrue result ↔ ShareSection l a b }
-{
-    first.sections.intersects(second.sections)
-}
-
-/// Whether they require a point at different sides.
-fn require_differently(first: &RouteMasks, second: &RouteMasks) -> bool
-    ensures { (l : Site) (a b : RouteId) → AreMasks l a first.now → AreMasks l b second.now → IsTrue result ↔ RequireDifferently l a b }
-{
-    let right_left = first.right.intersects(second.left);
-    let left_right = first.left.intersects(second.right);
-    either(right_left, left_right)
-}
-
-/// Whether one of them lists the other as an extra conflict.
-fn one_lists(a: RouteId, b: RouteId, first: &RouteMasks, second: &RouteMasks) -> bool
-    ensures { (l : Site) → AreMasks l a first.now → AreMasks l b second.now → IsTrue result ↔ (Lists l a b ⊎ Lists l b a) }
-{
-    let first_lists = first.extra.contains(b.0);
-    let second_lists = second.extra.contains(a.0);
-    either(first_lists, second_lists)
-}
-
 /// The reasons that two routes have to conflict. A route has some to conflict with itself, and doesn't.
 pub(crate) fn reasons(table: &Checked, a: RouteId, b: RouteId) -> ConflictReasons
     requires first { a.0 < length table.now.routes }
@@ -72,10 +29,10 @@ pub(crate) fn reasons(table: &Checked, a: RouteId, b: RouteId) -> ConflictReason
     let first = table.masks(a);
     let second = table.masks(b);
     ConflictReasons {
-        entry: same_entry(&first, &second),
-        section: share_section(&first, &second),
-        point: require_differently(&first, &second),
-        extra: one_lists(a, b, &first, &second),
+        entry: first.entry.0 == second.entry.0,
+        section: first.sections.intersects(second.sections),
+        point: first.right.intersects(second.left) | first.left.intersects(second.right),
+        extra: first.extra.contains(b.0) | second.extra.contains(a.0),
     }
 }
 

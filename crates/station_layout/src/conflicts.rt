@@ -1,12 +1,11 @@
-//! The routes that conflict with a route, with the reasons.
+//! The routes that a route conflicts with, with the reasons.
 
 ghost use Rattle.std.specs.Prelude.{◌<◌, length, IfOk, string_bytes};
 ghost use Rattle.station_layout.specs.Row.{IsConflictText, IsConflictsCell};
 
 use crate::cells::{parted, spaced, with_word};
 use crate::conflict_reasons::{reason_words, reasons};
-use crate::entry_names::route_name;
-use crate::listed_places::{Listing, listed};
+use crate::layout_names::{route_name, written};
 use control_table::Checked;
 use control_table::layout::RouteId;
 use std::alloc::{AllocError, Global};
@@ -25,40 +24,8 @@ fn conflict_text(
     let words = reason_words(alloc, reasons(table, route, other))?;
     let words = spaced(alloc, &words)?;
     let name = route_name(table.layout(), other);
-    let text = with_word(alloc, name, words.as_str())?;
+    let text = with_word(alloc, written(&name), words.as_str())?;
     Ok(text)
-}
-
-/// The routes that conflict with a route.
-#[derive(Clone, Copy)]
-struct Conflicts<'a> {
-    table: &'a Checked,
-    route: RouteId,
-    ghost there: { route.0 < length table.now.routes },
-}
-
-impl<'a> Listing for Conflicts<'a> {
-    ghost use Rattle.std.specs.Prelude.{length};
-    ghost use Rattle.control_table.specs.Table.{Conflict};
-    ghost use Rattle.station_layout.specs.Row.{IsConflictText, route_at};
-
-    ghost count = { λ conflicts. length conflicts.table.now.routes };
-
-    ghost belongs = { λ conflicts place. Conflict conflicts.table.now conflicts.route (route_at place) };
-
-    ghost is_text = { λ conflicts place text. IsConflictText conflicts.table.now conflicts.route (route_at place) text };
-
-    fn count(&self) -> usize {
-        self.table.layout().routes().len()
-    }
-
-    fn belongs(&self, place: usize) -> bool {
-        self.table.conflict(self.route, RouteId(place))
-    }
-
-    fn text(&self, alloc: Global, place: usize) -> Result<String, AllocError> {
-        conflict_text(alloc, self.table, self.route, RouteId(place))
-    }
 }
 
 /// The cell of the routes that conflict with a route.
@@ -70,8 +37,12 @@ pub(crate) fn conflicts_cell(
     requires { route.0 < length table.now.routes }
     ensures { IfOk result (λ cell. IsConflictsCell table.now route (string_bytes cell)) }
 {
-    let conflicts = Conflicts { table, route };
-    let texts = listed(alloc, &conflicts)?;
+    let mut texts = Vec::new(alloc);
+    for place in 0..table.layout().routes().len() {
+        if table.conflict(route, RouteId(place)) {
+            texts.push(conflict_text(alloc, table, route, RouteId(place))?)?;
+        }
+    }
     let cell = parted(alloc, &texts)?;
     Ok(cell)
 }

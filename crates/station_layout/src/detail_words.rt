@@ -7,11 +7,11 @@ ghost use Rattle.station_layout.specs.inside.Sentences.{sentence_words};
 
 use crate::detail::{PathDetail, PointDetail, RouteDetail};
 use crate::route_sides::other;
-use crate::sentence::{Part, Sentence, bare, four, one, to_three, two};
+use crate::sentence::{Part, Sentence, bare, four, one, two};
 
 impl PathDetail {
     /// What is wrong, behind the path of its route.
-    #[tactic(auto, unfolding(crate::specs::DetailWords::path_words, crate::specs::inside::Sentences::part_words))]
+    #[tactic(auto, using(crate::proofs::SentenceEnds::without_end), unfolding(crate::specs::DetailWords::path_words, crate::specs::inside::Sentences::part_words))]
     pub(crate) fn sentence(&self) -> Sentence
         ensures { sentence_words result ≡ path_words self.now }
     {
@@ -22,13 +22,16 @@ impl PathDetail {
                 Part::Port(*port),
                 ": nothing is joined to it",
             ),
-            PathDetail::Astray(before, entered, left) => to_three(
+            PathDetail::Astray(before, entered, left) => four(
                 "breaks at ",
                 Part::Port(*before),
                 ": it is joined to ",
                 Part::Port(*entered),
                 ", from where no train leaves by ",
                 Part::Port(*left),
+                "",
+                Part::Nothing,
+                "",
             ),
             PathDetail::Twice(name) => { one("leads over ", Part::Name(*name), " twice") }
             PathDetail::ComesBack(section) => one(
@@ -79,7 +82,7 @@ impl PathDetail {
 
 impl PointDetail {
     /// What is wrong, behind the route.
-    #[tactic(auto, unfolding(crate::specs::DetailWords::point_words, crate::specs::inside::Sentences::part_words))]
+    #[tactic(auto, using(crate::proofs::SentenceEnds::without_end), unfolding(crate::specs::DetailWords::point_words, crate::specs::inside::Sentences::part_words))]
     pub(crate) fn sentence(&self) -> Sentence
         ensures { sentence_words result ≡ point_words self.now }
     {
@@ -89,13 +92,16 @@ impl PointDetail {
                 Part::Name(*name),
                 " under `points`, and its path doesn't lead over it",
             ),
-            PointDetail::PointAt(name, side) => to_three(
+            PointDetail::PointAt(name, side) => four(
                 "writes point ",
                 Part::Name(*name),
                 " ",
                 Part::Side(*side),
                 " under `points`, and requires it ",
                 Part::Side(other(*side)),
+                "",
+                Part::Nothing,
+                "",
             ),
             PointDetail::OnPath(name) => one(
                 "writes point ",

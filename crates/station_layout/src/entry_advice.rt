@@ -68,8 +68,15 @@ pub(crate) fn missing_told(document: &Table, place: Place) -> Option<EntryAdvice
     if place.entry == 0 {
         return Some(EntryAdvice::Absent(place.table));
     }
-    let fields = entry_data(document, place)?.as_table()?;
-    let key = first_lacking(fields, keys_of(place.table))?;
+    let Some(value) = entry_data(document, place) else {
+        return None;
+    };
+    let Some(fields) = value.as_table() else {
+        return None;
+    };
+    let Some(key) = first_lacking(fields, keys_of(place.table)) else {
+        return None;
+    };
     Some(EntryAdvice::Missing(place, key))
 }
 

@@ -6,7 +6,7 @@ ghost use Rattle.station_layout.specs.inside.Sentences.{part_words, sentence_wor
 
 use crate::advice::{Common, Missed, Spot};
 use crate::field_key::FieldKey;
-use crate::sentence::{Part, Sentence, one, to_four, to_one, to_three};
+use crate::sentence::{Part, Sentence, four, one, two};
 use layout_text::{Place, TableName};
 use std::fmt;
 
@@ -68,40 +68,33 @@ impl Spot {
     }
 
     /// Where it is.
-    #[tactic(auto, unfolding(crate::specs::EntryWords::spot_words, crate::specs::inside::Sentences::part_words))]
+    #[tactic(auto, using(crate::proofs::SentenceEnds::without_end), unfolding(crate::specs::EntryWords::spot_words, crate::specs::inside::Sentences::part_words))]
     pub(crate) fn sentence(&self) -> Sentence
         ensures { sentence_words result ≡ spot_words self.now }
     {
         match self {
-            Spot::Entry(place) => to_one("", Part::Place(*place)),
-            Spot::Field(place, key) => to_three(
-                "`",
-                Part::Nothing,
-                key.word(),
-                Part::Nothing,
-                "` of ",
-                Part::Place(*place),
-            ),
-            Spot::Item(place, key, item) => to_four(
+            Spot::Entry(place) => one("", Part::Place(*place), ""),
+            Spot::Field(place, key) => two("`", Part::Key(*key), "` of ", Part::Place(*place), ""),
+            Spot::Item(place, key, item) => four(
                 "item ",
                 Part::Number(*item),
                 " of `",
-                Part::Nothing,
-                key.word(),
-                Part::Nothing,
+                Part::Key(*key),
                 "` of ",
                 Part::Place(*place),
+                "",
+                Part::Nothing,
+                "",
             ),
         }
     }
 }
 
 /// That an entry has something, as another one.
-#[tactic(auto, unfolding(crate::specs::inside::Sentences::part_words))]
 fn shared(begin: &'static str, part: Part, first: Place) -> Sentence
     ensures { sentence_words result ≡ (begin.now ++ (part_words part ++ codes ", as")) ++ (codes " " ++ place_words first) }
 {
-    to_three("", Part::Nothing, begin, part, ", as ", Part::Place(first))
+    two(begin, part, ", as ", Part::Place(first), "")
 }
 
 impl Common {

@@ -94,38 +94,23 @@ pub(crate) fn tell_failure<E: Write>(failure: &Failure, err: &mut E)
     }
 }
 
-/// The fault of a picture.
-#[derive(Clone, Copy)]
-struct PictureFault(SessionFault);
-
-impl fmt::Display for PictureFault {
-    ghost use Rattle.std.specs.Prelude.{Some};
-    ghost use Rattle.station_layout.specs.PlanText.{picture_fault_text};
-
-    ghost output = { λ fault. Some (picture_fault_text fault.0) };
-
-    fn fmt<W: fmt::Write>(&self, f: &mut fmt::Formatter<W>) -> fmt::Result {
-        let number = self.0.number;
-        let line = self.0.line;
-        write!(f, "picture fault {number} at line {line}\n")
-    }
-}
-
 /// Writes the fault of a picture, or as much of it as the writer takes.
 fn tell_picture<E: Write>(fault: SessionFault, err: &mut E)
     ensures { Tells (Picture fault) (E.contents err.old) (E.contents err.new) }
 {
-    if let Ok(line) = picture_line(&PictureFault(fault)) {
+    if let Ok(line) = picture_line(fault) {
         write_as_taken(line.as_str().as_bytes(), err);
     }
 }
 
 /// The line that tells the fault of a picture, in a place of its own: it takes no memory.
-fn picture_line(fault: &PictureFault) -> Result<ArrayString<LINE_LENGTH>, fmt::Error>
-    ensures { IfOk result (λ line. line.bytes ≡ picture_fault_text fault.now.0) }
+fn picture_line(fault: SessionFault) -> Result<ArrayString<LINE_LENGTH>, fmt::Error>
+    ensures { IfOk result (λ line. line.bytes ≡ picture_fault_text fault) }
 {
     use std::fmt::Write;
+    let number = fault.number;
+    let at = fault.line;
     let mut line = ArrayString::new();
-    write!(line, "{fault}")?;
+    write!(line, "picture fault {number} at line {at}\n")?;
     Ok(line)
 }

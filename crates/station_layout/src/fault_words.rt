@@ -5,7 +5,7 @@ ghost use Rattle.station_layout.specs.FaultWords.{layout_words, limit_words, mos
 ghost use Rattle.station_layout.specs.inside.Sentences.{sentence_words};
 
 use crate::route_detail::route_at_fault;
-use crate::sentence::{Part, Sentence, bare, one, to_one, two};
+use crate::sentence::{Part, Sentence, bare, one, two};
 use control_table::TableFault;
 use layout_text::{LayoutFault, Place, TableName};
 
@@ -43,16 +43,17 @@ fn limit_words(place: Place) -> &'static str
 }
 
 /// The words for a fault of a layout.
-#[tactic(auto, unfolding(crate::specs::FaultWords::layout_words, crate::specs::inside::Sentences::part_words))]
+#[tactic(auto, using(crate::proofs::SentenceEnds::without_end), unfolding(crate::specs::FaultWords::layout_words, crate::specs::inside::Sentences::part_words))]
 pub(crate) fn layout_sentence(fault: LayoutFault) -> Sentence
     ensures { sentence_words result ≡ layout_words fault }
 {
     match fault {
         LayoutFault::Toml => bare("the text is no TOML"),
-        LayoutFault::MissingKey(place) => to_one("a key is missing at ", Part::Place(place)),
-        LayoutFault::WrongKind(place) => to_one(
+        LayoutFault::MissingKey(place) => one("a key is missing at ", Part::Place(place), ""),
+        LayoutFault::WrongKind(place) => one(
             "a value is of another kind or form at ",
             Part::Place(place),
+            "",
         ),
         LayoutFault::UnknownName(place) => one(
             "",

@@ -5,7 +5,7 @@ ghost use Rattle.toml.specs.View.{view};
 ghost use Rattle.station_layout.specs.FieldKeys.{all_keys, form_words, is_required, item_key, key_text, kind_of, kind_word, kind_words};
 ghost use Rattle.station_layout.specs.inside.Sentences.{sentence_words};
 
-use crate::sentence::{Part, Sentence, two, words};
+use crate::sentence::{Part, Sentence, four, two};
 use layout_text::TableName;
 use toml::Value;
 
@@ -182,7 +182,17 @@ impl Kind {
                 Part::Nothing,
                 wanted,
             ),
-            other => words("is ", other.word(), ", and has to be ", wanted),
+            other => four(
+                "is ",
+                Part::Nothing,
+                other.word(),
+                Part::Nothing,
+                ", and has to be ",
+                Part::Nothing,
+                "",
+                Part::Nothing,
+                wanted,
+            ),
         }
     }
 }

@@ -1,9 +1,11 @@
 //! What the entries of a layout are called.
 
-ghost use Rattle.std.specs.Prelude.{◌≡◌, option_map, slice_get};
+ghost use Rattle.std.specs.Prelude.{◌≡◌, [], option_map, slice_get};
+ghost use Rattle.std.specs.Option.{unwrap_or};
+ghost use Rattle.station_layout.specs.Names as text;
 ghost use Rattle.station_layout.specs.LayoutNames.{element_name, exit_name, leg_names, point_name, port_name, route_name, signal_name};
 
-use control_table::layout::{Element, Exit, Layout, PointId, Port, Route, RouteId};
+use control_table::layout::{Element, Exit, Layout, PointId, Port, Route, RouteId, SectionId};
 use control_table::sci_telegram::Name;
 use layout_text::PortName;
 
@@ -14,10 +16,29 @@ pub(crate) fn item_at<T: Copy>(items: &[T], place: usize) -> Option<T>
     items.get(place).copied()
 }
 
+/// How a name is written: nothing stands for one that isn't there.
+pub(crate) fn written(name: &Option<Name>) -> &str
+    ensures { result.now ≡ unwrap_or name.now [] }
+{
+    match name {
+        Some(name) => name.as_str(),
+        None => "",
+    }
+}
+
+/// The name of a section.
+#[tactic(auto, unfolding(crate::specs::Names::section_name))]
+pub(crate) fn section_name(layout: &Layout, section: SectionId) -> Option<Name>
+    ensures { unwrap_or result [] ≡ text.section_name layout.now section }
+{
+    item_at(layout.sections(), section.0)
+}
+
 /// The name of a point.
-#[tactic(auto, unfolding(crate::specs::LayoutNames::point_name))]
+#[tactic(auto, unfolding(crate::specs::LayoutNames::point_name, crate::specs::Names::point_name))]
 pub(crate) fn point_name(layout: &Layout, point: PointId) -> Option<Name>
-    ensures { result ≡ point_name layout.now point }
+    ensures name { result ≡ point_name layout.now point }
+    ensures text { unwrap_or result [] ≡ text.point_name layout.now point }
 {
     Some(item_at(layout.points(), point.0)?.name)
 }
@@ -38,9 +59,10 @@ pub(crate) fn route_at(layout: &Layout, route: RouteId) -> Option<&Route>
 }
 
 /// The name of a route.
-#[tactic(auto, unfolding(crate::specs::LayoutNames::route_name))]
+#[tactic(auto, unfolding(crate::specs::LayoutNames::route_name, crate::specs::Names::route_name))]
 pub(crate) fn route_name(layout: &Layout, route: RouteId) -> Option<Name>
-    ensures { result ≡ route_name layout.now route }
+    ensures name { result ≡ route_name layout.now route }
+    ensures text { unwrap_or result [] ≡ text.route_name layout.now route }
 {
     Some(*route_at(layout, route)?.name())
 }

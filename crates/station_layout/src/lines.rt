@@ -8,6 +8,7 @@ ghost use Rattle.station_layout.specs.Lines.{IsTable, barred, heads, line_text, 
 ghost use Rattle.station_layout.specs.Row.{IsRowOf, Row};
 
 use crate::form::Form;
+use crate::layout_names::written;
 use crate::row::{Row, row_of};
 use control_table::Checked;
 use control_table::layout::{Route, RouteId};
@@ -56,15 +57,15 @@ fn line<'a>(alloc: Global, form: Form, row: &'a Row<'a>) -> Result<Vec<u8>, Allo
     ensures { IfOk result (λ line. line.items ≡ line_text form row.now) }
 {
     let cells = [
-        row.names.route.as_bytes(),
-        row.names.entry.as_bytes(),
-        row.names.exit.as_bytes(),
-        row.names.aspect.as_bytes(),
-        row.points.right.as_bytes(),
-        row.points.left.as_bytes(),
-        row.points.flank.as_bytes(),
+        row.route.as_bytes(),
+        written(&row.entry).as_bytes(),
+        written(&row.exit).as_bytes(),
+        row.aspect.as_bytes(),
+        row.right.as_bytes(),
+        row.left.as_bytes(),
+        row.flank.as_bytes(),
         row.sections.as_bytes(),
-        row.points.let_go.as_bytes(),
+        row.let_go.as_bytes(),
         row.approach.as_bytes(),
         row.conflicts.as_bytes(),
     ];

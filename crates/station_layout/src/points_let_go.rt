@@ -1,14 +1,13 @@
 //! At which section a route lets the points go that it requires.
 
-ghost use Rattle.std.specs.Prelude.{◌≡◌, ◌<◌, ◌&&◌, ◌↔◌, not, length, IfOk, IsTrue, Some, slice_get, string_bytes};
+ghost use Rattle.std.specs.Prelude.{◌≡◌, ◌<◌, ◌↔◌, length, map, IfOk, IsTrue, OnOk, Some, slice_get, string_bytes};
 ghost use Rattle.std.specs.FinSet.{contains};
 ghost use Rattle.std.specs.List.{list_any};
-ghost use Rattle.station_layout.specs.Row.{IsLetGoAt, IsLetGoCell, IsLetGoText, IsRequired, point_at};
+ghost use Rattle.station_layout.specs.Row.{IsLetGoAt, IsLetGoCell, NamesLetGo, point_at};
+ghost use Rattle.station_layout.specs.inside.LetGoTexts.{AddsLetGo};
 
 use crate::cells::{parted, spaced, with_word};
-use crate::conflict_reasons::either;
-use crate::entry_names::{point_name, section_name};
-use crate::listed_places::{Listing, listed, lists_one};
+use crate::layout_names::{point_name, section_name, written};
 use control_table::Checked;
 use control_table::bit_row::BitRow;
 use control_table::layout::{PointId, RouteId, SectionId};
@@ -26,132 +25,79 @@ fn has_one(awaited: BitRow, sections: &[SectionId]) -> bool
     false
 }
 
-/// Whether the first two tests hold, and the third doesn't.
-fn both_without(one: bool, other: bool, third: bool) -> bool
-    ensures { result ≡ (one && (other && not third)) }
+/// The section at a place.
+fn section_at(sections: &[SectionId], place: usize) -> SectionId
+    requires { place < length sections.now }
+    ensures { slice_get sections.now place ≡ Some result }
 {
-    one && other && !third
+    sections[place]
 }
 
-/// Whether a route requires a point at some side.
-fn is_required(table: &Checked, route: RouteId, place: usize) -> bool
-    requires { route.0 < length table.now.routes }
-    ensures { IsTrue result ↔ IsRequired table.now route (point_at place) }
+/// Whether a point is let go at a place of the sections of a route.
+fn is_let_go(
+    table: &Checked,
+    route: RouteId,
+    sections: &[SectionId],
+    place: usize,
+    point: usize,
+) -> bool
+    requires route { route.0 < length table.now.routes }
+    requires place { place < length sections.now }
+    ensures { IsTrue result ↔ IsLetGoAt table.now route sections.now place (point_at point) }
 {
     let masks = table.masks(route);
-    let right = masks.right.contains(place);
-    let left = masks.left.contains(place);
-    either(right, left)
-}
-
-/// The points that are let go at a place of the sections of a route.
-#[derive(Clone, Copy)]
-struct LetGoAt<'a> {
-    table: &'a Checked,
-    route: RouteId,
-    sections: &'a [SectionId],
-    place: usize,
-    ghost route_there: { route.0 < length table.now.routes },
-    ghost place_there: { place < length sections.now },
-}
-
-impl<'a> LetGoAt<'a> {
-    /// The section there.
-    fn section(&self) -> SectionId
-        ensures { slice_get self.now.sections.now self.now.place ≡ Some result }
-    {
-        self.sections[self.place]
-    }
-}
-
-/// Whether a point is let go there.
-fn is_let_go(at: &LetGoAt<'_>, point: usize) -> bool
-    ensures { IsTrue result ↔ IsLetGoAt at.now.table.now at.now.route at.now.sections.now at.now.place (point_at point) }
-{
-    let is_required = is_required(at.table, at.route, point);
-    let awaited = at.table.awaited(at.route, PointId(point));
-    let awaits_there = awaited.contains(at.section().0);
-    let (_, behind) = at.sections.split_at(at.place + 1);
+    let is_required = masks.right.contains(point) | masks.left.contains(point);
+    let awaited = table.awaited(route, PointId(point));
+    let awaits_there = awaited.contains(section_at(sections, place).0);
+    let (_, behind) = sections.split_at(place + 1);
     let awaits_behind = has_one(awaited, behind);
-    both_without(is_required, awaits_there, awaits_behind)
+    is_required & (awaits_there & !awaits_behind)
 }
 
-impl<'a> Listing for LetGoAt<'a> {
-    ghost use Rattle.std.specs.Prelude.{◌≡◌, length};
-    ghost use Rattle.station_layout.specs.Names.{point_name};
-    ghost use Rattle.station_layout.specs.Row.{IsLetGoAt, point_at};
-
-    ghost count = { λ at. length at.table.now.points };
-
-    ghost belongs = { λ at point. IsLetGoAt at.table.now at.route at.sections.now at.place (point_at point) };
-
-    ghost is_text = { λ at point text. text ≡ point_name at.table.now (point_at point) };
-
-    fn count(&self) -> usize {
-        self.table.layout().points().len()
-    }
-
-    fn belongs(&self, place: usize) -> bool {
-        is_let_go(self, place)
-    }
-
-    fn text(&self, alloc: Global, place: usize) -> Result<String, AllocError> {
-        String::from_str(alloc, point_name(self.table.layout(), PointId(place)))
-    }
-}
-
-/// What is told of a section: its name, and the points that are let go there.
-fn let_go_text(alloc: Global, at: &LetGoAt<'_>) -> Result<String, AllocError>
-    ensures { IfOk result (λ text. IsLetGoText at.now.table.now at.now.route at.now.sections.now at.now.place (string_bytes text)) }
-{
-    let names = listed(alloc, at)?;
-    let names = spaced(alloc, &names)?;
-    let name = section_name(at.table.layout(), at.section());
-    let text = with_word(alloc, name, names.as_str())?;
-    Ok(text)
-}
-
-/// The sections of a route at which it lets points go.
-#[derive(Clone, Copy)]
-struct PointsLetGo<'a> {
-    table: &'a Checked,
+/// The names of the points that are let go at a place.
+fn names_let_go(
+    alloc: Global,
+    table: &Checked,
     route: RouteId,
-    sections: &'a [SectionId],
-    ghost there: { route.0 < length table.now.routes },
+    sections: &[SectionId],
+    place: usize,
+) -> Result<Vec<String>, AllocError>
+    requires route { route.0 < length table.now.routes }
+    requires place { place < length sections.now }
+    ensures { IfOk result (λ names. NamesLetGo table.now route sections.now place (map string_bytes names.items)) }
+{
+    let mut names = Vec::new(alloc);
+    for point in 0..table.layout().points().len() {
+        if is_let_go(table, route, sections, place, point) {
+            let name = point_name(table.layout(), PointId(point));
+            names.push(String::from_str(alloc, written(&name))?)?;
+        }
+    }
+    Ok(names)
 }
 
-impl<'a> Listing for PointsLetGo<'a> {
-    ghost use Rattle.std.specs.Prelude.{length};
-    ghost use Rattle.station_layout.specs.Row.{IsLetGoText, LetsOneGo};
-
-    ghost count = { λ points. length points.sections.now };
-
-    ghost belongs = { λ points place. LetsOneGo points.table.now points.route points.sections.now place };
-
-    ghost is_text = { λ points place text. IsLetGoText points.table.now points.route points.sections.now place text };
-
-    fn count(&self) -> usize {
-        self.sections.len()
+/// Adds what is told of a section at which points are let go: its name, and these points.
+fn add_let_go(
+    alloc: Global,
+    table: &Checked,
+    route: RouteId,
+    sections: &[SectionId],
+    place: usize,
+    texts: &mut Vec<String>,
+) -> Result<(), AllocError>
+    requires route { route.0 < length table.now.routes }
+    requires place { place < length sections.now }
+    ensures { OnOk result (AddsLetGo table.now route sections.now place (map string_bytes texts.old.items) (map string_bytes texts.new.items)) }
+{
+    let names = names_let_go(alloc, table, route, sections, place)?;
+    if names.is_empty() {
+        return Ok(());
     }
-
-    fn belongs(&self, place: usize) -> bool {
-        lists_one(&LetGoAt {
-            table: self.table,
-            route: self.route,
-            sections: self.sections,
-            place,
-        })
-    }
-
-    fn text(&self, alloc: Global, place: usize) -> Result<String, AllocError> {
-        let at = LetGoAt {
-            table: self.table,
-            route: self.route,
-            sections: self.sections,
-            place,
-        };
-        let_go_text(alloc, &at)
-    }
+    let points = spaced(alloc, &names)?;
+    let section = section_name(table.layout(), section_at(sections, place));
+    let text = with_word(alloc, written(&section), points.as_str())?;
+    texts.push(text)?;
+    Ok(())
 }
 
 /// The cell of the sections at which a route lets points go, each with these points.
@@ -164,12 +110,10 @@ pub(crate) fn let_go_cell(
     ensures { IfOk result (λ cell. IsLetGoCell table.now route (string_bytes cell)) }
 {
     let sections = table.sections(route);
-    let points = PointsLetGo {
-        table,
-        route,
-        sections,
-    };
-    let texts = listed(alloc, &points)?;
+    let mut texts = Vec::new(alloc);
+    for place in 0..sections.len() {
+        add_let_go(alloc, table, route, sections, place, &mut texts)?;
+    }
     let cell = parted(alloc, &texts)?;
     Ok(cell)
 }

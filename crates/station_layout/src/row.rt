@@ -1,54 +1,41 @@
 //! The rows of the control table.
 
-ghost use Rattle.std.specs.Prelude.{◌≡◌, ◌<◌, length, IfOk, string_bytes};
+ghost use Rattle.std.specs.Prelude.{◌≡◌, ◌<◌, length, IfOk};
 ghost use Rattle.control_table.specs.Topology.{IsRoute};
-ghost use Rattle.control_table.specs.sci_telegram.declared.message.Side.TheVariants as side;
-ghost use Rattle.station_layout.specs.Names.{aspect_word, exit_name, parted, signal_name, spaced};
-ghost use Rattle.station_layout.specs.Row.{IsLetGoCell, IsRowOf, flank_texts, names_of_points, points_at};
+ghost use Rattle.station_layout.specs.Names.{aspect_word};
+ghost use Rattle.station_layout.specs.Row.{IsRowOf};
 
 use crate::cells::{flank_cell, points_cell, sections_cell};
 use crate::conflicts::conflicts_cell;
-use crate::entry_names::{aspect_word, exit_name, signal_name};
+use crate::layout_names::{exit_name, signal_name};
 use crate::points_let_go::let_go_cell;
 use control_table::Checked;
-use control_table::layout::{Layout, Route, RouteId};
-use control_table::sci_telegram::Side;
+use control_table::layout::{Route, RouteId};
+use control_table::sci_telegram::{Aspect, Name, Side};
 use std::alloc::{AllocError, Global};
 use std::marker::Model;
 
-/// The cells that name a route.
-#[derive(Clone, Copy)]
-pub(crate) struct NameCells<'a> {
+/// The cells of a row.
+#[derive(Drop)]
+pub(crate) struct Row<'a> {
     /// The name of the route.
     pub(crate) route: &'a str,
     /// The signal at which it begins.
-    pub(crate) entry: &'a str,
+    pub(crate) entry: Option<Name>,
     /// The signal or the border at which it ends.
-    pub(crate) exit: &'a str,
+    pub(crate) exit: Option<Name>,
     /// The aspect at which it is passed.
     pub(crate) aspect: &'a str,
-}
-
-/// The cells of points.
-#[derive(Drop)]
-pub(crate) struct PointCells {
     /// The points on the path that have to lie right.
     pub(crate) right: String,
     /// The points on the path that have to lie left.
     pub(crate) left: String,
     /// The points that protect the flank, each with its side.
     pub(crate) flank: String,
-    /// The sections at which points are let go that are required, each with these points.
-    pub(crate) let_go: String,
-}
-
-/// The cells of a row.
-#[derive(Drop)]
-pub(crate) struct Row<'a> {
-    pub(crate) names: NameCells<'a>,
-    pub(crate) points: PointCells,
     /// The sections over which the route leads.
     pub(crate) sections: String,
+    /// The sections at which points are let go that are required, each with these points.
+    pub(crate) let_go: String,
     /// The sections on which a train approaches it.
     pub(crate) approach: String,
     /// The routes that conflict with it, with the reasons.
@@ -56,68 +43,40 @@ pub(crate) struct Row<'a> {
 }
 
 impl<'a> Model for Row<'a> {
-    ghost use Rattle.std.specs.Prelude.{string_bytes};
+    ghost use Rattle.std.specs.Prelude.{[], string_bytes};
+    ghost use Rattle.std.specs.Option.{unwrap_or};
     ghost use Rattle.station_layout.specs.Row as row;
 
     ghost Value = { row.Row };
 
     ghost view = { λ r. record {
-      route = r.names.route.now;
-      entry = r.names.entry.now;
-      exit = r.names.exit.now;
-      aspect = r.names.aspect.now;
-      right = string_bytes r.points.right;
-      left = string_bytes r.points.left;
-      flank = string_bytes r.points.flank;
+      route = r.route.now;
+      entry = unwrap_or r.entry [];
+      exit = unwrap_or r.exit [];
+      aspect = r.aspect.now;
+      right = string_bytes r.right;
+      left = string_bytes r.left;
+      flank = string_bytes r.flank;
       sections = string_bytes r.sections;
-      let_go = string_bytes r.points.let_go;
+      let_go = string_bytes r.let_go;
       approach = string_bytes r.approach;
       conflicts = string_bytes r.conflicts;
     } };
 }
 
-/// The cells that name a route.
-fn name_cells<'a>(layout: &'a Layout, route: &'a Route) -> NameCells<'a>
-    ensures route { result.route.now ≡ route.now.name }
-    ensures entry { result.entry.now ≡ signal_name layout.now route.now.entry }
-    ensures exit { result.exit.now ≡ exit_name layout.now route.now.exit }
-    ensures aspect { result.aspect.now ≡ aspect_word route.now.aspect }
+/// The word for an aspect.
+fn aspect_word(aspect: Aspect) -> &'static str
+    ensures { result.now ≡ aspect_word aspect }
 {
-    NameCells {
-        route: route.name().as_str(),
-        entry: signal_name(layout, route.entry()),
-        exit: exit_name(layout, route.exit()),
-        aspect: aspect_word(route.aspect()),
+    match aspect {
+        Aspect::Stop => "stop",
+        Aspect::Proceed => "proceed",
+        Aspect::Slow => "slow",
     }
 }
 
-/// The cells of the points of a route.
-fn point_cells(
-    alloc: Global,
-    table: &Checked,
-    id: RouteId,
-    route: &Route,
-) -> Result<PointCells, AllocError>
-    requires there { id.0 < length table.now.routes }
-    ensures right { IfOk result (λ cells. string_bytes cells.right ≡ spaced (names_of_points table.now (points_at route.now side.Right))) }
-    ensures left { IfOk result (λ cells. string_bytes cells.left ≡ spaced (names_of_points table.now (points_at route.now side.Left))) }
-    ensures flank { IfOk result (λ cells. string_bytes cells.flank ≡ parted (flank_texts table.now route.now.flank)) }
-    ensures let_go { IfOk result (λ cells. IsLetGoCell table.now id (string_bytes cells.let_go)) }
-{
-    let layout = table.layout();
-    let right = points_cell(alloc, layout, route, Side::Right)?;
-    let left = points_cell(alloc, layout, route, Side::Left)?;
-    let flank = flank_cell(alloc, layout, route.flank())?;
-    let let_go = let_go_cell(alloc, table, id)?;
-    Ok(PointCells {
-        right,
-        left,
-        flank,
-        let_go,
-    })
-}
-
 /// The row of a route, of which this is the entry.
+#[tactic(auto, using(crate::proofs::NamesWritten::signal_written, crate::proofs::NamesWritten::exit_written))]
 pub(crate) fn row_of<'a>(
     alloc: Global,
     table: &'a Checked,
@@ -129,16 +88,17 @@ pub(crate) fn row_of<'a>(
     ensures { IfOk result (λ row. IsRowOf table.now id entry.now row) }
 {
     let layout = table.layout();
-    let names = name_cells(layout, entry);
-    let points = point_cells(alloc, table, id, entry)?;
-    let sections = sections_cell(alloc, layout, table.sections(id))?;
-    let approach = sections_cell(alloc, layout, entry.approach())?;
-    let conflicts = conflicts_cell(alloc, table, id)?;
     Ok(Row {
-        names,
-        points,
-        sections,
-        approach,
-        conflicts,
+        route: entry.name().as_str(),
+        entry: signal_name(layout, entry.entry().0),
+        exit: exit_name(layout, entry.exit()),
+        aspect: aspect_word(entry.aspect()),
+        right: points_cell(alloc, layout, entry, Side::Right)?,
+        left: points_cell(alloc, layout, entry, Side::Left)?,
+        flank: flank_cell(alloc, layout, entry.flank())?,
+        sections: sections_cell(alloc, layout, table.sections(id))?,
+        let_go: let_go_cell(alloc, table, id)?,
+        approach: sections_cell(alloc, layout, entry.approach())?,
+        conflicts: conflicts_cell(alloc, table, id)?,
     })
 }

@@ -4,6 +4,7 @@ ghost use Rattle.std.specs.Prelude.{◌≡◌, ◌++◌, Some};
 ghost use Rattle.station_layout.specs.inside.Sentences.{part_words, sentence_words};
 
 use crate::entry_words::PlaceWords;
+use crate::field_key::FieldKey;
 use crate::port_words::{PortWords, side_word};
 use control_table::FaultyRoute;
 use control_table::sci_telegram::{Name, Side};
@@ -14,6 +15,7 @@ use std::fmt;
 #[derive(Clone, Copy)]
 pub(crate) enum Part {
     Nothing,
+    Key(FieldKey),
     Name(Name),
     Port(PortName),
     Side(Side),
@@ -31,6 +33,7 @@ impl fmt::Display for Part {
     fn fmt<W: fmt::Write>(&self, f: &mut fmt::Formatter<W>) -> fmt::Result {
         match self {
             Part::Nothing => Ok(()),
+            Part::Key(key) => f.write_str(key.word()),
             Part::Name(name) => f.write_str(name.as_str()),
             Part::Port(port) => PortWords(*port).fmt(f),
             Part::Side(side) => f.write_str(side_word(*side)),
@@ -83,29 +86,6 @@ pub(crate) fn bare(words: &'static str) -> Sentence
     ensures { sentence_words result ≡ words.now }
 {
     one("", Part::Nothing, words)
-}
-
-/// A sentence of four texts.
-#[tactic(auto, unfolding(crate::specs::inside::Sentences::part_words))]
-pub(crate) fn words(
-    begin: &'static str,
-    then: &'static str,
-    on: &'static str,
-    end: &'static str,
-) -> Sentence
-    ensures { sentence_words result ≡ begin.now ++ (then.now ++ (on.now ++ end.now)) }
-{
-    four(
-        begin,
-        Part::Nothing,
-        then,
-        Part::Nothing,
-        on,
-        Part::Nothing,
-        "",
-        Part::Nothing,
-        end,
-    )
 }
 
 /// A sentence with one part.
@@ -165,44 +145,4 @@ pub(crate) fn four(
         fourth,
         end,
     }
-}
-
-/// A sentence that ends with its one part.
-#[tactic(auto, using(crate::proofs::SentenceEnds::without_end), unfolding(crate::specs::inside::Sentences::part_words))]
-pub(crate) fn to_one(begin: &'static str, last: Part) -> Sentence
-    ensures { sentence_words result ≡ begin.now ++ part_words last }
-{
-    to_three("", Part::Nothing, "", Part::Nothing, begin, last)
-}
-
-/// A sentence that ends with the last of three parts.
-#[tactic(auto, using(crate::proofs::SentenceEnds::without_end), unfolding(crate::specs::inside::Sentences::part_words))]
-pub(crate) fn to_three(
-    begin: &'static str,
-    first: Part,
-    then: &'static str,
-    second: Part,
-    on: &'static str,
-    last: Part,
-) -> Sentence
-    ensures { sentence_words result ≡ begin.now ++ (part_words first ++ (then.now ++ (part_words second ++ (on.now ++ part_words last)))) }
-{
-    to_four("", Part::Nothing, begin, first, then, second, on, last)
-}
-
-/// A sentence that ends with the last of four parts.
-#[tactic(auto, using(crate::proofs::SentenceEnds::without_end))]
-pub(crate) fn to_four(
-    begin: &'static str,
-    first: Part,
-    then: &'static str,
-    second: Part,
-    on: &'static str,
-    third: Part,
-    at_last: &'static str,
-    last: Part,
-) -> Sentence
-    ensures { sentence_words result ≡ begin.now ++ (part_words first ++ (then.now ++ (part_words second ++ (on.now ++ (part_words third ++ (at_last.now ++ part_words last)))))) }
-{
-    four(begin, first, then, second, on, third, at_last, last, "")
 }

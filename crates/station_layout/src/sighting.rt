@@ -1,7 +1,8 @@
 //! What a line of a picture says.
 
-ghost use Rattle.std.specs.Prelude.{◌≡◌};
-ghost use Rattle.station_layout.specs.Sightings.{aspect_said, authority_said, driven_said, is_answer, not_shown, occupancy_said, point_sighting, position_said, route_sighting, section_sighting, set_said, side_said, sighting, sighting_of, signal_sighting, time_sighting, verdict};
+ghost use Rattle.std.specs.Prelude.{◌≡◌, [], ◌∷◌, IfSome, None};
+ghost use Rattle.station_layout.specs.inside.TwoWords.{two_words};
+ghost use Rattle.station_layout.specs.Sightings.{aspect_said, driven_said, not_shown, occupancy_said, point_sighting, position_said, route_sighting, section_sighting, set_said, sighting, sighting_of, signal_sighting, time_sighting, verdict};
 
 use crate::named_entries::{route_called, signal_called};
 use control_table::layout::{Layout, PointId, RouteId, SectionId, SignalId};
@@ -51,16 +52,20 @@ fn not_shown(first: &str, words: Words<'_>) -> Result<Sighting, Fault>
     match first {
         "time" => time(words),
         "safe" | "unsafe" => verdict(words),
-        _ if is_answer(first) => Ok(Sighting::Other),
+        "ok" | "accepted" | "refused" | "no" => Ok(Sighting::Other),
         _ => Err(Fault::Words),
     }
 }
 
-/// Whether a line begins so that is an answer.
-fn is_answer(first: &str) -> bool
-    ensures { result ≡ is_answer first.now }
+/// The words of a line that are left, if they are two.
+fn two_words<'a>(mut words: Words<'a>) -> Option<(&'a str, &'a str)>
+    ensures some { IfSome result (λ both. words.entry ≡ both.0.now ∷ both.1.now ∷ []) }
+    ensures none { result ≡ None → two_words words.entry ≡ None }
 {
-    first == "ok" || first == "accepted" || first == "refused" || first == "no"
+    match (words.next(), words.next(), words.next()) {
+        (Some(one), Some(other), None) => Some((one, other)),
+        _ => None,
+    }
 }
 
 fn time(mut words: Words<'_>) -> Result<Sighting, Fault>
@@ -76,17 +81,18 @@ fn time(mut words: Words<'_>) -> Result<Sighting, Fault>
 fn signal(layout: &Layout, mut words: Words<'_>) -> Result<Sighting, Fault>
     ensures { result ≡ signal_sighting layout.now words.entry }
 {
-    let (Some(name), Some(aspect), Some(authority), None) = (
-        words.next(),
-        words.next(),
-        words.next(),
-        words.next(),
-    ) else {
+    let Some(name) = words.next() else {
+        return Err(Fault::Words);
+    };
+    let Some((aspect, authority)) = two_words(words) else {
         return Err(Fault::Words);
     };
     let aspect = aspect_said(aspect)?;
     let signal = signal_called(layout, name)?;
-    authority_said(layout, authority)?;
+    // The route that has authority from the signal, or a hyphen.
+    if authority != "-" {
+        route_called(layout, authority)?;
+    }
     Ok(Sighting::Signal(signal, aspect))
 }
 
@@ -102,10 +108,10 @@ fn point(layout: &Layout, mut words: Words<'_>) -> Result<Sighting, Fault>
     Ok(Sighting::Point(point, position))
 }
 
-fn section(layout: &Layout, mut words: Words<'_>) -> Result<Sighting, Fault>
+fn section(layout: &Layout, words: Words<'_>) -> Result<Sighting, Fault>
     ensures { result ≡ section_sighting layout.now words.entry }
 {
-    let (Some(name), Some(occupancy), None) = (words.next(), words.next(), words.next()) else {
+    let Some((name, occupancy)) = two_words(words) else {
         return Err(Fault::Words);
     };
     let occupancy = occupancy_said(occupancy)?;
@@ -113,10 +119,10 @@ fn section(layout: &Layout, mut words: Words<'_>) -> Result<Sighting, Fault>
     Ok(Sighting::Section(section, occupancy))
 }
 
-fn route(layout: &Layout, mut words: Words<'_>) -> Result<Sighting, Fault>
+fn route(layout: &Layout, words: Words<'_>) -> Result<Sighting, Fault>
     ensures { result ≡ route_sighting layout.now words.entry }
 {
-    let (Some(name), Some(state), None) = (words.next(), words.next(), words.next()) else {
+    let Some((name, state)) = two_words(words) else {
         return Err(Fault::Words);
     };
     let is_set = set_said(state)?;
@@ -145,17 +151,6 @@ fn aspect_said(word: &str) -> Result<Aspect, Fault>
     }
 }
 
-/// The route that has authority from a signal, or a hyphen.
-fn authority_said(layout: &Layout, word: &str) -> Result<(), Fault>
-    ensures { result ≡ authority_said layout.now word.now }
-{
-    if word == "-" {
-        return Ok(());
-    }
-    route_called(layout, word)?;
-    Ok(())
-}
-
 fn position_said(word: &str) -> Result<Position, Fault>
     ensures { result ≡ position_said word.now }
 {
@@ -172,18 +167,8 @@ fn driven_said(mut words: Words<'_>) -> Result<(), Fault>
     ensures { result ≡ driven_said words.entry }
 {
     match (words.next(), words.next(), words.next()) {
-        (None, None, None) => Ok(()),
-        (Some("driven"), Some(side), None) => side_said(side),
-        _ => Err(Fault::Words),
-    }
-}
-
-fn side_said(word: &str) -> Result<(), Fault>
-    ensures { result ≡ side_said word.now }
-{
-    match word {
-        "left" => Ok(()),
-        "right" => Ok(()),
+        (None, _, _) => Ok(()),
+        (Some("driven"), Some("left" | "right"), None) => Ok(()),
         _ => Err(Fault::Words),
     }
 }

@@ -1,16 +1,17 @@
 //! The plan of a text, with what is wrong written where there is none.
 
 ghost use Rattle.std.specs.Prelude.{◌≡◌, ◌≤◌, IfErr, IfOk, IsErr, OnOk, option_copied};
-ghost use Rattle.station_layout.specs.PlanText.{CanPlan, Explained, Explains, ExplainsDrawn, IsDrawn, IsPlanText, IsPlanned, Leaves};
+ghost use Rattle.station_layout.specs.PlanText.{CanPlan, Explained, Explains, ExplainsDrawn, IsDrawn, IsPlanned, Leaves};
+ghost use Rattle.station_layout.specs.inside.Drawn.{ExplainsDrawnOf, IsDrawnOf};
 
 use crate::failure::{Failure, tell_failure};
-use crate::request::{route_asked, sightings_given};
+use crate::request::route_asked;
 use crate::seen::seen_in;
 use control_table::Checked;
 use drawing::svg;
 use station_check::table_of;
 use station_plan::{Shown, plan};
-use std::alloc::{AllocError, Global};
+use std::alloc::Global;
 use std::io::Write;
 
 /// Writes the track plan of the text of a layout, as SVG. With the name of a route, its path is drawn thick, and its flank
@@ -71,19 +72,22 @@ fn drawn(
     ensures explains { IfErr result (ExplainsDrawn layout.now (option_copied route.entry) (option_copied picture.entry)) }
 {
     let table = table_of(alloc, layout)?;
-    let route = route_asked(&table, route)?;
-    let sightings = sightings_given(alloc, &table, picture)?;
-    let seen = seen_in(alloc, &table, sightings)?;
-    let shown = Shown { route, seen };
-    let text = plan_of(alloc, &table, &shown)?;
-    Ok(text)
+    drawn_of(alloc, &table, route, picture)
 }
 
 /// The plan of a layout, as SVG.
-fn plan_of(alloc: Global, table: &Checked, shown: &Shown) -> Result<Vec<u8>, AllocError>
-    ensures { IfOk result (λ text. IsPlanText table.now shown.now.seen text.items) }
+fn drawn_of(
+    alloc: Global,
+    table: &Checked,
+    route: Option<&str>,
+    picture: Option<&str>,
+) -> Result<Vec<u8>, Failure>
+    ensures drawn { IfOk result (λ text. IsDrawnOf table.now (option_copied route.entry) (option_copied picture.entry) text.items) }
+    ensures explains { IfErr result (ExplainsDrawnOf table.now (option_copied route.entry) (option_copied picture.entry)) }
 {
-    let picture = plan(alloc, table, shown)?;
-    let text = svg(alloc, &picture)?;
+    let route = route_asked(table, route)?;
+    let seen = seen_in(alloc, table, picture)?;
+    let plan = plan(alloc, table, &Shown { route, seen })?;
+    let text = svg(alloc, &plan)?;
     Ok(text)
 }

@@ -3,13 +3,15 @@ use Rattle.std.specs.Prelude.{List, ℕ, [], ◌++◌}
 use Rattle.std.specs.Fmt.{decimal, signed_decimal}
 use Rattle.control_table.specs.Messages.{route_text}
 use Rattle.station_layout.specs.EntryWords.{place_words}
+use Rattle.station_layout.specs.FieldKeys.{key_text}
 use Rattle.station_layout.specs.PortWords.{port_words, side_word}
 use Rattle.station_layout.specs.declared.sentence.Part.{Part}
-use Rattle.station_layout.specs.declared.sentence.Part.TheVariants.{Nothing, Name, Port, Side, Id, Number, Integer, Place, Route}
+use Rattle.station_layout.specs.declared.sentence.Part.TheVariants.{Nothing, Key, Name, Port, Side, Id, Number, Integer, Place, Route}
 use Rattle.station_layout.specs.declared.sentence.Sentence.{Sentence}
 
 unfoldable pub part_words : Part → List ℕ
 part_words Nothing = []
+part_words (Key key) = key_text key
 part_words (Name name) = name
 part_words (Port port) = port_words port
 part_words (Side side) = side_word side

@@ -4,7 +4,7 @@ use Rattle.station_layout.proofs.detail.PathDetail.sentence.Goals as goal
 
 pub returns-in-FlankLacks : goal.returns-in-FlankLacks
 unfolding path_words part_words
-returns-in-FlankLacks c = rw c.in-FlankLacks.is c.four.ensures
+returns-in-FlankLacks c = rw c.in-FlankLacks.is c.four-in-FlankLacks.ensures
 
 pub returns-in-EndsAtEntry : goal.returns-in-EndsAtEntry
 unfolding path_words part_words

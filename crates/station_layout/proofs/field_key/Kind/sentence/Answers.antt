@@ -25,5 +25,6 @@ returns-in-Integer c =
     (c.two.ensures ∙ ap (λ z. codes "is " ++ (signed_decimal z ++ (codes ", and has to be " ++ c.args.wanted.now))) (to_z-of_z fits))
 
 pub returns-in_default : goal.returns-in_default
+unfolding part_words
 returns-in_default c =
-    c.words.ensures ∙ ap (λ word. codes "is " ++ (word ++ (codes ", and has to be " ++ c.args.wanted.now))) (c.word.ensures ∙ plain c.args.self.now c.in_default.not-Integer)
+    c.four.ensures ∙ ap (λ word. codes "is " ++ (word ++ (codes ", and has to be " ++ c.args.wanted.now))) (c.word.ensures ∙ plain c.args.self.now c.in_default.not-Integer)

@@ -1,7 +1,0 @@
-use Rattle.std.proofs.Common.{◌≡◌, None, drop, replicate}
-use Rattle.std.specs.List.{fold}
-use Rattle.station_layout.specs.SeenByLines.{with_position}
-use Rattle.station_layout.proofs.seen.positions_by.Given as goal
-
-abbrev pub invariant-loop-sighting : goal.invariant-loop-sighting
-invariant-loop-sighting l = fold with_position l.list.items (drop l.sighting-index l.sightings) ≡ fold with_position (replicate l.count None) l.sightings
