@@ -88,10 +88,10 @@ fn open_at(net: &impl Net, address: SocketAddr) -> Result<UdpSocket, OpenFault>
     let Ok(socket) = net.bind_udp(address) else {
         return Err(OpenFault::NoSocket);
     };
-    match socket.set_nonblocking(true) {
-        Ok(()) => Ok(socket),
-        Err(_) => Err(OpenFault::NoSocket),
+    if socket.set_nonblocking(true).is_err() {
+        return Err(OpenFault::NoSocket);
     }
+    Ok(socket)
 }
 
 /// Bytes that came from an address.
@@ -110,20 +110,11 @@ fn node_of(addresses: &[SocketAddr], address: &SocketAddr) -> Option<NodeId>
     ensures { IsNodeOf addresses.now address.now result }
 {
     for place in 0..addresses.len() {
-        if is_at(addresses, place, address) {
+        if is_same(&addresses[place], address) {
             return Some(NodeId(place));
         }
     }
     None
-}
-
-fn is_at(addresses: &[SocketAddr], place: usize, address: &SocketAddr) -> bool
-    ensures { Decides result (slice_get addresses.now place ≡ Some address.now) }
-{
-    match addresses.get(place) {
-        Some(one) => is_same(one, address),
-        None => false,
-    }
 }
 
 fn is_same(one: &SocketAddr, other: &SocketAddr) -> bool

@@ -50,21 +50,19 @@ impl<'a, O: Outside, W: Write, E: Eprint> Recorded<'a, O, W, E> {
     fn note(&mut self, entry: Entry<'_>)
         ensures { self.new.outside ≡ self.old.outside }
     {
-        if self.is_whole && !writes(self.alloc, self.layout, &mut self.recorder, entry) {
-            self.is_whole = false;
+        if !self.is_whole {
+            return;
+        }
+        self.is_whole = match entry_line(self.alloc, self.layout, entry) {
+            Ok(line) => self.recorder.writeln(line.as_str()).is_ok(),
+            Err(_) => false,
+        };
+        if !self.is_whole {
             // Where this fails it isn't told.
             let _ = self
                 .complaints
                 .eprintln("the record can't be written any more");
         }
-    }
-}
-
-/// Writes the line of a call to a record. It tells whether it was written whole.
-fn writes<W: Write>(alloc: Global, layout: &Layout, recorder: &mut W, entry: Entry<'_>) -> bool {
-    match entry_line(alloc, layout, entry) {
-        Ok(line) => recorder.writeln(line.as_str()).is_ok(),
-        Err(_) => false,
     }
 }
 
@@ -100,9 +98,11 @@ impl<'a, O: Outside, W: Write, E: Eprint> Outside for Recorded<'a, O, W, E> {
     }
 
     fn next_datagram(&mut self) -> Option<Arrived> {
-        let arrived = self.outside.next_datagram()?;
-        self.note(Entry::Comes(arrived.from, arrived.bytes.as_slice()));
-        Some(arrived)
+        let next = self.outside.next_datagram();
+        if let Some(arrived) = &next {
+            self.note(Entry::Comes(arrived.from, arrived.bytes.as_slice()));
+        }
+        next
     }
 
     fn throw_away(&mut self) {
