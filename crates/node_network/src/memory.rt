@@ -264,8 +264,10 @@ fn take_datagram(
 /// A datagram that came. One that is too long is cut.
 fn arrived(from: Option<NodeId>, bytes: &[u8]) -> Option<Arrived> {
     let (front, _) = bytes.split_at(bytes.len().min(LONGEST));
-    let bytes = Received::try_from(front).ok()?;
-    Some(Arrived { from, bytes })
+    match Received::try_from(front) {
+        Ok(bytes) => Some(Arrived { from, bytes }),
+        Err(_) => None,
+    }
 }
 
 /// The call by which a line was asked for, with what was answered.
