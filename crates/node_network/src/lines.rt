@@ -7,6 +7,7 @@ ghost use Rattle.node_network.specs.declared.lines.Kind.TheVariants.{Field, Oper
 
 use crate::connection_lines::ConnectionLines;
 use crate::fault::OpenFault;
+use crate::line_output::write_line;
 use crate::other_end::write_line_to;
 use crate::stream_lines::{OperatorLines, StreamLines};
 use node_drive::{BrokenOff, NextLine};
@@ -83,8 +84,8 @@ impl<R: Net, I: Read, O: Write> Lines<R, I, O> {
 
     pub(crate) fn write_line(&mut self, alloc: Global, text: &str) -> Result<(), BrokenOff> {
         match &mut self.kind {
-            Kind::Field(lines) => lines.write_line(alloc, text),
-            Kind::Operator(lines) => lines.streams.write_line(alloc, text),
+            Kind::Field(lines) => write_line(alloc, &mut lines.output, text),
+            Kind::Operator(lines) => write_line(alloc, &mut lines.streams.output, text),
             Kind::Connection(lines) => {
                 // Where it can't be written, nobody is there any more.
                 let _ = write_line_to(&mut lines.operator, alloc, text);

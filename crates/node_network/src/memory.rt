@@ -1,6 +1,6 @@
 //! What a node's process has outside, over memory.
 
-ghost use Rattle.std.specs.Prelude.{◌≡◌, ◌+◌, ◌-◌, [], ◌∷◌, ◌++◌, ℕ, IfOk, List, None, OnOk, Some, map, min, string_bytes, true};
+ghost use Rattle.std.specs.Prelude.{◌≡◌, ◌+◌, ◌-◌, [], ◌∷◌, ◌++◌, ℕ, if◌then◌else◌, IfOk, List, None, OnOk, Some, map, min, string_bytes, true};
 ghost use Rattle.std.specs.Bool.{Decides};
 ghost use Rattle.std.specs.Option.{option_map, option_to_list};
 ghost use Rattle.node_drive.specs.Calls.{Arrival, AsksDatagram, AsksLine, BreaksOff, Sends, Writes, line_heard};
@@ -12,7 +12,6 @@ use node_drive::node_lines::simulator_event::NodeId;
 use node_drive::{Arrived, BrokenOff, NextLine, Outside, Received};
 use std::alloc::{AllocError, Global};
 use std::collections::VecDeque;
-use std::mem;
 
 /// The longest datagram that is received whole.
 const LONGEST: usize = 512;
@@ -81,7 +80,9 @@ impl MemoryOutside {
         ensures before { result ≡ self.old.failing }
         ensures failing { self.new ≡ record self.old { failing = calls } }
     {
-        mem::replace(&mut self.failing, calls)
+        let before = self.failing;
+        self.failing = calls;
+        before
     }
 
     /// What was called so far, oldest first, as far as it was kept.
@@ -190,12 +191,9 @@ impl Outside for MemoryOutside {
     }
 
     fn write_line(&mut self, text: &str) -> Result<(), BrokenOff> {
-        if keep_line(self.alloc, &mut self.written, text).is_err() {
-            self.log.add(broke_off(self.alloc, text));
-            return Err(BrokenOff);
-        }
-        self.log.add(wrote(self.alloc, text));
-        Ok(())
+        let whole = keep_line(self.alloc, &mut self.written, text).is_ok();
+        self.log.add(written(self.alloc, text, whole));
+        if whole { Ok(()) } else { Err(BrokenOff) }
     }
 
     fn send(&mut self, to: NodeId, bytes: &[u8]) {
@@ -266,8 +264,10 @@ fn take_datagram(
 /// A datagram that came. One that is too long is cut.
 fn arrived(from: Option<NodeId>, bytes: &[u8]) -> Option<Arrived> {
     let (front, _) = bytes.split_at(bytes.len().min(LONGEST));
-    let bytes = Received::try_from(front).ok()?;
-    Some(Arrived { from, bytes })
+    match Received::try_from(front) {
+        Ok(bytes) => Some(Arrived { from, bytes }),
+        Err(_) => None,
+    }
 }
 
 /// The call by which a line was asked for, with what was answered.
@@ -297,18 +297,16 @@ fn heard_datagram(alloc: Global, arrived: &Option<Arrived>) -> Result<OutsideCal
     }
 }
 
-/// The call by which a line was written.
-fn wrote(alloc: Global, text: &str) -> Result<OutsideCall, AllocError>
-    ensures { IfOk result (λ call. call_of call ≡ Writes text.now) }
+/// The call by which a line was written, or wasn't written whole.
+fn written(alloc: Global, text: &str, whole: bool) -> Result<OutsideCall, AllocError>
+    ensures { IfOk result (λ call. call_of call ≡ (if whole then Writes text.now else BreaksOff text.now)) }
 {
-    Ok(OutsideCall::Wrote(String::from_str(alloc, text)?))
-}
-
-/// The call by which a line wasn't written whole.
-fn broke_off(alloc: Global, text: &str) -> Result<OutsideCall, AllocError>
-    ensures { IfOk result (λ call. call_of call ≡ BreaksOff text.now) }
-{
-    Ok(OutsideCall::BrokeOff(String::from_str(alloc, text)?))
+    let text = String::from_str(alloc, text)?;
+    Ok(if whole {
+        OutsideCall::Wrote(text)
+    } else {
+        OutsideCall::BrokeOff(text)
+    })
 }
 
 /// The call by which bytes were sent.

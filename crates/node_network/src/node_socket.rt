@@ -1,9 +1,9 @@
 //! The socket of a node.
 
-ghost use Rattle.std.specs.Prelude.{◌≡◌, ◌≤◌, Err, IfErr, IfOk, IfSome, IsSomeAnd, Some, length, slice_get};
+ghost use Rattle.std.specs.Prelude.{◌≡◌, ◌≤◌, Err, IfOk, IfSome, IsSomeAnd, length};
 ghost use Rattle.std.specs.Bool.{Decides};
 ghost use Rattle.node_network.specs.Places.{IsNodeOf};
-ghost use Rattle.node_network.specs.declared.fault.OpenFault.TheVariants.{NoAddress, NoSocket};
+ghost use Rattle.node_network.specs.declared.fault.OpenFault.TheVariants.{NoAddress};
 
 use crate::fault::OpenFault;
 use node_drive::node_lines::simulator_event::NodeId;
@@ -26,7 +26,7 @@ pub struct NodeSocket {
 }
 
 impl NodeSocket {
-    /// Opens the socket of a node. It fails where another process has the address.
+    /// Opens the socket of a node, whose calls don't wait. It fails where another process has the address.
     pub fn open(
         net: &impl Net,
         alloc: Global,
@@ -40,7 +40,12 @@ impl NodeSocket {
         let Some(address) = addresses.get(own.0) else {
             return Err(OpenFault::NoAddress);
         };
-        let socket = open_at(net, *address)?;
+        let Ok(socket) = net.bind_udp(*address) else {
+            return Err(OpenFault::NoSocket);
+        };
+        if socket.set_nonblocking(true).is_err() {
+            return Err(OpenFault::NoSocket);
+        }
         let addresses = Vec::from_slice(alloc, addresses)?;
         Ok(NodeSocket { socket, addresses })
     }
@@ -81,26 +86,15 @@ impl NodeSocket {
     }
 }
 
-/// Opens a socket whose calls don't wait.
-fn open_at(net: &impl Net, address: SocketAddr) -> Result<UdpSocket, OpenFault>
-    ensures { IfErr result (λ fault. fault ≡ NoSocket) }
-{
-    let Ok(socket) = net.bind_udp(address) else {
-        return Err(OpenFault::NoSocket);
-    };
-    match socket.set_nonblocking(true) {
-        Ok(()) => Ok(socket),
-        Err(_) => Err(OpenFault::NoSocket),
-    }
-}
-
 /// Bytes that came from an address.
 fn arrived(addresses: &[SocketAddr], sender: &SocketAddr, bytes: &[u8]) -> Option<Arrived>
     requires { length bytes.now ≤ 512 }
     ensures from { IsSomeAnd result (λ arrived. IsNodeOf addresses.now sender.now arrived.from) }
     ensures bytes { IsSomeAnd result (λ arrived. arrived.bytes.items ≡ bytes.now) }
 {
-    let bytes = Received::try_from(bytes).ok()?;
+    let Ok(bytes) = Received::try_from(bytes) else {
+        return None;
+    };
     let from = node_of(addresses, sender);
     Some(Arrived { from, bytes })
 }
@@ -110,20 +104,11 @@ fn node_of(addresses: &[SocketAddr], address: &SocketAddr) -> Option<NodeId>
     ensures { IsNodeOf addresses.now address.now result }
 {
     for place in 0..addresses.len() {
-        if is_at(addresses, place, address) {
+        if is_same(&addresses[place], address) {
             return Some(NodeId(place));
         }
     }
     None
-}
-
-fn is_at(addresses: &[SocketAddr], place: usize, address: &SocketAddr) -> bool
-    ensures { Decides result (slice_get addresses.now place ≡ Some address.now) }
-{
-    match addresses.get(place) {
-        Some(one) => is_same(one, address),
-        None => false,
-    }
 }
 
 fn is_same(one: &SocketAddr, other: &SocketAddr) -> bool

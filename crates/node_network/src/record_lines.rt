@@ -59,19 +59,26 @@ impl<'a> RecordLines<'a> {
 
     /// What stands behind these words in the next line, which is gone through.
     pub(crate) fn behind(&mut self, words: &str) -> Option<&'a str> {
-        let rest = rest_of(self.next, words)?;
-        self.pass();
-        Some(rest)
+        let rest = rest_of(self.next, words);
+        if rest.is_some() {
+            self.pass();
+        }
+        rest
     }
 
     /// The reading of the clock that the next line tells, if it tells one.
     pub(crate) fn reading(&self) -> Option<u64> {
-        decimal(rest_of(self.next, "at ")?).ok()
+        match rest_of(self.next, "at ") {
+            Some(reading) => decimal(reading).ok(),
+            None => None,
+        }
     }
 }
 
 /// What stands behind these words in the next line.
 fn rest_of<'a>(next: Option<(u64, &'a str)>, words: &str) -> Option<&'a str> {
-    let (_, line) = next?;
-    line.strip_prefix(words)
+    match next {
+        Some((_, line)) => line.strip_prefix(words),
+        None => None,
+    }
 }

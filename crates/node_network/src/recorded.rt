@@ -51,21 +51,17 @@ impl<'a, O: Outside, W: Write + Drop, E: Eprint> Recorded<'a, O, W, E> {
         let Some(recorder) = &mut self.recorder else {
             return;
         };
-        if !writes(self.alloc, self.layout, recorder, entry) {
+        let is_written = match entry_line(self.alloc, self.layout, entry) {
+            Ok(line) => recorder.writeln(line.as_str()).is_ok(),
+            Err(_) => false,
+        };
+        if !is_written {
             self.recorder = None;
             // Where this fails it isn't told.
             let _ = self
                 .complaints
                 .eprintln("the record can't be written any more");
         }
-    }
-}
-
-/// Writes the line of a call to a record. It tells whether it was written whole.
-fn writes<W: Write>(alloc: Global, layout: &Layout, recorder: &mut W, entry: Entry<'_>) -> bool {
-    match entry_line(alloc, layout, entry) {
-        Ok(line) => recorder.writeln(line.as_str()).is_ok(),
-        Err(_) => false,
     }
 }
 
@@ -101,9 +97,11 @@ impl<'a, O: Outside, W: Write + Drop, E: Eprint> Outside for Recorded<'a, O, W, 
     }
 
     fn next_datagram(&mut self) -> Option<Arrived> {
-        let arrived = self.outside.next_datagram()?;
-        self.note(Entry::Comes(arrived.from, arrived.bytes.as_slice()));
-        Some(arrived)
+        let next = self.outside.next_datagram();
+        if let Some(arrived) = &next {
+            self.note(Entry::Comes(arrived.from, arrived.bytes.as_slice()));
+        }
+        next
     }
 
     fn throw_away(&mut self) {

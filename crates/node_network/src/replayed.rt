@@ -68,9 +68,15 @@ impl<'a> Replayed<'a> {
 
 /// A datagram as a line has it, behind its first word.
 fn arrived(layout: &Layout, rest: &str) -> Option<Arrived> {
-    let (word, bytes) = rest.split_once(' ')?;
-    let bytes = hexadecimal_or_none(bytes).ok()?;
-    let bytes = Received::try_from(bytes.as_slice()).ok()?;
+    let Some((word, bytes)) = rest.split_once(' ') else {
+        return None;
+    };
+    let Ok(bytes) = hexadecimal_or_none(bytes) else {
+        return None;
+    };
+    let Ok(bytes) = Received::try_from(bytes.as_slice()) else {
+        return None;
+    };
     let from = node_named(layout, word).ok();
     Some(Arrived { from, bytes })
 }
@@ -109,7 +115,10 @@ impl<'a> Outside for Replayed<'a> {
     }
 
     fn next_datagram(&mut self) -> Option<Arrived> {
-        arrived(self.layout, self.lines.behind("from ")?)
+        match self.lines.behind("from ") {
+            Some(rest) => arrived(self.layout, rest),
+            None => None,
+        }
     }
 
     fn throw_away(&mut self) {

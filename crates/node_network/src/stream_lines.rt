@@ -1,14 +1,12 @@
 //! Lines on two streams.
 
-ghost use Rattle.std.specs.Prelude.{◌≡◌, ◌∷◌, [], ◌++◌, IfOk, OnOk, not, true};
-ghost use Rattle.std.specs.Io.KnownBytes.{Appends};
+ghost use Rattle.std.specs.Prelude.{◌≡◌, IfOk, not, true};
 ghost use Rattle.node_drive.specs.declared.outside.NextLine.{NextLine as Answer};
 ghost use Rattle.node_network.specs.Lines.{HandsOn, unless_closed};
 ghost use Rattle.node_network.specs.Listeners.{first_lines};
 
 use crate::line_input::LineInput;
-use crate::line_output::write_line;
-use node_drive::{BrokenOff, NextLine};
+use node_drive::NextLine;
 use std::alloc::{AllocError, Global};
 use std::io::{Read, Write};
 
@@ -27,12 +25,6 @@ impl<I: Read, O: Write> StreamLines<I, O> {
             input: LineInput::new(input),
             output,
         }
-    }
-
-    pub(crate) fn write_line(&mut self, alloc: Global, text: &str) -> Result<(), BrokenOff>
-        ensures { OnOk result (Appends (O.contents self.old.output) (O.contents self.new.output) (text.now ++ 10 ∷ [])) }
-    {
-        write_line(alloc, &mut self.output, text)
     }
 }
 

@@ -29,7 +29,9 @@ impl<S: Read + AsRawFd> Read for WaitedStream<S> {
     ghost remaining = { λ waited. S.remaining waited.stream };
 
     fn read(&mut self, buf: &mut [u8]) -> io::Result<usize> {
-        wait(self.stream.as_raw_fd(), POLLIN, self.millis)?;
+        if would_wait(self.stream.as_raw_fd(), POLLIN, self.millis) {
+            return Err(io::Error::from(ErrorKind::WouldBlock));
+        }
         self.stream.read(buf)
     }
 }
@@ -38,7 +40,9 @@ impl<S: Write + AsRawFd> Write for WaitedStream<S> {
     ghost contents = { λ waited. S.contents waited.stream };
 
     fn write(&mut self, buf: &[u8]) -> io::Result<usize> {
-        wait(self.stream.as_raw_fd(), POLLOUT, self.millis)?;
+        if would_wait(self.stream.as_raw_fd(), POLLOUT, self.millis) {
+            return Err(io::Error::from(ErrorKind::WouldBlock));
+        }
         self.stream.write(buf)
     }
 
@@ -47,16 +51,12 @@ impl<S: Write + AsRawFd> Write for WaitedStream<S> {
     }
 }
 
-/// Listeners until a call doesn't wait, or so long.
-fn wait(stream: RawFd, call: i16, millis: u16) -> io::Result<()> {
+/// Waits until a call wouldn't, or so long. It tells whether the call would wait still.
+fn would_wait(stream: RawFd, call: i16, millis: u16) -> bool {
     let mut asked = [pollfd {
         fd: stream,
         events: call,
         revents: 0,
     }];
-    if net::poll(&mut asked, i32::from(millis)) > 0 {
-        Ok(())
-    } else {
-        Err(io::Error::from(ErrorKind::WouldBlock))
-    }
+    net::poll(&mut asked, i32::from(millis)) <= 0
 }

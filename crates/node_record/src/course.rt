@@ -2,7 +2,7 @@
 
 ghost use Rattle.std.specs.Prelude.{◌≡◌};
 ghost use Rattle.replay_words.specs.Cut.{words};
-ghost use Rattle.node_record.specs.Courses.{ends, first_course, first_of, heard, orders, parted, read_at, step_of, tells, written};
+ghost use Rattle.node_record.specs.Courses.{ends, first_course, heard, orders, parted, read_at, step_of, tells, written};
 
 use crate::known_told::known_said;
 use crate::order_told::{fallen, is_renewed, told_by_order, until_of};
@@ -56,15 +56,6 @@ fn tells(course: Course, told: Option<Told>) -> Step
     }
 }
 
-fn first_of(first: Option<u64>, reading: u64) -> Option<u64>
-    ensures { result ≡ first_of first reading }
-{
-    match first {
-        Some(first) => Some(first),
-        None => Some(reading),
-    }
-}
-
 /// An order has ended by itself at this reading.
 fn ends(role: Role, course: Course, order: Order, until: u64) -> Step
     ensures { result ≡ ends role course order until }
@@ -85,14 +76,12 @@ fn ends(role: Role, course: Course, order: Order, until: u64) -> Step
 fn read_at(role: Role, course: Course, reading: u64) -> Step
     ensures { result ≡ read_at role course reading }
 {
-    let first = first_of(course.first, reading);
-    let order = course.order;
     let now = Course {
-        first,
+        first: course.first.or(Some(reading)),
         reading,
-        order,
+        order: course.order,
     };
-    let Some(order) = order else {
+    let Some(order) = course.order else {
         return tells(now, None);
     };
     match until_of(order) {

@@ -2,9 +2,7 @@
 
 ghost use Rattle.std.specs.Prelude.{◌≡◌};
 ghost use Rattle.replay_words.specs.Cut.{words};
-ghost use Rattle.lane_chart.specs.declared.lane.Kind.TheVariants.{Route as RouteLane};
-ghost use Rattle.replay_lines.specs.Names.{route_named};
-ghost use Rattle.node_record.specs.KnownTold.{aspect_seen, authority_seen, known_said, known_words, link_lane, link_seen, point_lane, position_seen, progress_seen, route_seen, section_lane, section_seen, signal_lane, told_of};
+ghost use Rattle.node_record.specs.KnownTold.{aspect_seen, authority_seen, known_said, known_words, link_lane, link_seen, point_lane, position_seen, progress_seen, section_lane, section_seen, signal_lane, told_of};
 
 use crate::role::{Role, role_of};
 use crate::told::Told;
@@ -48,29 +46,24 @@ fn signal_lane(layout: &Layout, kind: Kind, name: &str) -> Option<Lane>
 fn section_lane(layout: &Layout, name: &str) -> Option<Lane>
     ensures { result ≡ section_lane layout.now name.now }
 {
-    let Ok(section) = section_named(layout, name) else {
-        return None;
-    };
-    let (kind, place) = (Kind::Section, section.0);
-    Some(Lane { kind, place })
+    match section_named(layout, name) {
+        Ok(section) => Some(Lane {
+            kind: Kind::Section,
+            place: section.0,
+        }),
+        Err(_) => None,
+    }
 }
 
 fn point_lane(layout: &Layout, name: &str) -> Option<Lane>
     ensures { result ≡ point_lane layout.now name.now }
 {
-    let Ok(point) = point_named(layout, name) else {
-        return None;
-    };
-    let (kind, place) = (Kind::Position, point.0);
-    Some(Lane { kind, place })
-}
-
-fn route_lane(layout: &Layout, name: &str) -> Lane
-    ensures { result ≡ record { kind = RouteLane; place = (route_named layout.now name.now).0 } }
-{
-    Lane {
-        kind: Kind::Route,
-        place: route_named(layout, name).0,
+    match point_named(layout, name) {
+        Ok(point) => Some(Lane {
+            kind: Kind::Position,
+            place: point.0,
+        }),
+        Err(_) => None,
     }
 }
 
@@ -129,23 +122,16 @@ fn progress_seen(word: &str) -> Option<Seen>
     }
 }
 
-/// The route into which an authority leads.
-fn route_seen(layout: &Layout, mut more: Words<'_>) -> Option<Seen>
-    ensures { result ≡ route_seen layout.now more.entry }
+/// Without authority the aspect is stop, and a route into which one leads has another one.
+fn authority_seen(layout: &Layout, aspect: &str, mut more: Words<'_>) -> Option<Seen>
+    ensures { result ≡ authority_seen layout.now aspect.now more.entry }
 {
+    if aspect == "stop" {
+        return Some(Seen::Authority(None));
+    }
     match more.next() {
         Some(route) => Some(Seen::Authority(Some(route_named(layout, route)))),
         None => None,
-    }
-}
-
-/// Without authority the aspect is stop, and a route has another one.
-fn authority_seen(layout: &Layout, aspect: &str, more: Words<'_>) -> Option<Seen>
-    ensures { result ≡ authority_seen layout.now aspect.now more.entry }
-{
-    match aspect {
-        "stop" => Some(Seen::Authority(None)),
-        _ => route_seen(layout, more),
     }
 }
 
@@ -179,7 +165,11 @@ fn known_words(
             told_of(lane, authority_seen(layout, word, more))
         }
         "indicates" => told_of(signal_lane(layout, Kind::Aspect, name), aspect_seen(word)),
-        "route" => told_of(Some(route_lane(layout, name)), progress_seen(word)),
+        "route" => {
+            let place = route_named(layout, name).0;
+            let kind = Kind::Route;
+            told_of(Some(Lane { kind, place }), progress_seen(word))
+        }
         _ => None,
     }
 }

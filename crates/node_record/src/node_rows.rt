@@ -3,10 +3,10 @@
 ghost use Rattle.std.specs.Prelude.{◌≡◌, IfOk, map};
 ghost use Rattle.std.specs.List.{filter};
 ghost use Rattle.lane_chart.specs.Drawn.{drawn_rows, seen_row};
-ghost use Rattle.node_record.specs.NodeRows.{has_section, is_controller, is_detector_row, is_point_row, is_row_of, is_signal_row, owns};
+ghost use Rattle.node_record.specs.NodeRows.{has_section, is_controller, is_detector_row, is_point_row, is_row_of, is_signal_row};
 
 use crate::role::Role;
-use control_table::layout::{Detector, Layout};
+use control_table::layout::{Detector, Layout, SectionId};
 use lane_chart::{Change, DrawnRow, Row, Sort, Window, drawn_rows};
 use std::alloc::{AllocError, Global};
 
@@ -34,18 +34,12 @@ fn is_point_row(sort: Sort) -> bool
     matches!(sort, Sort::Point | Sort::PointNode)
 }
 
-fn owns(detector: &Detector, section: usize) -> bool
-    ensures { result ≡ owns detector.now section }
-{
-    detector.sections().iter().any(|one| one.0 == section)
-}
-
 /// Whether a detector has a section.
 fn has_section(detectors: &[Detector], detector: usize, section: usize) -> bool
     ensures { result ≡ has_section detectors.now detector section }
 {
     match detectors.get(detector) {
-        Some(detector) => owns(detector, section),
+        Some(detector) => detector.sections().contains(&SectionId(section)),
         None => false,
     }
 }

@@ -4,7 +4,7 @@ ghost use Rattle.std.specs.Prelude.{◌≡◌, ◌++◌, IfOk, OnOk, map};
 ghost use Rattle.std.specs.Option.{option_map, option_to_list};
 ghost use Rattle.replay_words.specs.Read.{decimal};
 ghost use Rattle.node_record.specs.Courses.{parted};
-ghost use Rattle.node_record.specs.NodeChanges.{IsStoryOf, TellsLines, begin_of, begins_at, change_by, is_answer, is_marked, mark_by, said_at, seen_mark};
+ghost use Rattle.node_record.specs.NodeChanges.{IsStoryOf, TellsLines, begin_of, begins_at, change_by, is_marked, mark_by, said_at, seen_mark};
 ghost use Rattle.node_record.specs.inside.Marking.{marked};
 
 use crate::capture::stamp;
@@ -61,23 +61,15 @@ fn add_change(
     Ok(())
 }
 
-/// The first word of an answer to the operator, or of a line that tells that no request is taken yet.
-fn is_answer(word: &str) -> bool
-    ensures { result ≡ is_answer word.now }
-{
-    matches!(word, "accepted" | "refused" | "holding" | "waiting")
-}
-
 /// Whether a line of an interlocking is marked: a command, an answer, or that it takes no request yet.
 fn is_marked(kind: &str, text: &str) -> bool
     ensures { result ≡ is_marked kind.now text.now }
 {
-    if kind == "writes" {
-        let (word, _) = parted(text);
-        is_answer(word)
-    } else {
-        kind == "hears"
+    if kind != "writes" {
+        return kind == "hears";
     }
+    let (word, _) = parted(text);
+    matches!(word, "accepted" | "refused" | "holding" | "waiting")
 }
 
 /// At its first reading a node begins.
@@ -144,22 +136,14 @@ fn add_mark(
 ) -> Result<(), AllocError>
     ensures { OnOk result (map seen_mark happenings.new.items ≡ map seen_mark happenings.old.items ++ option_to_list (option_map marked mark.entry)) }
 {
-    let Some(
-        Mark {
-            line,
-            time,
-            node,
-            words,
-        },
-    ) = mark
-    else {
+    let Some(mark) = mark else {
         return Ok(());
     };
-    let words = String::from_str(alloc, words)?;
+    let words = String::from_str(alloc, mark.words)?;
     happenings.push(Happening {
-        line,
-        time,
-        node,
+        line: mark.line,
+        time: mark.time,
+        node: mark.node,
         words,
     })?;
     Ok(())

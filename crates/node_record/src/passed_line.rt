@@ -1,7 +1,7 @@
 //! The line for a datagram of a record.
 
 ghost use Rattle.std.specs.Prelude.{◌≡◌, IfOk, string_bytes};
-ghost use Rattle.node_record.specs.NodeLines.{came_text, line_text, name_or_none, sent_text, way_text, why_text};
+ghost use Rattle.node_record.specs.NodeLines.{came_text, line_text, name_or_none, way_text, why_text};
 ghost use Rattle.node_record.specs.inside.Passing.{seen};
 
 use crate::passage::{Passed, Reception, Way};
@@ -34,13 +34,6 @@ pub(crate) fn why_text(reception: Reception) -> &'static str
     }
 }
 
-/// To whom a datagram was sent, as a line tells it.
-fn sent_text(alloc: Global, own: &str, to: &str) -> Result<String, AllocError>
-    ensures { IfOk result (λ text. string_bytes text ≡ sent_text own.now to.now) }
-{
-    format!(in alloc; "sent by {own} to {to}")
-}
-
 /// What became of a datagram that came, as a line tells it.
 fn came_text(alloc: Global, own: &str, reception: Reception) -> Result<String, AllocError>
     ensures { IfOk result (λ text. string_bytes text ≡ came_text own.now reception) }
@@ -63,7 +56,8 @@ fn way_text(alloc: Global, layout: &Layout, node: usize, way: Way) -> Result<Str
     match way {
         Way::Sent { to } => {
             let to = node_name(layout, NodeId(to));
-            sent_text(alloc, own, name_or_none(&to))
+            let to = name_or_none(&to);
+            format!(in alloc; "sent by {own} to {to}")
         }
         Way::Came { reception, .. } => came_text(alloc, own, reception),
     }

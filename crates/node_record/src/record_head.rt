@@ -2,7 +2,7 @@
 
 ghost use Rattle.std.specs.Prelude.{◌≡◌};
 ghost use Rattle.replay_words.specs.Cut.{words};
-ghost use Rattle.node_record.specs.Records.{first_said, head_behind, head_said, head_words, is_head, time_said};
+ghost use Rattle.node_record.specs.Records.{first_said, head_behind, head_said, head_words, time_said};
 
 use crate::record_line::node_of;
 use control_table::layout::Layout;
@@ -35,19 +35,13 @@ fn head_words(name: &str, node: usize, mut words: Words<'_>) -> Result<Head, Fau
     let (Some(first), Some(number)) = (words.next(), words.next()) else {
         return Err(Fault::Words);
     };
-    if !is_head(kind, first) {
+    if kind != "node" || first != "first" {
         return Err(Fault::Words);
     }
     if word != name {
         return Err(Fault::Name);
     }
     head_behind(node, number, words)
-}
-
-fn is_head(kind: &str, first: &str) -> bool
-    ensures { result ≡ is_head kind.now first.now }
-{
-    kind == "node" && first == "first"
 }
 
 fn head_behind(node: usize, number: &str, time: Words<'_>) -> Result<Head, Fault>

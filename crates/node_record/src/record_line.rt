@@ -46,10 +46,8 @@ fn other(first: &str, words: Words<'_>) -> Result<RecordLine, Fault>
     ensures { Gives told (other first.now words.entry) result }
 {
     match first {
-        "listens" => alone(words),
-        "closed" => alone(words),
-        "hears" => followed(words),
-        "writes" => followed(words),
+        "listens" | "closed" => alone(words),
+        "hears" | "writes" => followed(words),
         "breaks" => breaks_off(words),
         "complains" => complains(words),
         _ => Err(Fault::Words),

@@ -2,39 +2,28 @@
 
 ghost use Rattle.std.specs.Prelude.{◌≡◌};
 ghost use Rattle.replay_words.specs.Cut.{words};
-ghost use Rattle.node_record.specs.ReportsTold.{position_told, report_said, report_told};
+ghost use Rattle.node_record.specs.ReportsTold.{report_said, report_told};
 
 use crate::role::Role;
 use crate::told::Told;
 use control_table::layout::Layout;
-use control_table::sci_telegram::Position;
 use lane_chart::{Kind, Seen};
 use node_lines::{FieldReport, read_report};
-
-/// What the contacts of a node's point tell.
-fn position_told(role: Role, position: Position) -> Option<Told>
-    ensures { result ≡ position_told role position }
-{
-    match role {
-        Role::Point(place) => {
-            let seen = Seen::Position(Some(position));
-            Some(Told::of(Kind::Position, place, seen))
-        }
-        _ => None,
-    }
-}
 
 /// What a report tells of a lane.
 fn report_told(role: Role, report: FieldReport) -> Option<Told>
     ensures { result ≡ report_told role report }
 {
-    match report {
-        FieldReport::Done { .. } => None,
-        FieldReport::Section { section, occupancy } => {
+    match (report, role) {
+        (FieldReport::Section { section, occupancy }, _) => {
             let seen = Seen::Section(Some(occupancy));
             Some(Told::of(Kind::Section, section.0, seen))
         }
-        FieldReport::Point(position) => position_told(role, position),
+        (FieldReport::Point(position), Role::Point(place)) => {
+            let seen = Seen::Position(Some(position));
+            Some(Told::of(Kind::Position, place, seen))
+        }
+        _ => None,
     }
 }
 

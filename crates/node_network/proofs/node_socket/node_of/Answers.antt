@@ -1,6 +1,6 @@
-use Rattle.std.proofs.Common.{◌≡◌, ◌<◌, ◌+◌, ℕ, Bool, true, false, List, Some, inl, inr, slice_get, subst, arith}
+use Rattle.std.proofs.Common.{◌≡◌, ◌∙◌, ◌<◌, ◌+◌, ℕ, Bool, true, false, List, Some, inl, inr, slice_get, ap, subst, arith}
 use Rattle.std.proofs.lemmas.Bool.{cases_lt}
-use Rattle.std.proofs.lemmas.Option.{slice_get_within}
+use Rattle.std.proofs.lemmas.Option.{get_or_from_slice_get, slice_get-get_or, slice_get_within}
 use Rattle.std.specs.declared.net.socket_addr.SocketAddr.{SocketAddr}
 use Rattle.node_network.proofs.node_socket.node_of.Goals as goal
 
@@ -18,12 +18,15 @@ not_up_to addresses address place earlier here before few there =
 both : {b : Bool} → b ≡ true → b ≡ false → ⊥
 both is isnt = cc
 
-pub returns-then-is_at : goal.returns-then-is_at
-returns-then-is_at c = (c.is_at.ensures.0 c.if-is_at.true, c.loop-place.invariant)
+pub returns-then-is_same : goal.returns-then-is_same
+returns-then-is_same c =
+    let at = slice_get-get_or c.args.addresses.now c.loop-place.place _ c.loop-place-test.true in
+    (at ∙ ap Some (c.is_same.ensures.0 c.if-is_same.true), c.loop-place.invariant)
 
 pub loop-place-preserved : goal.loop-place-preserved
 loop-place-preserved c =
-    not_up_to c.args.addresses.now c.args.address.now c.loop-place.place c.loop-place.invariant (λ there. both (c.is_at.ensures.1 there) c.if-is_at.false)
+    not_up_to c.args.addresses.now c.args.address.now c.loop-place.place c.loop-place.invariant (λ there.
+    both (c.is_same.ensures.1 (get_or_from_slice_get c.args.addresses.now c.loop-place.place c.args.address.now _ there)) c.if-is_same.false)
 
 pub returns : goal.returns
 returns c place there =
