@@ -64,7 +64,6 @@ fn draw(
 }
 
 /// Adds the thing of what is placed, to which its place adds these marks and more.
-#[tactic(auto, using(crate::proofs::ThingsDrawn::one_more))]
 fn add(
     things: &mut Vec<Thing>,
     scene: Scene<'_>,
