@@ -1,5 +1,7 @@
 -- Lists that grow by what comes of one entry after the other.
-use Rattle.std.proofs.Common.{◌≡◌, ◌∙◌, ℕ, ◌+◌, ◌<◌, ◌≤◌, List, [], ◌∷◌, ◌++◌, length, map, take, get_or, ap, sym, append_assoc}
+use Rattle.std.proofs.Common.{◌≡◌, ◌∙◌, ℕ, ◌+◌, ◌<◌, ◌≤◌, List, [], ◌∷◌, ◌++◌, Bool, true, false, length, map, take, get_or, ap, sym, append_assoc, append-nil}
+use Rattle.std.specs.Prelude.{if◌then◌else◌}
+use Rattle.std.proofs.lemmas.Bool.{false≢true}
 use Rattle.std.proofs.lemmas.List.{flat_map_more, map-append, take_all, take_more}
 use Rattle.std.specs.List.{flat_map}
 
@@ -27,3 +29,13 @@ module _ {X A : Type 0} (start : List A) (xs : List X) (i : ℕ) (now : List A) 
 
   pub grown_by_all : (f : X → List A) → length xs ≤ i → now ≡ start ++ flat_map f (take i xs) → now ≡ start ++ flat_map f xs
   grown_by_all f past so_far = so_far ∙ ap (λ l. start ++ flat_map f l) (take_all i xs past)
+
+-- what is added where a test says so, and where it doesn't
+module _ {A : Type 0} (before after more : List A) where
+  pub added : (test is : Bool) → is ≡ test → is ≡ true → after ≡ before ++ more → after ≡ before ++ (if test then more else [])
+  added true is same holds larger = larger
+  added false is same holds larger = absurd (false≢true (sym same ∙ holds))
+
+  pub left : (test is : Bool) → is ≡ test → is ≡ false → after ≡ before → after ≡ before ++ (if test then more else [])
+  left true is same fails kept = absurd (false≢true (sym fails ∙ same))
+  left false is same fails kept = kept ∙ sym (append-nil before)

@@ -36,8 +36,8 @@ fn notes(
     let name = layout.station().name.as_str();
     let below = spot(drawn.left, drawn.bottom + Units(32));
     marks.text("heading", below, Anchor::Start, name)?;
-    let down = all.bottom + LINES;
-    draw_legend(&mut marks, alloc, layout, shown, drawn.left, down)?;
+    let at = spot(drawn.left, all.bottom + LINES);
+    draw_legend(&mut marks, layout, shown, at)?;
     Ok(marks.marks)
 }
 

@@ -107,14 +107,15 @@ pub(crate) fn draw_branch(
     draw_connector(more, sketch, place)
 }
 
-/// Draws the name of a point at the side from which its other leg doesn't part, and the hand of this leg where it is drawn
-/// otherwise than it leads.
+/// Draws the name of a point at the side from which its other leg doesn't part, the hand of this leg where it is drawn
+/// otherwise than it leads, and a ring round it where it protects the flank of the route that is shown.
 pub(crate) fn draw_point(
     marks: &mut Marks,
     more: &mut Marks,
     sketch: &Sketch,
     element: usize,
     name: Name,
+    is_flank: bool,
 ) -> Result<(), AllocError>
     ensures drawn { OnOk result (strokes marks.new.marks.items ≡ strokes marks.old.marks.items) }
     ensures named { OnOk result (written marks.new.marks.items ≡ written marks.old.marks.items ++ name) }
@@ -124,10 +125,13 @@ pub(crate) fn draw_point(
     let up = sketch.is_drawn_up(element);
     let down = if up { Units(16) } else { Units(-8) };
     marks.name("name", x, y + down, Anchor::Middle, name, !up)?;
-    if up == sketch.leads_up(sketch.minor(element)) {
-        return Ok(());
+    if up != sketch.leads_up(sketch.minor(element)) {
+        draw_hand(more, sketch, element)?;
     }
-    draw_hand(more, sketch, element)
+    if is_flank {
+        more.circle("guard", sketch.spot(element), 4)?;
+    }
+    Ok(())
 }
 
 /// Draws the hand of the other leg of a point.
@@ -143,28 +147,7 @@ fn draw_hand(marks: &mut Marks, sketch: &Sketch, element: usize) -> Result<(), A
     marks.text("hand", at, Anchor::Middle, hand)
 }
 
-/// The end of a border that lies away from the plan.
-fn outer_end(sketch: &Sketch, place: Place) -> Spot {
-    let side = sign(sketch.is_right(place));
-    let half = sketch.facts(place.element).half;
-    spot(
-        sketch.x(place.element) - half.times(side),
-        sketch.y(place.element),
-    )
-}
-
-/// Draws the arrow of a border into the plan, and its line.
-fn draw_arrow(marks: &mut Marks, sketch: &Sketch, place: Place) -> Result<(), AllocError>
-    ensures drawn { OnOk result (strokes marks.new.marks.items ≡ strokes marks.old.marks.items ++ border_strokes) }
-    ensures named { OnOk result (written marks.new.marks.items ≡ written marks.old.marks.items) }
-{
-    let outer = outer_end(sketch, place);
-    let tip = moved(outer, sign(sketch.is_right(place)).saturating_mul(10), 0);
-    marks.triangle("arrow", moved(outer, 0, -5), tip, moved(outer, 0, 5))?;
-    marks.line("rail", tip, sketch.port_spot(place))
-}
-
-/// Draws a border: an arrow into the plan, and its name.
+/// Draws a border: an arrow into the plan, its line, and its name.
 pub(crate) fn draw_border(
     marks: &mut Marks,
     more: &mut Marks,
@@ -180,18 +163,16 @@ pub(crate) fn draw_border(
         end: End::End,
     };
     let right = sketch.is_right(place);
-    draw_arrow(marks, sketch, place)?;
+    let side = sign(right);
+    let x = sketch.x(element) - sketch.facts(element).half.times(side);
+    let y = sketch.y(element);
+    let outer = spot(x, y);
+    let tip = moved(outer, side.saturating_mul(10), 0);
+    marks.triangle("arrow", moved(outer, 0, -5), tip, moved(outer, 0, 5))?;
+    marks.line("rail", tip, sketch.port_spot(place))?;
     draw_end(more, sketch, element, right)?;
     let anchor = if right { Anchor::Start } else { Anchor::End };
-    let outer = outer_end(sketch, place);
-    marks.name(
-        "name",
-        Units(outer.x),
-        Units(outer.y) - Units(8),
-        anchor,
-        name,
-        true,
-    )
+    marks.name("name", x, y - Units(8), anchor, name, true)
 }
 
 /// Draws a joint across the line.

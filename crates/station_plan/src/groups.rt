@@ -5,26 +5,10 @@ ghost use Rattle.std.specs.List.{AllZip};
 ghost use Rattle.station_plan.specs.Subjects.{kind_text};
 ghost use Rattle.station_plan.specs.Plan.{AreGroupsOf, Shows, notes_id};
 
-use crate::subjects::{end_word, id_of, kind_word};
+use crate::subjects::{joined, kind_word};
 use crate::thing::{Subject, Thing};
 use drawing::{Group, Mark};
 use std::alloc::{AllocError, Global};
-
-/// The name of a subject.
-fn name_of(subject: &Subject) -> &str {
-    match subject {
-        Subject::Section(name)
-        | Subject::Track(name)
-        | Subject::Point(name)
-        | Subject::Tip(name)
-        | Subject::Left(name)
-        | Subject::Right(name)
-        | Subject::Border(name)
-        | Subject::Joint(name, _)
-        | Subject::Signal(name)
-        | Subject::Detector(name) => name.as_str(),
-    }
-}
 
 /// The words of a thing's class: its kind, its identity, how it is marked, and what is seen of it.
 fn class_of(
@@ -40,17 +24,6 @@ fn class_of(
     format!(in alloc; "{kind} {id}{marked}{state}")
 }
 
-/// What a viewer says of a thing.
-fn title_of(alloc: Global, subject: &Subject) -> Result<String, AllocError> {
-    let kind = kind_word(subject);
-    let name = name_of(subject);
-    let (dot, end) = match subject {
-        Subject::Joint(_, end) => (".", end_word(*end)),
-        _ => ("", ""),
-    };
-    format!(in alloc; "{kind} {name}{dot}{end}")
-}
-
 /// A thing as a group.
 fn group(alloc: Global, thing: Thing) -> Result<Group, AllocError>
     ensures { IfOk result (λ group. Shows thing group) }
@@ -62,7 +35,7 @@ fn group(alloc: Global, thing: Thing) -> Result<Group, AllocError>
         mut marks,
         mut more,
     } = thing;
-    let id = id_of(alloc, &subject)?;
+    let id = joined(alloc, &subject, ".")?;
     let class = class_of(
         alloc,
         &subject,
@@ -70,7 +43,7 @@ fn group(alloc: Global, thing: Thing) -> Result<Group, AllocError>
         marked.as_str(),
         state.as_str(),
     )?;
-    let title = title_of(alloc, &subject)?;
+    let title = joined(alloc, &subject, " ")?;
     marks.append(&mut more)?;
     Ok(Group {
         id,

@@ -5,7 +5,7 @@ use crate::lists::put;
 use crate::sketch::Sketch;
 
 impl Sketch {
-    /// Gives links that pass between two rows beside one another different slots, by how far they reach.
+    /// Finds how far each link reaches, and gives links that pass between two rows beside one another different slots.
     pub(crate) fn level_links(&mut self) {
         for number in 0..self.links.len() {
             if let Some(link) = self.links.get(number).copied() {
@@ -18,7 +18,7 @@ impl Sketch {
     /// A link with its level part: next to the row at which it begins, in the first slot that no earlier link takes beside
     /// it.
     fn levelled(&self, number: usize, link: Link) -> Link {
-        let mut levelled = link;
+        let mut levelled = self.measured(link);
         levelled.above = self.row_above(link);
         levelled.slot = None;
         if !link.is_crossover || link.chain.is_some() {
@@ -51,16 +51,6 @@ impl Sketch {
             from.saturating_sub(1)
         } else {
             from
-        }
-    }
-
-    /// Finds how far each link reaches.
-    pub(crate) fn measure_links(&mut self) {
-        for number in 0..self.links.len() {
-            if let Some(link) = self.links.get(number).copied() {
-                let measured = self.measured(link);
-                put(&mut self.links, number, measured);
-            }
         }
     }
 

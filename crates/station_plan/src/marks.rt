@@ -13,7 +13,7 @@ use std::alloc::{AllocError, Global};
 /// Marks, the lowest first.
 #[derive(Drop)]
 pub(crate) struct Marks {
-    alloc: Global,
+    pub(crate) alloc: Global,
     /// The marks.
     pub(crate) marks: Vec<Mark>,
 }

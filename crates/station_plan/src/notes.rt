@@ -3,11 +3,10 @@
 use crate::element_marks::moved;
 use crate::marks::Marks;
 use crate::shown::{Shown, route_words};
-use crate::sketch::spot;
 use crate::units::Units;
 use control_table::layout::{Layout, Route};
 use drawing::{Anchor, Spot};
-use std::alloc::{AllocError, Global};
+use std::alloc::AllocError;
 
 /// The distance of lines.
 pub(crate) const LINES: Units = Units(17);
@@ -55,19 +54,16 @@ const SEEN_LINES: &[(Sample, &str)] = &[
 /// Draws what the marks of a route and of what is seen mean, from a line on.
 pub(crate) fn draw_legend(
     marks: &mut Marks,
-    alloc: Global,
     layout: &Layout,
     shown: &Shown,
-    x: Units,
-    y: Units,
+    mut at: Spot,
 ) -> Result<(), AllocError> {
-    let mut down = y;
     if let Some(route) = shown.route(layout) {
-        draw_route(marks, alloc, layout, route, spot(x, down))?;
-        down = down + LINES.times(3);
+        draw_route(marks, layout, route, at)?;
+        at = moved(at, 0, LINES.times(3).0);
     }
     if shown.seen.is_some() {
-        draw_lines(marks, spot(x, down), SEEN_LINES)?;
+        draw_lines(marks, at, SEEN_LINES)?;
     }
     Ok(())
 }
@@ -75,12 +71,11 @@ pub(crate) fn draw_legend(
 /// Draws what the marks of a route mean, behind what is said of it.
 fn draw_route(
     marks: &mut Marks,
-    alloc: Global,
     layout: &Layout,
     route: &Route,
     at: Spot,
 ) -> Result<(), AllocError> {
-    let words = route_words(alloc, layout, route)?;
+    let words = route_words(marks.alloc, layout, route)?;
     let sample = Sample::Line("sample path-sample");
     draw_line(marks, at, &sample, words.as_str())?;
     draw_lines(marks, moved(at, 0, LINES.0), ROUTE_LINES)

@@ -34,14 +34,15 @@ fn place(
     placed: &mut Vec<Placed>,
     subject: Subject,
     number: usize,
-    at: Place,
+    element: usize,
+    end: End,
 ) -> Result<(), AllocError>
     ensures { OnOk result (subjects_at placed.new.items ≡ subjects_at placed.old.items ++ subject ∷ []) }
 {
     placed.push(Placed {
         subject,
         number,
-        at,
+        at: Place { element, end },
     })?;
     Ok(())
 }
@@ -50,7 +51,7 @@ fn place_sections(placed: &mut Vec<Placed>, sections: &[Name]) -> Result<(), All
     ensures { OnOk result (subjects_at placed.new.items ≡ subjects_at placed.old.items ++ map section_subject sections.now) }
 {
     for (number, name) in sections.iter().enumerate() {
-        place(placed, Subject::Section(*name), number, NO_PORT)?;
+        place(placed, Subject::Section(*name), number, 0, End::A)?;
     }
     Ok(())
 }
@@ -59,25 +60,9 @@ fn place_tracks(placed: &mut Vec<Placed>, tracks: &[Track]) -> Result<(), AllocE
     ensures { OnOk result (subjects_at placed.new.items ≡ subjects_at placed.old.items ++ map track_subject tracks.now) }
 {
     for (number, track) in tracks.iter().enumerate() {
-        let at = Place {
-            element: number,
-            end: End::A,
-        };
-        place(placed, Subject::Track(track.name), number, at)?;
+        place(placed, Subject::Track(track.name), number, number, End::A)?;
     }
     Ok(())
-}
-
-fn place_leg(
-    placed: &mut Vec<Placed>,
-    leg: Subject,
-    number: usize,
-    element: usize,
-    end: End,
-) -> Result<(), AllocError>
-    ensures { OnOk result (subjects_at placed.new.items ≡ subjects_at placed.old.items ++ leg ∷ []) }
-{
-    place(placed, leg, number, Place { element, end })
 }
 
 /// Places a point: its name, its tip and its two legs.
@@ -90,14 +75,10 @@ fn place_point(
     ensures { OnOk result (subjects_at placed.new.items ≡ subjects_at placed.old.items ++ point_subjects point.now) }
 {
     let name = point.name;
-    let tip = Place {
-        element,
-        end: End::Tip,
-    };
-    place(placed, Subject::Point(name), number, tip)?;
-    place(placed, Subject::Tip(name), number, tip)?;
-    place_leg(placed, Subject::Left(name), number, element, End::Left)?;
-    place_leg(placed, Subject::Right(name), number, element, End::Right)
+    place(placed, Subject::Point(name), number, element, End::Tip)?;
+    place(placed, Subject::Tip(name), number, element, End::Tip)?;
+    place(placed, Subject::Left(name), number, element, End::Left)?;
+    place(placed, Subject::Right(name), number, element, End::Right)
 }
 
 fn place_points(
@@ -121,11 +102,8 @@ fn place_borders(
     ensures { OnOk result (subjects_at placed.new.items ≡ subjects_at placed.old.items ++ map border_subject borders.now) }
 {
     for (number, name) in borders.iter().enumerate() {
-        let at = Place {
-            element: numbers.border(number),
-            end: End::End,
-        };
-        place(placed, Subject::Border(*name), number, at)?;
+        let element = numbers.border(number);
+        place(placed, Subject::Border(*name), number, element, End::End)?;
     }
     Ok(())
 }
@@ -147,7 +125,8 @@ fn place_joint(
     match element_name(layout, joint.first.element) {
         Some(name) => {
             let subject = Subject::Joint(name, joint.first.end);
-            place(placed, subject, 0, numbers.place(joint.first))
+            let at = numbers.place(joint.first);
+            place(placed, subject, 0, at.element, at.end)
         }
         None => Ok(()),
     }
@@ -175,28 +154,16 @@ fn place_signals(
     ensures { OnOk result (subjects_at placed.new.items ≡ subjects_at placed.old.items ++ map signal_subject signals.now) }
 {
     for (number, signal) in signals.iter().enumerate() {
-        let subject = Subject::Signal(signal.name);
-        place(placed, subject, number, numbers.place(signal.at))?;
+        let at = numbers.place(signal.at);
+        place(
+            placed,
+            Subject::Signal(signal.name),
+            number,
+            at.element,
+            at.end,
+        )?;
     }
     Ok(())
-}
-
-/// Places sections, tracks and points.
-fn place_ways(placed: &mut Vec<Placed>, numbers: Numbers, layout: &Layout) -> Result<(), AllocError>
-    ensures { OnOk result (subjects_at placed.new.items ≡ subjects_at placed.old.items ++ (map section_subject layout.now.sections ++ (map track_subject layout.now.tracks ++ flat_map point_subjects layout.now.points))) }
-{
-    place_sections(placed, layout.sections())?;
-    place_tracks(placed, layout.tracks())?;
-    place_points(placed, numbers, layout.points())
-}
-
-/// Places borders, joints and signals.
-fn place_ends(placed: &mut Vec<Placed>, numbers: Numbers, layout: &Layout) -> Result<(), AllocError>
-    ensures { OnOk result (subjects_at placed.new.items ≡ subjects_at placed.old.items ++ (map border_subject layout.now.borders ++ (flat_map (joint_subjects layout.now) layout.now.joints ++ map signal_subject layout.now.signals))) }
-{
-    place_borders(placed, numbers, layout.borders())?;
-    place_joints(placed, numbers, layout, layout.joints())?;
-    place_signals(placed, numbers, layout.signals())
 }
 
 /// Places all that a plan draws above its detection controllers.
@@ -208,6 +175,10 @@ pub(crate) fn place_all(
     requires { placed.old.items ≡ [] }
     ensures { OnOk result (subjects_at placed.new.items ++ map detector_subject layout.now.detectors ≡ subjects layout.now) }
 {
-    place_ways(placed, numbers, layout)?;
-    place_ends(placed, numbers, layout)
+    place_sections(placed, layout.sections())?;
+    place_tracks(placed, layout.tracks())?;
+    place_points(placed, numbers, layout.points())?;
+    place_borders(placed, numbers, layout.borders())?;
+    place_joints(placed, numbers, layout, layout.joints())?;
+    place_signals(placed, numbers, layout.signals())
 }

@@ -13,7 +13,7 @@ use crate::units::{Units, count};
 use control_table::layout::{Detector, Layout, Point, SectionId, Track};
 use control_table::sci_telegram::Name;
 use drawing::{Anchor, Spot};
-use std::alloc::{AllocError, Global};
+use std::alloc::AllocError;
 
 /// The words of a class for the tints.
 const TINTS: [&str; 8] = [
@@ -73,29 +73,12 @@ fn draw_tracks(
     ensures named { OnOk result (written marks.new.marks.items ≡ written marks.old.marks.items) }
 {
     for (number, track) in tracks.iter().enumerate() {
-        draw_track_part(marks, more, layout, sketch, name, number, track)?;
+        if is_named(layout, name, track.section) {
+            draw_band(marks, sketch, number)?;
+            draw_track_label(more, sketch, number, name)?;
+        }
     }
     Ok(())
-}
-
-/// Draws the band of a track, if it lies in the section.
-fn draw_track_part(
-    marks: &mut Marks,
-    more: &mut Marks,
-    layout: &Layout,
-    sketch: &Sketch,
-    name: &Name,
-    number: usize,
-    track: &Track,
-) -> Result<(), AllocError>
-    ensures drawn { OnOk result (strokes marks.new.marks.items ≡ strokes marks.old.marks.items ++ track_bands layout.now name.now track.now) }
-    ensures named { OnOk result (written marks.new.marks.items ≡ written marks.old.marks.items) }
-{
-    if !is_named(layout, name, track.section) {
-        return Ok(());
-    }
-    draw_band(marks, sketch, number)?;
-    draw_track_label(more, sketch, number, name)
 }
 
 /// Draws the bands of the points of a section.
@@ -111,30 +94,13 @@ fn draw_points(
     ensures named { OnOk result (written marks.new.marks.items ≡ written marks.old.marks.items) }
 {
     for (number, point) in points.iter().enumerate() {
-        draw_point_part(marks, more, layout, sketch, name, number, point)?;
+        if is_named(layout, name, point.section) {
+            let element = sketch.numbers.point(number);
+            draw_point_band(marks, sketch, element)?;
+            draw_point_label(more, sketch, element, name)?;
+        }
     }
     Ok(())
-}
-
-/// Draws the bands of a point, if it lies in the section.
-fn draw_point_part(
-    marks: &mut Marks,
-    more: &mut Marks,
-    layout: &Layout,
-    sketch: &Sketch,
-    name: &Name,
-    number: usize,
-    point: &Point,
-) -> Result<(), AllocError>
-    ensures drawn { OnOk result (strokes marks.new.marks.items ≡ strokes marks.old.marks.items ++ point_bands layout.now name.now point.now) }
-    ensures named { OnOk result (written marks.new.marks.items ≡ written marks.old.marks.items) }
-{
-    if !is_named(layout, name, point.section) {
-        return Ok(());
-    }
-    let element = sketch.numbers.point(number);
-    draw_point_band(marks, sketch, element)?;
-    draw_point_label(more, sketch, element, name)
 }
 
 /// Names the section of a track, where it is to be named.
@@ -187,13 +153,12 @@ pub(crate) fn draw_detector(marks: &mut Marks, name: &Name, at: Spot) -> Result<
 /// far down they come.
 pub(crate) fn draw_list(
     more: &mut Marks,
-    alloc: Global,
     names: &[Name],
     detector: &Detector,
     at: Spot,
     letters: usize,
 ) -> Result<Units, AllocError> {
-    let mut words = String::from_str(alloc, ":")?;
+    let mut words = String::from_str(more.alloc, ":")?;
     let before = detector.name().as_str().len();
     draw_names(
         more,

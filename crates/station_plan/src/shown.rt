@@ -1,5 +1,6 @@
 //! What a plan shows beside the layout: a route, and what is seen of a station.
 
+use crate::placed::Placed;
 use crate::section_marks::{detector_of, tint};
 use crate::thing::Subject;
 use control_table::layout::{
@@ -118,10 +119,8 @@ fn mark_way(
     class: &mut String,
     layout: &Layout,
     shown: &Shown,
-    element: Element,
-    end: End,
+    port: Port,
 ) -> Result<(), AllocError> {
-    let port = Port { element, end };
     if let Some(route) = shown.route(layout) {
         mark_path(class, route, port)?;
     }
@@ -166,29 +165,30 @@ fn is_exit(route: Option<&Route>, border: BorderId) -> bool {
     }
 }
 
-/// Marks a subject of this number in its table.
+/// Marks what is placed.
 pub(crate) fn mark(
     class: &mut String,
     layout: &Layout,
     shown: &Shown,
-    subject: &Subject,
-    number: usize,
+    placed: &Placed,
 ) -> Result<(), AllocError> {
+    let number = placed.number;
     let point = PointId(number);
-    let track = Element::Track(TrackId(number));
+    let end = placed.at.end;
     let route = shown.route(layout);
-    match subject {
-        Subject::Section(_) => mark_section(class, layout.detectors(), route, SectionId(number)),
-        Subject::Track(_) => mark_way(class, layout, shown, track, End::A),
-        Subject::Point(_) => add(class, is_flank(layout, shown, point), " flank"),
-        Subject::Tip(_) => mark_way(class, layout, shown, Element::Point(point), End::Tip),
-        Subject::Left(_) => mark_way(class, layout, shown, Element::Point(point), End::Left),
-        Subject::Right(_) => mark_way(class, layout, shown, Element::Point(point), End::Right),
-        Subject::Border(_) => add(class, is_exit(route, BorderId(number)), " exit"),
-        Subject::Joint(..) => Ok(()),
-        Subject::Signal(_) => mark_signal(class, route, SignalId(number)),
-        Subject::Detector(_) => class.push_str(tint(number)),
-    }
+    let element = match placed.subject {
+        Subject::Section(_) => {
+            return mark_section(class, layout.detectors(), route, SectionId(number));
+        }
+        Subject::Point(_) => return add(class, is_flank(layout, shown, point), " flank"),
+        Subject::Border(_) => return add(class, is_exit(route, BorderId(number)), " exit"),
+        Subject::Joint(..) => return Ok(()),
+        Subject::Signal(_) => return mark_signal(class, route, SignalId(number)),
+        Subject::Detector(_) => return class.push_str(tint(number)),
+        Subject::Track(_) => Element::Track(TrackId(number)),
+        Subject::Tip(_) | Subject::Left(_) | Subject::Right(_) => Element::Point(point),
+    };
+    mark_way(class, layout, shown, Port { element, end })
 }
 
 /// What is said of a route.
@@ -200,17 +200,7 @@ pub(crate) fn route_words(
     let name = route.name().as_str();
     let entry = exit_word(layout, Exit::Signal(route.entry()));
     let exit = exit_word(layout, route.exit());
-    words_for(alloc, name, entry, exit, aspect_word(route.aspect()))
-}
-
-/// What is said of a route of a name, between these ends.
-fn words_for(
-    alloc: Global,
-    name: &str,
-    entry: &str,
-    exit: &str,
-    aspect: &str,
-) -> Result<String, AllocError> {
+    let aspect = aspect_word(route.aspect());
     format!(in alloc; "route {name} from {entry} to {exit}, {aspect}")
 }
 

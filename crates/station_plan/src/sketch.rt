@@ -75,35 +75,29 @@ impl Sketch {
         }
     }
 
-    /// Takes up what a layout tells of its elements and their ports.
-    pub(crate) fn take_up(&mut self, layout: &Layout) -> Result<(), AllocError> {
-        self.begin()?;
-        self.read_labels(layout)?;
-        self.join(layout.joints());
-        self.stand(layout.signals());
-        self.mark_fast_legs(layout.routes());
-        Ok(())
-    }
-
-    /// Each element is there, and each port.
-    fn begin(&mut self) -> Result<(), AllocError> {
-        let size = self.numbers.all();
-        self.elements = vec![in self.alloc; UNKNOWN; size]?;
-        self.ports = vec![in self.alloc; UNJOINED; size.saturating_mul(3)]?;
-        Ok(())
-    }
-
-    /// Lays out what was taken up, with its joints, one thing after the other. Nobody else has what is being made, so an error
-    /// drops it in one place.
-    pub(crate) fn lay(&mut self, joints: &[Joint]) -> Result<(), AllocError> {
+    /// Lays out a layout, one thing after the other. Nobody else has what is being made, so an error drops it in one place.
+    pub(crate) fn lay(&mut self, layout: &Layout) -> Result<(), AllocError> {
+        let joints = layout.joints();
+        self.take_up(layout)?;
         self.lay_elements(joints)?;
         self.lay_grid()?;
         self.lay_widths();
         self.set_out(joints)?;
         // Once more, as it is known which links are level between rows.
-        self.measure_links();
         self.level_links();
         self.set_out(joints)
+    }
+
+    /// Takes up what a layout tells of its elements and their ports.
+    fn take_up(&mut self, layout: &Layout) -> Result<(), AllocError> {
+        let size = self.numbers.all();
+        self.elements.resize(size, UNKNOWN)?;
+        self.ports.resize(size.saturating_mul(3), UNJOINED)?;
+        self.read_labels(layout)?;
+        self.join(layout.joints());
+        self.stand(layout.signals());
+        self.mark_fast_legs(layout.routes());
+        Ok(())
     }
 
     /// Finds which way elements lie, how far to the right, and the legs by which rows go on.
@@ -120,7 +114,7 @@ impl Sketch {
     fn lay_grid(&mut self) -> Result<(), AllocError> {
         self.lay_chains();
         self.lay_links()?;
-        self.strands = vec![in self.alloc; NOTHING; self.chains]?;
+        self.strands.resize(self.chains, NOTHING)?;
         self.lay_strands();
         self.lay_rows();
         self.level_links();

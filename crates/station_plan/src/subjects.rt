@@ -1,27 +1,13 @@
 //! The words of what things stand for.
 
-ghost use Rattle.std.specs.Prelude.{◌≡◌, ◌++◌, IfOk, codes, string_bytes};
+ghost use Rattle.std.specs.Prelude.{◌≡◌, ◌++◌, IfOk, string_bytes};
 ghost use Rattle.control_table.specs.Topology.{section_of};
-ghost use Rattle.station_plan.specs.Subjects.{end_text, kind_text, subject_id, same_section, element_name};
+ghost use Rattle.station_plan.specs.Subjects.{kind_text, name_text, own_name, same_section, element_name};
 
 use crate::thing::Subject;
 use control_table::layout::{Element, End, Layout, SectionId};
 use control_table::sci_telegram::Name;
 use std::alloc::{AllocError, Global};
-
-/// The word of a port.
-pub(crate) fn end_word(end: End) -> &'static str
-    ensures { result.now ≡ end_text end }
-{
-    match end {
-        End::A => "a",
-        End::B => "b",
-        End::Tip => "tip",
-        End::Left => "left",
-        End::Right => "right",
-        End::End => "end",
-    }
-}
 
 /// The word of a subject's kind.
 pub(crate) fn kind_word(subject: &Subject) -> &'static str
@@ -41,39 +27,49 @@ pub(crate) fn kind_word(subject: &Subject) -> &'static str
     }
 }
 
-/// The text of a name behind a kind.
-fn named(alloc: Global, kind: &str, name: &Name) -> Result<String, AllocError>
-    ensures { IfOk result (λ text. string_bytes text ≡ kind.now ++ (codes "." ++ name.now)) }
-{
-    let name = name.as_str();
-    format!(in alloc; "{kind}.{name}")
-}
-
-/// The text of a joint.
-fn joint_named(alloc: Global, name: &Name, end: End) -> Result<String, AllocError>
-    ensures { IfOk result (λ text. string_bytes text ≡ codes "joint" ++ (codes "." ++ (name.now ++ (codes "." ++ end_text end)))) }
-{
-    let name = name.as_str();
-    let end = end_word(end);
-    format!(in alloc; "joint.{name}.{end}")
-}
-
-/// The identity of a subject: its kind and its name, joined by a dot.
-pub(crate) fn id_of(alloc: Global, subject: &Subject) -> Result<String, AllocError>
-    ensures { IfOk result (λ text. string_bytes text ≡ subject_id subject.now) }
+/// The name that a subject goes by.
+fn name_of(subject: &Subject) -> &str
+    ensures { result.now ≡ own_name subject.now }
 {
     match subject {
-        Subject::Section(name) => named(alloc, "section", name),
-        Subject::Track(name) => named(alloc, "track", name),
-        Subject::Point(name) => named(alloc, "point", name),
-        Subject::Tip(name) => named(alloc, "tip", name),
-        Subject::Left(name) => named(alloc, "left", name),
-        Subject::Right(name) => named(alloc, "right", name),
-        Subject::Border(name) => named(alloc, "border", name),
-        Subject::Joint(name, end) => joint_named(alloc, name, *end),
-        Subject::Signal(name) => named(alloc, "signal", name),
-        Subject::Detector(name) => named(alloc, "detector", name),
+        Subject::Section(name)
+        | Subject::Track(name)
+        | Subject::Point(name)
+        | Subject::Tip(name)
+        | Subject::Left(name)
+        | Subject::Right(name)
+        | Subject::Border(name)
+        | Subject::Joint(name, _)
+        | Subject::Signal(name)
+        | Subject::Detector(name) => name.as_str(),
     }
+}
+
+/// The word of a joint's port, behind a dot.
+fn end_word(subject: &Subject) -> &'static str
+    ensures { own_name subject.now ++ result.now ≡ name_text subject.now }
+{
+    let Subject::Joint(_, end) = subject else {
+        return "";
+    };
+    match end {
+        End::A => ".a",
+        End::B => ".b",
+        End::Tip => ".tip",
+        End::Left => ".left",
+        End::Right => ".right",
+        End::End => ".end",
+    }
+}
+
+/// The kind and the name of a subject, joined by this.
+pub(crate) fn joined(alloc: Global, subject: &Subject, by: &str) -> Result<String, AllocError>
+    ensures { IfOk result (λ text. string_bytes text ≡ kind_text subject.now ++ (by.now ++ name_text subject.now)) }
+{
+    let kind = kind_word(subject);
+    let name = name_of(subject);
+    let end = end_word(subject);
+    format!(in alloc; "{kind}{by}{name}{end}")
 }
 
 /// Whether two elements lie in one section, or both in none.

@@ -5,7 +5,7 @@ use Rattle.station_plan.proofs.placed.place_signals.Goals as goal
 
 pub loop-number-preserved : goal.loop-number-preserved
 loop-number-preserved c =
-    grows (subjects_at c.args.placed.now.items) c.args.signals.now c.loop-number.number c.index-signals-number.result signal_subject (subjects_at c.loop-number.placed.items) (subjects_at c.place-in-loop-number.new.placed.items)
+    grows (subjects_at c.args.placed.now.items) c.args.signals.now c.loop-number.number c.index-signals-number.result signal_subject (subjects_at c.loop-number.placed.items) (subjects_at c.place.new.placed.items)
     c.loop-number-test.true c.index-signals-number.is c.loop-number.invariant c.in_ok-place.ensures
 
 pub returns : goal.returns

@@ -1,15 +1,27 @@
-use Rattle.std.proofs.Common.{◌∙◌}
-use Rattle.station_plan.specs.Faces.{track_bands}
-use Rattle.station_plan.specs.Strokes.{strokes}
-use Rattle.station_plan.proofs.Grown.{grown_by_all, grows_by_all}
+use Rattle.std.proofs.Common.{◌∙◌, [], ◌∷◌, ap}
+use Rattle.station_plan.specs.Faces.{band, is_named, track_bands}
+use Rattle.station_plan.specs.Strokes.{strokes, written}
+use Rattle.station_plan.proofs.Grown.{added, grown_by_all, grows_by_all, left}
 use Rattle.station_plan.proofs.section_marks.draw_tracks.Goals as goal
+use Rattle.station_plan.proofs.section_marks.draw_tracks.Goals.{then-is_named+in_ok-draw_band+in_ok-draw_track_label, else-is_named}
 
 pub loop-number-preserved : goal.loop-number-preserved
-loop-number-preserved c = (
-  grows_by_all (strokes c.args.marks.now.marks.items) c.args.tracks.now c.loop-number.number c.index-tracks-number.result (track_bands c.args.layout.now c.args.name.now) (strokes c.loop-number.marks.marks.items) (strokes c.draw_track_part.new.marks.marks.items)
-      c.loop-number-test.true c.index-tracks-number.is c.loop-number.invariant.0 c.in_ok-draw_track_part.ensures.drawn,
-  c.in_ok-draw_track_part.ensures.named ∙ c.loop-number.invariant.1,
-)
+loop-number-preserved c =
+    let before = strokes c.loop-number.marks.marks.items in
+    let after = strokes c.if-is_named.marks.marks.items in
+    let named = is_named c.args.layout.now c.args.name.now c.index-tracks-number.result.section in
+    let grows = grows_by_all (strokes c.args.marks.now.marks.items) c.args.tracks.now c.loop-number.number c.index-tracks-number.result (track_bands c.args.layout.now c.args.name.now) before after
+    c.loop-number-test.true c.index-tracks-number.is c.loop-number.invariant.0 in
+    elim c.if-is_named.branch [
+      | then-is_named+in_ok-draw_band+in_ok-draw_track_label w ↦ (
+        grows (added before after (band ∷ []) named c.is_named.result c.is_named.ensures w.if-is_named.true (ap (λ m. strokes m.marks.items) w.marks-is ∙ w.in_ok-draw_band.ensures.drawn)),
+        ap (λ m. written m.marks.items) w.marks-is ∙ (w.in_ok-draw_band.ensures.named ∙ c.loop-number.invariant.1),
+      )
+      | else-is_named w ↦ (
+        grows (left before after (band ∷ []) named c.is_named.result c.is_named.ensures w.if-is_named.false (ap (λ m. strokes m.marks.items) w.marks-is)),
+        ap (λ m. written m.marks.items) w.marks-is ∙ c.loop-number.invariant.1,
+      )
+    ]
 
 pub returns : goal.returns
 returns c = record {

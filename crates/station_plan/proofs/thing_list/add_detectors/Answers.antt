@@ -7,8 +7,8 @@ use Rattle.station_plan.proofs.thing_list.add_detectors.Goals as goal
 pub loop-number-preserved : goal.loop-number-preserved
 loop-number-preserved c = (
   grows (subjects_of c.args.things.now.items) c.args.detectors.now c.loop-number.number c.index-detectors-number.result detector_subject (subjects_of c.loop-number.things.items) (subjects_of c.add-in-loop-number.new.things.items)
-      c.loop-number-test.true c.index-detectors-number.is c.loop-number.invariant.0 (c.in_ok-add.ensures.listed ∙ ap (λ s. subjects_of c.loop-number.things.items ++ s ∷ []) c.in_ok-thing.ensures.stands
-      ∙ ap (λ n. subjects_of c.loop-number.things.items ++ subject.Detector n ∷ []) c.name.ensures),
+      c.loop-number-test.true c.index-detectors-number.is c.loop-number.invariant.0
+      (c.in_ok-add.ensures.listed ∙ ap (λ n. subjects_of c.loop-number.things.items ++ subject.Detector n ∷ []) c.name.ensures),
   c.in_ok-add.ensures.drawn,
 )
 

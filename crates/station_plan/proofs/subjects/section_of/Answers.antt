@@ -1,0 +1,38 @@
+use Rattle.std.proofs.Common.{◌∙◌, ap, length, refl, sym, Option}
+use Rattle.std.proofs.lemmas.Option.{slice_get_past, slice_get_read}
+use Rattle.std.specs.Option.{option_map}
+use Rattle.std.specs.Prelude.{slice_get}
+use Rattle.control_table.specs.Topology.{section_of}
+use Rattle.control_table.specs.layout.declared.entries.Track.{Track}
+use Rattle.control_table.specs.layout.declared.entries.Point.{Point}
+use Rattle.station_plan.proofs.subjects.section_of.Goals as goal
+
+pub returns-in_ok-get-in-Track : goal.returns-in_ok-get-in-Track
+returns-in_ok-get-in-Track c =
+    let place = c.in-Track.track.0 in
+    let lookup = c.in_ok-get-in-Track.ensures.lookup in
+    let here = slice_get_read c.tracks.result.now (length c.tracks.result.now) place c.in_ok-get-in-Track.field-0.now refl lookup.3.0 lookup.1 in
+    let found = ap (λ tracks. slice_get tracks place) (sym c.tracks.ensures) ∙ here in
+    sym (ap (section_of c.args.layout.now) c.in-Track.is ∙ ap (λ (found : Option Track). option_map (λ track. track.section) found) found)
+
+pub returns-in_err-get-in-Track : goal.returns-in_err-get-in-Track
+returns-in_err-get-in-Track c =
+    let place = c.in-Track.track.0 in
+    let past = slice_get_past c.tracks.result.now place c.in_err-get-in-Track.ensures.lookup.3 in
+    let none = ap (λ tracks. slice_get tracks place) (sym c.tracks.ensures) ∙ past in
+    c.from_residual.ensures ∙ sym (ap (section_of c.args.layout.now) c.in-Track.is ∙ ap (λ (found : Option Track). option_map (λ track. track.section) found) none)
+
+pub returns-in_ok-get-in-Point : goal.returns-in_ok-get-in-Point
+returns-in_ok-get-in-Point c =
+    let place = c.in-Point.point.0 in
+    let lookup = c.in_ok-get-in-Point.ensures.lookup in
+    let here = slice_get_read c.points.result.now (length c.points.result.now) place c.in_ok-get-in-Point.field-0.now refl lookup.3.0 lookup.1 in
+    let found = ap (λ points. slice_get points place) (sym c.points.ensures) ∙ here in
+    sym (ap (section_of c.args.layout.now) c.in-Point.is ∙ ap (λ (found : Option Point). option_map (λ point. point.section) found) found)
+
+pub returns-in_err-get-in-Point : goal.returns-in_err-get-in-Point
+returns-in_err-get-in-Point c =
+    let place = c.in-Point.point.0 in
+    let past = slice_get_past c.points.result.now place c.in_err-get-in-Point.ensures.lookup.3 in
+    let none = ap (λ points. slice_get points place) (sym c.points.ensures) ∙ past in
+    c.from_residual-in_err-get-in-Point.ensures ∙ sym (ap (section_of c.args.layout.now) c.in-Point.is ∙ ap (λ (found : Option Point). option_map (λ point. point.section) found) none)
