@@ -8,6 +8,7 @@ use Rattle.capture_file.specs.declared.fault.CaptureFault.TheVariants.{TooLong, 
 use Rattle.capture_file.specs.declared.journey.Endpoint.{Endpoint}
 use Rattle.control_table.specs.layout.Entries.{Site}
 use Rattle.station_check.specs.Failures.{ExplainsTable, Leaves}
+use Rattle.station_check.specs.Report.{IsSound}
 use Rattle.station_check.specs.declared.failure.Failure.{Failure}
 use Rattle.station_check.specs.declared.failure.Failure.TheVariants.{Layout, Table, Line, OutOfMemory, NotWritten}
 use Rattle.node_record.specs.CapturedRecord.{Explains, HasCapture, IsCaptureOf, IsRecordCapture}
@@ -15,10 +16,12 @@ use Rattle.node_record.specs.DecodedRecord.{CanRead, ExplainsRecord, IsDecoded}
 use Rattle.node_record.specs.NodeLines.{lines_text}
 use Rattle.node_record.specs.NodeTraffic.{traffic}
 use Rattle.node_record.specs.RecordLines.{told}
+use Rattle.node_record.specs.Records.{record_said}
 use Rattle.node_record.specs.declared.capture_failure.CaptureFailure.{CaptureFailure}
 use Rattle.node_record.specs.declared.capture_failure.CaptureFailure.TheVariants.{Station, Capture}
 use Rattle.node_record.specs.declared.record.Record.{Record}
 use Rattle.node_record.specs.inside.CapturesSoFar.{IsNoCapture}
+use Rattle.node_record.specs.inside.RecordsRead.{said}
 use Rattle.node_record.specs.inside.SoundTexts.{AreTexts, IsLate}
 
 -- a call is answered with a failure
@@ -79,6 +82,10 @@ pub captured : {F E : Type 0} (bytes : F → List ℕ) (layout name text : List 
     → IfOk tried (λ file. IsCaptureOf given read.head.node (traffic read.head.node 0 (map told read.lines.items)) (bytes file)) → IfOk tried (λ file. IsRecordCapture layout name text given (bytes file))
 captured bytes layout name text site read given (Ok file) are is = record { site = site; sound = are.sound; head = read.head; lines = map told read.lines.items; says = are.says; is = is }
 captured bytes layout name text site read given (Err why) are is = tt
+
+-- texts that were read
+pub are_texts : (layout name text : List ℕ) (site drawn : Site) (read : Record) → IsSound layout site → drawn ≡ site → record_said drawn name text ≡ Ok (said read) → AreTexts layout name text site read
+are_texts layout name text site drawn read sound same says = record { sound = sound; says = subst (λ (s : Site). record_said s name text ≡ Ok (said read)) same says }
 
 -- they can be read
 pub can_read : (layout name text : List ℕ) (site : Site) (read : Record) → AreTexts layout name text site read → CanRead layout name text

@@ -1,6 +1,6 @@
 -- Ends of addresses, one after the other.
-use Rattle.std.proofs.Common.{◌≡◌, ◌∙◌, ℕ, ◌+◌, ◌<◌, ◌≤◌, List, [], ◌∷◌, ◌++◌, length, map, take, get_or, Some, Result, Ok, Err, ap, sym, subst}
-use Rattle.std.specs.Prelude.{IfErr, IfOk}
+use Rattle.std.proofs.Common.{◌≡◌, ◌∙◌, ℕ, ◌+◌, ◌<◌, ◌≤◌, List, [], ◌∷◌, ◌++◌, length, map, take, get_or, slice_get, Some, Result, Ok, Err, ap, sym, subst}
+use Rattle.std.specs.Prelude.{IfErr, IfOk, IsErrAnd}
 use Rattle.std.proofs.lemmas.List.{map-append, take_all, take_more}
 use Rattle.std.specs.declared.net.socket_addr.SocketAddr.{SocketAddr}
 use Rattle.capture_file.specs.declared.journey.Endpoint.{Endpoint}
@@ -11,7 +11,7 @@ use Rattle.station_check.specs.declared.failure.Failure.TheVariants.{Layout, Tab
 use Rattle.node_record.specs.GivenEnds.{AreEnds, Explains, end_at}
 use Rattle.node_record.specs.declared.ends_failure.EndsFailure.{EndsFailure}
 use Rattle.node_record.specs.declared.ends_failure.EndsFailure.TheVariants.{Station, Addresses, NoIpv4}
-use Rattle.node_record.specs.inside.EndsSoFar.{ExplainsOf, HasEnds, HasNoEnd, IsNoEnd}
+use Rattle.node_record.specs.inside.EndsSoFar.{ExplainsOf, HasEnds, HasNoEnd, IsNoEnd, IsNoEndOf}
 
 -- one more
 pub grows : (all : List SocketAddr) (place : ℕ) (one : SocketAddr) (old new : List Endpoint) → place < length all → one ≡ get_or all place one
@@ -24,6 +24,21 @@ grows all place one old new within at added before =
 pub ends : (all : List SocketAddr) (count place : ℕ) (found : List Endpoint) → count ≡ length all → count ≤ place → map end_at (take place all) ≡ map (λ (end : Endpoint). Some end) found
     → map end_at all ≡ map (λ (end : Endpoint). Some end) found
 ends all count place found counted past is = ap (λ l. map end_at l) (sym (take_all place all (rw (sym counted) past))) ∙ is
+
+-- an address has no end, so there are no ends of all
+pub fails : {F : Type 0} (site : Site) (all : List SocketAddr) (place : ℕ) (one : SocketAddr) (why : EndsFailure) (tried : Result F EndsFailure) → slice_get all place ≡ Some one
+    → IsNoEndOf site one place why → IsErrAnd tried (λ told. told ≡ why) → IfErr tried (IsNoEnd site all)
+fails site all place one why (Ok found) there so told = tt
+fails site all place one why (Err other) there so told = subst (IsNoEnd site all) (sym told) (none why so)
+  where
+    none : (why : EndsFailure) → IsNoEndOf site one place why → IsNoEnd site all why
+    none (Station (Layout fault)) so = so
+    none (Station (Table fault)) so = so
+    none (Station (Line fault)) so = so
+    none (Station OutOfMemory) so = tt
+    none (Station NotWritten) so = so
+    none (Addresses fault) so = so
+    none (NoIpv4 name) so = record { place = place; address = one; there = there; named = so.0; none = so.1 }
 
 -- ---- of a text
 

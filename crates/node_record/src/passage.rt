@@ -133,10 +133,10 @@ fn datagram_at<'a>(
 fn add<'a>(all: &mut Vec<Passed<'a>>, one: Option<Passed<'a>>) -> Result<(), AllocError>
     ensures { OnOk result (map seen all.new.items ≡ map seen all.old.items ++ option_to_list (option_map seen one.entry)) }
 {
-    if let Some(one) = one {
-        all.push(one)?;
+    match one {
+        Some(one) => Ok(all.push(one)?),
+        None => Ok(()),
     }
-    Ok(())
 }
 
 /// The datagrams of which the record of the node of this place tells, in their order.

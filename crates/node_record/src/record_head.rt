@@ -69,9 +69,14 @@ fn first_said(word: &str) -> Result<u32, Fault>
 fn time_said(mut words: Words<'_>) -> Result<Option<u64>, Fault>
     ensures { result ≡ time_said words.entry }
 {
-    match (words.next(), words.next(), words.next()) {
-        (None, _, _) => Ok(None),
-        (Some("for"), Some(number), None) => Ok(Some(decimal(number)?)),
-        _ => Err(Fault::Words),
+    let Some(word) = words.next() else {
+        return Ok(None);
+    };
+    let (Some(number), None) = (words.next(), words.next()) else {
+        return Err(Fault::Words);
+    };
+    if word != "for" {
+        return Err(Fault::Words);
     }
+    Ok(Some(decimal(number)?))
 }
