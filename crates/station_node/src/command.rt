@@ -159,7 +159,14 @@ fn run_over<R: Files + Eprint + AllocGlobal, O: Outside + Drop>(
     let recorder = recorder_for(rt, asked, own.first)?;
     let mut recorded = Recorded::new(rt.alloc(), &layout, outside, recorder, rt);
     let for_ms = asked.for_ms.unwrap_or(u64::MAX);
-    run_node(rt.alloc(), table, own.node, own.first, for_ms, &mut recorded)?;
+    run_node(
+        rt.alloc(),
+        table,
+        own.node,
+        own.first,
+        for_ms,
+        &mut recorded,
+    )?;
     Ok(())
 }
 
