@@ -59,7 +59,7 @@ impl<'a> Asked<'a> {
                 } else {
                     Some(self.text)
                 };
-                plan_text(alloc, layout, asked(self.word), picture, out, told)
+                plan_text(alloc, layout, wanted(self.word), picture, out, told)
             }
             _ => check_text(alloc, layout, out, told),
         }
@@ -100,13 +100,13 @@ impl<'a> Asked<'a> {
 }
 
 /// What a word asks for.
-fn asked(word: &str) -> Option<&str> {
+fn wanted(word: &str) -> Option<&str> {
     if word == NOTHING { None } else { Some(word) }
 }
 
 /// A time in milliseconds, if a word asks for one.
 fn millis(word: &str) -> Result<Option<u64>, Failure> {
-    match asked(word) {
+    match wanted(word) {
         Some(word) => match word.parse::<u64>() {
             Ok(millis) => Ok(Some(millis)),
             Err(_) => Err(Failure::Words),
