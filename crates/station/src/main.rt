@@ -26,203 +26,229 @@ use station_record::station_run::{self, Asked as Run, Limits, PageAsked, PanelAs
 use station_record::{
     Asked as Capture, Cut, Endpoint, capture_to_file, chart_text, decode_session_text,
 };
-use std::io::{BufWriter, IsTerminal};
+use std::io::{BufWriter, IsTerminal, Write};
 use std::process::ExitCode;
 
 fn main(rt: HostRuntime) -> ExitCode {
-    let status = match words(&rt, rt.alloc()) {
-        Ok(words) => match read_words(rt.alloc(), words.as_slice()) {
-            Ok(
-                Asked::Check {
-                    layout,
-                    explained,
-                    digest,
-                },
-            ) => check_file(&rt, layout, explained, digest),
-            Ok(
-                Asked::Plan {
-                    layout,
-                    route,
-                    picture,
-                },
-            ) => plan_files(&rt, layout, route, picture),
-            Ok(Asked::Table { layout, csv }) => table_file(&rt, layout, csv),
-            Ok(Asked::Sim { layout, events }) => sim_files(&rt, layout, events),
-            Ok(
-                Asked::Run {
-                    layout,
-                    script,
-                    record,
-                    for_ms,
-                },
-            ) => run_files(&rt, layout, script, record, for_ms),
-            Ok(
-                Asked::Panel {
-                    layout,
-                    port,
-                    record,
-                    for_ms,
-                    node,
-                },
-            ) => {
-                let panelled = Panelled {
-                    port: port_of(port),
-                    record,
-                    for_ms,
-                    node,
-                };
-                panel_file(&rt, layout, panelled)
-            }
-            Ok(
-                Asked::Replay {
-                    layout,
-                    recording,
-                    node,
-                },
-            ) => replay_files(&rt, layout, recording, node),
-            Ok(
-                Asked::Chart {
-                    layout,
-                    recording,
-                    node,
-                    from,
-                    to,
-                },
-            ) => chart_files(&rt, layout, recording, node, Cut { from, to }),
-            Ok(Asked::Decode { word, layout }) => decode_word(&rt, layout, word),
-            Ok(
-                Asked::DecodeSession {
-                    layout,
-                    recording,
-                    node,
-                },
-            ) => decode_files(&rt, layout, recording, node),
-            Ok(
-                Asked::Capture {
-                    layout,
-                    recording,
-                    out,
-                    addresses,
-                    node,
-                    force,
-                },
-            ) => {
-                let files = Capture {
-                    layout,
-                    recording,
-                    endpoints: &[],
-                    out,
-                    force,
-                };
-                capture_files(&rt, files, addresses, node)
-            }
-            Ok(
-                Asked::Node {
-                    layout,
-                    name,
-                    addresses,
-                    operator,
-                    record,
-                    clock,
-                    for_ms,
-                },
-            ) => {
-                let files = Node {
-                    layout,
-                    name,
-                    addresses,
-                    operator,
-                    record,
-                    clock,
-                    for_ms,
-                };
-                node_files(&rt, files)
-            }
-            Err(error) => refuse(&rt, &error),
-        },
-        Err(failure) => fail(&rt, &failure),
+    let status = match answer(&rt) {
+        Ok(status) => status,
+        Err(failure) => {
+            // Where this can't be written, the status has to do.
+            let _ = eprintln!(rt; "{failure}");
+            failure.status()
+        }
     };
     ExitCode::from(status)
 }
 
-/// Prints the help that was asked for, or what is wrong with the command line.
-fn refuse(rt: &HostRuntime, error: &Error) -> u8 {
-    if is_memory(error) {
-        return fail(rt, &Failure::OutOfMemory);
-    }
-    match error.print(rt) {
-        Ok(()) => error.exit_code() as u8,
-        Err(_) => 1,
+/// Does what the command line asks for, and answers the status.
+fn answer(rt: &HostRuntime) -> Result<u8, Failure> {
+    let words = words(rt, rt.alloc())?;
+    match read_words(rt.alloc(), words.as_slice()) {
+        Ok(asked) => match BufWriter::new(rt.alloc(), rt.stdout()) {
+            Ok(mut out) => carry_out(rt, asked, &mut out),
+            Err(_) => Err(Failure::OutOfMemory),
+        },
+        Err(error) => refuse(rt, &error),
     }
 }
 
-/// Tells why a command isn't carried out.
-fn fail(rt: &HostRuntime, failure: &Failure) -> u8 {
-    // Where this can't be written, the status has to do.
-    let _ = eprintln!(rt; "{failure}");
-    failure.status()
+/// Prints the help that was asked for, or what is wrong with the command line.
+fn refuse(rt: &HostRuntime, error: &Error) -> Result<u8, Failure> {
+    if is_memory(error) {
+        return Err(Failure::OutOfMemory);
+    }
+    match error.print(rt) {
+        Ok(()) => Ok(error.exit_code() as u8),
+        Err(_) => Ok(1),
+    }
+}
+
+/// Does what is asked for. What it writes at once goes to `out`, which is standard output.
+fn carry_out<W: Write>(rt: &HostRuntime, asked: Asked<'_>, out: &mut W) -> Result<u8, Failure> {
+    match asked {
+        Asked::Check {
+            layout,
+            explained,
+            digest,
+        } => check(rt, layout, explained, digest, out),
+        Asked::Plan {
+            layout,
+            route,
+            picture,
+        } => plan(rt, layout, route, picture, out),
+        Asked::Table { layout, csv } => table(rt, layout, csv, out),
+        Asked::Sim { layout, events } => sim(rt, layout, events, out),
+        Asked::Run {
+            layout,
+            script,
+            record,
+            for_ms,
+        } => run(rt, layout, script, record, for_ms, out),
+        Asked::Panel {
+            layout,
+            port,
+            record,
+            for_ms,
+            node,
+        } => {
+            let panelled = Panelled {
+                port: port_of(port),
+                record,
+                for_ms,
+                node,
+            };
+            panel(rt, layout, panelled)
+        }
+        Asked::Replay {
+            layout,
+            recording,
+            node,
+        } => replay(rt, layout, recording, node, out),
+        Asked::Chart {
+            layout,
+            recording,
+            node,
+            from,
+            to,
+        } => chart(rt, layout, recording, node, Cut { from, to }, out),
+        Asked::Decode { word, layout } => decode(rt, layout, word, out),
+        Asked::DecodeSession {
+            layout,
+            recording,
+            node,
+        } => decode_session(rt, layout, recording, node, out),
+        Asked::Capture {
+            layout,
+            recording,
+            out,
+            addresses,
+            node,
+            force,
+        } => {
+            let files = Capture {
+                layout,
+                recording,
+                endpoints: &[],
+                out,
+                force,
+            };
+            capture(rt, files, addresses, node)
+        }
+        Asked::Node {
+            layout,
+            name,
+            addresses,
+            operator,
+            record,
+            clock,
+            for_ms,
+        } => {
+            let files = Node {
+                layout,
+                name,
+                addresses,
+                operator,
+                record,
+                clock,
+                for_ms,
+            };
+            node(rt, files)
+        }
+    }
 }
 
 /// `check FILE [--explain] [--digest]`.
-fn check_file(rt: &HostRuntime, file: &str, explained: bool, digest: bool) -> u8 {
-    match text_of(rt, file) {
-        Ok(text) => {
-            let status = report(rt, text.as_str(), explained);
-            if status == 0 && digest {
-                return tell_digest(rt, text.as_str());
-            }
-            status
-        }
-        Err(failure) => fail(rt, &failure),
+fn check<W: Write>(
+    rt: &HostRuntime,
+    file: &str,
+    explained: bool,
+    digest: bool,
+    out: &mut W,
+) -> Result<u8, Failure> {
+    let text = text_of(rt, file)?;
+    let status = if explained {
+        explain_text(rt.alloc(), text.as_str(), out, &mut rt.stderr())
+    } else {
+        check_text(rt.alloc(), text.as_str(), out, &mut rt.stderr())
+    };
+    if status == 0 && digest {
+        return tell_digest(rt, text.as_str());
+    }
+    Ok(status)
+}
+
+/// Prints the digest of a layout.
+fn tell_digest(rt: &HostRuntime, text: &str) -> Result<u8, Failure> {
+    let Ok(digest) = layout_digest(rt.alloc(), text) else {
+        return Err(Failure::OutOfMemory);
+    };
+    match println!(rt; "sha256 {digest}") {
+        Ok(()) => Ok(0),
+        Err(_) => Ok(1),
     }
 }
 
 /// `plan FILE [--route R] [--picture PICTURE]`.
-fn plan_files(rt: &HostRuntime, file: &str, route: Option<&str>, picture: Option<&str>) -> u8 {
-    match picture {
-        Some(picture) => match texts_of(rt, file, picture) {
-            Ok((layout, picture)) => plan(rt, layout.as_str(), route, Some(picture.as_str())),
-            Err(failure) => fail(rt, &failure),
-        },
-        None => match text_of(rt, file) {
-            Ok(layout) => plan(rt, layout.as_str(), route, None),
-            Err(failure) => fail(rt, &failure),
-        },
-    }
+fn plan<W: Write>(
+    rt: &HostRuntime,
+    file: &str,
+    route: Option<&str>,
+    picture: Option<&str>,
+    out: &mut W,
+) -> Result<u8, Failure> {
+    let layout = text_of(rt, file)?;
+    let picture = match picture {
+        Some(picture) => Some(lines_of(rt, picture)?),
+        None => None,
+    };
+    Ok(plan_text(
+        rt.alloc(),
+        layout.as_str(),
+        route,
+        picture.as_deref(),
+        out,
+        &mut rt.stderr(),
+    ))
 }
 
 /// `table FILE [--csv]`.
-fn table_file(rt: &HostRuntime, file: &str, csv: bool) -> u8 {
+fn table<W: Write>(rt: &HostRuntime, file: &str, csv: bool, out: &mut W) -> Result<u8, Failure> {
     let form = if csv { Form::Csv } else { Form::Markdown };
-    match text_of(rt, file) {
-        Ok(text) => table(rt, text.as_str(), form),
-        Err(failure) => fail(rt, &failure),
-    }
+    let text = text_of(rt, file)?;
+    Ok(table_text(rt.alloc(), text.as_str(), form, out, &mut rt.stderr()))
 }
 
 /// `sim FILE EVENTS`.
-fn sim_files(rt: &HostRuntime, layout: &str, events: &str) -> u8 {
-    match texts_of(rt, layout, events) {
-        Ok((layout, events)) => sim(rt, layout.as_str(), events.as_str()),
-        Err(failure) => fail(rt, &failure),
-    }
+fn sim<W: Write>(rt: &HostRuntime, file: &str, events: &str, out: &mut W) -> Result<u8, Failure> {
+    let (layout, events) = texts_of(rt, file, events)?;
+    Ok(sim_text(
+        rt.alloc(),
+        layout.as_str(),
+        events.as_str(),
+        out,
+        &mut rt.stderr(),
+    ))
 }
 
-/// `run FILE --script S --record R --for MS`.
-fn run_files(rt: &HostRuntime, layout: &str, script: &str, record: &str, for_ms: u64) -> u8 {
-    match texts_of(rt, layout, script) {
-        Ok((layout, script)) => {
-            let (layout, script) = (layout.as_str(), script.as_str());
-            let asked = Run {
-                layout,
-                script,
-                record,
-                for_ms,
-            };
-            run(rt, &asked)
-        }
-        Err(failure) => fail(rt, &failure),
-    }
+/// `run FILE --script S --record R --for MS`. How far it has come is shown where standard error is a terminal.
+fn run<W: Write>(
+    rt: &HostRuntime,
+    file: &str,
+    script: &str,
+    record: &str,
+    for_ms: u64,
+    out: &mut W,
+) -> Result<u8, Failure> {
+    let (layout, script) = texts_of(rt, file, script)?;
+    let asked = Run {
+        layout: layout.as_str(),
+        script: script.as_str(),
+        record,
+        for_ms,
+    };
+    let progress = rt.stderr().is_terminal();
+    Ok(station_run::run(rt, &asked, out, &mut rt.stderr(), progress))
 }
 
 /// The version of the program.
@@ -254,20 +280,14 @@ struct Panelled<'a> {
     node: Option<&'a str>,
 }
 
-/// `panel FILE [--port P] [--record R] [--for MS] [--node ADDRESS]`.
-fn panel_file(rt: &HostRuntime, file: &str, panelled: Panelled<'_>) -> u8 {
-    match text_of(rt, file) {
-        Ok(text) => panel_with_plan(rt, text.as_str(), panelled),
-        Err(failure) => fail(rt, &failure),
-    }
-}
-
-/// Opens a panel of a layout. Its track plan is drawn first.
-fn panel_with_plan(rt: &HostRuntime, layout: &str, panelled: Panelled<'_>) -> u8 {
+/// `panel FILE [--port P] [--record R] [--for MS] [--node ADDRESS]`. The track plan is drawn first.
+fn panel(rt: &HostRuntime, file: &str, panelled: Panelled<'_>) -> Result<u8, Failure> {
+    let text = text_of(rt, file)?;
+    let layout = text.as_str();
     let mut plan = Vec::new(rt.alloc());
     let status = plan_text(rt.alloc(), layout, None, None, &mut plan, &mut rt.stderr());
     if status != 0 {
-        return status;
+        return Ok(status);
     }
     let page = PageAsked {
         layout,
@@ -278,14 +298,14 @@ fn panel_with_plan(rt: &HostRuntime, layout: &str, panelled: Panelled<'_>) -> u8
         kind: "world",
         record: panelled.record.unwrap_or(RECORD),
     };
-    match panelled.node {
+    Ok(match panelled.node {
         Some(node) => panel_node(rt, page, node, panelled),
-        None => panel(rt, page, panelled.for_ms),
-    }
+        None => panel_station(rt, page, panelled.for_ms),
+    })
 }
 
 /// Has a station operated from a browser.
-fn panel(rt: &HostRuntime, page: PageAsked<'_>, for_ms: Option<u64>) -> u8 {
+fn panel_station(rt: &HostRuntime, page: PageAsked<'_>, for_ms: Option<u64>) -> u8 {
     let limits = Limits {
         for_ms: for_ms.unwrap_or(u64::MAX),
         memory: MEMORY,
@@ -310,293 +330,148 @@ fn panel_node(rt: &HostRuntime, page: PageAsked<'_>, node: &str, panelled: Panel
 }
 
 /// `replay FILE RECORD [--node NAME]`.
-fn replay_files(rt: &HostRuntime, layout: &str, record: &str, node: Option<&str>) -> u8 {
-    match texts_of(rt, layout, record) {
-        Ok((layout, record)) => match node {
-            Some(name) => replay_node(rt, layout.as_str(), name, record.as_str()),
-            None => replay(rt, layout.as_str(), record.as_str()),
-        },
-        Err(failure) => fail(rt, &failure),
-    }
-}
-
-/// `decode --hex HEX [--layout FILE]`.
-fn decode_word(rt: &HostRuntime, layout: Option<&str>, word: &str) -> u8 {
-    match layout {
-        Some(file) => match text_of(rt, file) {
-            Ok(text) => decode(rt, Some(text.as_str()), word),
-            Err(failure) => fail(rt, &failure),
-        },
-        None => decode(rt, None, word),
-    }
+fn replay<W: Write>(
+    rt: &HostRuntime,
+    file: &str,
+    recording: &str,
+    node: Option<&str>,
+    out: &mut W,
+) -> Result<u8, Failure> {
+    let (layout, recording) = texts_of(rt, file, recording)?;
+    let (layout, recording) = (layout.as_str(), recording.as_str());
+    Ok(match node {
+        Some(name) => {
+            replay_node_text(rt.alloc(), layout, name, recording, out, &mut rt.stderr())
+        }
+        None => replay_text(rt.alloc(), layout, recording, out, &mut rt.stderr()),
+    })
 }
 
 /// `chart FILE RECORD [--node NAME] [--from MS] [--to MS]`.
-fn chart_files(
+fn chart<W: Write>(
     rt: &HostRuntime,
-    layout: &str,
+    file: &str,
     recording: &str,
     node: Option<&str>,
     cut: Cut,
-) -> u8 {
-    match texts_of(rt, layout, recording) {
-        Ok((layout, recording)) => match node {
-            Some(name) => chart_node(rt, layout.as_str(), name, recording.as_str(), cut),
-            None => chart(rt, layout.as_str(), recording.as_str(), cut),
-        },
-        Err(failure) => fail(rt, &failure),
-    }
+    out: &mut W,
+) -> Result<u8, Failure> {
+    let (layout, recording) = texts_of(rt, file, recording)?;
+    let (layout, recording) = (layout.as_str(), recording.as_str());
+    let Cut { from, to } = cut;
+    Ok(match node {
+        Some(name) => {
+            let cut = NodeCut { from, to };
+            chart_node_text(
+                rt.alloc(),
+                layout,
+                name,
+                recording,
+                cut,
+                out,
+                &mut rt.stderr(),
+            )
+        }
+        None => chart_text(rt.alloc(), layout, recording, cut, out, &mut rt.stderr()),
+    })
+}
+
+/// `decode --hex HEX [--layout FILE]`.
+fn decode<W: Write>(
+    rt: &HostRuntime,
+    layout: Option<&str>,
+    word: &str,
+    out: &mut W,
+) -> Result<u8, Failure> {
+    let layout = match layout {
+        Some(file) => Some(text_of(rt, file)?),
+        None => None,
+    };
+    Ok(decode_text(rt.alloc(), layout.as_deref(), word, out, &mut rt.stderr()))
 }
 
 /// `decode FILE RECORD [--node NAME]`.
-fn decode_files(rt: &HostRuntime, layout: &str, recording: &str, node: Option<&str>) -> u8 {
-    match texts_of(rt, layout, recording) {
-        Ok((layout, recording)) => match node {
-            Some(name) => decode_node(rt, layout.as_str(), name, recording.as_str()),
-            None => decode_session(rt, layout.as_str(), recording.as_str()),
-        },
-        Err(failure) => fail(rt, &failure),
-    }
+fn decode_session<W: Write>(
+    rt: &HostRuntime,
+    file: &str,
+    recording: &str,
+    node: Option<&str>,
+    out: &mut W,
+) -> Result<u8, Failure> {
+    let (layout, recording) = texts_of(rt, file, recording)?;
+    let (layout, recording) = (layout.as_str(), recording.as_str());
+    Ok(match node {
+        Some(name) => {
+            decode_node_text(rt.alloc(), layout, name, recording, out, &mut rt.stderr())
+        }
+        None => decode_session_text(rt.alloc(), layout, recording, out, &mut rt.stderr()),
+    })
 }
 
 /// `capture FILE RECORD OUT [--addresses ADDRESSES] [--node NAME] [--force]`, by the names of its files.
-fn capture_files(
+fn capture(
     rt: &HostRuntime,
     files: Capture<'_>,
     addresses: Option<&str>,
     node: Option<&str>,
-) -> u8 {
-    match texts_of(rt, files.layout, files.recording) {
-        Ok((layout, recording)) => match ends_of(rt, layout.as_str(), addresses) {
-            Ok(ends) => {
-                let asked = Capture {
-                    layout: layout.as_str(),
-                    recording: recording.as_str(),
-                    endpoints: &ends,
-                    ..files
-                };
-                capture(rt, &asked, node)
-            }
-            Err(status) => status,
-        },
-        Err(failure) => fail(rt, &failure),
-    }
-}
-
-/// Where the nodes are found, by the file with their addresses, if there is one.
-fn ends_of(rt: &HostRuntime, layout: &str, addresses: Option<&str>) -> Result<Vec<Endpoint>, u8> {
-    let Some(file) = addresses else {
-        return Ok(Vec::new(rt.alloc()));
+) -> Result<u8, Failure> {
+    let (layout, recording) = texts_of(rt, files.layout, files.recording)?;
+    let Some(ends) = ends_of(rt, layout.as_str(), addresses)? else {
+        return Ok(1);
     };
-    match lines_of(rt, file) {
-        Ok(text) => match ends_text(rt.alloc(), layout, text.as_str(), &mut rt.stderr()) {
-            Some(ends) => Ok(ends),
-            None => Err(1),
-        },
-        Err(failure) => Err(fail(rt, &failure)),
-    }
-}
-
-/// Writes the capture of a session, or of the record of the node of this name.
-fn capture(rt: &HostRuntime, asked: &Capture<'_>, node: Option<&str>) -> u8 {
-    match node {
-        Some(name) => {
-            let asked = NodeCapture {
-                layout: asked.layout,
-                name,
-                recording: asked.recording,
-                endpoints: asked.endpoints,
-                out: asked.out,
-                force: asked.force,
-            };
-            capture_node_to_file(rt, &asked, &mut rt.stderr())
-        }
-        None => capture_to_file(rt, asked, &mut rt.stderr()),
-    }
-}
-
-/// Checks a text, with a fault explained or alone.
-fn report(rt: &HostRuntime, text: &str, explained: bool) -> u8 {
-    if explained {
-        explain(rt, text)
-    } else {
-        check(rt, text)
-    }
-}
-
-/// Checks a text, and writes the report at once to standard output.
-fn check(rt: &HostRuntime, text: &str) -> u8 {
-    match BufWriter::new(rt.alloc(), rt.stdout()) {
-        Ok(mut out) => check_text(rt.alloc(), text, &mut out, &mut rt.stderr()),
-        Err(_) => fail(rt, &Failure::OutOfMemory),
-    }
-}
-
-/// Checks a text, and writes the report at once to standard output. A fault is explained.
-fn explain(rt: &HostRuntime, text: &str) -> u8 {
-    match BufWriter::new(rt.alloc(), rt.stdout()) {
-        Ok(mut out) => explain_text(rt.alloc(), text, &mut out, &mut rt.stderr()),
-        Err(_) => fail(rt, &Failure::OutOfMemory),
-    }
-}
-
-/// Writes the track plan of a text at once to standard output.
-fn plan(rt: &HostRuntime, layout: &str, route: Option<&str>, picture: Option<&str>) -> u8 {
-    match BufWriter::new(rt.alloc(), rt.stdout()) {
-        Ok(mut out) => plan_text(
-            rt.alloc(),
-            layout,
-            route,
-            picture,
-            &mut out,
-            &mut rt.stderr(),
-        ),
-        Err(_) => fail(rt, &Failure::OutOfMemory),
-    }
-}
-
-/// Writes the control table of a text at once to standard output.
-fn table(rt: &HostRuntime, text: &str, form: Form) -> u8 {
-    match BufWriter::new(rt.alloc(), rt.stdout()) {
-        Ok(mut out) => table_text(rt.alloc(), text, form, &mut out, &mut rt.stderr()),
-        Err(_) => fail(rt, &Failure::OutOfMemory),
-    }
-}
-
-/// Applies lines of events, and writes each answer to standard output.
-fn sim(rt: &HostRuntime, layout: &str, events: &str) -> u8 {
-    match BufWriter::new(rt.alloc(), rt.stdout()) {
-        Ok(mut out) => sim_text(rt.alloc(), layout, events, &mut out, &mut rt.stderr()),
-        Err(_) => fail(rt, &Failure::OutOfMemory),
-    }
-}
-
-/// Runs a station over sockets, and writes to standard output what is seen of it at the end. How far it has come is shown
-/// where standard error is a terminal.
-fn run(rt: &HostRuntime, asked: &Run<'_>) -> u8 {
-    let progress = rt.stderr().is_terminal();
-    match BufWriter::new(rt.alloc(), rt.stdout()) {
-        Ok(mut out) => station_run::run(rt, asked, &mut out, &mut rt.stderr(), progress),
-        Err(_) => fail(rt, &Failure::OutOfMemory),
-    }
-}
-
-/// Applies a recorded session, and writes to standard output whether it answers the same.
-fn replay(rt: &HostRuntime, layout: &str, record: &str) -> u8 {
-    match BufWriter::new(rt.alloc(), rt.stdout()) {
-        Ok(mut out) => replay_text(rt.alloc(), layout, record, &mut out, &mut rt.stderr()),
-        Err(_) => fail(rt, &Failure::OutOfMemory),
-    }
-}
-
-/// Writes the words of a datagram to standard output.
-fn decode(rt: &HostRuntime, layout: Option<&str>, word: &str) -> u8 {
-    match BufWriter::new(rt.alloc(), rt.stdout()) {
-        Ok(mut out) => decode_text(rt.alloc(), layout, word, &mut out, &mut rt.stderr()),
-        Err(_) => fail(rt, &Failure::OutOfMemory),
-    }
-}
-
-/// Writes the chart of a session to standard output.
-fn chart(rt: &HostRuntime, layout: &str, recording: &str, cut: Cut) -> u8 {
-    match BufWriter::new(rt.alloc(), rt.stdout()) {
-        Ok(mut out) => chart_text(
-            rt.alloc(),
-            layout,
-            recording,
-            cut,
-            &mut out,
-            &mut rt.stderr(),
-        ),
-        Err(_) => fail(rt, &Failure::OutOfMemory),
-    }
-}
-
-/// Writes the chart of a node's record to standard output.
-fn chart_node(rt: &HostRuntime, layout: &str, name: &str, recording: &str, cut: Cut) -> u8 {
-    let Cut { from, to } = cut;
-    let cut = NodeCut { from, to };
-    match BufWriter::new(rt.alloc(), rt.stdout()) {
-        Ok(mut out) => chart_node_text(
-            rt.alloc(),
-            layout,
-            name,
-            recording,
-            cut,
-            &mut out,
-            &mut rt.stderr(),
-        ),
-        Err(_) => fail(rt, &Failure::OutOfMemory),
-    }
-}
-
-/// Writes the datagrams of a session in words to standard output.
-fn decode_session(rt: &HostRuntime, layout: &str, recording: &str) -> u8 {
-    match BufWriter::new(rt.alloc(), rt.stdout()) {
-        Ok(mut out) => {
-            decode_session_text(rt.alloc(), layout, recording, &mut out, &mut rt.stderr())
-        }
-        Err(_) => fail(rt, &Failure::OutOfMemory),
-    }
-}
-
-/// Writes the datagrams of a node's record in words to standard output.
-fn decode_node(rt: &HostRuntime, layout: &str, name: &str, recording: &str) -> u8 {
-    match BufWriter::new(rt.alloc(), rt.stdout()) {
-        Ok(mut out) => decode_node_text(
-            rt.alloc(),
-            layout,
-            name,
-            recording,
-            &mut out,
-            &mut rt.stderr(),
-        ),
-        Err(_) => fail(rt, &Failure::OutOfMemory),
-    }
-}
-
-/// Prints the digest of a layout.
-fn tell_digest(rt: &HostRuntime, text: &str) -> u8 {
-    let Ok(digest) = layout_digest(rt.alloc(), text) else {
-        return fail(rt, &Failure::OutOfMemory);
+    let asked = Capture {
+        layout: layout.as_str(),
+        recording: recording.as_str(),
+        endpoints: &ends,
+        ..files
     };
-    match println!(rt; "sha256 {digest}") {
-        Ok(()) => 0,
-        Err(_) => 1,
+    Ok(match node {
+        Some(name) => capture_node(rt, &asked, name),
+        None => capture_to_file(rt, &asked, &mut rt.stderr()),
+    })
+}
+
+/// Where the nodes are found, by the file with their addresses, if there is one. Where that file is faulty, it was told.
+fn ends_of(
+    rt: &HostRuntime,
+    layout: &str,
+    addresses: Option<&str>,
+) -> Result<Option<Vec<Endpoint>>, Failure> {
+    match addresses {
+        Some(file) => {
+            let text = lines_of(rt, file)?;
+            Ok(ends_text(rt.alloc(), layout, text.as_str(), &mut rt.stderr()))
+        }
+        None => Ok(Some(Vec::new(rt.alloc()))),
     }
 }
 
-/// Applies the record of a node, and writes to standard output whether it does the same.
-fn replay_node(rt: &HostRuntime, layout: &str, name: &str, record: &str) -> u8 {
-    match BufWriter::new(rt.alloc(), rt.stdout()) {
-        Ok(mut out) => {
-            replay_node_text(rt.alloc(), layout, name, record, &mut out, &mut rt.stderr())
-        }
-        Err(_) => fail(rt, &Failure::OutOfMemory),
-    }
-}
-
-/// `node FILE NAME --addresses ADDRESSES [--operator ADDRESS] [--record R] [--clock MS] [--for MS]`, by the names of its files.
-fn node_files(rt: &HostRuntime, files: Node<'_>) -> u8 {
-    match texts_of(rt, files.layout, files.addresses) {
-        Ok((layout, addresses)) => {
-            let asked = Node {
-                layout: layout.as_str(),
-                addresses: addresses.as_str(),
-                ..files
-            };
-            node(rt, &asked)
-        }
-        Err(failure) => fail(rt, &failure),
-    }
+/// Writes the capture of the record of a node.
+fn capture_node(rt: &HostRuntime, asked: &Capture<'_>, name: &str) -> u8 {
+    let asked = NodeCapture {
+        layout: asked.layout,
+        name,
+        recording: asked.recording,
+        endpoints: asked.endpoints,
+        out: asked.out,
+        force: asked.force,
+    };
+    capture_node_to_file(rt, &asked, &mut rt.stderr())
 }
 
 /// How many milliseconds a line may wait until it can be written.
 const PATIENCE: u16 = 50;
 
-/// Runs a node. Its lines go over standard input and output.
-fn node(rt: &HostRuntime, asked: &Node<'_>) -> u8 {
+/// `node FILE NAME --addresses ADDRESSES [--operator ADDRESS] [--record R] [--clock MS] [--for MS]`, by the names of its files.
+/// The lines of the node go over standard input and output.
+fn node(rt: &HostRuntime, files: Node<'_>) -> Result<u8, Failure> {
+    let (layout, addresses) = texts_of(rt, files.layout, files.addresses)?;
+    let asked = Node {
+        layout: layout.as_str(),
+        addresses: addresses.as_str(),
+        ..files
+    };
     let input = WaitedStream::new(rt.stdin(), 0);
     let output = WaitedStream::new(rt.stdout(), PATIENCE);
-    station_node::run(rt, asked, input, output, rt.stderr(), &mut rt.stderr())
+    Ok(station_node::run(rt, &asked, input, output, rt.stderr(), &mut rt.stderr()))
 }

@@ -2,7 +2,7 @@
 use Rattle.std.proofs.Common.{◌≡◌, ◌||◌, ℕ, ◌+◌, ◌<◌, ◌≤◌, List, ap, false, get_or, length, sym, take, ◌∙◌}
 use Rattle.std.proofs.lemmas.List.{take_all}
 use Rattle.std.proofs.lemmas.List.Sums.{fold_more}
-use Rattle.clap.specs.Words.{AddsArg, AddsSubcommand, with_rule, with_subcommand}
+use Rattle.clap.specs.Words.{AddsArg, with_rule, with_subcommand}
 use Rattle.clap.specs.declared.builder.arg.Arg.{Arg}
 use Rattle.clap.specs.declared.builder.command.Command.{Command}
 use Rattle.clap.specs.declared.builder.command.Command.TheViews.{out-Command}
@@ -21,12 +21,12 @@ taken line arguments i other before after arg within was none is local adds =
     (adds.shape local ∙ ((λ j. with_rule (was j) (is j)) ∙ sym next), adds.globals ∙ (λ j. none j || local j))
 
 -- one more command
-pub joined : (line : App) (entries : List Entry) (i : ℕ) (other : Entry) (before command after : Command) → i < length entries
-    → app_of before ≡ with_commands line (take i entries) → app_of command ≡ line_of_entry (get_or entries i other) → (out-Command command).has_globals ≡ false → AddsSubcommand before command after
+pub joined : (line : App) (entries : List Entry) (i : ℕ) (other : Entry) (before after : Command) → i < length entries
+    → app_of before ≡ with_commands line (take i entries) → app_of after ≡ with_subcommand (app_of before) (line_of_entry (get_or entries i other)).top
     → app_of after ≡ with_commands line (take (i + 1) entries)
-joined line entries i other before command after within was is local adds =
+joined line entries i other before after within was is =
     let next = fold_more (λ line entry. with_subcommand line (line_of_entry entry).top) line entries i other within in
-    adds.shape local ∙ ((λ j. with_subcommand (was j) (is j).top) ∙ sym next)
+    is ∙ ((λ j. with_subcommand (was j) (line_of_entry (get_or entries i other)).top) ∙ sym next)
 
 -- and when there is no more
 pub all_taken : (line : App) (arguments : List Argument) (i : ℕ) (now : Command) → length arguments ≤ i → app_of now ≡ with_arguments line (take i arguments) → app_of now ≡ with_arguments line arguments

@@ -1,7 +1,7 @@
 //! The command line of `station`, made of the table of its commands.
 
 ghost use Rattle.std.specs.Prelude.{◌≡◌, IfOk, false};
-ghost use Rattle.clap.specs.Words.{app_of, rule_of};
+ghost use Rattle.clap.specs.Words.{app_of, rule_of, with_subcommand};
 ghost use Rattle.clap.specs.declared.builder.command.Command.TheViews.{out-Command};
 ghost use Rattle.station_command.specs.Line.{station_line};
 ghost use Rattle.station_command.specs.inside.Entries.{line_of_entry, rule_of_argument};
@@ -44,6 +44,20 @@ fn command<'a>(alloc: Global, entry: &Entry) -> Result<Command<'a>, AllocError>
     Ok(line)
 }
 
+/// A command line with the command of an entry, too.
+fn with_entry<'a>(
+    alloc: Global,
+    line: Command<'a>,
+    entry: &Entry,
+) -> Result<Command<'a>, AllocError>
+    ensures { IfOk result (λ more. app_of more ≡ with_subcommand (app_of line.entry) (line_of_entry entry.now).top) }
+{
+    match command(alloc, entry) {
+        Ok(command) => line.subcommand(command),
+        Err(error) => Err(error),
+    }
+}
+
 /// The command line of `station`.
 pub(crate) fn station<'a>(alloc: Global) -> Result<Command<'a>, AllocError>
     ensures { IfOk result (λ line. app_of line ≡ station_line) }
@@ -55,7 +69,7 @@ pub(crate) fn station<'a>(alloc: Global) -> Result<Command<'a>, AllocError>
         .subcommand_required(true)
         .arg_required_else_help(true);
     for entry in COMMANDS {
-        line = line.subcommand(command(alloc, entry)?)?;
+        line = with_entry(alloc, line, entry)?;
     }
     Ok(line)
 }

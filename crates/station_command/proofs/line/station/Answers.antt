@@ -4,8 +4,7 @@ use Rattle.station_command.specs.Line.{alone_line}
 
 pub loop-entry-preserved : goal.loop-entry-preserved
 loop-entry-preserved c =
-    joined alone_line _ c.loop-entry.entry-index _ c.loop-entry.line c.in_ok-command.field-0 c.in_ok-line.line
-    c.loop-entry-test.true c.loop-entry.invariant c.in_ok-command.ensures.0 c.in_ok-command.ensures.1 c.in_ok-line.ensures
+    joined alone_line _ c.loop-entry.entry-index _ c.loop-entry.line c.in_ok-line.line c.loop-entry-test.true c.loop-entry.invariant c.in_ok-line.ensures
 
 pub returns : goal.returns
 returns c = all_joined alone_line _ c.loop-entry.entry-index c.loop-entry.line c.loop-entry-test.false c.loop-entry.invariant
