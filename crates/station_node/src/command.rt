@@ -59,7 +59,9 @@ pub fn run<
             return 1;
         }
     };
-    match begin(rt, asked, table, input, output, complaints) {
+    let ran = begin(rt, asked, &table, input, output, complaints);
+    drop(table);
+    match ran {
         Ok(()) => 0,
         Err(failure) => {
             // Where this can't be written, the status has to do.
@@ -78,7 +80,7 @@ fn begin<
 >(
     rt: &R,
     asked: &Asked<'_>,
-    table: Checked,
+    table: &Checked,
     input: I,
     output: O,
     complaints: E,
@@ -151,22 +153,15 @@ fn open_socket<'a, R: Net + Timer + Eprint + AllocGlobal>(
 fn run_over<R: Files + Eprint + AllocGlobal, O: Outside + Drop>(
     rt: &R,
     asked: &Asked<'_>,
-    table: Checked,
+    table: &Checked,
     own: &Own,
     outside: O,
 ) -> Result<(), NodeFailure> {
-    let layout = table.layout().copy(rt.alloc())?;
     let recorder = recorder_for(rt, asked, own.first)?;
-    let mut recorded = Recorded::new(rt.alloc(), &layout, outside, recorder, rt);
+    let copy = table.copy(rt.alloc())?;
+    let mut recorded = Recorded::new(rt.alloc(), table.layout(), outside, recorder, rt);
     let for_ms = asked.for_ms.unwrap_or(u64::MAX);
-    run_node(
-        rt.alloc(),
-        table,
-        own.node,
-        own.first,
-        for_ms,
-        &mut recorded,
-    )?;
+    run_node(rt.alloc(), copy, own.node, own.first, for_ms, &mut recorded)?;
     Ok(())
 }
 

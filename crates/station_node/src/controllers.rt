@@ -27,7 +27,8 @@ pub(crate) fn run_signal<O: Outside>(
     ensures done { OnOk result ((entry : SignalEntry) → slice_get told.entry.table.now.signals place ≡ Some entry → Controls signal_kind told.entry.table.now Lamp told_nothing (signal_made told.entry.table.now told.entry.first entry) told.entry.for_ms told.entry.begins course.new (O.told outside.old) (O.told outside.new)) }
     ensures stopped { OnErr result ((entry : SignalEntry) → slice_get told.entry.table.now.signals place ≡ Some entry → ControlsCut signal_kind told.entry.table.now Lamp told_nothing (signal_made told.entry.table.now told.entry.first entry) told.entry.for_ms told.entry.begins (O.told outside.old) (O.told outside.new)) }
 {
-    let _opening = open(alloc, told, Equipment::Lamp, course, outside)?;
+    let opening = open(alloc, told, Equipment::Lamp, course, outside)?;
+    drop(opening);
     let now = outside.read_clock();
     let node = SignalNode::new(alloc, told.table, place, now, told.first)?;
     let for_ms = left(told.for_ms, told.begins, now);
@@ -48,7 +49,9 @@ pub(crate) fn run_point<O: Outside>(
     ensures stopped { OnErr result ((entry : PointEntry) → slice_get told.entry.table.now.points place ≡ Some entry → ControlsCut point_kind told.entry.table.now Motor told_position (point_made told.entry.table.now told.entry.first entry) told.entry.for_ms told.entry.begins (O.told outside.old) (O.told outside.new)) }
 {
     let opening = open(alloc, told, Equipment::Motor, course, outside)?;
-    let Some(lies) = opening.position() else {
+    let position = opening.position();
+    drop(opening);
+    let Some(lies) = position else {
         return Ok(());
     };
     let now = outside.read_clock();
@@ -72,7 +75,9 @@ pub(crate) fn run_detector<O: Outside>(
 {
     let own = told.table.layout().detectors()[place].sections();
     let opening = open(alloc, told, Equipment::Sections(own), course, outside)?;
-    let Some(sensed) = opening.occupancies(alloc)? else {
+    let occupancies = opening.occupancies(alloc);
+    drop(opening);
+    let Some(sensed) = occupancies? else {
         return Ok(());
     };
     let now = outside.read_clock();

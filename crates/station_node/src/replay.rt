@@ -69,7 +69,9 @@ fn difference(
     record: &str,
 ) -> Result<Option<u64>, Failure> {
     let table = table_of(alloc, layout)?;
-    difference_of(alloc, &table, name, record)
+    let differs = difference_of(alloc, &table, name, record);
+    drop(table);
+    differs
 }
 
 /// Applies the record of a node of this station.
@@ -124,14 +126,15 @@ fn begun(layout: &Layout, name: &str, line: &str) -> Result<(NodeId, Head), Faul
 /// What it says, where it names this node.
 fn head_said(name: &str, line: &str) -> Result<Head, Fault> {
     let mut words = Words::of(line);
-    let (Some("node"), Some(word), Some("first"), Some(first)) = (
-        words.next(),
-        words.next(),
-        words.next(),
-        words.next(),
-    ) else {
+    let (Some(kind), Some(word)) = (words.next(), words.next()) else {
         return Err(Fault::Words);
     };
+    let (Some(place), Some(first)) = (words.next(), words.next()) else {
+        return Err(Fault::Words);
+    };
+    if kind != "node" || place != "first" {
+        return Err(Fault::Words);
+    }
     if word != name {
         return Err(Fault::Name);
     }

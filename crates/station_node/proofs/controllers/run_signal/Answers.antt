@@ -10,18 +10,18 @@ use Rattle.station_node.proofs.controllers.run_signal.Goals as goal
 pub returns-in_err-node-clause-stopped : goal.returns-in_err-node-clause-stopped
 returns-in_err-node-clause-stopped g c = any_err c.from_residual-in_err-node.result (λ (entry : SignalEntry) there.
     not_made_yet signal_kind c.args.told.table.now Lamp told_nothing (signal_made c.args.told.table.now c.args.told.first entry) c.args.told.for_ms c.args.told.begins
-    (opening_now c.in_ok-_opening._opening).state c.open.new.course (g.O.Outside.told c.args.outside.now) (g.O.Outside.told c.open.new.outside) c.in_ok-_opening.ensures.done tt (refl) c.read_clock-now.result (g.O.Outside.told c.read_clock-now.new.self) c.read_clock-now.ensures)
+    (opening_now c.in_ok-opening.opening).state c.open.new.course (g.O.Outside.told c.args.outside.now) (g.O.Outside.told c.open.new.outside) c.in_ok-opening.ensures.done tt (refl) c.read_clock-now.result (g.O.Outside.told c.read_clock-now.new.self) c.read_clock-now.ensures)
 
 pub returns-clause-done : goal.returns-clause-done
 returns-clause-done g c = map_ok c.live.result (λ ran (entry : SignalEntry) there.
     controls signal_kind c.args.told.table.now Lamp told_nothing (signal_made c.args.told.table.now c.args.told.first entry) c.args.told.for_ms c.args.told.begins
-    (opening_now c.in_ok-_opening._opening).state c.open.new.course (g.O.Outside.told c.args.outside.now) (g.O.Outside.told c.open.new.outside) c.in_ok-_opening.ensures.done tt (refl) c.read_clock-now.result c.left-for_ms.result
+    (opening_now c.in_ok-opening.opening).state c.open.new.course (g.O.Outside.told c.args.outside.now) (g.O.Outside.told c.open.new.outside) c.in_ok-opening.ensures.done tt (refl) c.read_clock-now.result c.left-for_ms.result
     (signal_now c.in_ok-node.node).state (g.O.Outside.told c.read_clock-now.new.self) (g.O.Outside.told c.live.new.outside) c.left-for_ms.ensures c.read_clock-now.ensures
     (ap (λ n. n.state) (c.in_ok-node.ensures.made entry there)) c.live.new.course ran) c.live.ensures.done
 
 pub returns-clause-stopped : goal.returns-clause-stopped
 returns-clause-stopped g c = map_err c.live.result (λ stopped (entry : SignalEntry) there.
     controls_cut signal_kind c.args.told.table.now Lamp told_nothing (signal_made c.args.told.table.now c.args.told.first entry) c.args.told.for_ms c.args.told.begins
-    (opening_now c.in_ok-_opening._opening).state c.open.new.course (g.O.Outside.told c.args.outside.now) (g.O.Outside.told c.open.new.outside) c.in_ok-_opening.ensures.done tt (refl) c.read_clock-now.result c.left-for_ms.result
+    (opening_now c.in_ok-opening.opening).state c.open.new.course (g.O.Outside.told c.args.outside.now) (g.O.Outside.told c.open.new.outside) c.in_ok-opening.ensures.done tt (refl) c.read_clock-now.result c.left-for_ms.result
     (signal_now c.in_ok-node.node).state (g.O.Outside.told c.read_clock-now.new.self) (g.O.Outside.told c.live.new.outside) c.left-for_ms.ensures c.read_clock-now.ensures
     (ap (λ n. n.state) (c.in_ok-node.ensures.made entry there)) stopped) c.live.ensures.stopped
