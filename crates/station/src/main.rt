@@ -19,13 +19,13 @@ use station_command::{
 use station_layout::{Form, explain_text, plan_text, table_text};
 use station_node::node_network::WaitedStream;
 use station_node::{self, Asked as Node, layout_digest, replay_node_text};
-use station_record::station_decode::decode_text;
-use station_record::station_run::replay::station_check::check_text;
-use station_record::station_run::replay::{replay_text, sim_text};
-use station_record::station_run::{self, Asked as Run, Limits, PageAsked, PanelAsked};
-use station_record::{
+use station_run::station_record::replay::station_check::check_text;
+use station_run::station_record::replay::{replay_text, sim_text};
+use station_run::station_record::station_decode::decode_text;
+use station_run::station_record::{
     Asked as Capture, Cut, Endpoint, capture_to_file, chart_text, decode_session_text,
 };
+use station_run::{self, Asked as Run, Limits, PageAsked, PanelAsked};
 use std::io::{BufWriter, IsTerminal, Write};
 use std::process::ExitCode;
 

@@ -1,10 +1,10 @@
 -- Sessions of which a beginning answered as it was recorded.
 use Rattle.std.proofs.Common.{◌≡◌, ◌≢◌, ◌↔◌, IsTrue, Bool, false, ℕ, suc, ◌+◌, ◌≤◌, List, ◌∷◌, length, drop, subst, sym, arith, refl}
 use Rattle.std.proofs.Math.ListN.{drop_of_length-le}
-use Rattle.station_run.specs.replay.World.{AnswersOtherwiseAt, AnswersSame, answer}
-use Rattle.station_run.specs.replay.simulator_run.Tried.{Played, after}
-use Rattle.station_run.specs.replay.replay_lines.Replay.{DiffersBehind, agrees, behind, differs, none}
-use Rattle.station_run.specs.replay.replay_lines.declared.session.Entry.{Entry}
+use Rattle.replay.specs.World.{AnswersOtherwiseAt, AnswersSame, answer}
+use Rattle.replay.specs.simulator_run.Tried.{Played, after}
+use Rattle.replay.specs.replay_lines.Replay.{DiffersBehind, agrees, behind, differs, none}
+use Rattle.replay.specs.replay_lines.declared.session.Entry.{Entry}
 
 -- what a test that failed tells
 pub failed : {P : Type 0} (b : Bool) → (IsTrue b ↔ P) → b ≡ false → P → ⊥

@@ -1,15 +1,15 @@
 -- What is known of an event that was tried.
 use Rattle.std.proofs.Common.{◌≡◌, ◌∙◌, refl, sym, ap, subst, inl, inr, Option, Some, None, Result, Ok, Err}
 use Rattle.std.specs.Prelude.{IfOk}
-use Rattle.station_run.specs.replay.replay_lines.Answers.{recorded}
-use Rattle.station_run.specs.replay.replay_lines.Replay.{Applies}
-use Rattle.station_run.specs.replay.simulator_event.declared.event.Event.{Event}
-use Rattle.station_run.specs.replay.simulator_event.refused.Refused.{Refused}
-use Rattle.station_run.specs.replay.simulator_event.refused.Refused.TheVariants.{OutOfMemory}
-use Rattle.station_run.specs.replay.simulator_event.declared.reply.Answer.{Answer}
-use Rattle.station_run.specs.replay.simulator_event.declared.reply.Reply.{Reply}
-use Rattle.station_run.specs.replay.simulator_run.Happens.{answered}
-use Rattle.station_run.specs.replay.World.{Played, after, answer, answer_where, refusal_of, world_where}
+use Rattle.replay.specs.replay_lines.Answers.{recorded}
+use Rattle.replay.specs.replay_lines.Replay.{Applies}
+use Rattle.replay.specs.simulator_event.declared.event.Event.{Event}
+use Rattle.replay.specs.simulator_event.refused.Refused.{Refused}
+use Rattle.replay.specs.simulator_event.refused.Refused.TheVariants.{OutOfMemory}
+use Rattle.replay.specs.simulator_event.declared.reply.Answer.{Answer}
+use Rattle.replay.specs.simulator_event.declared.reply.Reply.{Reply}
+use Rattle.replay.specs.simulator_run.Happens.{answered}
+use Rattle.replay.specs.World.{Played, after, answer, answer_where, refusal_of, world_where}
 use Rattle.station_record.specs.inside.Late.{IsKnown}
 
 -- why an event can't happen, as its answer tells

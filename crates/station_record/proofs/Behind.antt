@@ -1,8 +1,8 @@
 -- Events lead on, one after the other.
 use Rattle.std.proofs.Common.{◌≡◌, ◌∙◌, ℕ, ◌+◌, ◌<◌, ◌≤◌, List, ◌∷◌, length, drop, get_or, ap, sym}
 use Rattle.std.proofs.lemmas.List.{drop_more, drop_all}
-use Rattle.station_run.specs.replay.replay_lines.declared.session.Entry.{Entry}
-use Rattle.station_run.specs.replay.World.{Played, after}
+use Rattle.replay.specs.replay_lines.declared.session.Entry.{Entry}
+use Rattle.replay.specs.World.{Played, after}
 use Rattle.station_record.specs.Traffic.{left_by}
 
 pub leads : (first : Played) (all : List Entry) (place : ℕ) (this : Entry) (now next : Played) → place < length all → this ≡ get_or all place this → next ≡ after now this.event

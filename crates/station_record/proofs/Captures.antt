@@ -8,11 +8,11 @@ use Rattle.capture_file.specs.Captures.{IsCapture}
 use Rattle.capture_file.specs.Journeys.{Sent}
 use Rattle.capture_file.specs.declared.fault.CaptureFault.TheVariants.{TooLong, Exists, CannotWrite}
 use Rattle.capture_file.specs.declared.journey.Endpoint.{Endpoint}
-use Rattle.station_run.specs.replay.rasta_core.Links.{OnLink}
-use Rattle.station_run.specs.replay.World.{IsFirst, Played}
-use Rattle.station_run.specs.replay.layout.Entries.{Site}
-use Rattle.station_run.specs.replay.replay_lines.declared.session.Entry.{Entry}
-use Rattle.station_run.specs.replay.station_check.declared.failure.Failure.TheVariants.{Layout, Table, Line, OutOfMemory, NotWritten}
+use Rattle.replay.specs.rasta_core.Links.{OnLink}
+use Rattle.replay.specs.World.{IsFirst, Played}
+use Rattle.replay.specs.layout.Entries.{Site}
+use Rattle.replay.specs.replay_lines.declared.session.Entry.{Entry}
+use Rattle.replay.specs.station_check.declared.failure.Failure.TheVariants.{Layout, Table, Line, OutOfMemory, NotWritten}
 use Rattle.station_record.specs.CapturedSession.{IsCaptureOf, IsFileOf, captured}
 use Rattle.station_record.specs.Traffic.{left_by}
 use Rattle.station_record.specs.declared.capture_failure.CaptureFailure.{CaptureFailure}

@@ -1,10 +1,10 @@
 -- Why a session isn't told to its end, and what that says of the texts and leaves of the output.
 use Rattle.std.proofs.Common.{◌≡◌, ℕ, List, Result, Ok, Err, refl, subst, sym}
 use Rattle.std.specs.Prelude.{IfErr, IsErrAnd}
-use Rattle.station_run.specs.replay.ReplayedSession.{CanReplay, Explains}
-use Rattle.station_run.specs.replay.station_check.Failures.{Leaves}
-use Rattle.station_run.specs.replay.station_check.declared.failure.Failure.{Failure}
-use Rattle.station_run.specs.replay.station_check.declared.failure.Failure.TheVariants.{Layout, Table, Line, OutOfMemory, NotWritten}
+use Rattle.replay.specs.ReplayedSession.{CanReplay, Explains}
+use Rattle.replay.specs.station_check.Failures.{Leaves}
+use Rattle.replay.specs.station_check.declared.failure.Failure.{Failure}
+use Rattle.replay.specs.station_check.declared.failure.Failure.TheVariants.{Layout, Table, Line, OutOfMemory, NotWritten}
 use Rattle.station_record.specs.inside.Late.{IsLate}
 
 -- a call is answered with a failure

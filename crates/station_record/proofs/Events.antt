@@ -2,8 +2,8 @@
 use Rattle.std.proofs.Common.{◌≡◌, ◌∙◌, ℕ, ◌+◌, ◌≤◌, List, [], ◌∷◌, ◌++◌, length, drop, map, refl, ap, sym, subst}
 use Rattle.std.proofs.Math.ListN.{drop_of_length-le}
 use Rattle.std.proofs.lemmas.List.{append-nil, append_assoc}
-use Rattle.station_run.specs.replay.simulator_run.Tried.{Played, after}
-use Rattle.station_run.specs.replay.replay_lines.declared.session.Entry.{Entry}
+use Rattle.replay.specs.simulator_run.Tried.{Played, after}
+use Rattle.replay.specs.replay_lines.declared.session.Entry.{Entry}
 use Rattle.station_record.specs.Changes.{TellsEvents, TellsLanes, watch_of}
 use Rattle.station_record.specs.Marks.{Mark, mark_of, marks_of}
 use Rattle.station_record.specs.Story.{world_behind}

@@ -5,12 +5,12 @@ use Rattle.std.proofs.KnownBytes.{Appends-nil, Appends-trans, Appends-kept}
 use Rattle.std.proofs.lemmas.Grind.{flat_map-append}
 use Rattle.std.proofs.lemmas.List.{drop_more, drop_all}
 use Rattle.std.specs.Io.KnownBytes.{Appends, Keeps}
-use Rattle.station_run.specs.replay.replay_lines.declared.session.Entry.{Entry}
-use Rattle.station_run.specs.replay.layout.Entries.{Site}
-use Rattle.station_run.specs.replay.rasta_core.Links.{OnLink}
-use Rattle.station_run.specs.replay.simulator_event.declared.event.Event.{Event}
-use Rattle.station_run.specs.replay.simulator_event.refused.Refused.{Refused}
-use Rattle.station_run.specs.replay.World.{IsFirst, Played, after, refusal_of}
+use Rattle.replay.specs.replay_lines.declared.session.Entry.{Entry}
+use Rattle.replay.specs.layout.Entries.{Site}
+use Rattle.replay.specs.rasta_core.Links.{OnLink}
+use Rattle.replay.specs.simulator_event.declared.event.Event.{Event}
+use Rattle.replay.specs.simulator_event.refused.Refused.{Refused}
+use Rattle.replay.specs.World.{IsFirst, Played, after, refusal_of}
 use Rattle.station_record.specs.DecodedSession.{IsTold}
 use Rattle.station_record.specs.Lines.{line_text, lines_text}
 use Rattle.station_record.specs.Traffic.{OnWire, by_event, done_by, sent_behind, traffic, with_done}

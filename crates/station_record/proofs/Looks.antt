@@ -3,9 +3,10 @@ use Rattle.std.proofs.Common.{◌≡◌, ◌∙◌, ◌↔◌, ℕ, ◌+◌, ◌
 use Rattle.std.proofs.Math.ListN.{drop_of_length-le}
 use Rattle.std.proofs.lemmas.Bool.{false≢true}
 use Rattle.std.proofs.lemmas.List.{append-nil, append_assoc}
-use Rattle.station_run.specs.replay.simulator_run.Tried.{Played}
+use Rattle.replay.specs.simulator_run.Tried.{Played}
 use Rattle.station_record.specs.Changes.{TellsLane, TellsLanes, change_to, watch_of}
 use Rattle.station_record.specs.Seen.{seen_at}
+use Rattle.station_record.specs.inside.FirstChanges.{first_change}
 use Rattle.lane_chart.specs.declared.change.Change.{Change}
 use Rattle.station_record.specs.declared.watch.Watch.{Watch}
 use Rattle.lane_chart.specs.declared.lane.Lane.{Lane}
@@ -75,6 +76,14 @@ seen_close view all place old past so = sym (append-nil old) ∙ ap (λ xs. old 
 pub watched_again : (old new : Played) (lanes : List Lane) → map (λ (watch : Watch). watch_of new watch.lane) (map (watch_of old) lanes) ≡ map (watch_of new) lanes
 watched_again old new [] = refl
 watched_again old new (lane ∷ lanes) = ap (λ ws. watch_of new lane ∷ ws) (watched_again old new lanes)
+
+-- that lanes show this at first, by what was seen of them
+first_shown : (world : Played) (lanes : List Lane) → map (first_change world.run.time) (map (watch_of world) lanes) ≡ map (change_to 0 world) lanes
+first_shown world [] = refl
+first_shown world (lane ∷ lanes) = ap (λ cs. change_to 0 world lane ∷ cs) (first_shown world lanes)
+
+pub first_told : (world : Played) (time : ℕ) (lanes : List Lane) → time ≡ world.run.time → map (first_change time) (map (watch_of world) lanes) ≡ map (change_to 0 world) lanes
+first_told world time lanes at = ap (λ t. map (first_change t) (map (watch_of world) lanes)) at ∙ first_shown world lanes
 
 -- the lane of which something is told
 abbrev pub watch_told : (line : ℕ) (now : Played) (watch : Watch) (old new : List Change) → Tells line now watch old new → Watch

@@ -4,9 +4,9 @@ use Rattle.capture_file.specs.Faults.{IsOfFile}
 use Rattle.capture_file.specs.declared.fault.CaptureFault.{CaptureFault}
 use Rattle.capture_file.specs.declared.fault.CaptureFault.TheVariants.{TooLong, Exists, CannotWrite}
 use Rattle.capture_file.specs.declared.journey.Endpoint.{Endpoint}
-use Rattle.station_run.specs.replay.layout.Entries.{Site}
-use Rattle.station_run.specs.replay.replay_lines.declared.session.Entry.{Entry}
-use Rattle.station_run.specs.replay.station_check.declared.failure.Failure.TheVariants.{Layout, Table, Line, OutOfMemory, NotWritten}
+use Rattle.replay.specs.layout.Entries.{Site}
+use Rattle.replay.specs.replay_lines.declared.session.Entry.{Entry}
+use Rattle.replay.specs.station_check.declared.failure.Failure.TheVariants.{Layout, Table, Line, OutOfMemory, NotWritten}
 use Rattle.station_record.specs.CapturedSession.{Explains, Leaves}
 use Rattle.station_record.specs.CaptureFiles.{Explains as ExplainsFile, HasCapture}
 use Rattle.station_record.specs.declared.capture_failure.CaptureFailure.{CaptureFailure}

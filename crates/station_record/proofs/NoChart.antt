@@ -1,36 +1,23 @@
 -- Why nothing is drawn, and what that says of the texts.
 use Rattle.std.proofs.Common.{◌≡◌, ℕ, List, Result, Ok, Err, refl, subst, sym}
-use Rattle.std.specs.Prelude.{IsErrAnd, IsOk}
-use Rattle.station_run.specs.replay.ReplayedSession.{CanReplay}
-use Rattle.station_run.specs.replay.layout.Entries.{Site}
-use Rattle.station_run.specs.replay.replay_lines.Session.{session}
-use Rattle.station_run.specs.replay.replay_lines.Text.{FailsAt}
-use Rattle.station_run.specs.replay.replay_lines.declared.session.Entry.{Entry}
-use Rattle.station_run.specs.replay.replay_lines.declared.text.SessionFault.{SessionFault}
-use Rattle.station_run.specs.replay.station_check.Failures.{ExplainsTable}
-use Rattle.station_run.specs.replay.station_check.Report.{IsSound}
-use Rattle.station_run.specs.replay.station_check.declared.failure.Failure.{Failure as StationFailure}
-use Rattle.station_run.specs.replay.station_check.declared.failure.Failure.TheVariants as station
-use Rattle.station_record.specs.ChartedSession.{Explains, IsFaulty, Leaves}
+use Rattle.std.specs.Prelude.{IfErr, IfOk, IsErrAnd, IsOk}
+use Rattle.replay.specs.ReplayedSession.{CanReplay}
+use Rattle.replay.specs.layout.Entries.{Site}
+use Rattle.replay.specs.replay_lines.Session.{session}
+use Rattle.replay.specs.replay_lines.declared.session.Entry.{Entry}
+use Rattle.replay.specs.station_check.Report.{IsSound}
+use Rattle.replay.specs.station_check.declared.failure.Failure.{Failure as StationFailure}
+use Rattle.replay.specs.station_check.declared.failure.Failure.TheVariants as station
+use Rattle.station_record.specs.ChartedSession.{Explains, IsFaulty, IsSessionChart, Leaves}
 use Rattle.station_record.specs.Differences.{DiffersIn}
+use Rattle.station_record.specs.inside.ChartedTexts.{IsChartedBy}
+use Rattle.station_record.specs.declared.chart.Cut.{Cut}
 use Rattle.station_record.specs.declared.chart_failure.ChartFailure.{ChartFailure}
 use Rattle.station_record.specs.declared.chart_failure.ChartFailure.TheVariants.{Differs, Station}
 
 -- a layout and a record that are read
 pub can_replay : (layout text : List ℕ) (site : Site) (entries : List Entry) → IsSound layout site → session site text ≡ Ok entries → CanReplay layout text
 can_replay layout text site entries sound says = record { site = site; sound = sound; says = subst IsOk (sym says) refl }
-
--- a text that gives no table
-pub table_explains : (layout text : List ℕ) (why : StationFailure) → ExplainsTable layout why → Explains layout text (Station why)
-table_explains layout text (station.Layout fault) so = so
-table_explains layout text (station.Table fault) so = so
-table_explains layout text (station.Line fault) so = absurd so
-table_explains layout text station.OutOfMemory so = absurd so
-table_explains layout text station.NotWritten so = absurd so
-
--- a record of which a line is faulty
-pub line_explains : (layout text : List ℕ) (site : Site) (fault : SessionFault) → IsSound layout site → FailsAt fault.line fault.number (session site text) → Explains layout text (Station (station.Line fault))
-line_explains layout text site fault sound fails = (site, sound, fails)
 
 -- a session on a sound layout that isn't applied to its end
 pub difference_explains : (layout text : List ℕ) (site : Site) (entries : List Entry) (why : ChartFailure) → IsSound layout site → session site text ≡ Ok entries → DiffersIn site entries why → Explains layout text why
@@ -40,6 +27,25 @@ difference_explains layout text site entries (Station (station.Layout fault)) so
 difference_explains layout text site entries (Station (station.Table fault)) sound says so = absurd so
 difference_explains layout text site entries (Station (station.Line fault)) sound says so = absurd so
 difference_explains layout text site entries (Station station.NotWritten) sound says so = absurd so
+
+pub differences_explain : {T : Type 0} (layout text : List ℕ) (site : Site) (entries : List Entry) (tried : Result T ChartFailure) → IsSound layout site → session site text ≡ Ok entries
+    → IfErr tried (DiffersIn site entries) → IfErr tried (Explains layout text)
+differences_explain layout text site entries (Ok chart) sound says so = tt
+differences_explain layout text site entries (Err why) sound says so = difference_explains layout text site entries why sound says so
+
+-- the chart of a session on a sound layout
+pub session_drawn : {T : Type 0} (items : T → List ℕ) (layout text : List ℕ) (cut : Cut) (site : Site) (entries : List Entry) (tried : Result T ChartFailure) → IsSound layout site
+    → session site text ≡ Ok entries → IfOk tried (λ chart. IsChartedBy site entries cut (items chart)) → IfOk tried (λ chart. IsSessionChart layout text cut (items chart))
+session_drawn items layout text cut site entries (Ok chart) sound says so = record {
+  site = site;
+  sound = sound;
+  entries = entries;
+  says = says;
+  story = so.story;
+  told = so.told;
+  is = so.is;
+}
+session_drawn items layout text cut site entries (Err why) sound says so = tt
 
 -- a writer that stays as it is
 pub stays : {W : Type 0} (why : ChartFailure) (out : W) → Leaves why out out

@@ -1,8 +1,8 @@
 -- Lines of datagrams that were sent, place by place.
 use Rattle.std.proofs.Common.{◌≡◌, ◌∙◌, ℕ, zero, suc, ◌+◌, ◌≤◌, List, [], ◌∷◌, ◌++◌, length, refl, ap, sym, arith, append_assoc, append-nil, slice_get}
 use Rattle.std.proofs.lemmas.List.{drop_all}
-use Rattle.station_run.specs.replay.layout.Entries.{Site}
-use Rattle.station_run.specs.replay.rasta_core.Links.{OnLink}
+use Rattle.replay.specs.layout.Entries.{Site}
+use Rattle.replay.specs.rasta_core.Links.{OnLink}
 use Rattle.station_record.specs.Lines.{lines_text}
 use Rattle.station_record.specs.Traffic.{sent_behind}
 use Rattle.station_record.specs.inside.Places.{line_at}

@@ -1,11 +1,11 @@
 -- What is told of a session from a first world on.
 use Rattle.std.proofs.Common.{List, Result, Ok, Err, OnOk}
 use Rattle.std.specs.Prelude.{IfErr, IfOk}
-use Rattle.station_run.specs.replay.World.{AnswersSame, IsFirst}
-use Rattle.station_run.specs.replay.layout.Entries.{Site}
-use Rattle.station_run.specs.replay.simulator_run.Tried.{Played}
-use Rattle.station_run.specs.replay.replay_lines.declared.session.Entry.{Entry}
-use Rattle.station_run.specs.replay.station_check.declared.failure.Failure.TheVariants as station
+use Rattle.replay.specs.World.{AnswersSame, IsFirst}
+use Rattle.replay.specs.layout.Entries.{Site}
+use Rattle.replay.specs.simulator_run.Tried.{Played}
+use Rattle.replay.specs.replay_lines.declared.session.Entry.{Entry}
+use Rattle.replay.specs.station_check.declared.failure.Failure.TheVariants as station
 use Rattle.station_record.specs.Differences.{DiffersFrom, DiffersIn}
 use Rattle.station_record.specs.Story.{IsStoryOf}
 use Rattle.station_record.specs.declared.chart_failure.ChartFailure.{ChartFailure}

@@ -10,15 +10,15 @@ use Rattle.capture_file.specs.declared.fault.CaptureFault.TheVariants.{TooLong}
 use Rattle.capture_file.specs.Journeys.{Sent}
 use Rattle.capture_file.specs.declared.journey.Endpoint.{Endpoint}
 use Rattle.capture_file.specs.declared.journey.Journey.{Journey}
-use Rattle.station_run.specs.replay.ReplayedSession.{Explains as ExplainsStation}
-use Rattle.station_run.specs.replay.World.{IsFirst, Played, receiver}
-use Rattle.station_run.specs.replay.layout.Entries.{Site}
-use Rattle.station_run.specs.replay.rasta_core.Links.{OnLink}
-use Rattle.station_run.specs.replay.replay_lines.Session.{session}
-use Rattle.station_run.specs.replay.replay_lines.declared.session.Entry.{Entry}
-use Rattle.station_run.specs.replay.station_check.Failures.{told_line as station_line}
-use Rattle.station_run.specs.replay.station_check.Report.{IsSound}
-use Rattle.station_run.specs.replay.station_check.declared.failure.Failure.TheVariants as station
+use Rattle.replay.specs.ReplayedSession.{Explains as ExplainsStation}
+use Rattle.replay.specs.World.{IsFirst, Played, receiver}
+use Rattle.replay.specs.layout.Entries.{Site}
+use Rattle.replay.specs.rasta_core.Links.{OnLink}
+use Rattle.replay.specs.replay_lines.Session.{session}
+use Rattle.replay.specs.replay_lines.declared.session.Entry.{Entry}
+use Rattle.replay.specs.station_check.Failures.{told_line as station_line}
+use Rattle.replay.specs.station_check.Report.{IsSound}
+use Rattle.replay.specs.station_check.declared.failure.Failure.TheVariants as station
 use Rattle.station_record.specs.Traffic.{left_by, sender}
 use Rattle.station_record.specs.declared.capture_failure.CaptureFailure.{CaptureFailure}
 use Rattle.station_record.specs.declared.capture_failure.CaptureFailure.TheVariants.{Station, Capture}

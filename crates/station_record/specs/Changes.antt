@@ -1,7 +1,7 @@
 -- The changes of a session: each time when a lane shows something else than before, in the order of the session, once.
 use Rattle.std.specs.Prelude.{◌≡◌, ◌≢◌, ◌⊎◌, ◌+◌, ℕ, List, [], ◌∷◌, ◌++◌, map}
-use Rattle.station_run.specs.replay.simulator_run.Tried.{Played, after}
-use Rattle.station_run.specs.replay.replay_lines.declared.session.Entry.{Entry}
+use Rattle.replay.specs.simulator_run.Tried.{Played, after}
+use Rattle.replay.specs.replay_lines.declared.session.Entry.{Entry}
 use Rattle.lane_chart.specs.declared.change.Change.{Change}
 use Rattle.station_record.specs.declared.watch.Watch.{Watch}
 use Rattle.lane_chart.specs.declared.lane.Lane.{Lane}

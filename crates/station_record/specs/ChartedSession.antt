@@ -8,15 +8,15 @@ use Rattle.lane_chart.specs.Chart.{IsChartOf}
 use Rattle.lane_chart.specs.Drawn.{drawn_rows, seen_row}
 use Rattle.lane_chart.specs.declared.drawn.DrawnRow.{DrawnRow}
 use Rattle.lane_chart.specs.declared.scale.Window.{Window}
-use Rattle.station_run.specs.replay.World.{AnswersSame, IsFirst}
-use Rattle.station_run.specs.replay.layout.Entries.{Site}
-use Rattle.station_run.specs.replay.simulator_run.Tried.{Played}
-use Rattle.station_run.specs.replay.replay_lines.Session.{session}
-use Rattle.station_run.specs.replay.replay_lines.declared.session.Entry.{Entry}
-use Rattle.station_run.specs.replay.ReplayedSession.{Explains as ExplainsStation}
-use Rattle.station_run.specs.replay.station_check.Failures.{told_line as station_line}
-use Rattle.station_run.specs.replay.station_check.Report.{IsSound}
-use Rattle.station_run.specs.replay.station_check.declared.failure.Failure.TheVariants as station
+use Rattle.replay.specs.World.{AnswersSame, IsFirst}
+use Rattle.replay.specs.layout.Entries.{Site}
+use Rattle.replay.specs.simulator_run.Tried.{Played}
+use Rattle.replay.specs.replay_lines.Session.{session}
+use Rattle.replay.specs.replay_lines.declared.session.Entry.{Entry}
+use Rattle.replay.specs.ReplayedSession.{Explains as ExplainsStation}
+use Rattle.replay.specs.station_check.Failures.{told_line as station_line}
+use Rattle.replay.specs.station_check.Report.{IsSound}
+use Rattle.replay.specs.station_check.declared.failure.Failure.TheVariants as station
 use Rattle.station_record.specs.Differences.{DiffersIn}
 use Rattle.station_record.specs.Story.{IsStoryOf}
 use Rattle.station_record.specs.declared.chart.Cut.{Cut}

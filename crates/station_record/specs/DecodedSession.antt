@@ -1,11 +1,11 @@
 -- What is told of the traffic of a recorded session.
 use Rattle.std.specs.Prelude.{◌≡◌, ℕ, List, Option, Ok}
 use Rattle.std.specs.Io.KnownBytes.{Appends}
-use Rattle.station_run.specs.replay.World.{IsFirst, Played}
-use Rattle.station_run.specs.replay.layout.Entries.{Site}
-use Rattle.station_run.specs.replay.replay_lines.Session.{session}
-use Rattle.station_run.specs.replay.replay_lines.declared.session.Entry.{Entry}
-use Rattle.station_run.specs.replay.station_check.Report.{IsSound}
+use Rattle.replay.specs.World.{IsFirst, Played}
+use Rattle.replay.specs.layout.Entries.{Site}
+use Rattle.replay.specs.replay_lines.Session.{session}
+use Rattle.replay.specs.replay_lines.declared.session.Entry.{Entry}
+use Rattle.replay.specs.station_check.Report.{IsSound}
 use Rattle.station_record.specs.Lines.{lines_text}
 use Rattle.station_record.specs.Traffic.{traffic}
 

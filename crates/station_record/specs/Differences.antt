@@ -1,10 +1,10 @@
 -- Why it isn't told what happens in a session.
 use Rattle.std.specs.Prelude.{List}
-use Rattle.station_run.specs.replay.World.{AnswersOtherwiseAt, IsFirst}
-use Rattle.station_run.specs.replay.layout.Entries.{Site}
-use Rattle.station_run.specs.replay.simulator_run.Tried.{Played}
-use Rattle.station_run.specs.replay.replay_lines.declared.session.Entry.{Entry}
-use Rattle.station_run.specs.replay.station_check.declared.failure.Failure.TheVariants as station
+use Rattle.replay.specs.World.{AnswersOtherwiseAt, IsFirst}
+use Rattle.replay.specs.layout.Entries.{Site}
+use Rattle.replay.specs.simulator_run.Tried.{Played}
+use Rattle.replay.specs.replay_lines.declared.session.Entry.{Entry}
+use Rattle.replay.specs.station_check.declared.failure.Failure.TheVariants as station
 use Rattle.station_record.specs.declared.chart_failure.ChartFailure.{ChartFailure}
 use Rattle.station_record.specs.declared.chart_failure.ChartFailure.TheVariants.{Differs, Station}
 

@@ -1,6 +1,6 @@
 -- The lanes of a station.
 use Rattle.std.specs.Prelude.{ℕ, zero, suc, List, [], ◌∷◌, ◌++◌, length}
-use Rattle.station_run.specs.replay.layout.Entries.{Site}
+use Rattle.replay.specs.layout.Entries.{Site}
 use Rattle.lane_chart.specs.declared.lane.Kind.{Kind}
 use Rattle.lane_chart.specs.declared.lane.Kind.TheVariants as kind
 use Rattle.lane_chart.specs.declared.lane.Lane.{Lane}

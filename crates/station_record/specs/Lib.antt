@@ -15,4 +15,4 @@ pub mod Differences
 pub mod ChartedSession
 pub mod inside
 -- what crates above need of the crates below
-pub use Rattle.station_run.specs as station_run
+pub use Rattle.replay.specs as replay

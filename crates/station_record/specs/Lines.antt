@@ -2,10 +2,10 @@
 use Rattle.std.specs.Prelude.{ℕ, ◌/◌, ◌%◌, List, ◌++◌, codes, slice_get, Option, Some, None}
 use Rattle.std.specs.Fmt.{decimal}
 use Rattle.std.specs.List.{flat_map}
-use Rattle.station_run.specs.replay.replay_lines.Names.{node_names}
-use Rattle.station_run.specs.replay.layout.Entries.{Site}
-use Rattle.station_run.specs.replay.simulator_event.Refused.{number_of}
-use Rattle.station_run.specs.replay.simulator_event.declared.event.NodeId.{NodeId}
+use Rattle.replay.specs.replay_lines.Names.{node_names}
+use Rattle.replay.specs.layout.Entries.{Site}
+use Rattle.replay.specs.simulator_event.Refused.{number_of}
+use Rattle.replay.specs.simulator_event.declared.event.NodeId.{NodeId}
 use Rattle.station_decode.specs.Datagrams.{datagram_text}
 use Rattle.station_record.specs.Traffic.{OnWire}
 use Rattle.station_record.specs.declared.fate.Fate.{Fate}

@@ -1,13 +1,13 @@
 -- The commands and restarts of a session, each once, in their order, with their answers.
 use Rattle.std.specs.Prelude.{◌+◌, ℕ, Bool, true, false, if◌then◌else◌, List, [], ◌∷◌, ◌++◌, codes, string_bytes, Option, Some, None}
 use Rattle.lane_chart.specs.declared.change.Happening.{Happening}
-use Rattle.station_run.specs.replay.layout.Entries.{Site}
-use Rattle.station_run.specs.replay.simulator_event.declared.event.Event.{Event}
-use Rattle.station_run.specs.replay.simulator_event.declared.event.Event.TheVariants as event
-use Rattle.station_run.specs.replay.simulator_run.Tried.{Played, after}
-use Rattle.station_run.specs.replay.replay_lines.Answers.{answer_text}
-use Rattle.station_run.specs.replay.replay_lines.Written.{event_line}
-use Rattle.station_run.specs.replay.replay_lines.declared.session.Entry.{Entry}
+use Rattle.replay.specs.layout.Entries.{Site}
+use Rattle.replay.specs.simulator_event.declared.event.Event.{Event}
+use Rattle.replay.specs.simulator_event.declared.event.Event.TheVariants as event
+use Rattle.replay.specs.simulator_run.Tried.{Played, after}
+use Rattle.replay.specs.replay_lines.Answers.{answer_text}
+use Rattle.replay.specs.replay_lines.Written.{event_line}
+use Rattle.replay.specs.replay_lines.declared.session.Entry.{Entry}
 
 -- a command or a restart: its line, true time before it, the node that is made anew, and its words
 pub record Mark : Type 0 where

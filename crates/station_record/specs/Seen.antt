@@ -1,17 +1,17 @@
 -- What is seen of each lane in a world.
 use Rattle.std.specs.Prelude.{◌==◌, ℕ, nat_lt, if◌then◌else◌, List, length, find, Option, None, slice_get}
 use Rattle.std.specs.Option.{option_map}
-use Rattle.station_run.specs.replay.ixl_rules.State.{RouteState}
-use Rattle.station_run.specs.replay.ixl_rules.declared.phase.Phase.{Phase}
-use Rattle.station_run.specs.replay.ixl_rules.declared.phase.Phase.TheVariants as phase
-use Rattle.station_run.specs.replay.layout.declared.ids.RouteId.{RouteId}
-use Rattle.station_run.specs.replay.sci_telegram.declared.message.Aspect.{Aspect}
-use Rattle.station_run.specs.replay.sci_telegram.declared.message.Occupancy.{Occupancy}
-use Rattle.station_run.specs.replay.sci_telegram.declared.message.Position.{Position}
-use Rattle.station_run.specs.replay.simulator.simulator_snapshot.declared.snapshot.Held.{Held}
-use Rattle.station_run.specs.replay.simulator_run.Interlocking.{held_of}
-use Rattle.station_run.specs.replay.simulator_run.Seen.{shown_by}
-use Rattle.station_run.specs.replay.simulator_run.Tried.{Played, driven}
+use Rattle.replay.specs.ixl_rules.State.{RouteState}
+use Rattle.replay.specs.ixl_rules.declared.phase.Phase.{Phase}
+use Rattle.replay.specs.ixl_rules.declared.phase.Phase.TheVariants as phase
+use Rattle.replay.specs.layout.declared.ids.RouteId.{RouteId}
+use Rattle.replay.specs.sci_telegram.declared.message.Aspect.{Aspect}
+use Rattle.replay.specs.sci_telegram.declared.message.Occupancy.{Occupancy}
+use Rattle.replay.specs.sci_telegram.declared.message.Position.{Position}
+use Rattle.replay.specs.simulator.simulator_snapshot.declared.snapshot.Held.{Held}
+use Rattle.replay.specs.simulator_run.Interlocking.{held_of}
+use Rattle.replay.specs.simulator_run.Seen.{shown_by}
+use Rattle.replay.specs.simulator_run.Tried.{Played, driven}
 use Rattle.lane_chart.specs.declared.lane.Lane.{Lane}
 use Rattle.lane_chart.specs.declared.lane.Kind.{Kind}
 use Rattle.lane_chart.specs.declared.lane.Kind.TheVariants as kind

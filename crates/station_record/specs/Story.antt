@@ -1,7 +1,7 @@
 -- What happens in a session.
 use Rattle.std.specs.Prelude.{◌≡◌, List, [], ◌∷◌, map}
-use Rattle.station_run.specs.replay.simulator_run.Tried.{Played, after}
-use Rattle.station_run.specs.replay.replay_lines.declared.session.Entry.{Entry}
+use Rattle.replay.specs.simulator_run.Tried.{Played, after}
+use Rattle.replay.specs.replay_lines.declared.session.Entry.{Entry}
 use Rattle.station_record.specs.declared.story.Story.{Story}
 use Rattle.station_record.specs.Changes.{IsHistory}
 use Rattle.station_record.specs.Marks.{marks_of, seen_mark}

@@ -1,14 +1,14 @@
 -- What goes over the network of a station as a recorded session is applied to it.
 use Rattle.std.specs.Prelude.{ℕ, List, [], ◌∷◌, ◌++◌, length, map, drop, Option, Some, None}
-use Rattle.station_run.specs.replay.replay_lines.declared.session.Entry.{Entry}
-use Rattle.station_run.specs.replay.rasta_core.Links.{OnLink}
-use Rattle.station_run.specs.replay.rasta_core.Names.{partner_of}
-use Rattle.station_run.specs.replay.rasta_core.identity.Role.{Role}
-use Rattle.station_run.specs.replay.simulator_event.declared.event.Event.{Event}
-use Rattle.station_run.specs.replay.simulator_event.declared.event.Event.TheVariants as event
-use Rattle.station_run.specs.replay.simulator_event.declared.event.NodeId.{NodeId}
-use Rattle.station_run.specs.replay.simulator_event.refused.Refused.{Refused}
-use Rattle.station_run.specs.replay.World.{Played, after, receiver, refusal_of}
+use Rattle.replay.specs.replay_lines.declared.session.Entry.{Entry}
+use Rattle.replay.specs.rasta_core.Links.{OnLink}
+use Rattle.replay.specs.rasta_core.Names.{partner_of}
+use Rattle.replay.specs.rasta_core.identity.Role.{Role}
+use Rattle.replay.specs.simulator_event.declared.event.Event.{Event}
+use Rattle.replay.specs.simulator_event.declared.event.Event.TheVariants as event
+use Rattle.replay.specs.simulator_event.declared.event.NodeId.{NodeId}
+use Rattle.replay.specs.simulator_event.refused.Refused.{Refused}
+use Rattle.replay.specs.World.{Played, after, receiver, refusal_of}
 use Rattle.station_record.specs.declared.fate.Fate.{Fate}
 use Rattle.station_record.specs.declared.fate.Fate.TheVariants.{Sent, Delivered, Lost}
 

@@ -3,3 +3,6 @@ pub mod SoundTexts
 pub mod Late
 pub mod Places
 pub mod CapturesSoFar
+pub mod FirstChanges
+pub mod ChartedTexts
+pub mod KindLanes

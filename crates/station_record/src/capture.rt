@@ -1,8 +1,8 @@
 //! A recorded session as a capture.
 
 ghost use Rattle.std.specs.Prelude.{◌≡◌, ◌≤◌, IsErr, IfErr, IfOk, OnOk};
-ghost use Rattle.station_run.specs.replay.ReplayedSession.{CanReplay};
-ghost use Rattle.station_run.specs.replay.World.{played};
+ghost use Rattle.replay.specs.ReplayedSession.{CanReplay};
+ghost use Rattle.replay.specs.World.{played};
 ghost use Rattle.station_record.specs.CapturedSession.{Explained, Explains, IsCaptureOf, IsCaptured, IsFileOf, IsSessionCapture, Leaves};
 ghost use Rattle.station_record.specs.Traffic.{left_by};
 ghost use Rattle.station_record.specs.inside.CapturesSoFar.{IsNoCapture, IsNoFile};
@@ -13,8 +13,8 @@ use crate::sent_captured::capture_of;
 use crate::texts::{Texts, read_texts};
 use capture_file::Endpoint;
 use control_table::Checked;
-use station_run::replay::Entry;
-use station_run::replay::simulator::World;
+use replay::Entry;
+use replay::simulator::World;
 use std::alloc::Global;
 use std::io::Write;
 
@@ -95,7 +95,9 @@ fn file_of(
     ensures failed { IfErr result (IsNoFile table entries.now) }
 {
     let mut world = first_world(alloc, table)?;
-    capture_behind(alloc, &mut world, entries, endpoints)
+    let file = capture_behind(alloc, &mut world, entries, endpoints);
+    drop(world);
+    file
 }
 
 /// Applies a session to a world, and makes the capture of all that was sent on its network. It borrows the world, since each

@@ -4,8 +4,8 @@ ghost use Rattle.std.specs.Prelude.{◌≡◌};
 ghost use Rattle.station_record.specs.CapturedSession.{Tells};
 
 use capture_file::{CaptureFault, fault_line};
+use replay::station_check::{Failure as StationFailure, tell};
 use replay_words::write_as_taken;
-use station_run::replay::station_check::{Failure as StationFailure, tell};
 use std::alloc::AllocError;
 use std::io;
 use std::io::Write;
@@ -40,7 +40,7 @@ impl From<CaptureFault> for CaptureFailure {
 }
 
 impl From<AllocError> for CaptureFailure {
-    ghost use Rattle.station_run.specs.replay.station_check.declared.failure.Failure.TheVariants.{OutOfMemory};
+    ghost use Rattle.replay.specs.station_check.declared.failure.Failure.TheVariants.{OutOfMemory};
     ghost use Rattle.station_record.specs.declared.capture_failure.CaptureFailure.TheVariants.{Station};
 
     ghost from_gives = { λ _ failure. failure ≡ Station OutOfMemory };
@@ -51,7 +51,7 @@ impl From<AllocError> for CaptureFailure {
 }
 
 impl From<io::Error> for CaptureFailure {
-    ghost use Rattle.station_run.specs.replay.station_check.declared.failure.Failure.TheVariants.{NotWritten};
+    ghost use Rattle.replay.specs.station_check.declared.failure.Failure.TheVariants.{NotWritten};
     ghost use Rattle.station_record.specs.declared.capture_failure.CaptureFailure.TheVariants.{Station};
 
     ghost from_gives = { λ _ failure. failure ≡ Station NotWritten };

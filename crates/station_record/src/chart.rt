@@ -1,16 +1,18 @@
 //! A recorded session, drawn over true time.
 
 ghost use Rattle.std.specs.Prelude.{◌≡◌, ◌⊎◌, IfErr, IfOk, OnOk};
-ghost use Rattle.station_run.specs.replay.ReplayedSession.{CanReplay};
+ghost use Rattle.replay.specs.ReplayedSession.{CanReplay};
 ghost use Rattle.station_record.specs.ChartedSession.{Explained, Explains, IsCharted, IsFaulty, IsSessionChart, IsTextOf, Leaves, micros_or, window_of};
+ghost use Rattle.station_record.specs.Differences.{DiffersIn};
+ghost use Rattle.station_record.specs.inside.ChartedTexts.{IsChartedBy};
 
 use crate::chart_failure::{ChartFailure, tell_difference};
 use crate::story::{Story, story_of};
+use crate::texts::{Texts, read_texts};
 use control_table::layout::Layout;
 use drawing::svg;
 use lane_chart::{Window, chart, drawn_rows};
-use station_run::replay::read_session;
-use station_run::replay::station_check::{table_of, tell};
+use replay::station_check::tell;
 use std::alloc::{AllocError, Global};
 use std::io::Write;
 
@@ -89,12 +91,22 @@ fn session_chart(
     ensures faulty { (CanReplay layout.now recording.now → ⊥) → IsFaulty result }
     ensures explains { IfErr result (Explains layout.now recording.now) }
 {
-    let table = table_of(alloc, layout)?;
-    let entries = read_session(alloc, &table, recording)?;
-    let drawn = table.layout().copy(alloc)?;
-    let story = story_of(alloc, table, &entries)?;
-    let text = text_of(alloc, &drawn, cut, &story)?;
-    Ok(text)
+    let texts = read_texts(alloc, layout, recording)?;
+    let chart = chart_of(alloc, &texts, cut);
+    drop(texts);
+    chart
+}
+
+/// Applies the session of texts, and draws what happens in it.
+fn chart_of(alloc: Global, texts: &Texts, cut: Cut) -> Result<Vec<u8>, ChartFailure>
+    ensures drawn { IfOk result (λ text. IsChartedBy texts.now.table texts.now.entries.items cut text.items) }
+    ensures differs { IfErr result (DiffersIn texts.now.table texts.now.entries.items) }
+{
+    let copy = texts.table.copy(alloc)?;
+    let story = story_of(alloc, copy, &texts.entries)?;
+    let text = text_of(alloc, texts.table.layout(), cut, &story);
+    drop(story);
+    Ok(text?)
 }
 
 /// A time in microseconds, or another one where none is given.

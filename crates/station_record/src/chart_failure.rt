@@ -5,9 +5,9 @@ ghost use Rattle.station_record.specs.ChartedSession.{Tells, difference_text};
 ghost use Rattle.station_record.specs.declared.chart_failure.ChartFailure.TheVariants.{Differs};
 
 use arrayvec::ArrayString;
+use replay::SessionFault;
+use replay::station_check::Failure as StationFailure;
 use replay_words::write_as_taken;
-use station_run::replay::SessionFault;
-use station_run::replay::station_check::Failure as StationFailure;
 use std::alloc::AllocError;
 use std::io::Write;
 use std::{fmt, io};
@@ -35,7 +35,7 @@ impl From<StationFailure> for ChartFailure {
 }
 
 impl From<SessionFault> for ChartFailure {
-    ghost use Rattle.station_run.specs.replay.station_check.declared.failure.Failure.TheVariants.{Line};
+    ghost use Rattle.replay.specs.station_check.declared.failure.Failure.TheVariants.{Line};
     ghost use Rattle.station_record.specs.declared.chart_failure.ChartFailure.TheVariants.{Station};
 
     ghost from_gives = { λ fault failure. failure ≡ Station (Line fault) };
@@ -46,7 +46,7 @@ impl From<SessionFault> for ChartFailure {
 }
 
 impl From<AllocError> for ChartFailure {
-    ghost use Rattle.station_run.specs.replay.station_check.declared.failure.Failure.TheVariants.{OutOfMemory};
+    ghost use Rattle.replay.specs.station_check.declared.failure.Failure.TheVariants.{OutOfMemory};
     ghost use Rattle.station_record.specs.declared.chart_failure.ChartFailure.TheVariants.{Station};
 
     ghost from_gives = { λ _ failure. failure ≡ Station OutOfMemory };
@@ -57,7 +57,7 @@ impl From<AllocError> for ChartFailure {
 }
 
 impl From<io::Error> for ChartFailure {
-    ghost use Rattle.station_run.specs.replay.station_check.declared.failure.Failure.TheVariants.{NotWritten};
+    ghost use Rattle.replay.specs.station_check.declared.failure.Failure.TheVariants.{NotWritten};
     ghost use Rattle.station_record.specs.declared.chart_failure.ChartFailure.TheVariants.{Station};
 
     ghost from_gives = { λ _ failure. failure ≡ Station NotWritten };

@@ -1,10 +1,10 @@
 //! A recorded session, put into words.
 
 ghost use Rattle.std.specs.Prelude.{◌≡◌, ◌≤◌, IsErr, IfErr, OnOk};
-ghost use Rattle.station_run.specs.replay.ReplayedSession.{CanReplay, Explained, Explains};
-ghost use Rattle.station_run.specs.replay.station_check.Failures.{Leaves};
+ghost use Rattle.replay.specs.ReplayedSession.{CanReplay, Explained, Explains};
+ghost use Rattle.replay.specs.station_check.Failures.{Leaves};
 ghost use Rattle.std.specs.Io.KnownBytes.{Appends};
-ghost use Rattle.station_run.specs.replay.World.{played};
+ghost use Rattle.replay.specs.World.{played};
 ghost use Rattle.station_record.specs.DecodedSession.{IsDecoded, IsTold};
 ghost use Rattle.station_record.specs.Lines.{lines_text};
 ghost use Rattle.station_record.specs.Traffic.{traffic};
@@ -14,9 +14,9 @@ use crate::event_lines::event_lines;
 use crate::replayed::first_world;
 use crate::texts::{Texts, read_texts};
 use control_table::Checked;
-use station_run::replay::Entry;
-use station_run::replay::simulator::World;
-use station_run::replay::station_check::{Failure, tell};
+use replay::Entry;
+use replay::simulator::World;
+use replay::station_check::{Failure, tell};
 use std::alloc::Global;
 use std::io::Write;
 
@@ -76,7 +76,9 @@ fn write_traffic<W: Write>(
     ensures failed { IfErr result IsLate }
 {
     let mut world = first_world(alloc, table)?;
-    write_events(alloc, &mut world, entries, out)
+    let written = write_events(alloc, &mut world, entries, out);
+    drop(world);
+    written
 }
 
 /// Applies a session to a world, and writes what goes over its network by that.

@@ -3,9 +3,9 @@
 ghost use Rattle.std.specs.Prelude.{◌≡◌};
 ghost use Rattle.station_record.specs.Traffic.{sender};
 
-use station_run::replay::receiver;
-use station_run::replay::simulator::NodeId;
-use station_run::replay::simulator::simulator_run::ixl_rules::rasta_core::Role;
+use replay::receiver;
+use replay::simulator::NodeId;
+use replay::simulator::simulator_run::ixl_rules::rasta_core::Role;
 
 /// The node that sent on a link. Its partner would have sent to it.
 pub(crate) fn sender(who: Role, link: usize) -> NodeId

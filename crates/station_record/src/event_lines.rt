@@ -1,7 +1,7 @@
 //! The lines of an event.
 
 ghost use Rattle.std.specs.Prelude.{◌≡◌, ◌++◌, IfOk, OnOk, slice_get, string_bytes};
-ghost use Rattle.station_run.specs.replay.World.{after, played};
+ghost use Rattle.replay.specs.World.{after, played};
 ghost use Rattle.station_record.specs.Lines.{line_text, lines_text};
 ghost use Rattle.station_record.specs.Traffic.{by_event, done_by, sent_behind};
 ghost use Rattle.station_record.specs.inside.Places.{line_at, line_if};
@@ -11,9 +11,9 @@ use crate::fate::Fate;
 use crate::line::line;
 use crate::replayed::try_event;
 use control_table::layout::Layout;
-use station_run::replay::receiver;
-use station_run::replay::simulator::simulator_field::Network;
-use station_run::replay::simulator::{Event, Refused, World};
+use replay::receiver;
+use replay::simulator::simulator_field::Network;
+use replay::simulator::{Event, Refused, World};
 use std::alloc::{AllocError, Global};
 
 /// Adds the line for what becomes of a datagram at a moment.

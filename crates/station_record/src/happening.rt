@@ -1,13 +1,13 @@
 //! Commands and restarts of a session, with their answers.
 
 ghost use Rattle.std.specs.Prelude.{◌≡◌, ◌++◌, IfOk, OnOk, map, string_bytes};
-ghost use Rattle.station_run.specs.replay.World.{played};
+ghost use Rattle.replay.specs.World.{played};
 ghost use Rattle.station_record.specs.Marks.{is_marked, mark_of, node_of, seen_mark, words_of};
 
 use control_table::Checked;
 use lane_chart::Happening;
-use station_run::replay::simulator::{Event, World};
-use station_run::replay::{AnswerText, Entry, write_event};
+use replay::simulator::{Event, World};
+use replay::{AnswerText, Entry, write_event};
 use std::alloc::{AllocError, Global};
 
 /// Whether an event is marked: a command, or a node that is made anew.

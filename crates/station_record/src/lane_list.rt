@@ -1,7 +1,7 @@
 //! The lanes of a station.
 
 ghost use Rattle.std.specs.Prelude.{◌≡◌, ◌++◌, IfOk, OnOk};
-ghost use Rattle.station_record.specs.Lanes.{field_lanes, interlocking_lanes, lanes_below, lanes_of};
+ghost use Rattle.station_record.specs.Lanes.{lanes_below, lanes_of};
 
 use control_table::layout::Layout;
 use lane_chart::{Kind, Lane};
@@ -17,33 +17,26 @@ fn add_lanes(lanes: &mut Vec<Lane>, kind: Kind, count: usize) -> Result<(), Allo
     Ok(())
 }
 
-/// The lanes of the field: they show what signals, points and sections do.
-fn add_field_lanes(lanes: &mut Vec<Lane>, layout: &Layout) -> Result<(), AllocError>
-    ensures { OnOk result (lanes.new.items ≡ lanes.old.items ++ field_lanes layout.now) }
-{
-    add_lanes(lanes, Kind::Aspect, layout.signals().len())?;
-    add_lanes(lanes, Kind::Position, layout.points().len())?;
-    add_lanes(lanes, Kind::Drive, layout.points().len())?;
-    add_lanes(lanes, Kind::Section, layout.sections().len())
-}
-
-/// The lanes of the interlocking: they show what it keeps.
-fn add_interlocking_lanes(lanes: &mut Vec<Lane>, layout: &Layout) -> Result<(), AllocError>
-    ensures { OnOk result (lanes.new.items ≡ lanes.old.items ++ interlocking_lanes layout.now) }
-{
-    add_lanes(lanes, Kind::Authority, layout.signals().len())?;
-    add_lanes(lanes, Kind::Route, layout.routes().len())?;
-    add_lanes(lanes, Kind::SignalLink, layout.signals().len())?;
-    add_lanes(lanes, Kind::PointLink, layout.points().len())?;
-    add_lanes(lanes, Kind::DetectorLink, layout.detectors().len())
-}
-
-/// All lanes of a station, each once.
+/// All lanes of a station, each once: those of the field, which show what signals, points and sections do, and those of the
+/// interlocking, which show what it keeps.
 pub fn lanes_of(alloc: Global, layout: &Layout) -> Result<Vec<Lane>, AllocError>
     ensures { IfOk result (λ lanes. lanes.items ≡ lanes_of layout.now) }
 {
+    let (signals, points) = (layout.signals().len(), layout.points().len());
+    let counts = [
+        (Kind::Aspect, signals),
+        (Kind::Position, points),
+        (Kind::Drive, points),
+        (Kind::Section, layout.sections().len()),
+        (Kind::Authority, signals),
+        (Kind::Route, layout.routes().len()),
+        (Kind::SignalLink, signals),
+        (Kind::PointLink, points),
+        (Kind::DetectorLink, layout.detectors().len()),
+    ];
     let mut lanes = Vec::new(alloc);
-    add_field_lanes(&mut lanes, layout)?;
-    add_interlocking_lanes(&mut lanes, layout)?;
+    for (kind, count) in counts {
+        add_lanes(&mut lanes, kind, count)?;
+    }
     Ok(lanes)
 }

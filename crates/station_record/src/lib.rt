@@ -34,5 +34,5 @@ pub use out_file::{Asked, capture_to_file};
 pub use story::{Story, story_of};
 
 // What crates above need of the crates below.
+pub use replay;
 pub use station_decode;
-pub use station_run;

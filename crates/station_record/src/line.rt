@@ -5,9 +5,9 @@ ghost use Rattle.station_record.specs.Lines.{line_text};
 
 use crate::fate::Fate;
 use control_table::layout::Layout;
+use replay::replay_lines::node_name;
+use replay::simulator::NodeId;
 use station_decode::datagram_words;
-use station_run::replay::replay_lines::node_name;
-use station_run::replay::simulator::NodeId;
 use std::alloc::{AllocError, Global};
 use std::fmt;
 

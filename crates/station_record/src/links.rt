@@ -4,7 +4,7 @@ ghost use Rattle.std.specs.Prelude.{◌≡◌};
 ghost use Rattle.station_record.specs.Links.{detector_link, is_detector_ready, point_link, link_of, signal_link};
 
 use lane_chart::Readiness;
-use station_run::replay::simulator::World;
+use replay::simulator::World;
 
 /// How far a link is that is up or not, and ready or not.
 fn link_of(is_up: bool, is_ready: bool) -> Readiness

@@ -1,7 +1,7 @@
 //! The capture of a recorded session, in a file of its own.
 
 ghost use Rattle.std.specs.Prelude.{◌≡◌, ◌≤◌, IsErr, IfErr, OnOk};
-ghost use Rattle.station_run.specs.replay.ReplayedSession.{CanReplay};
+ghost use Rattle.replay.specs.ReplayedSession.{CanReplay};
 ghost use Rattle.station_record.specs.CaptureFiles.{Explained, Explains, HasCapture};
 
 use crate::capture::session_capture;

@@ -1,13 +1,13 @@
 //! A world to which the events of a session happen again.
 
 ghost use Rattle.std.specs.Prelude.{◌≡◌, IfOk, OnOk};
-ghost use Rattle.station_run.specs.replay.World.{IsFirst, after, played, refusal_of};
+ghost use Rattle.replay.specs.World.{IsFirst, after, played, refusal_of};
 ghost use Rattle.station_record.specs.Traffic.{left_by};
 ghost use Rattle.station_record.specs.inside.Late.{IsKnown};
 
 use control_table::Checked;
-use station_run::replay::simulator::{Event, Refused, World};
-use station_run::replay::{self, Entry};
+use replay::simulator::{Event, Refused, World};
+use replay::{self, Entry};
 use std::alloc::{AllocError, Global};
 
 /// The first world of a table.

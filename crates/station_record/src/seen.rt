@@ -1,17 +1,17 @@
 //! What is seen of each lane in a world.
 
 ghost use Rattle.std.specs.Prelude.{◌≡◌};
-ghost use Rattle.station_run.specs.replay.World.{played};
-ghost use Rattle.station_run.specs.replay.simulator_run.Interlocking.{held_of};
+ghost use Rattle.replay.specs.World.{played};
+ghost use Rattle.replay.specs.simulator_run.Interlocking.{held_of};
 ghost use Rattle.station_record.specs.Seen.{aspect_at, held_for, occupancy_at, position_at, progress_at, progress_of, seen_at};
-ghost use Rattle.station_run.specs.replay.simulator_run.Tried.{driven};
+ghost use Rattle.replay.specs.simulator_run.Tried.{driven};
 
 use crate::links::{detector_link, point_link, signal_link};
 use control_table::sci_telegram::{Aspect, Occupancy, Position, Side};
 use control_table::{PointId, RouteId, SectionId, SignalId};
 use lane_chart::{Kind, Lane, Progress, Seen};
-use station_run::replay::simulator::simulator_run::ixl_rules::Phase;
-use station_run::replay::simulator::{Held, World};
+use replay::simulator::simulator_run::ixl_rules::Phase;
+use replay::simulator::{Held, World};
 
 /// What a signal shows.
 fn aspect_at(world: &World, place: usize) -> Option<Aspect>

@@ -2,14 +2,14 @@
 
 ghost use Rattle.std.specs.Prelude.{◌≡◌, IfErr, IfOk, OnOk, slice_get};
 ghost use Rattle.station_record.specs.CapturedSession.{IsCaptureOf, comment, journey};
-ghost use Rattle.station_run.specs.replay.simulator.simulator_field.Network.{lent};
+ghost use Rattle.replay.specs.simulator.simulator_field.Network.{lent};
 ghost use Rattle.station_record.specs.inside.CapturesSoFar.{Captures, IsNoCapture};
 
 use crate::capture_failure::CaptureFailure;
 use crate::ends::sender;
 use capture_file::{CaptureFault, Endpoint, Journey, MOST_BYTES, begin, end_of, push_datagram};
-use station_run::replay::receiver;
-use station_run::replay::simulator::simulator_field::{Network, SentOn};
+use replay::receiver;
+use replay::simulator::simulator_field::{Network, SentOn};
 use std::alloc::Global;
 
 /// What is remarked of a datagram.

@@ -1,13 +1,14 @@
 //! A session, applied again to a world, and what changes in it.
 
 ghost use Rattle.std.specs.Prelude.{◌≡◌, ◌++◌, IfErr, IfOk, List, OnOk, ◌↔◌, IsTrue, map};
-ghost use Rattle.station_run.specs.replay.World.{AnswersSame, IsFirst, answer, played};
-ghost use Rattle.station_run.specs.replay.simulator_run.Interlocking.{held_of};
-ghost use Rattle.station_run.specs.replay.simulator_run.Tried.{Played, after};
-ghost use Rattle.station_record.specs.Changes.{TellsLane, TellsLanes, change_to, watch_of};
+ghost use Rattle.replay.specs.World.{AnswersSame, IsFirst, answer, played};
+ghost use Rattle.replay.specs.simulator_run.Interlocking.{held_of};
+ghost use Rattle.replay.specs.simulator_run.Tried.{Played, after};
+ghost use Rattle.station_record.specs.Changes.{TellsLane, TellsLanes, watch_of};
 ghost use Rattle.station_record.specs.Differences.{DiffersFrom, DiffersIn};
 ghost use Rattle.station_record.specs.Seen.{seen_at};
 ghost use Rattle.station_record.specs.Story.{IsStoryOf};
+ghost use Rattle.station_record.specs.inside.FirstChanges.{first_change};
 ghost use Rattle.lane_chart.specs.declared.change.Change.{Change as ChangeTold};
 
 use crate::chart_failure::ChartFailure;
@@ -18,8 +19,8 @@ use crate::seen::seen_at;
 use crate::watch::Watch;
 use control_table::Checked;
 use lane_chart::{Change, Happening, Lane, Seen};
-use station_run::replay::simulator::{Answer, Held, Refused, World};
-use station_run::replay::{Entry, recorded, try_event};
+use replay::simulator::{Answer, Held, Refused, World};
+use replay::{Entry, recorded, try_event};
 use std::alloc::{AllocError, Global};
 
 /// What happens in a session.
@@ -104,18 +105,16 @@ fn first_watches(alloc: Global, world: &World, lanes: &[Lane]) -> Result<Vec<Wat
 }
 
 /// That the lanes show this at first.
-fn first_changes(alloc: Global, world: &World, lanes: &[Lane]) -> Result<Vec<Change>, AllocError>
-    ensures { IfOk result (λ changes. changes.items ≡ map (change_to 0 (played world.now)) lanes.now) }
+fn first_changes(alloc: Global, time: u64, watches: &[Watch]) -> Result<Vec<Change>, AllocError>
+    ensures { IfOk result (λ changes. changes.items ≡ map (first_change time) watches.now) }
 {
-    let held = world.held();
-    let time = world.time();
     let mut changes = Vec::new(alloc);
-    for lane in lanes {
-        let seen = seen_at(world, &held, *lane);
+    for watch in watches {
+        let Watch { lane, seen } = *watch;
         changes.push(Change {
             line: 0,
             time,
-            lane: *lane,
+            lane,
             seen,
         })?;
     }
@@ -149,8 +148,8 @@ fn story_from(alloc: Global, world: &mut World, entries: &[Entry]) -> Result<Sto
     ensures differs { IfErr result (DiffersFrom (played world.old) entries.now) }
 {
     let lanes = lanes_of(alloc, world.table().layout())?;
-    let mut changes = first_changes(alloc, world, &lanes)?;
     let mut watches = first_watches(alloc, world, &lanes)?;
+    let mut changes = first_changes(alloc, world.time(), &watches)?;
     let mut happenings = Vec::new(alloc);
     for (place, entry) in entries.iter().enumerate() {
         add_happening(alloc, world, place + 1, entry, &mut happenings)?;
@@ -174,5 +173,7 @@ pub fn story_of(alloc: Global, table: Checked, entries: &[Entry]) -> Result<Stor
     ensures differs { IfErr result (DiffersIn table entries.now) }
 {
     let mut world = first_world(alloc, table)?;
-    story_from(alloc, &mut world, entries)
+    let story = story_from(alloc, &mut world, entries);
+    drop(world);
+    story
 }

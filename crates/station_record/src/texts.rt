@@ -1,12 +1,12 @@
 //! The texts of a layout and of a session on it.
 
 ghost use Rattle.std.specs.Prelude.{IsErr, IfErr, IfOk, OnOk};
-ghost use Rattle.station_run.specs.replay.ReplayedSession.{CanReplay, Explains};
+ghost use Rattle.replay.specs.ReplayedSession.{CanReplay, Explains};
 ghost use Rattle.station_record.specs.inside.SoundTexts.{AreTexts};
 
 use control_table::Checked;
-use station_run::replay::station_check::{Failure, table_of};
-use station_run::replay::{Entry, read_session};
+use replay::station_check::{Failure, table_of};
+use replay::{Entry, read_session};
 use std::alloc::Global;
 
 /// A layout's table, and a session on it.

@@ -1,20 +1,20 @@
 -- How a run ends, by what ended it.
 use Rattle.std.proofs.Common.{◌≡◌, refl, sym, subst, ℕ, List, Option, Result, Ok, Err}
 use Rattle.std.specs.Prelude.{IfErr, IsErrAnd, IsOk}
-use Rattle.replay.specs.simulator_event.declared.event.Event.{Event}
+use Rattle.station_record.specs.replay.simulator_event.declared.event.Event.{Event}
 use Rattle.station_panel.specs.station_network.station_drive.Drives.{CutOff, Driven}
 use Rattle.station_panel.specs.station_network.station_drive.Told.{Call}
 use Rattle.station_panel.specs.station_network.station_drive.declared.fault.DriveFault.{DriveFault}
 use Rattle.station_panel.specs.station_network.station_drive.declared.fault.DriveFault.TheVariants as drive
-use Rattle.replay.specs.station_check.declared.failure.Failure.{Failure}
-use Rattle.replay.specs.station_check.declared.failure.Failure.TheVariants as why
+use Rattle.station_record.specs.replay.station_check.declared.failure.Failure.{Failure}
+use Rattle.station_record.specs.replay.station_check.declared.failure.Failure.TheVariants as why
 use Rattle.station_run.specs.Failures.{IsOfMachine, Leaves, of_drive}
 use Rattle.station_run.specs.Inside.{IsLate, IsOfRun}
 use Rattle.station_run.specs.Runs.{CanRun, EndsEarly, Explains, IsPrepared, cannot_run, lacks_memory, lacks_memory_at_its_end, not_told}
 use Rattle.station_run.specs.Worlds.{driven_worlds}
 use Rattle.station_run.specs.declared.failure.RunFailure.{RunFailure}
 use Rattle.station_run.specs.declared.failure.RunFailure.TheVariants.{Failed, CannotRun}
-use Rattle.replay.specs.World.{Played}
+use Rattle.station_record.specs.replay.World.{Played}
 
 -- nothing was written
 pub leaves_all : {W : Type 0} (failure : RunFailure) (old new : W) → new ≡ old → Leaves failure old new

@@ -3,12 +3,12 @@ use Rattle.std.proofs.Common.{◌≡◌, ◌∙◌, ◌+◌, ◌-◌, ◌<◌, �
 use Rattle.std.specs.Prelude.{slice_get, IfSome, if◌then◌else◌}
 use Rattle.std.specs.Option.{option_map, option_map_or}
 use Rattle.std.proofs.lemmas.List.{append_assoc, append-nil}
-use Rattle.replay.specs.ixl_rules.State.{IxlState, RouteState}
-use Rattle.replay.specs.ixl_rules.Table.{Row, Table, at}
-use Rattle.replay.specs.ixl_rules.View.{holds_section}
-use Rattle.replay.specs.layout.declared.ids.RouteId.{RouteId}
-use Rattle.replay.specs.simulator.ixl_state.ixl_field.Field.{FieldState, Rest, kept}
-use Rattle.replay.specs.simulator.ixl_state.State.{AtRoute, HasRoute, StateView, field_of, rest_of}
+use Rattle.station_record.specs.replay.ixl_rules.State.{IxlState, RouteState}
+use Rattle.station_record.specs.replay.ixl_rules.Table.{Row, Table, at}
+use Rattle.station_record.specs.replay.ixl_rules.View.{holds_section}
+use Rattle.station_record.specs.replay.layout.declared.ids.RouteId.{RouteId}
+use Rattle.station_record.specs.replay.simulator.ixl_state.ixl_field.Field.{FieldState, Rest, kept}
+use Rattle.station_record.specs.replay.simulator.ixl_state.State.{AtRoute, HasRoute, StateView, field_of, rest_of}
 use Rattle.station_panel.specs.panel_desk.declared.panel_line.PanelLine.{PanelLine}
 use Rattle.station_run.specs.Panel.{each, lock_of, locking}
 

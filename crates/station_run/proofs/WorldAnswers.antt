@@ -1,17 +1,17 @@
 -- A world that is driven answers events, and is left by them, as it is played.
 use Rattle.std.proofs.Common.{◌≡◌, sym, ap, subst, ◌∙◌, inl, inr, Some, None, Result, Ok, Err, OnOk, OnErr}
 use Rattle.std.specs.Prelude.{IfOk, IfErr, ◌⊎◌}
-use Rattle.replay.specs.ixl_table.Table.{SitedTable}
-use Rattle.replay.specs.simulator_event.declared.event.Event.{Event}
-use Rattle.replay.specs.simulator_event.refused.Refused.{Refused}
-use Rattle.replay.specs.simulator_event.refused.Refused.TheVariants.{NoSuchNode, NeverSent, Drift, NotDriven, ClockLimit, OutOfMemory}
-use Rattle.replay.specs.simulator_event.declared.reply.Answer.{Answer}
-use Rattle.replay.specs.simulator_event.declared.reply.Reply.{Reply}
-use Rattle.replay.specs.simulator_run.Happens.{answered, happens, reply_to}
-use Rattle.replay.specs.simulator_run.State.{WorldState}
+use Rattle.station_record.specs.replay.ixl_table.Table.{SitedTable}
+use Rattle.station_record.specs.replay.simulator_event.declared.event.Event.{Event}
+use Rattle.station_record.specs.replay.simulator_event.refused.Refused.{Refused}
+use Rattle.station_record.specs.replay.simulator_event.refused.Refused.TheVariants.{NoSuchNode, NeverSent, Drift, NotDriven, ClockLimit, OutOfMemory}
+use Rattle.station_record.specs.replay.simulator_event.declared.reply.Answer.{Answer}
+use Rattle.station_record.specs.replay.simulator_event.declared.reply.Reply.{Reply}
+use Rattle.station_record.specs.replay.simulator_run.Happens.{answered, happens, reply_to}
+use Rattle.station_record.specs.replay.simulator_run.State.{WorldState}
 use Rattle.station_panel.specs.station_network.station_drive.Doings.{Applies}
 use Rattle.station_run.specs.Worlds.{driven_worlds}
-use Rattle.replay.specs.World.{Played, after, answer, answer_where, refusal_of, world_where}
+use Rattle.station_record.specs.replay.World.{Played, after, answer, answer_where, refusal_of, world_where}
 
 same_world : (a b : Played) → a.sited ≡ b.sited → a.run ≡ b.run → a ≡ b
 same_world a b sited run =

@@ -5,8 +5,8 @@ use Rattle.std.specs.declared.io.ErrorKind.{ErrorKind}
 use Rattle.std.specs.declared.io.ErrorKind.TheVariants as kinds
 use Rattle.station_panel.specs.station_network.station_drive.declared.fault.DriveFault.{DriveFault}
 use Rattle.station_panel.specs.station_network.station_drive.declared.fault.DriveFault.TheVariants as drive
-use Rattle.replay.specs.station_check.Failures.{told_line as failure_line}
-use Rattle.replay.specs.station_check.declared.failure.Failure.TheVariants as why
+use Rattle.station_record.specs.replay.station_check.Failures.{told_line as failure_line}
+use Rattle.station_record.specs.replay.station_check.declared.failure.Failure.TheVariants as why
 use Rattle.station_run.specs.declared.failure.RunFailure.{RunFailure}
 use Rattle.station_run.specs.declared.failure.RunFailure.TheVariants.{Failed, CannotRun}
 use Rattle.station_panel.specs.station_network.declared.sockets.OpenFault.{OpenFault}

@@ -1,7 +1,7 @@
 -- What contracts inside the crate say. No promise names any of it.
 use Rattle.std.specs.Prelude.{◌≡◌}
-use Rattle.replay.specs.station_check.declared.failure.Failure.{Failure}
-use Rattle.replay.specs.station_check.declared.failure.Failure.TheVariants.{OutOfMemory, NotWritten}
+use Rattle.station_record.specs.replay.station_check.declared.failure.Failure.{Failure}
+use Rattle.station_record.specs.replay.station_check.declared.failure.Failure.TheVariants.{OutOfMemory, NotWritten}
 use Rattle.station_run.specs.declared.failure.RunFailure.{RunFailure}
 use Rattle.station_run.specs.declared.failure.RunFailure.TheVariants.{Failed, CannotRun}
 

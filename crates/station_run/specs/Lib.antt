@@ -4,4 +4,4 @@ pub mod Runs
 pub mod Panel
 pub mod Inside
 -- what crates above need of the crates below
-pub use Rattle.replay.specs as replay
+pub use Rattle.station_record.specs as station_record

@@ -3,21 +3,21 @@
 use Rattle.std.specs.Prelude.{ℕ, zero, suc, ◌+◌, ◌-◌, ◌^◌, ◌/◌, ◌==◌, min, Bool, true, false, if◌then◌else◌, List, [], ◌∷◌, length, Option, Some, None, slice_get}
 use Rattle.std.specs.List.{flat_map}
 use Rattle.std.specs.Option.{option_map_or}
-use Rattle.replay.specs.layout.Entries.{RouteEntry, Site}
-use Rattle.replay.specs.layout.declared.ids.RouteId.{RouteId}
-use Rattle.replay.specs.sci_telegram.declared.message.Aspect.{Aspect}
-use Rattle.replay.specs.sci_telegram.declared.message.Aspect.TheVariants as aspects
-use Rattle.replay.specs.sci_telegram.declared.message.Occupancy.TheVariants as occupancies
-use Rattle.replay.specs.sci_telegram.declared.message.Position.TheVariants as positions
-use Rattle.replay.specs.ixl_rules.State.{IxlState, RouteState}
-use Rattle.replay.specs.ixl_rules.Table.{Row, at}
-use Rattle.replay.specs.ixl_rules.View.{holds_section, is_holding, is_point_ready, is_set, is_signal_ready}
-use Rattle.replay.specs.rasta_core.Ends.{reading_of}
-use Rattle.replay.specs.simulator_run.ixl_client.Client.{is_ready}
-use Rattle.replay.specs.simulator_run.Interlocking.{held_of}
-use Rattle.replay.specs.simulator_run.Refusals.{driven_at}
-use Rattle.replay.specs.simulator_run.Seen.{shown_by}
-use Rattle.replay.specs.simulator_run.simulator_snapshot.declared.snapshot.Held.{Held}
+use Rattle.station_record.specs.replay.layout.Entries.{RouteEntry, Site}
+use Rattle.station_record.specs.replay.layout.declared.ids.RouteId.{RouteId}
+use Rattle.station_record.specs.replay.sci_telegram.declared.message.Aspect.{Aspect}
+use Rattle.station_record.specs.replay.sci_telegram.declared.message.Aspect.TheVariants as aspects
+use Rattle.station_record.specs.replay.sci_telegram.declared.message.Occupancy.TheVariants as occupancies
+use Rattle.station_record.specs.replay.sci_telegram.declared.message.Position.TheVariants as positions
+use Rattle.station_record.specs.replay.ixl_rules.State.{IxlState, RouteState}
+use Rattle.station_record.specs.replay.ixl_rules.Table.{Row, at}
+use Rattle.station_record.specs.replay.ixl_rules.View.{holds_section, is_holding, is_point_ready, is_set, is_signal_ready}
+use Rattle.station_record.specs.replay.rasta_core.Ends.{reading_of}
+use Rattle.station_record.specs.replay.simulator_run.ixl_client.Client.{is_ready}
+use Rattle.station_record.specs.replay.simulator_run.Interlocking.{held_of}
+use Rattle.station_record.specs.replay.simulator_run.Refusals.{driven_at}
+use Rattle.station_record.specs.replay.simulator_run.Seen.{shown_by}
+use Rattle.station_record.specs.replay.simulator_run.simulator_snapshot.declared.snapshot.Held.{Held}
 use Rattle.station_panel.specs.panel_desk.declared.panel_line.Mode.{Mode}
 use Rattle.station_panel.specs.panel_desk.declared.panel_line.Mode.TheVariants.{Ready, Holding, WaitingForResume}
 use Rattle.station_panel.specs.panel_desk.declared.panel_line.PanelLine.{PanelLine}

@@ -1,22 +1,22 @@
 -- What comes of a station that runs for some time.
 use Rattle.std.specs.Prelude.{◌≡◌, ℕ, List, ◌++◌, codes, Option, Ok, IsOk}
 use Rattle.std.specs.Io.KnownBytes.{Appends}
-use Rattle.replay.specs.layout.Entries.{Site}
-use Rattle.replay.specs.replay_lines.Text.{FailsAt}
-use Rattle.replay.specs.replay_lines.Script.{script}
-use Rattle.replay.specs.simulator_event.declared.event.Event.{Event}
-use Rattle.replay.specs.simulator.World.{IsPicture}
-use Rattle.replay.specs.station_check.Report.{IsSound}
+use Rattle.station_record.specs.replay.layout.Entries.{Site}
+use Rattle.station_record.specs.replay.replay_lines.Text.{FailsAt}
+use Rattle.station_record.specs.replay.replay_lines.Script.{script}
+use Rattle.station_record.specs.replay.simulator_event.declared.event.Event.{Event}
+use Rattle.station_record.specs.replay.simulator.World.{IsPicture}
+use Rattle.station_record.specs.replay.station_check.Report.{IsSound}
 use Rattle.station_panel.specs.station_network.station_drive.Drives.{CutOff, Driven}
 use Rattle.station_panel.specs.station_network.station_drive.Told.{Call}
-use Rattle.replay.specs.station_check.Failures.{ExplainsTable}
-use Rattle.replay.specs.station_check.declared.failure.Failure.{Failure}
-use Rattle.replay.specs.station_check.declared.failure.Failure.TheVariants as why
+use Rattle.station_record.specs.replay.station_check.Failures.{ExplainsTable}
+use Rattle.station_record.specs.replay.station_check.declared.failure.Failure.{Failure}
+use Rattle.station_record.specs.replay.station_check.declared.failure.Failure.TheVariants as why
 use Rattle.station_run.specs.Failures.{Leaves, Tells}
 use Rattle.station_run.specs.Worlds.{driven_worlds}
 use Rattle.station_run.specs.declared.failure.RunFailure.{RunFailure}
 use Rattle.station_run.specs.declared.failure.RunFailure.TheVariants.{Failed, CannotRun}
-use Rattle.replay.specs.World.{AllSafe, IsFirst, Played}
+use Rattle.station_record.specs.replay.World.{AllSafe, IsFirst, Played}
 
 -- ---- the texts
 

@@ -1,10 +1,10 @@
 -- A world as a station that is driven.
 use Rattle.std.specs.Prelude.{ℕ, List, map}
-use Rattle.replay.specs.rasta_core.Links.{OnLink}
-use Rattle.replay.specs.simulator_event.declared.event.NodeId.{NodeId}
-use Rattle.replay.specs.simulator_run.Refusals.{driven_at}
+use Rattle.station_record.specs.replay.rasta_core.Links.{OnLink}
+use Rattle.station_record.specs.replay.simulator_event.declared.event.NodeId.{NodeId}
+use Rattle.station_record.specs.replay.simulator_run.Refusals.{driven_at}
 use Rattle.station_panel.specs.station_network.station_drive.Doings.{Behaviour}
-pub use Rattle.replay.specs.World.{Played, after, answer, played, receiver}
+pub use Rattle.station_record.specs.replay.World.{Played, after, answer, played, receiver}
 
 -- a datagram, with the node at the other end of its link
 abbrev pub addressed : OnLink → NodeId × List ℕ

@@ -7,11 +7,11 @@ ghost use Rattle.station_run.specs.Worlds.{driven_worlds, played};
 use control_table::Checked;
 use control_table::layout::PointId;
 use control_table::sci_telegram::Side;
-use replay::receiver;
-use replay::simulator::{Event, Refused, Reply, World};
 use station_panel::station_network::station_drive::{
     Clock, Datagrams, DriveFault, Outgoing, Station,
 };
+use station_record::replay::receiver;
+use station_record::replay::simulator::{Event, Refused, Reply, World};
 use std::alloc::Global;
 use std::io::Write;
 use std::mem;
@@ -21,7 +21,7 @@ use std::mem;
 pub(crate) struct Running(pub(crate) World);
 
 impl Station for Running {
-    ghost use Rattle.replay.specs.World.{Played};
+    ghost use Rattle.station_record.specs.replay.World.{Played};
     ghost use Rattle.station_run.specs.Worlds.{driven_worlds};
 
     ghost State = { Played };

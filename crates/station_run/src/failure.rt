@@ -3,10 +3,10 @@
 ghost use Rattle.std.specs.Prelude.{◌≡◌};
 ghost use Rattle.station_run.specs.Failures.{Tells};
 
-use replay::station_check::{Failure, tell};
 use replay_words::write_as_taken;
 use station_panel::station_network::OpenFault;
 use station_panel::station_network::station_drive::DriveFault;
+use station_record::replay::station_check::{Failure, tell};
 use std::alloc::AllocError;
 use std::io;
 use std::io::Write;
@@ -58,7 +58,7 @@ impl From<DriveFault> for RunFailure {
 
 impl From<AllocError> for RunFailure {
     ghost use Rattle.station_run.specs.declared.failure.RunFailure.TheVariants.{Failed};
-    ghost use Rattle.replay.specs.station_check.declared.failure.Failure.TheVariants.{OutOfMemory};
+    ghost use Rattle.station_record.specs.replay.station_check.declared.failure.Failure.TheVariants.{OutOfMemory};
 
     ghost from_gives = { λ _ failure. failure ≡ Failed OutOfMemory };
 

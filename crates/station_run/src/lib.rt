@@ -20,4 +20,4 @@ pub use prepared::{Prepared, prepare};
 pub use station_panel::{Limits, PageAsked};
 
 // What crates above need of the crates below.
-pub use replay;
+pub use station_record;

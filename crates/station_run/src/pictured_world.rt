@@ -2,21 +2,21 @@
 
 ghost use Rattle.std.specs.Prelude.{◌≡◌, ◌<◌, ◌+◌, ◌++◌, ◌/◌, ◌==◌, IfOk, OnOk, drop, length, slice_get};
 ghost use Rattle.std.specs.List.{flat_map, list_any};
-ghost use Rattle.replay.specs.ixl_rules.View.{freed_sections, is_point_ready, is_signal_ready};
+ghost use Rattle.station_record.specs.replay.ixl_rules.View.{freed_sections, is_point_ready, is_signal_ready};
 ghost use Rattle.std.specs.Option.{option_map_or};
 ghost use Rattle.station_run.specs.Panel.{all_of, authority_of, count, is_detector_ready, line_at, link_line, lock_of, locking, mode_seen, pictured, route_held};
 ghost use Rattle.station_run.specs.declared.thing.Thing.TheVariants.{Aspect, DetectorLink, Lies, PointLink, Route as RouteSet, SignalLink, Stands};
-ghost use Rattle.replay.specs.simulator_run.Interlocking.{held_of};
+ghost use Rattle.station_record.specs.replay.simulator_run.Interlocking.{held_of};
 ghost use Rattle.station_run.specs.Worlds.{played};
 
 use crate::driven_world::Running;
 use crate::thing::Thing;
-use replay::simulator::simulator_run::ixl_rules::Phase;
-use replay::simulator::simulator_run::ixl_rules::control_table::layout::{
+use station_panel::{Authority, Known, LinkState, Mode, PanelLine, Pictured};
+use station_record::replay::simulator::simulator_run::ixl_rules::Phase;
+use station_record::replay::simulator::simulator_run::ixl_rules::control_table::layout::{
     PointId, Route, RouteId, SectionId, SignalId,
 };
-use replay::simulator::{Held, NodeId, World};
-use station_panel::{Authority, Known, LinkState, Mode, PanelLine, Pictured};
+use station_record::replay::simulator::{Held, NodeId, World};
 use std::alloc::{AllocError, Global};
 
 /// How many microseconds a millisecond has.

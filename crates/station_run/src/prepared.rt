@@ -2,8 +2,8 @@
 
 ghost use Rattle.std.specs.Prelude.{◌≡◌, ◌≤◌, ◌++◌, List, ℕ, codes, IfErr, IfOk, IsErr, OnErr, OnOk, length};
 ghost use Rattle.std.specs.Io.KnownBytes.{Appends};
-ghost use Rattle.replay.specs.replay_lines.Names.{node_names};
-ghost use Rattle.replay.specs.simulator.World.{IsPicture};
+ghost use Rattle.station_record.specs.replay.replay_lines.Names.{node_names};
+ghost use Rattle.station_record.specs.replay.simulator.World.{IsPicture};
 ghost use Rattle.station_run.specs.Failures.{Leaves, Tells};
 ghost use Rattle.station_run.specs.Inside.{IsLate};
 ghost use Rattle.station_run.specs.Runs.{CanRun, EndsEarly, ExplainsTexts, IsPrepared, IsRun};
@@ -12,10 +12,10 @@ ghost use Rattle.station_run.specs.declared.failure.RunFailure.{RunFailure as Wh
 
 use crate::driven_world::Running;
 use crate::failure::{RunFailure, tell_run};
-use replay::simulator::{Event, World};
-use replay::station_check::{Failure, table_of};
-use replay::{node_count, played_worlds_are_safe, read_script};
 use station_panel::station_network::station_drive::{Clock, Datagrams, Station, drive};
+use station_record::replay::simulator::{Event, World};
+use station_record::replay::station_check::{Failure, table_of};
+use station_record::replay::{node_count, played_worlds_are_safe, read_script};
 use std::alloc::Global;
 use std::io::Write;
 

@@ -3,7 +3,7 @@
 use crate::command_bench::expect_of;
 use crate::run_bench::SMALL;
 use crate::runs::read;
-use station_record::{Asked, capture_session, capture_to_file};
+use station_run::station_record::{Asked, capture_session, capture_to_file};
 use std::alloc::Global;
 use std::fs;
 

@@ -2,16 +2,16 @@
 
 use crate::controllers::{KEY, MADE_AT, MANY, OPENED_AT, STATION, answer, hosted, name};
 use control_table::sci_telegram::{Aspect, Occupancy, Protocol};
-use station_record::station_run::replay::simulator::simulator_run::ixl_rules::ixl_client::{
+use station_run::station_record::replay::simulator::simulator_run::ixl_rules::ixl_client::{
     Client, Command, Indications, Peer,
 };
-use station_record::station_run::replay::simulator::simulator_run::ixl_rules::rasta_core::Outbox;
-use station_record::station_run::replay::simulator::simulator_run::ixl_rules::rasta_pdu::Datagram;
-use station_record::station_run::replay::simulator::simulator_run::object_host::{
+use station_run::station_record::replay::simulator::simulator_run::ixl_rules::rasta_core::Outbox;
+use station_run::station_record::replay::simulator::simulator_run::ixl_rules::rasta_pdu::Datagram;
+use station_run::station_record::replay::simulator::simulator_run::object_host::{
     Controller, Hosted,
 };
-use station_record::station_run::replay::simulator::simulator_run::signal_ctl::Signal;
-use station_record::station_run::replay::simulator::simulator_run::tds_ctl::Detection;
+use station_run::station_record::replay::simulator::simulator_run::signal_ctl::Signal;
+use station_run::station_record::replay::simulator::simulator_run::tds_ctl::Detection;
 use std::alloc::Global;
 use std::mem;
 use std::process::Abort;

@@ -2,11 +2,11 @@
 
 use control_table::sci_telegram::Name;
 use md4::STANDARD;
-use station_record::station_run::replay::simulator::simulator_run::ixl_rules::rasta_core::Millis;
-use station_record::station_run::replay::simulator::simulator_run::ixl_rules::rasta_pdu::{
+use station_run::station_record::replay::simulator::simulator_run::ixl_rules::rasta_core::Millis;
+use station_run::station_record::replay::simulator::simulator_run::ixl_rules::rasta_pdu::{
     Datagram, Key,
 };
-use station_record::station_run::replay::simulator::simulator_run::object_host::{
+use station_run::station_record::replay::simulator::simulator_run::object_host::{
     Controller, Hosted, Input,
 };
 use std::alloc::Global;

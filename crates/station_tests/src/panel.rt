@@ -5,7 +5,7 @@ use crate::panel_bench::{Asks, Sevens, Visit, Visits, count, has, page};
 use crate::run_bench::{SMALL, is_same};
 use station_panel::station_network::{MemoryNetwork, SteppingClock};
 use station_panel::{Limits, Listens, Loopback};
-use station_record::station_run::{PanelAsked, attend_station, prepare};
+use station_run::{PanelAsked, attend_station, prepare};
 use std::alloc::Global;
 use std::cell::RefCell;
 use std::io::{Read, Write};

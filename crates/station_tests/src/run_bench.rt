@@ -2,8 +2,8 @@
 
 use station_panel::station_network::station_drive::{Clock, Datagrams};
 use station_panel::station_network::{MemoryNetwork, NetCall};
-use station_record::station_run::replay::replay_text;
-use station_record::station_run::{Asked, prepare, run};
+use station_run::station_record::replay::replay_text;
+use station_run::{Asked, prepare, run};
 use std::alloc::Global;
 use std::io;
 use std::io::Write;

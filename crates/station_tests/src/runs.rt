@@ -5,7 +5,7 @@ use crate::run_bench::{
     Drive, Left, SMALL, Told, is_same, lacks_delivery, run_over_memory, run_over_sockets,
     whole_lines,
 };
-use station_record::station_run::Asked;
+use station_run::Asked;
 use std::alloc::{AllocError, Global};
 use std::fs::File;
 use std::ops::Range;

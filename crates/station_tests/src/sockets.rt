@@ -3,7 +3,7 @@
 use crate::memory::receives;
 use station_panel::station_network::station_drive::{Clock, Datagrams, NetFault};
 use station_panel::station_network::{RoundClock, Sockets};
-use station_record::station_run::replay::simulator::NodeId;
+use station_run::station_record::replay::simulator::NodeId;
 use std::alloc::Global;
 use std::cell::Cell;
 use std::io;

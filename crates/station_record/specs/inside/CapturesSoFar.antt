@@ -5,10 +5,10 @@ use Rattle.capture_file.specs.Captures.{IsCapture}
 use Rattle.capture_file.specs.Journeys.{Sent}
 use Rattle.capture_file.specs.declared.fault.CaptureFault.TheVariants.{TooLong}
 use Rattle.capture_file.specs.declared.journey.Endpoint.{Endpoint}
-use Rattle.station_run.specs.replay.replay_lines.declared.session.Entry.{Entry}
-use Rattle.station_run.specs.replay.layout.Entries.{Site}
-use Rattle.station_run.specs.replay.rasta_core.Links.{OnLink}
-use Rattle.station_run.specs.replay.station_check.declared.failure.Failure.TheVariants.{OutOfMemory}
+use Rattle.replay.specs.replay_lines.declared.session.Entry.{Entry}
+use Rattle.replay.specs.layout.Entries.{Site}
+use Rattle.replay.specs.rasta_core.Links.{OnLink}
+use Rattle.replay.specs.station_check.declared.failure.Failure.TheVariants.{OutOfMemory}
 use Rattle.station_record.specs.CapturedSession.{HasTooLong, SendsTooLong, captured}
 use Rattle.station_record.specs.declared.capture_failure.CaptureFailure.{CaptureFailure}
 use Rattle.station_record.specs.declared.capture_failure.CaptureFailure.TheVariants.{Station, Capture}

@@ -1,9 +1,9 @@
 -- What can fail once the texts are without a fault.
 use Rattle.std.specs.Prelude.{◌≡◌, ◌≢◌, Option, Some}
-use Rattle.station_run.specs.replay.simulator_event.refused.Refused.{Refused}
-use Rattle.station_run.specs.replay.simulator_event.refused.Refused.TheVariants as refused
-use Rattle.station_run.specs.replay.station_check.declared.failure.Failure.{Failure}
-use Rattle.station_run.specs.replay.station_check.declared.failure.Failure.TheVariants.{OutOfMemory, NotWritten}
+use Rattle.replay.specs.simulator_event.refused.Refused.{Refused}
+use Rattle.replay.specs.simulator_event.refused.Refused.TheVariants as refused
+use Rattle.replay.specs.station_check.declared.failure.Failure.{Failure}
+use Rattle.replay.specs.station_check.declared.failure.Failure.TheVariants.{OutOfMemory, NotWritten}
 
 -- memory is lacking, or something can't be written
 abbrev pub IsLate : Failure → Type 0

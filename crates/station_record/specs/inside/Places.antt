@@ -1,7 +1,7 @@
 -- The lines of datagrams, one after the other.
 use Rattle.std.specs.Prelude.{ℕ, List, [], Option, Some, None}
-use Rattle.station_run.specs.replay.layout.Entries.{Site}
-use Rattle.station_run.specs.replay.rasta_core.Links.{OnLink}
+use Rattle.replay.specs.layout.Entries.{Site}
+use Rattle.replay.specs.rasta_core.Links.{OnLink}
 use Rattle.station_record.specs.Lines.{line_text}
 use Rattle.station_record.specs.Traffic.{OnWire, sent_on}
 

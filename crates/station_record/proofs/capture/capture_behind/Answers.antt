@@ -1,4 +1,4 @@
-use Rattle.station_run.specs.replay.World.{played}
+use Rattle.replay.specs.World.{played}
 use Rattle.station_record.specs.Traffic.{left_by}
 use Rattle.station_record.proofs.Captures.{capture_of_sent, no_capture_of_sent}
 use Rattle.station_record.proofs.capture.capture_behind.Goals as goal

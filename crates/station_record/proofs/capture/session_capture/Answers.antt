@@ -1,5 +1,5 @@
 use Rattle.std.proofs.Common.{List, subst}
-use Rattle.station_run.specs.replay.replay_lines.declared.session.Entry.{Entry}
+use Rattle.replay.specs.replay_lines.declared.session.Entry.{Entry}
 use Rattle.station_record.specs.CapturedSession.{Explains}
 use Rattle.station_record.specs.declared.capture_failure.CaptureFailure.{CaptureFailure}
 use Rattle.station_record.specs.inside.CapturesSoFar.{IsNoFile}

@@ -1,8 +1,8 @@
 use Rattle.std.proofs.Common.{List, subst}
-use Rattle.station_run.specs.replay.replay_lines.declared.session.Entry.{Entry}
-use Rattle.station_run.specs.replay.ReplayedSession.{Explains}
-use Rattle.station_run.specs.replay.station_check.Failures.{Leaves}
-use Rattle.station_run.specs.replay.station_check.declared.failure.Failure.{Failure}
+use Rattle.replay.specs.replay_lines.declared.session.Entry.{Entry}
+use Rattle.replay.specs.ReplayedSession.{Explains}
+use Rattle.replay.specs.station_check.Failures.{Leaves}
+use Rattle.replay.specs.station_check.declared.failure.Failure.{Failure}
 use Rattle.station_record.specs.DecodedSession.{IsTold}
 use Rattle.station_record.proofs.Ended.{late, stays, told_on}
 use Rattle.station_record.proofs.decode.decode.Goals as goal

@@ -1,5 +1,5 @@
 use Rattle.std.proofs.Common.{◌∙◌, refl}
-use Rattle.station_run.specs.replay.World.{played}
+use Rattle.replay.specs.World.{played}
 use Rattle.station_record.proofs.Lines.{goes_on_begins, goes_on_ends, goes_on_next}
 use Rattle.station_record.proofs.decode.write_events.Goals as goal
 

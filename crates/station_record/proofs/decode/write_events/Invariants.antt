@@ -1,4 +1,4 @@
-use Rattle.station_run.specs.replay.World.{played}
+use Rattle.replay.specs.World.{played}
 use Rattle.station_record.proofs.Lines.{GoesOn}
 use Rattle.station_record.proofs.decode.write_events.Given as goal
 

@@ -1,7 +1,7 @@
 use Rattle.std.proofs.Common.{List, ◌∙◌, ap, length, string_bytes}
-use Rattle.station_run.specs.replay.World.{played}
-use Rattle.station_run.specs.replay.ixl_table.Table.{SitedTable}
-use Rattle.station_run.specs.replay.rasta_core.Links.{OnLink}
+use Rattle.replay.specs.World.{played}
+use Rattle.replay.specs.ixl_table.Table.{SitedTable}
+use Rattle.replay.specs.rasta_core.Links.{OnLink}
 use Rattle.station_record.proofs.Lines.{lines_of_event}
 use Rattle.station_record.proofs.event_lines.event_lines.Goals as goal
 

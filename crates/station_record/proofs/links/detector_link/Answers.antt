@@ -1,6 +1,6 @@
 use Rattle.std.proofs.Common.{◌≡◌, ◌∙◌, ap}
-use Rattle.station_run.specs.replay.ixl_rules.View.{is_detector_up}
-use Rattle.station_run.specs.replay.simulator.ixl_state.State.{StateView, field_of}
+use Rattle.replay.specs.ixl_rules.View.{is_detector_up}
+use Rattle.replay.specs.simulator.ixl_state.State.{StateView, field_of}
 use Rattle.station_record.specs.Links.{is_detector_ready}
 use Rattle.station_record.proofs.Ready.{linked, of_field}
 use Rattle.station_record.proofs.links.detector_link.Goals as goal

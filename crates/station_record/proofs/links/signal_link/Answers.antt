@@ -1,6 +1,6 @@
 use Rattle.std.proofs.Common.{◌≡◌, ◌∙◌, ap}
-use Rattle.station_run.specs.replay.ixl_rules.View.{is_signal_ready, is_signal_up}
-use Rattle.station_run.specs.replay.simulator.ixl_state.State.{StateView, field_of}
+use Rattle.replay.specs.ixl_rules.View.{is_signal_ready, is_signal_up}
+use Rattle.replay.specs.simulator.ixl_state.State.{StateView, field_of}
 use Rattle.station_record.proofs.Ready.{linked, of_field}
 use Rattle.station_record.proofs.links.signal_link.Goals as goal
 

@@ -1,5 +1,5 @@
 use Rattle.std.proofs.Common.{refl}
-use Rattle.station_run.specs.replay.World.{played}
+use Rattle.replay.specs.World.{played}
 use Rattle.station_record.proofs.Behind.{leads, led}
 use Rattle.station_record.proofs.replayed.apply_all.Goals as goal
 

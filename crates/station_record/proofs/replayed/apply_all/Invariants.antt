@@ -1,5 +1,5 @@
 use Rattle.std.proofs.Common.{◌≡◌, drop}
-use Rattle.station_run.specs.replay.World.{played}
+use Rattle.replay.specs.World.{played}
 use Rattle.station_record.specs.Traffic.{left_by}
 use Rattle.station_record.proofs.replayed.apply_all.Given as goal
 

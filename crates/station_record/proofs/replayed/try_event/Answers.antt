@@ -1,8 +1,8 @@
 use Rattle.std.proofs.Common.{◌≡◌, Option}
 use Rattle.std.proofs.lemmas.Result.{IfOk-weaker}
 use Rattle.std.specs.Prelude.{IfOk}
-use Rattle.station_run.specs.replay.World.{after, played, refusal_of}
-use Rattle.station_run.specs.replay.simulator_event.refused.Refused.{Refused}
+use Rattle.replay.specs.World.{after, played, refusal_of}
+use Rattle.replay.specs.simulator_event.refused.Refused.{Refused}
 use Rattle.station_record.proofs.Applied.{Tried, happened, refused_told}
 use Rattle.station_record.proofs.replayed.try_event.Goals as goal
 

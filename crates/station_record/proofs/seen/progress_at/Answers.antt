@@ -1,10 +1,10 @@
 use Rattle.std.proofs.Common.{◌≡◌, ◌<◌, ◌∙◌, List, length, ap, subst}
 use Rattle.std.specs.Prelude.{slice_get}
 use Rattle.std.specs.Option.{option_map}
-use Rattle.station_run.specs.replay.ixl_rules.State.{RouteState}
-use Rattle.station_run.specs.replay.ixl_rules.Table.{Row}
-use Rattle.station_run.specs.replay.ixl_table.Table.{SitedTable}
-use Rattle.station_run.specs.replay.simulator.ixl_state.State.{StateView}
+use Rattle.replay.specs.ixl_rules.State.{RouteState}
+use Rattle.replay.specs.ixl_rules.Table.{Row}
+use Rattle.replay.specs.ixl_table.Table.{SitedTable}
+use Rattle.replay.specs.simulator.ixl_state.State.{StateView}
 use Rattle.station_record.specs.Seen.{progress_of}
 use Rattle.station_record.proofs.Ready.{progress_there}
 use Rattle.station_record.proofs.seen.progress_at.Goals as goal

@@ -1,5 +1,5 @@
 use Rattle.std.proofs.Common.{◌≡◌, map, take}
-use Rattle.station_run.specs.replay.World.{played}
+use Rattle.replay.specs.World.{played}
 use Rattle.station_record.specs.Changes.{watch_of}
 use Rattle.station_record.proofs.story.first_watches.Given as goal
 

@@ -1,6 +1,6 @@
 use Rattle.std.proofs.Common.{◌≡◌, ◌++◌, ◌∷◌, ◌+◌, List, drop, map, ap}
 use Rattle.std.proofs.lemmas.List.{drop_more}
-use Rattle.station_run.specs.replay.World.{played}
+use Rattle.replay.specs.World.{played}
 use Rattle.station_record.specs.Changes.{watch_of}
 use Rattle.station_record.specs.declared.watch.Watch.{Watch}
 use Rattle.station_record.proofs.Looks.{looks_begin, looks_close, looks_go_on, seen_close, seen_more, watch_added, watch_told}

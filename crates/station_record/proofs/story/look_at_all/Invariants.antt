@@ -1,5 +1,5 @@
 use Rattle.std.proofs.Common.{◌≡◌, ◌++◌, drop, map}
-use Rattle.station_run.specs.replay.World.{played}
+use Rattle.replay.specs.World.{played}
 use Rattle.station_record.specs.Changes.{watch_of}
 use Rattle.station_record.specs.declared.watch.Watch.{Watch}
 use Rattle.station_record.proofs.Looks.{Looked}

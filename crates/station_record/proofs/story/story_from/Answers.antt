@@ -1,8 +1,8 @@
 use Rattle.std.proofs.Common.{◌≡◌, ◌≢◌, ◌+◌, ◌∷◌, ◌++◌, ◌∙◌, List, drop, map, sym, ap, refl, subst}
 use Rattle.std.proofs.lemmas.List.{drop_more}
-use Rattle.station_run.specs.replay.World.{answer, played}
-use Rattle.station_run.specs.replay.simulator_run.Tried.{Played}
-use Rattle.station_run.specs.replay.replay_lines.declared.session.Entry.{Entry}
+use Rattle.replay.specs.World.{answer, played}
+use Rattle.replay.specs.simulator_run.Tried.{Played}
+use Rattle.replay.specs.replay_lines.declared.session.Entry.{Entry}
 use Rattle.lane_chart.specs.declared.change.Change.{Change}
 use Rattle.lane_chart.specs.declared.change.Happening.{Happening}
 use Rattle.lane_chart.specs.declared.lane.Lane.{Lane}
@@ -10,10 +10,11 @@ use Rattle.station_record.specs.Changes.{TellsEvents, TellsLanes, change_to, wat
 use Rattle.station_record.specs.Lanes.{lanes_of}
 use Rattle.station_record.specs.Marks.{marks_of, seen_mark}
 use Rattle.station_record.specs.Story.{world_behind}
+use Rattle.station_record.specs.inside.FirstChanges.{first_change}
 use Rattle.station_record.specs.declared.watch.Watch.{Watch}
 use Rattle.station_record.proofs.Agreed.{agreed_begins, agreed_closes, agreed_goes_on, differs_here, failed}
 use Rattle.station_record.proofs.Events.{Happened, behind_close, behind_more, events_begin, events_close, events_go_on, marks_close, marks_more}
-use Rattle.station_record.proofs.Looks.{watched_again}
+use Rattle.station_record.proofs.Looks.{first_told, watched_again}
 use Rattle.station_record.proofs.story.story_from.Goals as goal
 
 pub loop-place-init : goal.loop-place-init
@@ -22,10 +23,11 @@ loop-place-init c =
     in let entries = c.args.entries.now
     in let lanes = c.in_ok-lanes.lanes.items
     in let shown = map (change_to 0 first) lanes
-    in let changes : c.in_ok-changes.changes.items ≡ shown = c.in_ok-changes.ensures ∙ ap (map (change_to 0 first)) c.deref.ensures.value
+    in let watches : c.in_ok-watches.watches.items ≡ map (watch_of first) lanes = c.in_ok-watches.ensures ∙ ap (map (watch_of first)) c.deref.ensures.value
+    in let changes : c.in_ok-changes.changes.items ≡ shown = c.in_ok-changes.ensures ∙ ap (map (first_change c.time.result)) (c.deref-2.ensures.value ∙ watches) ∙ first_told first c.time.result lanes c.time.ensures
     in record {
       stands = agreed_begins entries first;
-      watches = c.in_ok-watches.ensures ∙ ap (map (watch_of first)) c.deref-2.ensures.value;
+      watches = watches;
       changes = subst (λ (now : List Change). Happened lanes first entries 0 first shown now) (sym changes) (events_begin lanes first entries shown);
       behind = refl;
       happenings = ap (λ (happenings : List Happening). map seen_mark happenings ++ marks_of 1 first entries) c.new-happenings.ensures.items;
@@ -82,5 +84,5 @@ returns-clause-told c =
     in record {
       history = subst (λ (all : List Lane). (told : List Change) × TellsEvents all 1 first entries told × (changes ≡ map (change_to 0 first) all ++ told)) are told;
       happenings = marks_close entries place now (map seen_mark c.loop-place.happenings.items) (marks_of 1 first entries) c.loop-place-test.false c.loop-place.invariant.happenings;
-      end = c.time.ensures ∙ ap (λ (w : Played). w.run.time) (behind_close entries place now (world_behind first entries) c.loop-place-test.false c.loop-place.invariant.behind);
+      end = c.time-2.ensures ∙ ap (λ (w : Played). w.run.time) (behind_close entries place now (world_behind first entries) c.loop-place-test.false c.loop-place.invariant.behind);
     }

@@ -1,5 +1,5 @@
 use Rattle.std.proofs.Common.{◌≡◌, ◌++◌, ◌+◌, drop, map}
-use Rattle.station_run.specs.replay.World.{played}
+use Rattle.replay.specs.World.{played}
 use Rattle.station_record.specs.Changes.{change_to, watch_of}
 use Rattle.station_record.specs.Marks.{marks_of, seen_mark}
 use Rattle.station_record.specs.Story.{world_behind}

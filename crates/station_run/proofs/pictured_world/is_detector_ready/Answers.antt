@@ -1,9 +1,9 @@
 use Rattle.std.proofs.Common.{◌≡◌, ◌∙◌, ap, arith}
-use Rattle.replay.specs.ixl_rules.State.{KnownDetectorState}
-use Rattle.replay.specs.ixl_rules.Table.{at}
-use Rattle.replay.specs.simulator_run.ixl_client.Client.{is_ready}
-use Rattle.replay.specs.simulator.ixl_state.State.{StateView, field_of}
-use Rattle.replay.specs.simulator.ixl_state.ixl_field.Field.{FieldState}
+use Rattle.station_record.specs.replay.ixl_rules.State.{KnownDetectorState}
+use Rattle.station_record.specs.replay.ixl_rules.Table.{at}
+use Rattle.station_record.specs.replay.simulator_run.ixl_client.Client.{is_ready}
+use Rattle.station_record.specs.replay.simulator.ixl_state.State.{StateView, field_of}
+use Rattle.station_record.specs.replay.simulator.ixl_state.ixl_field.Field.{FieldState}
 use Rattle.station_run.proofs.Seen.{at_read}
 use Rattle.station_run.proofs.pictured_world.is_detector_ready.Goals as goal
 

@@ -1,6 +1,6 @@
 use Rattle.std.proofs.Common.{◌≡◌, ◌∙◌, ap}
-use Rattle.replay.specs.ixl_rules.View.{is_signal_ready}
-use Rattle.replay.specs.simulator.ixl_state.State.{StateView, field_of}
+use Rattle.station_record.specs.replay.ixl_rules.View.{is_signal_ready}
+use Rattle.station_record.specs.replay.simulator.ixl_state.State.{StateView, field_of}
 use Rattle.station_run.proofs.Seen.{of_nodes}
 use Rattle.station_run.proofs.pictured_world.is_signal_ready.Goals as goal
 

@@ -1,7 +1,7 @@
 use Rattle.std.proofs.Common.{◌≡◌, ◌∙◌, List, length, ap, arith}
-use Rattle.replay.specs.ixl_table.Table.{SitedTable}
-use Rattle.replay.specs.ixl_rules.Table.{Row}
-use Rattle.replay.specs.simulator.ixl_state.State.{StateView}
+use Rattle.station_record.specs.replay.ixl_table.Table.{SitedTable}
+use Rattle.station_record.specs.replay.ixl_rules.Table.{Row}
+use Rattle.station_record.specs.replay.simulator.ixl_state.State.{StateView}
 use Rattle.station_run.specs.Panel.{locking}
 use Rattle.station_run.proofs.Seen.{locking_next}
 use Rattle.station_run.proofs.pictured_world.locking.Goals as goal

@@ -2,10 +2,10 @@ use Rattle.std.proofs.Common.{◌≡◌, ◌∙◌, ◌==◌, ◌<◌, ℕ, Bool
 use Rattle.std.proofs.lemmas.Option.{slice_get_read}
 use Rattle.std.specs.Prelude.{◌&&◌}
 use Rattle.std.specs.List.{list_any}
-use Rattle.replay.specs.ixl_rules.Table.{Row}
-use Rattle.replay.specs.ixl_rules.View.{freed_sections, holds_section}
-use Rattle.replay.specs.ixl_table.Table.{SitedTable}
-use Rattle.replay.specs.simulator.ixl_state.State.{StateView}
+use Rattle.station_record.specs.replay.ixl_rules.Table.{Row}
+use Rattle.station_record.specs.replay.ixl_rules.View.{freed_sections, holds_section}
+use Rattle.station_record.specs.replay.ixl_table.Table.{SitedTable}
+use Rattle.station_record.specs.replay.simulator.ixl_state.State.{StateView}
 use Rattle.station_run.specs.Panel.{lock_of}
 use Rattle.station_run.proofs.Seen.{locked_there}
 use Rattle.station_run.proofs.pictured_world.locks.Goals as goal

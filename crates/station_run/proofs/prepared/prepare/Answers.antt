@@ -1,5 +1,5 @@
 use Rattle.station_run.specs.Worlds.{played}
-use Rattle.replay.specs.World.{IsFirst}
+use Rattle.station_record.specs.replay.World.{IsFirst}
 use Rattle.station_run.proofs.prepared.prepare.Goals as goal
 
 pub returns-clause-prepared : goal.returns-clause-prepared
