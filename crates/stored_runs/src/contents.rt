@@ -16,9 +16,14 @@ pub(crate) fn show_contents<W: Write>(
     out: &mut W,
 ) -> Result<(), Failure> {
     let layout = read_copy(alloc, text)?;
-    show_layout(&layout, out)?;
+    if let Err(error) = show_layout(&layout, out) {
+        drop(layout);
+        return Err(Failure::from(error));
+    }
     let table = check_copy(alloc, layout)?;
-    show_table(&table, out)?;
+    let shown = show_table(&table, out);
+    drop(table);
+    shown?;
     Ok(())
 }
 
@@ -27,7 +32,9 @@ fn read_copy(alloc: Global, text: &str) -> Result<Layout, Failure> {
     let Ok(layout) = Layout::read(alloc, text) else {
         return Err(Failure::Layout);
     };
-    Ok(layout.copy(alloc)?)
+    let copy = layout.copy(alloc);
+    drop(layout);
+    Ok(copy?)
 }
 
 /// A copy of the table of a layout.
@@ -35,7 +42,9 @@ fn check_copy(alloc: Global, layout: Layout) -> Result<Checked, Failure> {
     let Ok(table) = check(alloc, layout) else {
         return Err(Failure::Layout);
     };
-    Ok(table.copy(alloc)?)
+    let copy = table.copy(alloc);
+    drop(table);
+    Ok(copy?)
 }
 
 /// Writes the station, how many entries there are of each kind, the identities of the points, and the routes.

@@ -5,7 +5,7 @@ use crate::failure::Failure;
 use crate::files::{parts, table_in};
 use crate::kind::Kind;
 use control_table::Checked;
-use station_record::station_run::replay::read_script;
+use station_record::replay::read_script;
 use std::alloc::{AllocError, Global};
 use std::io::Write;
 
@@ -46,8 +46,9 @@ pub(crate) fn show_framed<W: Write>(
 /// Judges a script, and writes how many events it has, or its fault.
 pub(crate) fn judge<W: Write>(alloc: Global, asked: Asked<'_>, out: &mut W) -> Result<(), Failure> {
     let table = table_in(alloc, asked.layout)?;
-    let verdict = verdict(alloc, &table, asked.text)?;
-    out.writeln(verdict.as_str())?;
+    let verdict = verdict(alloc, &table, asked.text);
+    drop(table);
+    out.writeln(verdict?.as_str())?;
     Ok(())
 }
 

@@ -25,14 +25,16 @@ use std::net::{IpAddr, Ipv4Addr, Net, SocketAddr, UdpSocket};
 
 /// Plays the stories of the station in a file, and writes what was seen in each.
 pub(crate) fn tell<W: Write>(rt: &HostRuntime, file: &str, out: &mut W) -> Result<(), Failure> {
+    let addresses = free_addresses(rt, rt.alloc(), NAMES.len())?;
     let text = read(rt, file)?;
     let table = table_in(rt.alloc(), text.as_str())?;
-    let addresses = free_addresses(rt, rt.alloc(), NAMES.len())?;
     let station = Station {
         text: text.as_str(),
         table: &table,
     };
-    tell_of(rt, station, &addresses, out)
+    let told = tell_of(rt, station, &addresses, out);
+    drop(table);
+    told
 }
 
 /// The same with these addresses for the nodes.
@@ -56,16 +58,18 @@ fn tell_of<'a, W: Write>(
 /// Lets the station in a file rest for so many rounds, and writes how many links became ready and were lost.
 pub(crate) fn rest<W: Write>(rt: &HostRuntime, words: &str, out: &mut W) -> Result<(), Failure> {
     let (file, rounds) = parts(words, " ")?;
+    let Ok(rounds) = rounds.parse::<u64>() else {
+        return Err(Failure::Words);
+    };
     let text = read(rt, file)?;
     let table = table_in(rt.alloc(), text.as_str())?;
     let makes = Maker {
         table: &table,
         addressed: None,
     };
-    match rounds.parse::<u64>() {
-        Ok(rounds) => tell_rest::<Maker<'_>, Seat<'_>, W>(rt.alloc(), &makes, out, rounds),
-        Err(_) => Err(Failure::Words),
-    }
+    let told = tell_rest::<Maker<'_>, Seat<'_>, W>(rt.alloc(), &makes, out, rounds);
+    drop(table);
+    told
 }
 
 /// So many addresses of the loopback interface, each with a port that the system gave.

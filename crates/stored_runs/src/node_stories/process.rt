@@ -44,13 +44,18 @@ pub(crate) struct Seat<'a> {
 impl<'a> Makes<Seat<'a>> for Maker<'a> {
     fn begun(&self, alloc: Global, begins: Beginning) -> Result<Seat<'a>, Failure> {
         let wire = wire(alloc, self.addressed, begins)?;
-        let driven = Driven::made(alloc, self.table, begins)?;
-        Ok(Seat {
-            driven,
-            course: Course::new(alloc),
-            memory: fresh_memory(alloc, begins.now, begins.step),
-            wire,
-        })
+        match Driven::made(alloc, self.table, begins) {
+            Ok(driven) => Ok(Seat {
+                driven,
+                course: Course::new(alloc),
+                memory: fresh_memory(alloc, begins.now, begins.step),
+                wire,
+            }),
+            Err(_) => {
+                drop(wire);
+                Err(Failure::OutOfMemory)
+            }
+        }
     }
 }
 

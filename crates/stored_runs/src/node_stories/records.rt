@@ -86,7 +86,10 @@ fn record_node<M: Makes<P>, P: Process>(
     // What its contacts have told comes to it.
     plant.exchange(&mut memory);
     let ended = record_beside(rt, table, number, &mut memory, &mut plant, record);
-    ended & plant.seen.is_whole()
+    let is_whole = plant.seen.is_whole();
+    drop(memory);
+    drop(plant);
+    ended && is_whole
 }
 
 /// Records a whole process over memory, beside others. It tells whether it ran to its end.
@@ -118,11 +121,13 @@ fn record_whole<'a, O: Outside + Drop>(
 ) -> bool {
     let layout = table.layout();
     let mut recorded = Recorded::new(rt.alloc(), layout, outside, Some(&mut *record), rt);
-    match table.copy(rt.alloc()) {
+    let ended = match table.copy(rt.alloc()) {
         Ok(copy) => {
             let node = NodeId(number);
             run_node(rt.alloc(), copy, node, FIRST, FOR_MS, &mut recorded).is_ok()
         }
         Err(_) => false,
-    }
+    };
+    drop(recorded);
+    ended
 }

@@ -153,6 +153,7 @@ fn play<M: Makes<P>, P: Process>(makes: &M, played: Played, rounds: u64, seen: &
     let mut plant = Plant::<M, P>::new(makes, played);
     plant.play(rounds);
     mem::swap(&mut plant.seen, seen);
+    drop(plant);
 }
 
 /// Plays the first story once for each call of the network that fails, and writes how often the same was seen.

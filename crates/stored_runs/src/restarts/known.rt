@@ -1,6 +1,6 @@
 //! What events say of a node.
 
-use station_record::station_run::replay::simulator::{Event, NodeId};
+use station_record::replay::simulator::{Event, NodeId};
 
 /// How many microseconds a millisecond has.
 const MICROS: u64 = 1000;

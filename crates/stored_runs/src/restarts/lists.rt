@@ -5,7 +5,7 @@ use crate::files::{read, table_in};
 use crate::restarts::trials::{List, events_of};
 use control_table::Checked;
 use replay_words::{Words, decimal};
-use station_record::station_run::replay::{SimLine, node_named, read_lines};
+use station_record::replay::{SimLine, node_named, read_lines};
 use std::io::Write;
 
 /// A line: a list has a name, a layout, lines, what follows behind them, a number, and nodes.
@@ -31,7 +31,9 @@ pub(crate) fn carry_out<W: Write>(
     };
     let layout = read(rt, line.layout)?;
     let table = table_in(rt.alloc(), layout.as_str())?;
-    try_list(rt, &table, line, out)
+    let tried = try_list(rt, &table, line, out);
+    drop(table);
+    tried
 }
 
 /// A line, as it is read.
@@ -65,10 +67,23 @@ fn try_list<W: Write>(
         rounds: &rounds,
         step: line.step,
     };
+    let tried = try_words(rt, &list, line.nodes, out);
+    drop(rounds);
+    drop(events);
+    tried
+}
+
+/// Makes the nodes of names anew, and writes what happened.
+fn try_words<W: Write>(
+    rt: &HostRuntime,
+    list: &List<'_>,
+    nodes: &str,
+    out: &mut W,
+) -> Result<(), Failure> {
     let (name, events) = (list.name, list.events.len());
     writeln!(out, "{name}: {events} events")?;
-    for word in Words::of(line.nodes) {
-        try_word(rt, &list, word, out)?;
+    for word in Words::of(nodes) {
+        try_word(rt, list, word, out)?;
     }
     Ok(())
 }

@@ -4,7 +4,7 @@
 use crate::restarts::worlds::driven;
 use control_table::layout::PointId;
 use control_table::sci_telegram::{Position, Side};
-use station_record::station_run::replay::simulator::{ClockSteps, Event, World};
+use station_record::replay::simulator::{ClockSteps, Event, World};
 use std::alloc::{AllocError, Global};
 
 /// How many milliseconds a round has.

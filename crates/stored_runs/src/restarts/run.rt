@@ -7,8 +7,8 @@ use crate::restarts::tally::{Tally, count};
 use crate::restarts::watch::Watch;
 use crate::restarts::worlds::{answer, delivery, is_open, new_world, nodes, sent};
 use control_table::Checked;
-use station_record::station_run::replay::SimLine;
-use station_record::station_run::replay::simulator::{Event, NodeId, World};
+use station_record::replay::SimLine;
+use station_record::replay::simulator::{Event, NodeId, World};
 use std::alloc::{AllocError, Global};
 
 /// After how many microseconds a node is made anew again.

@@ -6,10 +6,11 @@ use crate::restarts::run::Run;
 use crate::restarts::tally::Tally;
 use crate::restarts::watch::STATION;
 use control_table::Checked;
-use station_record::station_run::replay::SimLine;
-use station_record::station_run::replay::simulator::simulator_run::ixl_rules::Command;
-use station_record::station_run::replay::simulator::{Event, NodeId};
+use station_record::replay::SimLine;
+use station_record::replay::simulator::simulator_run::ixl_rules::Command;
+use station_record::replay::simulator::{Event, NodeId};
 use std::alloc::Global;
+use std::mem;
 
 /// How many more times the interlocking is made anew in every second run.
 const MORE: u8 = 2;
@@ -44,8 +45,11 @@ pub(crate) fn events_of(
     let Ok(mut run) = Run::new(alloc, table, STATION, Way::Zero, Tally::new()) else {
         return Err(Fault::OutOfMemory);
     };
-    match keep_all(alloc, &mut run, lines) {
-        Ok(()) => Ok(run.events),
+    let kept = keep_all(alloc, &mut run, lines);
+    let events = mem::replace(&mut run.events, Vec::new(alloc));
+    drop(run);
+    match kept {
+        Ok(()) => Ok(events),
         Err(fault) => Err(fault),
     }
 }
@@ -128,6 +132,7 @@ impl List<'_> {
         };
         let played = self.play(alloc, trial, &mut run);
         *tally = run.watch.tally;
+        drop(run);
         played
     }
 

@@ -3,8 +3,8 @@
 use crate::restarts::fault::Fault;
 use crate::restarts::known::Known;
 use crate::restarts::tally::{Tally, count};
-use station_record::station_run::replay::simulator::simulator_run::ixl_rules::Refusal;
-use station_record::station_run::replay::simulator::{Answer, Event, NodeId, Refused};
+use station_record::replay::simulator::simulator_run::ixl_rules::Refusal;
+use station_record::replay::simulator::{Answer, Event, NodeId, Refused};
 
 /// For how many microseconds an interlocking that was made holds.
 const HOLD: u64 = 6_000_000;

@@ -4,8 +4,8 @@ use crate::restarts::fault::Fault;
 use control_table::Checked;
 use control_table::layout::{PointId, SignalId};
 use control_table::sci_telegram::{Aspect, Side};
-use station_record::station_run::replay::simulator::{Answer, Event, RawDatagram, Refused, World};
-use station_record::station_run::replay::{node_count, receiver};
+use station_record::replay::simulator::{Answer, Event, RawDatagram, Refused, World};
+use station_record::replay::{node_count, receiver};
 use std::alloc::{AllocError, Global};
 
 /// A new world.
