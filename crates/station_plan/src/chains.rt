@@ -18,7 +18,7 @@ impl Sketch {
     /// The port at an element on its row, at a side, of the element beside it there.
     pub(crate) fn beside(&self, element: usize, right: bool) -> Option<Place> {
         let place = self.level_port(element, right)?;
-        let mate = self.port(place).next?;
+        let mate = self.next(place)?;
         if self.is_level(mate) {
             Some(mate)
         } else {
@@ -30,37 +30,24 @@ impl Sketch {
     pub(crate) fn lay_chains(&mut self) {
         for element in 0..self.elements.len() {
             if self.facts(element).chain.is_none() {
-                let first = self.leftmost(element);
-                self.string(first);
+                self.string(element, false);
+                self.string(element, true);
+                self.chains = self.chains.saturating_add(1);
             }
         }
     }
 
-    /// Makes a chain of an element and all at its right.
-    fn string(&mut self, first: usize) {
-        let chain = self.chains;
-        self.chains = chain.saturating_add(1);
+    /// Adds an element and all at a side of it to the chain that is found last.
+    fn string(&mut self, first: usize, right: bool) {
         let mut element = first;
         for _ in 0..self.elements.len() {
-            if let Some(facts) = self.facts_mut(element) {
-                facts.chain = Some(chain);
-            }
-            match self.beside(element, true) {
+            let mut facts = self.facts(element);
+            facts.chain = Some(self.chains);
+            self.keep(element, facts);
+            match self.beside(element, right) {
                 Some(next) => element = next.element,
                 None => return,
             }
         }
-    }
-
-    /// The leftmost element of the row of an element.
-    fn leftmost(&self, element: usize) -> usize {
-        let mut first = element;
-        for _ in 0..self.elements.len() {
-            match self.beside(first, false) {
-                Some(next) => first = next.element,
-                None => return first,
-            }
-        }
-        first
     }
 }

@@ -1,46 +1,25 @@
 //! Which joints go on from left to right. Those that turn back or close a circle are left out of the rows.
 
+use crate::lists::{at, put};
 use crate::sketch::Sketch;
 use crate::yard::Place;
 use control_table::layout::Joint;
-use std::alloc::AllocError;
 
 impl Sketch {
-    /// Finds the joints that go on, and an order of the elements in which each stands before those at its left: by a search
-    /// for circles, depth first. It goes over all elements: first from those at whose left there is nothing.
-    pub(crate) fn lay_courses(&mut self, joints: &[Joint]) -> Result<(), AllocError> {
-        self.straighten(joints);
-        self.visit_leftmost()?;
+    /// Finds the joints that close circles, and an order of the elements in which each stands before those at its left: by a
+    /// search, depth first. It goes over all elements: first from those at whose left there is nothing.
+    pub(crate) fn lay_courses(&mut self) {
+        self.found = 0;
+        self.visit_all(true);
+        self.visit_all(false);
+    }
+
+    /// Goes from all elements, or from the leftmost ones alone.
+    fn visit_all(&mut self, leftmost: bool) {
         for element in 0..self.elements.len() {
-            self.visit(element)?;
-        }
-        Ok(())
-    }
-
-    fn visit_leftmost(&mut self) -> Result<(), AllocError> {
-        for element in 0..self.elements.len() {
-            if !self.has_left(element) {
-                self.visit(element)?;
+            if !leftmost || !self.has_left(element) {
+                self.visit(element);
             }
-        }
-        Ok(())
-    }
-
-    /// Lets those joints go on that lead from a right side to a left side.
-    fn straighten(&mut self, joints: &[Joint]) {
-        for joint in joints {
-            let first = self.numbers.place(joint.first);
-            let second = self.numbers.place(joint.second);
-            if self.is_right(first) != self.is_right(second) {
-                self.set_next(first, Some(second));
-                self.set_next(second, Some(first));
-            }
-        }
-    }
-
-    fn set_next(&mut self, place: Place, next: Option<Place>) {
-        if let Some(port) = self.port_mut(place) {
-            port.next = next;
         }
     }
 
@@ -58,15 +37,26 @@ impl Sketch {
     }
 
     fn set_connector(&mut self, place: Place, number: usize) {
-        if let Some(port) = self.port_mut(place) {
-            port.connector = Some(number);
+        let mut port = self.port(place);
+        port.connector = Some(number);
+        self.keep_port(place, port);
+    }
+
+    /// The port that is joined to one by a joint that goes on: it leads from a right side to a left side, and closes no circle.
+    pub(crate) fn next(&self, place: Place) -> Option<Place> {
+        let port = self.port(place);
+        let mate = port.mate?;
+        if port.is_cut || self.is_right(mate) == self.is_right(place) {
+            None
+        } else {
+            Some(mate)
         }
     }
 
     /// The port that is joined to one of a side by a joint that goes on.
     pub(crate) fn neighbour(&self, place: Place, right: bool) -> Option<Place> {
         if self.is_right(place) == right {
-            self.port(place).next
+            self.next(place)
         } else {
             None
         }
@@ -83,58 +73,63 @@ impl Sketch {
     }
 
     /// Goes from an element as far to the right as there is something new.
-    fn visit(&mut self, root: usize) -> Result<(), AllocError> {
-        self.open(root)?;
+    fn visit(&mut self, root: usize) {
+        self.open(root);
         for _ in 0..self.elements.len().saturating_mul(4) {
-            self.step()?;
+            self.step();
         }
-        Ok(())
     }
 
-    fn open(&mut self, element: usize) -> Result<(), AllocError> {
-        if self.facts(element).is_visited {
-            return Ok(());
+    fn open(&mut self, element: usize) {
+        let mut facts = self.facts(element);
+        if facts.is_visited {
+            return;
         }
-        if let Some(facts) = self.facts_mut(element) {
-            facts.is_visited = true;
-            facts.is_open = true;
-        }
-        self.stack.push((element, 0))?;
-        Ok(())
+        facts.is_visited = true;
+        facts.is_open = true;
+        self.keep(element, facts);
+        put(&mut self.stack, self.depth, element);
+        self.depth = self.depth.saturating_add(1);
     }
 
     /// Tries the next port of the element to which the search came last.
-    fn step(&mut self) -> Result<(), AllocError> {
-        let Some((element, tried)) = self.stack.pop() else {
-            return Ok(());
-        };
-        match self.numbers.ends(element).get(tried) {
+    fn step(&mut self) {
+        if self.depth == 0 {
+            return;
+        }
+        let element = at(&self.stack, self.depth - 1, 0);
+        let mut facts = self.facts(element);
+        match self.numbers.ends(element).get(facts.tried) {
             Some(end) => {
-                self.stack.push((element, tried.saturating_add(1)))?;
-                self.follow(Place { element, end: *end })
+                facts.tried = facts.tried.saturating_add(1);
+                self.keep(element, facts);
+                self.follow(Place { element, end: *end });
             }
-            None => self.close(element),
+            None => {
+                facts.is_open = false;
+                self.keep(element, facts);
+                self.depth = self.depth.saturating_sub(1);
+                self.enlist(element);
+            }
         }
-    }
-
-    fn close(&mut self, element: usize) -> Result<(), AllocError> {
-        if let Some(facts) = self.facts_mut(element) {
-            facts.is_open = false;
-        }
-        self.order.push(element)?;
-        Ok(())
     }
 
     /// Goes to the right over a joint. One into an element that is still open closes a circle.
-    fn follow(&mut self, place: Place) -> Result<(), AllocError> {
+    fn follow(&mut self, place: Place) {
         let Some(mate) = self.neighbour(place, true) else {
-            return Ok(());
+            return;
         };
-        if !self.facts(mate.element).is_open {
-            return self.open(mate.element);
+        if self.facts(mate.element).is_open {
+            self.cut(place);
+            self.cut(mate);
+        } else {
+            self.open(mate.element);
         }
-        self.set_next(place, None);
-        self.set_next(mate, None);
-        Ok(())
+    }
+
+    fn cut(&mut self, place: Place) {
+        let mut port = self.port(place);
+        port.is_cut = true;
+        self.keep_port(place, port);
     }
 }

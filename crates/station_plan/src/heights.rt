@@ -1,12 +1,11 @@
 //! Where each row lies.
 
 use crate::labels::{LINE, lines};
-use crate::links::Link;
-use crate::lists::at;
+use crate::links::{Link, NO_LINK};
+use crate::lists::{at, put};
 use crate::sketch::Sketch;
 use crate::units::{Units, count};
 use control_table::layout::Element;
-use std::alloc::AllocError;
 
 /// The least distance of rows.
 const ROW: Units = Units(56);
@@ -32,17 +31,8 @@ pub(crate) struct Room {
     is_occupied: bool,
 }
 
-impl Room {
-    /// Makes room for texts that reach so far above and below it.
-    fn write(&mut self, above: Units, below: Units) {
-        self.above = self.above.or_more(above);
-        self.below = self.below.or_more(below);
-        self.is_occupied = true;
-    }
-}
-
 /// A row of which nothing is known yet.
-const NOTHING: Room = Room {
+pub(crate) const EMPTY: Room = Room {
     y: Units(0),
     above: Units(0),
     below: Units(0),
@@ -62,14 +52,13 @@ const BEHIND: Room = Room {
 impl Sketch {
     /// Finds the heights of all rows: makes room for the texts of elements and for level lines, and lays each row below the
     /// one before.
-    pub(crate) fn lay_heights(&mut self) -> Result<(), AllocError> {
-        self.rows = vec![in self.alloc; NOTHING; self.row_count]?;
+    pub(crate) fn lay_heights(&mut self) {
+        self.rows.fill(EMPTY);
         for element in 0..self.elements.len() {
             self.write(element);
         }
         self.pass_links();
         self.set_down();
-        Ok(())
     }
 
     /// What is known of a row.
@@ -93,15 +82,22 @@ impl Sketch {
         let (above, below) = self.texts(element);
         let left = self.signal_height(element, false, Units(26));
         let right = self.signal_height(element, true, Units(27));
-        if let Some(room) = self.rows.get_mut(row) {
-            room.write(above.or_more(left), below.or_more(right));
-        }
+        let mut room = self.room(row);
+        room.above = room.above.or_more(above).or_more(left);
+        room.below = room.below.or_more(below).or_more(right);
+        room.is_occupied = true;
+        put(&mut self.rows, row, room);
     }
 
-    /// Makes room for level lines.
+    /// Makes room for the level lines of links below rows.
     fn pass_links(&mut self) {
-        for link in &self.links {
-            pass_link(&mut self.rows, *link);
+        for number in 0..self.links.len() {
+            let link = at(&self.links, number, NO_LINK);
+            let mut room = self.room(link.above);
+            if let Some(slot) = link.slot {
+                room.slots = room.slots.max(slot.saturating_add(1));
+                put(&mut self.rows, link.above, room);
+            }
         }
     }
 
@@ -109,11 +105,10 @@ impl Sketch {
     fn set_down(&mut self) {
         let mut down = Units(0);
         for row in 0..self.rows.len() {
-            let distance = self.distance(row);
-            if let Some(room) = self.rows.get_mut(row) {
-                room.y = down;
-            }
-            down = down + distance;
+            let mut room = self.room(row);
+            room.y = down;
+            down = down + self.distance(row);
+            put(&mut self.rows, row, room);
         }
     }
 
@@ -130,7 +125,7 @@ impl Sketch {
 
     /// How far the texts of an element reach above and below its row.
     fn texts(&self, element: usize) -> (Units, Units) {
-        let name = lines(self.written(element).name_letters);
+        let name = lines(self.facts(element).label.name_letters);
         let section = lines(self.section_letters(element));
         match self.numbers.element(element) {
             Element::Track(_) => (Units(16) + more(name), Units(17) + more(section)),
@@ -155,16 +150,6 @@ impl Sketch {
             0 => Units(0),
             letters => one + more(lines(letters)),
         }
-    }
-}
-
-/// Makes room for the level line of a link below a row, where it has one there.
-fn pass_link(rows: &mut Vec<Room>, link: Link) {
-    let Some(slot) = link.slot else {
-        return;
-    };
-    if let Some(room) = rows.get_mut(link.above) {
-        room.slots = room.slots.max(slot.saturating_add(1));
     }
 }
 

@@ -5,7 +5,6 @@ use crate::subjects::{element_name, section_of};
 use crate::units::{Units, count};
 use control_table::layout::{Element, Layout, SectionId, Track};
 use control_table::sci_telegram::Name;
-use std::alloc::AllocError;
 
 /// How wide a letter is.
 pub(crate) const LETTER: Units = Units(6);
@@ -86,12 +85,12 @@ fn has_track(tracks: &[Track], section: SectionId) -> bool {
 
 impl Sketch {
     /// Takes up what is written at the elements of a layout.
-    pub(crate) fn read_labels(&mut self, layout: &Layout) -> Result<(), AllocError> {
-        for number in 0..self.numbers.all() {
-            let element = self.numbers.element(number);
-            self.labels.push(label_of(layout, element))?;
+    pub(crate) fn read_labels(&mut self, layout: &Layout) {
+        for element in 0..self.elements.len() {
+            let mut facts = self.facts(element);
+            facts.label = label_of(layout, self.numbers.element(element));
+            self.keep(element, facts);
         }
-        Ok(())
     }
 
     /// How many letters of its section's name are written at an element. A section is named once on each row on which it lies
@@ -100,7 +99,7 @@ impl Sketch {
         if self.is_named_before(element) {
             return 0;
         }
-        self.written(element).section_letters
+        self.facts(element).label.section_letters
     }
 
     /// Whether what lies at the left of an element on its row is of the same kind and section.
@@ -113,6 +112,6 @@ impl Sketch {
             (before, self.numbers.element(element)),
             (Element::Track(_), Element::Track(_)) | (Element::Point(_), Element::Point(_))
         );
-        is_same_kind && self.written(mate.element).section == self.written(element).section
+        is_same_kind && self.facts(mate.element).label.section == self.facts(element).label.section
     }
 }

@@ -1,5 +1,6 @@
 //! What joins chains: each leg that isn't the main one of its point, with the port that it is joined to.
 
+use crate::placed::NO_PORT;
 use crate::sketch::Sketch;
 use crate::units::Units;
 use crate::yard::Place;
@@ -29,29 +30,25 @@ pub(crate) struct Link {
     pub(crate) is_flat: bool,
 }
 
-impl Link {
-    /// A link of which nothing more is known yet.
-    fn new(from: Place, to: Place, is_crossover: bool, chain: Option<usize>) -> Link {
-        Link {
-            from,
-            to,
-            is_crossover,
-            chain,
-            above: 0,
-            slot: None,
-            left: Units(0),
-            right: Units(0),
-            is_flat: false,
-        }
-    }
-}
+/// No link.
+pub(crate) const NO_LINK: Link = Link {
+    from: NO_PORT,
+    to: NO_PORT,
+    is_crossover: false,
+    chain: None,
+    above: 0,
+    slot: None,
+    left: Units(0),
+    right: Units(0),
+    is_flat: false,
+};
 
 impl Sketch {
     /// Finds the links of the layout. A link within one chain makes a chain without elements.
     pub(crate) fn lay_links(&mut self) -> Result<(), AllocError> {
         for element in self.numbers.point(0)..self.numbers.border(0) {
             let from = self.minor(element);
-            if let Some(to) = self.port(from).next {
+            if let Some(to) = self.next(from) {
                 self.add_link(from, to)?;
             }
         }
@@ -69,7 +66,13 @@ impl Sketch {
             chain = Some(self.chains);
             self.chains = self.chains.saturating_add(1);
         }
-        self.links.push(Link::new(from, to, is_crossover, chain))?;
+        self.links.push(Link {
+            from,
+            to,
+            is_crossover,
+            chain,
+            ..NO_LINK
+        })?;
         Ok(())
     }
 

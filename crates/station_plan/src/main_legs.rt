@@ -1,5 +1,6 @@
 //! The leg of each point by which its row goes on.
 
+use crate::shown::has_side;
 use crate::sketch::Sketch;
 use crate::yard::{FAR, Place};
 use control_table::layout::{End, PointId, Route};
@@ -15,38 +16,12 @@ const WORST: usize = 1_003_003_000;
 const LOST: usize = 2_000_000_000;
 
 impl Sketch {
-    /// Marks the legs over which routes run that aren't slow.
-    pub(crate) fn mark_fast_legs(&mut self, routes: &[Route]) {
-        for route in routes {
-            if !matches!(route.aspect(), Aspect::Slow) {
-                self.mark_fast(route.points());
-            }
-        }
-    }
-
-    fn mark_fast(&mut self, points: &[(PointId, Side)]) {
-        for (point, side) in points {
-            let place = Place {
-                element: self.numbers.point(point.0),
-                end: leg(*side),
-            };
-            self.set_fast(place);
-        }
-    }
-
-    fn set_fast(&mut self, place: Place) {
-        if let Some(port) = self.port_mut(place) {
-            port.is_fast = true;
-        }
-    }
-
     /// Chooses the main legs, by the first rule that decides: only one leg carries a route that isn't slow; a leg that is
     /// joined to no leg goes before one that is, and this before an open one; the better way. Where both legs are joined to
     /// legs, the one whose peer gives up the worse row.
-    pub(crate) fn choose_main_legs(&mut self) {
+    pub(crate) fn choose_main_legs(&mut self, routes: &[Route]) {
         for element in self.numbers.point(0)..self.numbers.border(0) {
-            let leg = self.plain_leg(element);
-            self.set_main(element, leg);
+            self.choose_plain_leg(routes, element);
         }
         for element in self.numbers.point(0)..self.numbers.border(0) {
             if self.facts(element).main.is_none() {
@@ -55,10 +30,10 @@ impl Sketch {
         }
     }
 
-    fn set_main(&mut self, element: usize, leg: Option<End>) {
-        if let Some(facts) = self.facts_mut(element) {
-            facts.main = leg;
-        }
+    fn set_main(&mut self, leg: Place) {
+        let mut facts = self.facts(leg.element);
+        facts.main = Some(leg.end);
+        self.keep(leg.element, facts);
     }
 
     /// The main leg of a point.
@@ -84,80 +59,63 @@ impl Sketch {
         }
     }
 
-    /// Whether a leg is joined to nothing, or the line turns back there.
-    fn is_open(&self, place: Place) -> bool {
-        self.port(place).next.is_none()
-    }
-
     /// Whether a leg is joined to the leg of a point.
-    fn is_to_leg(&self, place: Place) -> bool {
-        match self.port(place).next {
+    fn is_to_leg(&self, leg: Place) -> bool {
+        match self.next(leg) {
             Some(mate) => matches!(mate.end, End::Left | End::Right),
             None => false,
         }
     }
 
-    /// The main leg of a point, unless both lead to legs.
-    fn plain_leg(&self, element: usize) -> Option<End> {
-        let left = Place {
-            element,
-            end: End::Left,
-        };
-        let right = Place {
-            element,
-            end: End::Right,
-        };
-        let is_left_fast = self.port(left).is_fast;
-        if is_left_fast != self.port(right).is_fast {
-            return Some(if is_left_fast { End::Left } else { End::Right });
+    /// Chooses the main leg of a point, unless both lead to legs and no route decides.
+    fn choose_plain_leg(&mut self, routes: &[Route], element: usize) {
+        let point = PointId(element.saturating_sub(self.numbers.point(0)));
+        let is_left_fast = is_fast(routes, point, Side::Left);
+        let is_right_fast = is_fast(routes, point, Side::Right);
+        let (left, right) = legs(element);
+        if is_left_fast && !is_right_fast {
+            self.set_main(left);
+        } else if is_right_fast && !is_left_fast {
+            self.set_main(right);
+        } else if !self.is_to_leg(left) || !self.is_to_leg(right) {
+            self.set_main(better(left, self.grade(left), right, self.grade(right)));
         }
-        if self.is_open(right) {
-            return Some(End::Left);
+    }
+
+    /// How good a leg is by what it is joined to, as a number; the least one is the best.
+    fn grade(&self, leg: Place) -> usize {
+        if self.next(leg).is_none() {
+            return usize::MAX;
         }
-        if self.is_open(left) {
-            return Some(End::Right);
-        }
-        match (self.is_to_leg(left), self.is_to_leg(right)) {
-            (true, true) => None,
-            (true, false) => Some(End::Right),
-            (false, true) => Some(End::Left),
-            (false, false) => Some(better(self.way_behind(left), self.way_behind(right))),
+        let way = self.way_behind(leg);
+        if self.is_to_leg(leg) {
+            way.saturating_add(LOST)
+        } else {
+            way
         }
     }
 
     /// Settles a point of which both legs lead to legs: the row of one peer goes on over it.
     fn settle_leg(&mut self, element: usize) {
-        let left = Place {
-            element,
-            end: End::Left,
-        };
-        let right = Place {
-            element,
-            end: End::Right,
-        };
-        let end = better(self.loss(left), self.loss(right));
-        self.set_main(element, Some(end));
-        if let Some(mate) = self.port(Place { element, end }).next {
-            self.set_main(mate.element, Some(mate.end));
+        let (left, right) = legs(element);
+        let leg = better(left, self.loss(left), right, self.loss(right));
+        self.set_main(leg);
+        if let Some(mate) = self.next(leg) {
+            self.set_main(mate);
         }
     }
 
     /// What is lost where the row goes on by a leg: whether its peer has to give up its row, and how good that is.
-    fn loss(&self, place: Place) -> usize {
-        let way = self.way_behind(place);
-        let Some(mate) = self.port(place).next else {
+    fn loss(&self, leg: Place) -> usize {
+        let way = self.way_behind(leg);
+        let Some(mate) = self.next(leg) else {
             return way.saturating_add(LOST);
         };
-        match self.facts(mate.element).main {
-            Some(given) if mate.end != given => {
-                let lost = Place {
-                    element: mate.element,
-                    end: given,
-                };
-                WORST
-                    .saturating_sub(self.way_behind(lost))
-                    .saturating_add(LOST)
-            }
+        let element = mate.element;
+        match self.facts(element).main {
+            Some(end) if mate.end != end => WORST
+                .saturating_sub(self.way_behind(Place { element, end }))
+                .saturating_add(LOST),
             _ => way,
         }
     }
@@ -165,11 +123,11 @@ impl Sketch {
     /// How good the way behind a leg is, as a number; the least one is the best. Its digits: how many points it passes to a
     /// border, at best; how much shorter it is than the longest that could be; the number of the element to which the leg
     /// leads.
-    fn way_behind(&self, place: Place) -> usize {
-        let Some(mate) = self.port(place).next else {
+    fn way_behind(&self, leg: Place) -> usize {
+        let Some(mate) = self.next(leg) else {
             return WORST;
         };
-        let ways = self.ways(mate.element, self.is_right(place));
+        let ways = self.ways(mate.element, self.is_right(leg));
         ways.points
             .saturating_mul(BASE)
             .saturating_add(FAR.saturating_sub(ways.longest))
@@ -178,15 +136,31 @@ impl Sketch {
     }
 }
 
-/// The leg at a side.
-fn leg(side: Side) -> End {
-    match side {
-        Side::Left => End::Left,
-        Side::Right => End::Right,
-    }
+/// The two legs of a point.
+fn legs(element: usize) -> (Place, Place) {
+    let left = Place {
+        element,
+        end: End::Left,
+    };
+    let right = Place {
+        element,
+        end: End::Right,
+    };
+    (left, right)
 }
 
-/// The leg of the better of two ways, which is the left one where they are equally good.
-fn better(left: usize, right: usize) -> End {
-    if right < left { End::Right } else { End::Left }
+/// Whether a route that isn't slow runs over a leg.
+fn is_fast(routes: &[Route], point: PointId, side: Side) -> bool {
+    for route in routes {
+        let is_slow = matches!(route.aspect(), Aspect::Slow);
+        if !is_slow && has_side(route.points(), point, side) {
+            return true;
+        }
+    }
+    false
+}
+
+/// The better of two legs by what each costs: the left one where that is the same.
+fn better(left: Place, left_cost: usize, right: Place, right_cost: usize) -> Place {
+    if right_cost < left_cost { right } else { left }
 }

@@ -2,7 +2,7 @@
 
 use crate::lists::at;
 use crate::sketch::Sketch;
-use crate::yard::{ElementFacts, FAR, Place, Ways};
+use crate::yard::{FAR, Place, Ways};
 use control_table::layout::Element;
 
 impl Sketch {
@@ -10,17 +10,21 @@ impl Sketch {
     pub(crate) fn lay_ranks(&mut self) {
         self.measure_all(true);
         self.order.reverse();
-        self.measure_all(false);
-        let longest = self.settle_ranks();
+        let longest = self.measure_all(false);
+        self.settle_ranks(longest);
         self.lay_beside(longest);
     }
 
-    /// Finds the ways from all elements to a side, in an order in which what lies there comes first.
-    fn measure_all(&mut self, right: bool) {
-        for turn in 0..self.order.len() {
+    /// Finds the ways from all elements to a side, in an order in which what lies there comes first. It tells how many elements
+    /// the longest one has.
+    fn measure_all(&mut self, right: bool) -> usize {
+        let mut longest: usize = 1;
+        for turn in 0..self.elements.len() {
             let element = at(&self.order, turn, 0);
-            self.measure(element, right);
+            let ways = self.measure(element, right);
+            longest = longest.max(ways.longest);
         }
+        longest
     }
 
     /// The ways from an element to a side.
@@ -30,7 +34,27 @@ impl Sketch {
     }
 
     /// Finds the ways from an element to a side, by those of what it is joined to there.
-    fn measure(&mut self, element: usize, right: bool) {
+    fn measure(&mut self, element: usize, right: bool) -> Ways {
+        let beyond = self.ways_beyond(element, right);
+        let longest = beyond.longest.saturating_add(1);
+        let points = match self.numbers.element(element) {
+            Element::Track(_) => beyond.points,
+            Element::Point(_) => beyond.points.saturating_add(1).min(FAR),
+            Element::Border(_) => 0,
+        };
+        let ways = Ways { longest, points };
+        let mut facts = self.facts(element);
+        if right {
+            facts.right = ways;
+        } else {
+            facts.left = ways;
+        }
+        self.keep(element, facts);
+        ways
+    }
+
+    /// The ways from what an element is joined to at a side.
+    fn ways_beyond(&self, element: usize, right: bool) -> Ways {
         let mut ways = Ways {
             longest: 0,
             points: FAR,
@@ -42,31 +66,18 @@ impl Sketch {
                 ways.points = ways.points.min(beyond.points);
             }
         }
-        ways.longest = ways.longest.saturating_add(1);
-        match self.numbers.element(element) {
-            Element::Track(_) => {}
-            Element::Point(_) => ways.points = ways.points.saturating_add(1).min(FAR),
-            Element::Border(_) => ways.points = 0,
-        }
-        if let Some(facts) = self.facts_mut(element) {
-            if right {
-                facts.right = ways;
-            } else {
-                facts.left = ways;
-            }
-        }
+        ways
     }
 
-    /// Finds the ranks by the ways to the left, and tells how many elements the longest one has.
-    fn settle_ranks(&mut self) -> usize {
-        let longest = longest_of(&self.elements);
-        let borders = self.numbers.border(0);
+    /// Finds the ranks by the ways to the left. A border at the right has that of the longest way.
+    fn settle_ranks(&mut self, longest: usize) {
         for element in 0..self.elements.len() {
-            if let Some(facts) = self.facts_mut(element) {
-                facts.settle_rank(borders <= element, longest);
-            }
+            let mut facts = self.facts(element);
+            let is_last = self.numbers.border(0) <= element && facts.is_flipped;
+            let way = if is_last { longest } else { facts.left.longest };
+            facts.rank = way.saturating_sub(1);
+            self.keep(element, facts);
         }
-        longest
     }
 
     /// Lays lines that hang at nothing behind one another, as long as they are together no longer than the longest way: so
@@ -98,17 +109,12 @@ impl Sketch {
 
     /// Moves a piece to the right.
     fn shift(&mut self, piece: usize, by: usize) {
-        for facts in self.elements.iter_mut() {
-            facts.shift(piece, by);
+        for element in 0..self.elements.len() {
+            let mut facts = self.facts(element);
+            if facts.piece == Some(piece) {
+                facts.rank = facts.rank.saturating_add(by);
+                self.keep(element, facts);
+            }
         }
     }
-}
-
-/// How many elements the longest way to the left has.
-fn longest_of(elements: &[ElementFacts]) -> usize {
-    let mut longest: usize = 1;
-    for facts in elements {
-        longest = longest.max(facts.left.longest);
-    }
-    longest
 }

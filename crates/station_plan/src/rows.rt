@@ -2,6 +2,7 @@
 //! of half that number, one of an odd number is a row that is there.
 
 use crate::links::Link;
+use crate::lists::put;
 use crate::sketch::Sketch;
 use crate::strands::Strand;
 use crate::yard::Place;
@@ -25,16 +26,6 @@ fn spot_of(row: usize) -> usize {
 /// Whether a spot is a new row.
 fn is_new(spot: usize) -> bool {
     spot % 2 == 0
-}
-
-impl Strand {
-    /// Whether it is placed between two spots.
-    fn lies_between(self, above: usize, below: usize) -> bool {
-        match self.row {
-            Some(row) => above < spot_of(row) && spot_of(row) < below,
-            None => false,
-        }
-    }
 }
 
 impl Sketch {
@@ -81,39 +72,42 @@ impl Sketch {
     /// The chain that is placed next.
     fn next_chain(&self, piece: usize) -> Option<usize> {
         let mut best = None;
-        let mut best_key = (false, 0);
-        for (chain, strand) in self.strands.iter().enumerate() {
+        let mut most = 0;
+        for chain in 0..self.strands.len() {
+            let strand = self.strand(chain);
             if strand.piece == piece && strand.row.is_none() {
-                let key = (self.hangs(chain), strand.length.saturating_add(1));
-                if best_key < key {
+                let claim = self.claim(chain);
+                if most < claim {
                     best = Some(chain);
-                    best_key = key;
+                    most = claim;
                 }
             }
         }
         best
     }
 
-    /// Whether a chain hangs at one that is placed.
+    /// How much a chain claims to be placed next: more than any other where it hangs at one that is placed.
+    fn claim(&self, chain: usize) -> usize {
+        let length = self.strand(chain).length.saturating_add(1);
+        if self.hangs(chain) {
+            length.saturating_add(self.elements.len()).saturating_add(1)
+        } else {
+            length
+        }
+    }
+
+    /// Whether a chain hangs at one that is placed: by a link that joins it, or that is the chain itself.
     fn hangs(&self, chain: usize) -> bool {
         for link in &self.links {
-            if self.has_part(*link, chain) && self.is_placed(*link) {
+            let (from, to) = (link.from.element, link.to.element);
+            let is_part = link.chain == Some(chain)
+                || self.facts(from).chain == Some(chain)
+                || self.facts(to).chain == Some(chain);
+            if is_part && (self.row_of(from).is_some() || self.row_of(to).is_some()) {
                 return true;
             }
         }
         false
-    }
-
-    /// Whether a chain is one of those that a link joins, or the link itself.
-    fn has_part(&self, link: Link, chain: usize) -> bool {
-        link.chain == Some(chain)
-            || self.facts(link.from.element).chain == Some(chain)
-            || self.facts(link.to.element).chain == Some(chain)
-    }
-
-    /// Whether an end of a link is placed.
-    fn is_placed(&self, link: Link) -> bool {
-        self.row_of(link.from.element).is_some() || self.row_of(link.to.element).is_some()
     }
 
     /// Places a chain where it costs least, on a row or on a new one.
@@ -131,15 +125,23 @@ impl Sketch {
         if is_new(best) {
             self.make_room(best / 2);
         }
-        if let Some(strand) = self.strands.get_mut(chain) {
-            strand.row = Some(best / 2);
-        }
+        let mut strand = self.strand(chain);
+        strand.row = Some(best / 2);
+        put(&mut self.strands, chain, strand);
     }
 
-    /// Makes a new row.
+    /// Makes a new row: what lies there or below it lies one lower.
     fn make_room(&mut self, row: usize) {
-        for strand in self.strands.iter_mut() {
-            strand.make_room(row);
+        for chain in 0..self.strands.len() {
+            let mut strand = self.strand(chain);
+            if let Some(own) = strand.row {
+                strand.row = Some(if row <= own {
+                    own.saturating_add(1)
+                } else {
+                    own
+                });
+                put(&mut self.strands, chain, strand);
+            }
         }
         self.row_count = self.row_count.saturating_add(1);
     }
@@ -181,9 +183,8 @@ impl Sketch {
         let (Some(from), Some(to)) = (from, to) else {
             return 0;
         };
-        let (low, high) = self.ranks(link);
         let is_between = spot_of(from.min(to)) < spot && spot < spot_of(from.max(to));
-        if is_between && mine.touches(low, high) {
+        if is_between && self.passes(link, mine) {
             CROSSING
         } else {
             0
@@ -225,20 +226,22 @@ impl Sketch {
 
     /// How many chains lie between two spots where a link passes.
     fn crossed(&self, link: Link, above: usize, below: usize) -> usize {
-        let (low, high) = self.ranks(link);
         let mut count: usize = 0;
         for strand in &self.strands {
-            if strand.lies_between(above, below) && strand.touches(low, high) {
-                count = count.saturating_add(1);
+            if let Some(row) = strand.row {
+                let is_between = above < spot_of(row) && spot_of(row) < below;
+                if is_between && self.passes(link, *strand) {
+                    count = count.saturating_add(1);
+                }
             }
         }
         count
     }
 
-    /// The least and the greatest rank of the ends of a link.
-    fn ranks(&self, link: Link) -> (usize, usize) {
+    /// Whether a link passes where a chain reaches, by their ranks.
+    fn passes(&self, link: Link, strand: Strand) -> bool {
         let from = self.facts(link.from.element).rank;
         let to = self.facts(link.to.element).rank;
-        (from.min(to), from.max(to))
+        strand.touches(from.min(to), from.max(to))
     }
 }

@@ -130,7 +130,7 @@ fn draw_point_label(
         return Ok(());
     }
     let up = sketch.is_drawn_up(element);
-    let beyond = LINE.times(count(lines(sketch.written(element).name_letters)));
+    let beyond = LINE.times(count(lines(sketch.facts(element).label.name_letters)));
     let y = if up {
         sketch.y(element) + Units(16) + beyond
     } else {

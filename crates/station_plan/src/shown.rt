@@ -4,8 +4,8 @@ use crate::placed::Placed;
 use crate::section_marks::{detector_of, tint};
 use crate::thing::Subject;
 use control_table::layout::{
-    BorderId, Detector, Element, End, Exit, Layout, PointId, Port, Route, RouteId, SectionId,
-    SignalId, TrackId,
+    BorderId, Detector, Element, Exit, Layout, PointId, Route, RouteId, SectionId, SignalId,
+    TrackId,
 };
 use control_table::sci_telegram::{Aspect, Occupancy, Position, Side};
 use std::alloc::{AllocError, Global};
@@ -50,7 +50,7 @@ fn passes(route: &Route, element: Element) -> bool {
 }
 
 /// Whether a list has a point at a side.
-fn has_side(points: &[(PointId, Side)], point: PointId, side: Side) -> bool {
+pub(crate) fn has_side(points: &[(PointId, Side)], point: PointId, side: Side) -> bool {
     for (other, there) in points {
         if *other == point && *there == side {
             return true;
@@ -59,109 +59,108 @@ fn has_side(points: &[(PointId, Side)], point: PointId, side: Side) -> bool {
     false
 }
 
-/// The point of a leg, and its side.
-fn leg_of(port: Port) -> Option<(PointId, Side)> {
-    match (port.element, port.end) {
-        (Element::Point(point), End::Left) => Some((point, Side::Left)),
-        (Element::Point(point), End::Right) => Some((point, Side::Right)),
-        _ => None,
+/// Whether a route passes over what is placed: a track, or the tip or a leg of a point.
+fn takes(route: &Route, placed: &Placed) -> bool {
+    let point = PointId(placed.number);
+    match placed.subject {
+        Subject::Track(_) => passes(route, Element::Track(TrackId(placed.number))),
+        Subject::Tip(_) => passes(route, Element::Point(point)),
+        Subject::Left(_) => has_side(route.points(), point, Side::Left),
+        Subject::Right(_) => has_side(route.points(), point, Side::Right),
+        _ => false,
     }
 }
 
-/// Whether a route passes over an element, or over a leg where the port is one.
-fn takes(route: &Route, port: Port) -> bool {
-    match leg_of(port) {
-        Some((point, side)) => has_side(route.points(), point, side),
-        None => passes(route, port.element),
-    }
-}
-
-/// Adds words to a class.
-fn add(class: &mut String, is_so: bool, words: &str) -> Result<(), AllocError> {
-    if is_so { class.push_str(words) } else { Ok(()) }
-}
-
-/// Whether a set route passes over an element or a leg.
-fn is_set_over(routes: &[Route], set: &[bool], port: Port) -> bool {
+/// Whether a set route passes over what is placed.
+fn is_set_over(routes: &[Route], set: &[bool], placed: &Placed) -> bool {
     for (number, route) in routes.iter().enumerate() {
         let is_set = number < set.len() && set[number];
-        if is_set && takes(route, port) {
+        if is_set && takes(route, placed) {
             return true;
         }
     }
     false
 }
 
-/// Whether a point protects the flank of a route.
-fn protects(route: &Route, point: PointId) -> bool {
-    has_side(route.flank(), point, Side::Left) || has_side(route.flank(), point, Side::Right)
+/// Whether a point, or this leg of it, protects the flank of a route.
+fn protects(route: &Route, placed: &Placed) -> bool {
+    let point = PointId(placed.number);
+    let left = has_side(route.flank(), point, Side::Left);
+    let right = has_side(route.flank(), point, Side::Right);
+    match placed.subject {
+        Subject::Point(_) => left || right,
+        Subject::Left(_) => left,
+        Subject::Right(_) => right,
+        _ => false,
+    }
 }
 
-/// Whether a point protects the flank of the route that is shown.
-pub(crate) fn is_flank(layout: &Layout, shown: &Shown, point: PointId) -> bool {
+/// Whether a route ends at what is placed.
+fn ends_at(route: &Route, placed: &Placed) -> bool {
+    match placed.subject {
+        Subject::Signal(_) => route.exit() == Exit::Signal(SignalId(placed.number)),
+        Subject::Border(_) => route.exit() == Exit::Border(BorderId(placed.number)),
+        _ => false,
+    }
+}
+
+/// What a class may say of a thing: of the route that is shown, and of those that are set.
+#[derive(Clone, Copy)]
+pub(crate) enum Marking {
+    /// The route passes over it.
+    Path,
+    /// It protects the flank of the route.
+    Flank,
+    /// A set route passes over it.
+    Set,
+    /// It is a section of the route's approach.
+    Approach,
+    /// The route begins at it.
+    Entry,
+    /// The route ends at it.
+    Exit,
+}
+
+/// The words for this, as they stand in a class.
+const MARKINGS: &[(Marking, &str)] = &[
+    (Marking::Path, " path"),
+    (Marking::Flank, " flank"),
+    (Marking::Set, " set"),
+    (Marking::Approach, " approach"),
+    (Marking::Entry, " entry"),
+    (Marking::Exit, " exit"),
+];
+
+/// Whether what is placed is marked so by a route that is shown.
+fn is_of_route(route: &Route, placed: &Placed, marking: Marking) -> bool {
+    let number = placed.number;
+    match (marking, placed.subject) {
+        (Marking::Path, _) => takes(route, placed),
+        (Marking::Flank, _) => protects(route, placed),
+        (Marking::Approach, Subject::Section(_)) => route.approach().contains(&SectionId(number)),
+        (Marking::Entry, Subject::Signal(_)) => route.entry() == SignalId(number),
+        (Marking::Exit, _) => ends_at(route, placed),
+        _ => false,
+    }
+}
+
+/// Whether what is placed is marked so.
+pub(crate) fn is_marked(layout: &Layout, shown: &Shown, placed: &Placed, marking: Marking) -> bool {
+    if let (Marking::Set, Some(seen)) = (marking, &shown.seen) {
+        return is_set_over(layout.routes(), &seen.set, placed);
+    }
     match shown.route(layout) {
-        Some(route) => protects(route, point),
+        Some(route) => is_of_route(route, placed, marking),
         None => false,
     }
 }
 
-/// Marks a track, or the tip or a leg of a point, on the way of the route that is shown.
-fn mark_path(class: &mut String, route: &Route, port: Port) -> Result<(), AllocError> {
-    add(class, takes(route, port), " path")?;
-    match leg_of(port) {
-        Some((point, side)) => add(class, has_side(route.flank(), point, side), " flank"),
-        None => Ok(()),
-    }
-}
-
-/// Marks a track, or the tip or a leg of a point.
-fn mark_way(
-    class: &mut String,
-    layout: &Layout,
-    shown: &Shown,
-    port: Port,
-) -> Result<(), AllocError> {
-    if let Some(route) = shown.route(layout) {
-        mark_path(class, route, port)?;
-    }
-    match &shown.seen {
-        Some(seen) => add(class, is_set_over(layout.routes(), &seen.set, port), " set"),
-        None => Ok(()),
-    }
-}
-
-/// Marks a section: by the tint of its detection controller, and as an approach.
-fn mark_section(
-    class: &mut String,
-    detectors: &[Detector],
-    route: Option<&Route>,
-    section: SectionId,
-) -> Result<(), AllocError> {
-    class.push_str(tint(detector_of(detectors, section)))?;
-    match route {
-        Some(route) => add(class, route.approach().contains(&section), " approach"),
-        None => Ok(()),
-    }
-}
-
-/// Marks a signal.
-fn mark_signal(
-    class: &mut String,
-    route: Option<&Route>,
-    signal: SignalId,
-) -> Result<(), AllocError> {
-    let Some(route) = route else {
-        return Ok(());
-    };
-    add(class, route.entry() == signal, " entry")?;
-    add(class, route.exit() == Exit::Signal(signal), " exit")
-}
-
-/// Whether the route that is shown ends at a border.
-fn is_exit(route: Option<&Route>, border: BorderId) -> bool {
-    match route {
-        Some(route) => route.exit() == Exit::Border(border),
-        None => false,
+/// The word for the detection controller of what is placed, by which its bands have a tint.
+fn tint_of(detectors: &[Detector], placed: &Placed) -> &'static str {
+    match placed.subject {
+        Subject::Section(_) => tint(detector_of(detectors, SectionId(placed.number))),
+        Subject::Detector(_) => tint(placed.number),
+        _ => "",
     }
 }
 
@@ -172,23 +171,13 @@ pub(crate) fn mark(
     shown: &Shown,
     placed: &Placed,
 ) -> Result<(), AllocError> {
-    let number = placed.number;
-    let point = PointId(number);
-    let end = placed.at.end;
-    let route = shown.route(layout);
-    let element = match placed.subject {
-        Subject::Section(_) => {
-            return mark_section(class, layout.detectors(), route, SectionId(number));
+    class.push_str(tint_of(layout.detectors(), placed))?;
+    for (marking, word) in MARKINGS {
+        if is_marked(layout, shown, placed, *marking) {
+            class.push_str(word)?;
         }
-        Subject::Point(_) => return add(class, is_flank(layout, shown, point), " flank"),
-        Subject::Border(_) => return add(class, is_exit(route, BorderId(number)), " exit"),
-        Subject::Joint(..) => return Ok(()),
-        Subject::Signal(_) => return mark_signal(class, route, SignalId(number)),
-        Subject::Detector(_) => return class.push_str(tint(number)),
-        Subject::Track(_) => Element::Track(TrackId(number)),
-        Subject::Tip(_) | Subject::Left(_) | Subject::Right(_) => Element::Point(point),
-    };
-    mark_way(class, layout, shown, Port { element, end })
+    }
+    Ok(())
 }
 
 /// What is said of a route.

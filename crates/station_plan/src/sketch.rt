@@ -1,15 +1,13 @@
 //! Where everything lies in a plan.
 
-use crate::columns::Limit;
-use crate::heights::Room;
-use crate::labels::Label;
+use crate::heights::{EMPTY, Room};
 use crate::links::Link;
 use crate::numbers::Numbers;
 use crate::strands::{NOTHING, Strand};
 use crate::units::Units;
 use crate::widths::{CONNECTOR, POINT};
 use crate::yard::{ElementFacts, Place, PortFacts, UNJOINED, UNKNOWN};
-use control_table::layout::{Element, Joint, Layout};
+use control_table::layout::{Element, Layout};
 use drawing::Spot;
 use std::alloc::{AllocError, Global};
 
@@ -18,18 +16,21 @@ use std::alloc::{AllocError, Global};
 pub(crate) struct Sketch {
     pub(crate) alloc: Global,
     pub(crate) numbers: Numbers,
-    /// What is written at each element.
-    pub(crate) labels: Vec<Label>,
     /// What is known of each element.
     pub(crate) elements: Vec<ElementFacts>,
     /// What is known of each port, in `port_number`'s order.
     pub(crate) ports: Vec<PortFacts>,
     /// How many pieces there are.
     pub(crate) pieces: usize,
-    /// The elements at which the search for circles is, each with how many of its ports were tried.
-    pub(crate) stack: Vec<(usize, usize)>,
-    /// The elements, from right to left, and from left to right once the ways to the right are found.
+    /// The elements at which the search for circles is.
+    pub(crate) stack: Vec<usize>,
+    /// How many these are.
+    pub(crate) depth: usize,
+    /// The elements as a search finds them: in the end from right to left, and from left to right once the ways to the right
+    /// are found.
     pub(crate) order: Vec<usize>,
+    /// How many of them it has found.
+    pub(crate) found: usize,
     /// How many chains there are.
     pub(crate) chains: usize,
     /// How far each chain reaches.
@@ -40,8 +41,6 @@ pub(crate) struct Sketch {
     pub(crate) row_count: usize,
     /// What is known of each row.
     pub(crate) rows: Vec<Room>,
-    /// How far elements lie apart.
-    pub(crate) limits: Vec<Limit>,
 }
 
 /// A spot by its two places.
@@ -60,32 +59,36 @@ impl Sketch {
         Sketch {
             alloc,
             numbers,
-            labels: Vec::new(alloc),
             elements: Vec::new(alloc),
             ports: Vec::new(alloc),
             pieces: 0,
             stack: Vec::new(alloc),
+            depth: 0,
             order: Vec::new(alloc),
+            found: 0,
             chains: 0,
             strands: Vec::new(alloc),
             links: Vec::new(alloc),
             row_count: 0,
             rows: Vec::new(alloc),
-            limits: Vec::new(alloc),
         }
     }
 
     /// Lays out a layout, one thing after the other. Nobody else has what is being made, so an error drops it in one place.
     pub(crate) fn lay(&mut self, layout: &Layout) -> Result<(), AllocError> {
-        let joints = layout.joints();
         self.take_up(layout)?;
-        self.lay_elements(joints)?;
-        self.lay_grid()?;
+        self.lay_elements(layout);
+        self.lay_chains();
+        self.lay_links()?;
+        self.strands.resize(self.chains, NOTHING)?;
+        self.lay_strands();
+        self.lay_rows();
+        self.rows.resize(self.row_count, EMPTY)?;
         self.lay_widths();
-        self.set_out(joints)?;
+        self.set_out();
         // Once more, as it is known which links are level between rows.
-        self.level_links();
-        self.set_out(joints)
+        self.set_out();
+        Ok(())
     }
 
     /// Takes up what a layout tells of its elements and their ports.
@@ -93,38 +96,28 @@ impl Sketch {
         let size = self.numbers.all();
         self.elements.resize(size, UNKNOWN)?;
         self.ports.resize(size.saturating_mul(3), UNJOINED)?;
-        self.read_labels(layout)?;
+        self.stack.resize(size, 0)?;
+        self.order.resize(size, 0)?;
+        self.read_labels(layout);
         self.join(layout.joints());
         self.stand(layout.signals());
-        self.mark_fast_legs(layout.routes());
         Ok(())
     }
 
     /// Finds which way elements lie, how far to the right, and the legs by which rows go on.
-    fn lay_elements(&mut self, joints: &[Joint]) -> Result<(), AllocError> {
-        self.lay_directions()?;
-        self.lay_courses(joints)?;
-        self.number_connectors(joints);
+    fn lay_elements(&mut self, layout: &Layout) {
+        self.lay_directions();
+        self.lay_courses();
+        self.number_connectors(layout.joints());
         self.lay_ranks();
-        self.choose_main_legs();
-        Ok(())
-    }
-
-    /// Lays the elements on rows.
-    fn lay_grid(&mut self) -> Result<(), AllocError> {
-        self.lay_chains();
-        self.lay_links()?;
-        self.strands.resize(self.chains, NOTHING)?;
-        self.lay_strands();
-        self.lay_rows();
-        self.level_links();
-        Ok(())
+        self.choose_main_legs(layout.routes());
     }
 
     /// Finds where rows and columns lie.
-    fn set_out(&mut self, joints: &[Joint]) -> Result<(), AllocError> {
-        self.lay_heights()?;
-        self.lay_columns(joints)
+    fn set_out(&mut self) {
+        self.level_links();
+        self.lay_heights();
+        self.lay_columns();
     }
 
     /// How far to the right an element lies.
@@ -153,7 +146,7 @@ impl Sketch {
         if self.is_connector(place) {
             return own - CONNECTOR.times(side);
         }
-        match self.port(place).next {
+        match self.next(place) {
             Some(mate) => self.edge_to(element, mate, own, side),
             None => own,
         }

@@ -1,9 +1,9 @@
 //! How far chains reach, by the ranks of what lies on them and hangs at them.
 
-use crate::links::Link;
-use crate::lists::at;
+use crate::links::{Link, NO_LINK};
+use crate::lists::{at, put};
 use crate::sketch::Sketch;
-use crate::yard::{ElementFacts, Place};
+use crate::yard::Place;
 
 /// How far a chain reaches, and where it lies.
 #[derive(Clone, Copy)]
@@ -40,29 +40,6 @@ impl Strand {
     pub(crate) fn touches(self, low: usize, high: usize) -> bool {
         self.low <= high && low <= self.high
     }
-
-    /// Makes room for a new row: it lies one lower, if it lies there or below.
-    pub(crate) fn make_room(&mut self, row: usize) {
-        if let Some(own) = self.row {
-            if row <= own {
-                self.row = Some(own.saturating_add(1));
-            }
-        }
-    }
-
-    /// Makes it reach to an element, by so many elements.
-    fn lengthen(&mut self, element: usize, facts: ElementFacts, elements: usize) {
-        self.piece = facts.piece.unwrap_or(0);
-        self.length = self.length.saturating_add(elements);
-        if facts.rank < self.low || self.first == usize::MAX {
-            self.low = facts.rank;
-            self.first = element;
-        }
-        if self.high < facts.rank || self.last == usize::MAX {
-            self.high = facts.rank;
-            self.last = element;
-        }
-    }
 }
 
 impl Sketch {
@@ -83,9 +60,8 @@ impl Sketch {
     /// Makes chains reach over all links.
     fn reach_over_links(&mut self) {
         for number in 0..self.links.len() {
-            if let Some(link) = self.links.get(number).copied() {
-                self.reach_over(link);
-            }
+            let link = at(&self.links, number, NO_LINK);
+            self.reach_over(link);
         }
     }
 
@@ -95,9 +71,18 @@ impl Sketch {
             return;
         };
         let facts = self.facts(element);
-        if let Some(strand) = self.strands.get_mut(chain) {
-            strand.lengthen(element, facts, elements);
+        let mut strand = self.strand(chain);
+        strand.piece = facts.piece.unwrap_or(0);
+        strand.length = strand.length.saturating_add(elements);
+        if facts.rank < strand.low || strand.first == usize::MAX {
+            strand.low = facts.rank;
+            strand.first = element;
         }
+        if strand.high < facts.rank || strand.last == usize::MAX {
+            strand.high = facts.rank;
+            strand.last = element;
+        }
+        put(&mut self.strands, chain, strand);
     }
 
     /// Makes chains reach over a link.

@@ -14,13 +14,13 @@ use crate::numbers::Numbers;
 use crate::placed::{NO_PORT, Placed, place_all};
 use crate::section_marks::{draw_detector, draw_list, draw_section};
 use crate::seen_words::state_word;
-use crate::shown::{Shown, is_flank, mark};
+use crate::shown::{Marking, Shown, is_marked, mark};
 use crate::signal_marks::draw_signal;
 use crate::sketch::{Sketch, spot};
 use crate::thing::{Subject, Thing};
 use crate::units::Units;
 use control_table::Checked;
-use control_table::layout::{Detector, Layout, PointId};
+use control_table::layout::{Detector, Layout};
 use drawing::Spot;
 use std::alloc::{AllocError, Global};
 
@@ -50,7 +50,7 @@ fn draw(
         Subject::Section(name) => draw_section(marks, more, scene.layout, sketch, name),
         Subject::Track(name) => draw_track(marks, more, sketch, at.element, *name),
         Subject::Point(name) => {
-            let is_flank = is_flank(scene.layout, scene.shown, PointId(placed.number));
+            let is_flank = is_marked(scene.layout, scene.shown, placed, Marking::Flank);
             draw_point(marks, more, sketch, at.element, *name, is_flank)
         }
         Subject::Tip(_) | Subject::Left(_) | Subject::Right(_) => {

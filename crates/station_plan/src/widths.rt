@@ -25,10 +25,9 @@ impl Sketch {
     /// Finds the widths of all elements.
     pub(crate) fn lay_widths(&mut self) {
         for element in 0..self.elements.len() {
-            let half = self.half_of(element);
-            if let Some(facts) = self.facts_mut(element) {
-                facts.half = half;
-            }
+            let mut facts = self.facts(element);
+            facts.half = self.half_of(element);
+            self.keep(element, facts);
         }
     }
 
@@ -58,9 +57,9 @@ impl Sketch {
 
     /// The point that parts behind a signal at a side of an element.
     fn parting(&self, element: usize, right: bool) -> Option<usize> {
-        let port = self.port(self.level_port(element, right)?);
-        let mate = port.next?;
-        if port.signal_letters > 0 && mate.end == self.main(mate.element) {
+        let place = self.level_port(element, right)?;
+        let mate = self.next(place)?;
+        if self.port(place).signal_letters > 0 && mate.end == self.main(mate.element) {
             Some(mate.element)
         } else {
             None
@@ -69,8 +68,7 @@ impl Sketch {
 
     /// Whether a port is joined to one that the plan doesn't draw beside it.
     pub(crate) fn is_connector(&self, place: Place) -> bool {
-        let port = self.port(place);
-        port.mate.is_some() && port.next.is_none()
+        self.port(place).mate.is_some() && self.next(place).is_none()
     }
 
     /// The room for the end of a line that goes on elsewhere.
@@ -103,7 +101,7 @@ impl Sketch {
     }
 
     fn half_of_track(&self, element: usize) -> Units {
-        let name = width(self.written(element).name_letters);
+        let name = width(self.facts(element).label.name_letters);
         let section = width(self.section_letters(element));
         let above = name + BESIDE + self.signal_room(element, false);
         let below = section + BESIDE + self.signal_room(element, true);
@@ -111,7 +109,7 @@ impl Sketch {
     }
 
     fn half_of_point(&self, element: usize) -> Units {
-        let name = width(self.written(element).name_letters);
+        let name = width(self.facts(element).label.name_letters);
         let text = name.or_more(width(self.section_letters(element)));
         let clear = self
             .clearance(element, false)
@@ -120,7 +118,7 @@ impl Sketch {
     }
 
     fn half_of_border(&self, element: usize) -> Units {
-        let text = (width(self.written(element).name_letters) + Units(8)).half();
+        let text = (width(self.facts(element).label.name_letters) + Units(8)).half();
         let place = Place {
             element,
             end: End::End,

@@ -1,7 +1,7 @@
 //! What is known of elements and ports.
 
 use crate::labels::{Label, UNWRITTEN, letters};
-use crate::lists::at;
+use crate::lists::{at, put};
 use crate::sketch::Sketch;
 use crate::units::Units;
 use control_table::layout::{End, Joint, Signal};
@@ -34,10 +34,14 @@ pub(crate) struct ElementFacts {
     pub(crate) is_flipped: bool,
     /// The piece of the layout that it is part of, once it is found.
     pub(crate) piece: Option<usize>,
+    /// What is written at it.
+    pub(crate) label: Label,
     /// Whether the search for circles has come to it.
     pub(crate) is_visited: bool,
     /// Whether that search is still at what lies at its right.
     pub(crate) is_open: bool,
+    /// How many of its ports that search has tried.
+    pub(crate) tried: usize,
     /// The ways to the left.
     pub(crate) left: Ways,
     /// The ways to the right.
@@ -56,35 +60,14 @@ pub(crate) struct ElementFacts {
     pub(crate) far: Units,
 }
 
-impl ElementFacts {
-    /// Finds its rank by the way to its left. A border at the right has that of the longest way.
-    pub(crate) fn settle_rank(&mut self, is_border: bool, longest: usize) {
-        let is_last = is_border && self.is_flipped;
-        let way = if is_last { longest } else { self.left.longest };
-        self.rank = way.saturating_sub(1);
-    }
-
-    /// Moves it to the right by so many ranks, if it is part of a piece.
-    pub(crate) fn shift(&mut self, piece: usize, by: usize) {
-        if self.piece == Some(piece) {
-            self.rank = self.rank.saturating_add(by);
-        }
-    }
-
-    /// Lays it at the right of a plan of this width, if it lies the other way round.
-    pub(crate) fn align(&mut self, width: Units) {
-        if self.is_flipped {
-            self.x = width - self.half;
-        }
-    }
-}
-
 /// An element of which nothing is found yet.
 pub(crate) const UNKNOWN: ElementFacts = ElementFacts {
     is_flipped: false,
     piece: None,
+    label: UNWRITTEN,
     is_visited: false,
     is_open: false,
+    tried: 0,
     left: Ways {
         longest: 1,
         points: FAR,
@@ -106,12 +89,10 @@ pub(crate) const UNKNOWN: ElementFacts = ElementFacts {
 pub(crate) struct PortFacts {
     /// The port that it is joined to.
     pub(crate) mate: Option<Place>,
-    /// The same, where the joint goes on from left to right.
-    pub(crate) next: Option<Place>,
+    /// Whether the joint is left out of the rows, since it closes a circle.
+    pub(crate) is_cut: bool,
     /// How many letters the name of the signal has that stands there, or 0.
     pub(crate) signal_letters: usize,
-    /// Whether it is a leg over which a route runs that isn't slow.
-    pub(crate) is_fast: bool,
     /// The number by which the two ends of a joint know one another that isn't drawn as a line.
     pub(crate) connector: Option<usize>,
 }
@@ -119,9 +100,8 @@ pub(crate) struct PortFacts {
 /// A port at which there is nothing.
 pub(crate) const UNJOINED: PortFacts = PortFacts {
     mate: None,
-    next: None,
+    is_cut: false,
     signal_letters: 0,
-    is_fast: false,
     connector: None,
 };
 
@@ -146,19 +126,14 @@ impl Sketch {
         at(&self.ports, port_number(place), UNJOINED)
     }
 
-    /// What is known of an element, to be changed.
-    pub(crate) fn facts_mut(&mut self, element: usize) -> Option<&mut ElementFacts> {
-        self.elements.get_mut(element)
+    /// Keeps what is known of an element.
+    pub(crate) fn keep(&mut self, element: usize, facts: ElementFacts) {
+        put(&mut self.elements, element, facts);
     }
 
-    /// What is known of a port, to be changed.
-    pub(crate) fn port_mut(&mut self, place: Place) -> Option<&mut PortFacts> {
-        self.ports.get_mut(port_number(place))
-    }
-
-    /// What is written at an element.
-    pub(crate) fn written(&self, element: usize) -> Label {
-        at(&self.labels, element, UNWRITTEN)
+    /// Keeps what is known of a port.
+    pub(crate) fn keep_port(&mut self, place: Place, facts: PortFacts) {
+        put(&mut self.ports, port_number(place), facts);
     }
 
     /// Takes up joints.
@@ -172,18 +147,17 @@ impl Sketch {
     }
 
     fn set_mate(&mut self, place: Place, mate: Place) {
-        if let Some(port) = self.port_mut(place) {
-            port.mate = Some(mate);
-        }
+        let mate = Some(mate);
+        self.keep_port(place, PortFacts { mate, ..UNJOINED });
     }
 
     /// Takes up signals.
     pub(crate) fn stand(&mut self, signals: &[Signal]) {
         for signal in signals {
             let place = self.numbers.place(signal.at);
-            if let Some(port) = self.port_mut(place) {
-                port.signal_letters = letters(Some(signal.name));
-            }
+            let mut port = self.port(place);
+            port.signal_letters = letters(Some(signal.name));
+            self.keep_port(place, port);
         }
     }
 }
