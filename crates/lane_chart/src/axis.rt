@@ -3,7 +3,7 @@
 use crate::marks::Marks;
 use crate::scale::{LEFT, MICROS, RIGHT, Window};
 use drawing::{Anchor, Spot};
-use std::alloc::{AllocError, Global};
+use std::alloc::AllocError;
 
 /// Where the axis lies.
 const AXIS: i32 = 106;
@@ -63,16 +63,11 @@ fn first_behind(time: u64, step: u64) -> u64 {
     past.checked_div(step).unwrap_or(0).saturating_mul(step)
 }
 
-/// What is written at a mark of the axis.
-fn words_of(alloc: Global, time: u64) -> Result<String, AllocError> {
-    let millis = time / MICROS;
-    format!(in alloc; "{millis} ms")
-}
-
 /// Draws a mark of the axis, down to the end of the rows.
 fn draw_mark(marks: &mut Marks, window: Window, time: u64, bottom: i32) -> Result<(), AllocError> {
     let x = window.place(time);
-    let words = words_of(marks.alloc, time)?;
+    let millis = time / MICROS;
+    let words = format!(in marks.alloc; "{millis} ms")?;
     marks.upright_line("grid", x, AXIS, bottom)?;
     let at = Spot {
         x,
@@ -84,11 +79,6 @@ fn draw_mark(marks: &mut Marks, window: Window, time: u64, bottom: i32) -> Resul
 /// Draws the axis, and its marks down to the end of the rows.
 pub(crate) fn draw_axis(marks: &mut Marks, window: Window, bottom: i32) -> Result<(), AllocError> {
     marks.level_line("axis", LEFT, RIGHT, AXIS)?;
-    draw_marks(marks, window, bottom)
-}
-
-/// Draws the marks of the axis, down to the end of the rows.
-fn draw_marks(marks: &mut Marks, window: Window, bottom: i32) -> Result<(), AllocError> {
     let step = step(window);
     let first = first_behind(window.from, step);
     for number in 0..MOST_MARKS {

@@ -49,13 +49,6 @@ fn group(id: String, class: String, marks: Marks) -> Result<Group, AllocError>
     })
 }
 
-/// What stands above a chart: the name of the station, and what part of time is drawn.
-fn heading(alloc: Global, station: &str, window: Window) -> Result<String, AllocError> {
-    let from = window.from / MICROS;
-    let to = window.to / MICROS;
-    format!(in alloc; "{station}: {from} to {to} ms of true time")
-}
-
 /// A group of these marks, whose class is its identity.
 fn named_group(id: &str, marks: Marks) -> Result<Group, AllocError>
     ensures { IfOk result (λ group. string_bytes group.id ≡ id.now) }
@@ -65,14 +58,16 @@ fn named_group(id: &str, marks: Marks) -> Result<Group, AllocError>
     group(id, class, marks)
 }
 
-/// Writes the heading, and draws the axis.
+/// Writes the name of the station and what part of time is drawn, and draws the axis.
 fn draw_frame(
     marks: &mut Marks,
     station: &str,
     window: Window,
     bottom: i32,
 ) -> Result<(), AllocError> {
-    let words = heading(marks.alloc, station, window)?;
+    let from = window.from / MICROS;
+    let to = window.to / MICROS;
+    let words = format!(in marks.alloc; "{station}: {from} to {to} ms of true time")?;
     let at = Spot { x: 20, y: 24 };
     marks.text("heading", at, Anchor::Start, words.as_str())?;
     draw_axis(marks, window, bottom)
@@ -156,35 +151,22 @@ fn add_rows(
     Ok(())
 }
 
-/// All groups of a chart, whose rows end here.
-fn groups_of(
+/// Adds all groups of a chart, whose rows end here, to a list that is empty.
+fn add_groups(
+    groups: &mut Vec<Group>,
     alloc: Global,
     station: &str,
     scene: Scene<'_>,
     rows: &[DrawnRow],
     bottom: i32,
-) -> Result<Vec<Group>, AllocError>
-    ensures { IfOk result (λ groups. AreChartGroups scene.entry.nodes scene.entry.window rows.now scene.entry.happenings.now groups.items) }
+) -> Result<(), AllocError>
+    requires { groups.old.items ≡ [] }
+    ensures { OnOk result (AreChartGroups scene.entry.nodes scene.entry.window rows.now scene.entry.happenings.now groups.new.items) }
 {
-    let mut groups = Vec::new(alloc);
-    add_group(
-        &mut groups,
-        axis_group(alloc, station, scene.window, bottom)?,
-    )?;
-    add_rows(&mut groups, alloc, scene, rows)?;
-    add_happenings(&mut groups, alloc, scene.window, scene.happenings)?;
-    add_group(&mut groups, legend_group(alloc, bottom)?)?;
-    Ok(groups)
-}
-
-/// The paper, down to here.
-fn paper(bottom: i32) -> Frame {
-    Frame {
-        left: 0,
-        top: 0,
-        width: PAPER,
-        height: u32::try_from(bottom).unwrap_or(0),
-    }
+    add_group(groups, axis_group(alloc, station, scene.window, bottom)?)?;
+    add_rows(groups, alloc, scene, rows)?;
+    add_happenings(groups, alloc, scene.window, scene.happenings)?;
+    add_group(groups, legend_group(alloc, bottom)?)
 }
 
 /// The chart of a part of a session on a station of this layout, by its rows, as a picture: a group for each row, whose
@@ -212,11 +194,18 @@ pub fn chart(
     let bottom = ROWS.saturating_add(height_of(rows));
     let title = String::from_str(alloc, station)?;
     let style = String::from_str(alloc, STYLE)?;
-    let groups = groups_of(alloc, station, scene, rows, bottom)?;
+    let mut groups = Vec::new(alloc);
+    add_groups(&mut groups, alloc, station, scene, rows, bottom)?;
+    let height = u32::try_from(bottom.saturating_add(HEIGHT)).unwrap_or(0);
     Ok(Picture {
         title,
         style,
-        paper: paper(bottom.saturating_add(HEIGHT)),
+        paper: Frame {
+            left: 0,
+            top: 0,
+            width: PAPER,
+            height,
+        },
         strips: Vec::new(alloc),
         groups,
     })
