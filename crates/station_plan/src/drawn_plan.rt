@@ -1,10 +1,10 @@
 //! The picture of a plan.
 
-ghost use Rattle.std.specs.Prelude.{IfOk};
+ghost use Rattle.std.specs.Prelude.{◌≡◌, [], IfOk};
 ghost use Rattle.station_plan.specs.Plan.{IsPlanOf};
 
 use crate::extent::{EVERYWHERE, reach_of_things};
-use crate::groups::groups_of;
+use crate::groups::add_all;
 use crate::marks::Marks;
 use crate::notes::{LINES, draw_legend};
 use crate::paper::paper_for;
@@ -47,7 +47,9 @@ fn sheet(
     layout: &Layout,
     things: &[Thing],
     notes: &[Mark],
-) -> Result<Picture, AllocError> {
+) -> Result<Picture, AllocError>
+    ensures { IfOk result (λ picture. picture.groups.items ≡ []) }
+{
     let (paper, strips) = paper_for(alloc, things, notes)?;
     let title = String::from_str(alloc, layout.station().name.as_str())?;
     let style = String::from_str(alloc, STYLE)?;
@@ -69,7 +71,6 @@ pub fn plan(alloc: Global, table: &Checked, shown: &Shown) -> Result<Picture, Al
     let things = things(alloc, table, shown)?;
     let notes = notes(alloc, layout, &things, shown)?;
     let mut picture = sheet(alloc, layout, &things, &notes)?;
-    let groups = groups_of(alloc, things, notes)?;
-    picture.groups = groups;
+    add_all(&mut picture.groups, alloc, things, notes)?;
     Ok(picture)
 }

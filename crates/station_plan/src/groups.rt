@@ -81,17 +81,18 @@ fn notes_group(alloc: Global, marks: Vec<Mark>) -> Result<Group, AllocError>
     })
 }
 
-/// Things as groups, in order, and behind them what is written below the plan.
-pub(crate) fn groups_of(
+/// Adds things as groups, in order, and behind them what is written below the plan, to a list that is empty.
+pub(crate) fn add_all(
+    groups: &mut Vec<Group>,
     alloc: Global,
     things: Vec<Thing>,
     notes: Vec<Mark>,
-) -> Result<Vec<Group>, AllocError>
-    ensures { IfOk result (λ all. AreGroupsOf things.items all.items) }
+) -> Result<(), AllocError>
+    requires { groups.old.items ≡ [] }
+    ensures { OnOk result (AreGroupsOf things.items groups.new.items) }
 {
-    let mut groups = Vec::new(alloc);
-    add_groups(&mut groups, alloc, things)?;
+    add_groups(groups, alloc, things)?;
     let below = notes_group(alloc, notes)?;
     groups.push(below)?;
-    Ok(groups)
+    Ok(())
 }

@@ -93,8 +93,8 @@ impl Sketch {
     fn pass_links(&mut self) {
         for number in 0..self.links.len() {
             let link = at(&self.links, number, NO_LINK);
-            let mut room = self.room(link.above);
             if let Some(slot) = link.slot {
+                let mut room = self.room(link.above);
                 room.slots = room.slots.max(slot.saturating_add(1));
                 put(&mut self.rows, link.above, room);
             }

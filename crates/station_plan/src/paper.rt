@@ -15,16 +15,13 @@ const MARGIN: Units = Units(12);
 
 /// Adds a strip below those that are there, and tells how far down the next one lies.
 fn add_strip(strips: &mut Vec<Strip>, down: Units, shows: Extent) -> Result<Units, AllocError> {
+    let frame = shows.frame();
     let at = Frame {
         left: 0,
         top: down.0,
-        width: shows.frame().width,
-        height: shows.frame().height,
+        ..frame
     };
-    strips.push(Strip {
-        at,
-        shows: shows.frame(),
-    })?;
+    strips.push(Strip { at, shows: frame })?;
     Ok(down + shows.height())
 }
 

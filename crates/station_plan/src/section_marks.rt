@@ -193,16 +193,11 @@ fn draw_names(
             before = 0;
             down = down + LINE;
         }
-        add_word(words, word)?;
+        words.push_str(" ")?;
+        words.push_str(word)?;
     }
     draw_words(more, begin, down, before, words.as_str())?;
     Ok(down + LINE + Units(5))
-}
-
-/// Adds a word behind others.
-fn add_word(words: &mut String, word: &str) -> Result<(), AllocError> {
-    words.push_str(" ")?;
-    words.push_str(word)
 }
 
 /// Writes words behind so many letters.
@@ -219,8 +214,9 @@ fn draw_words(
 
 /// The name of a section.
 fn section_word(names: &[Name], section: SectionId) -> &str {
-    match names.get(section.0) {
-        Some(name) => name.as_str(),
-        None => "",
+    if section.0 < names.len() {
+        names[section.0].as_str()
+    } else {
+        ""
     }
 }

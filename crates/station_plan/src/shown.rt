@@ -203,14 +203,11 @@ fn aspect_word(aspect: Aspect) -> &'static str {
 
 /// The name of the signal or the border at which a route may end.
 fn exit_word(layout: &Layout, exit: Exit) -> &str {
+    let signals = layout.signals();
+    let borders = layout.borders();
     match exit {
-        Exit::Signal(signal) => match layout.signals().get(signal.0) {
-            Some(entry) => entry.name.as_str(),
-            None => "",
-        },
-        Exit::Border(border) => match layout.borders().get(border.0) {
-            Some(name) => name.as_str(),
-            None => "",
-        },
+        Exit::Signal(signal) if signal.0 < signals.len() => signals[signal.0].name.as_str(),
+        Exit::Border(border) if border.0 < borders.len() => borders[border.0].as_str(),
+        _ => "",
     }
 }

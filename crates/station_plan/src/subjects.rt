@@ -90,7 +90,7 @@ pub(crate) fn element_name(layout: &Layout, element: Element) -> Option<Name>
     match element {
         Element::Track(track) => Some(layout.tracks().get(track.0)?.name),
         Element::Point(point) => Some(layout.points().get(point.0)?.name),
-        Element::Border(border) => layout.borders().get(border.0).copied(),
+        Element::Border(border) => Some(*layout.borders().get(border.0)?),
     }
 }
 

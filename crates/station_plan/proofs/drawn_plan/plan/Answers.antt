@@ -5,5 +5,5 @@ returns c = record {
   things = c.in_ok-things.things.items;
   listed = c.in_ok-things.ensures.listed;
   drawn = c.in_ok-things.ensures.drawn;
-  grouped = c.in_ok-groups.ensures;
+  grouped = c.in_ok-add_all.ensures;
 }

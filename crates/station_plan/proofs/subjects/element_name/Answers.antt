@@ -36,3 +36,18 @@ returns-in_err-get-in-Point c =
     let past = slice_get_past c.points.result.now place c.in_err-get-in-Point.ensures.lookup.3 in
     let none = ap (λ points. slice_get points place) (sym c.points.ensures) ∙ past in
     c.from_residual-in_err-get-in-Point.ensures ∙ sym (ap (element_name c.args.layout.now) c.in-Point.is ∙ ap (λ (found : Option Point). option_map (λ point. point.name) found) none)
+
+pub returns-in_ok-get-in-Border : goal.returns-in_ok-get-in-Border
+returns-in_ok-get-in-Border c =
+    let place = c.in-Border.border.0 in
+    let lookup = c.in_ok-get-in-Border.ensures.lookup in
+    let here = slice_get_read c.borders.result.now (length c.borders.result.now) place c.in_ok-get-in-Border.field-0.now refl lookup.3.0 lookup.1 in
+    let found = ap (λ borders. slice_get borders place) (sym c.borders.ensures) ∙ here in
+    sym (ap (element_name c.args.layout.now) c.in-Border.is ∙ found)
+
+pub returns-in_err-get-in-Border : goal.returns-in_err-get-in-Border
+returns-in_err-get-in-Border c =
+    let place = c.in-Border.border.0 in
+    let past = slice_get_past c.borders.result.now place c.in_err-get-in-Border.ensures.lookup.3 in
+    let none = ap (λ borders. slice_get borders place) (sym c.borders.ensures) ∙ past in
+    c.from_residual-in_err-get-in-Border.ensures ∙ sym (ap (element_name c.args.layout.now) c.in-Border.is ∙ none)

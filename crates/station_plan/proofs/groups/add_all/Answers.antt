@@ -1,4 +1,4 @@
-use Rattle.station_plan.proofs.groups.groups_of.Goals as goal
+use Rattle.station_plan.proofs.groups.add_all.Goals as goal
 
 pub returns : goal.returns
 returns c = record {
