@@ -1,12 +1,14 @@
 -- Charts of records.
 use Rattle.std.proofs.Common.{◌≡◌, ℕ, List, Result, Ok, Err, map, subst}
 use Rattle.std.specs.Prelude.{IfOk}
+use Rattle.std.specs.List.{enumerate_from}
 use Rattle.control_table.specs.layout.Entries.{Site}
 use Rattle.drawing.specs.Svg.{svg_text}
 use Rattle.drawing.specs.declared.picture.Picture.{Picture}
 use Rattle.node_record.specs.ChartedRecord.{IsChartBy, IsRecordChart, IsTextOf}
-use Rattle.node_record.specs.NodeChanges.{IsStoryOf}
+use Rattle.node_record.specs.NodeChanges.{TellsLines}
 use Rattle.node_record.specs.RecordLines.{told}
+use Rattle.node_record.specs.Records.{whole_lines}
 use Rattle.node_record.specs.Roles.{role_of}
 use Rattle.node_record.specs.declared.node_chart.Cut.{Cut}
 use Rattle.node_record.specs.declared.node_story.NodeStory.{NodeStory}
@@ -20,11 +22,14 @@ pub text_told : {F E : Type 0} (items : F → List ℕ) (l : Site) (role : Role)
 text_told items l role cut story picture (Ok text) told is = told (items text) is
 text_told items l role cut story picture (Err why) told is = tt
 
--- it is that of the story's record
-pub chart_told : (l : Site) (node : ℕ) (role : Role) (recording : List ℕ) (cut : Cut) (story : NodeStory) (text : List ℕ) → IsStoryOf l node recording story → role ≡ role_of l node
-    → IsTextOf l role cut story text → IsChartBy l node recording cut text
-chart_told l node role recording cut story text happens is drawn =
-    record { story = story; told = happens; is = subst (λ (of : Role). IsTextOf l of cut story text) is drawn }
+-- it is that of the record whose lines the story tells
+pub chart_told : (l : Site) (node : ℕ) (role : Role) (recording : List ℕ) (lines : List (ℕ × List ℕ)) (cut : Cut) (story : NodeStory) (text : List ℕ) → lines ≡ enumerate_from 1 (whole_lines recording)
+    → role ≡ role_of l node → TellsLines l role node lines story → IsTextOf l role cut story text → IsChartBy l node recording cut text
+chart_told l node role recording lines cut story text lines_are is happens drawn = record {
+  story = story;
+  told = subst (λ (of : Role). TellsLines l of node (enumerate_from 1 (whole_lines recording)) story) is (subst (λ (all : List (ℕ × List ℕ)). TellsLines l role node all story) lines_are happens);
+  is = subst (λ (of : Role). IsTextOf l of cut story text) is drawn;
+}
 
 -- so it is of texts without a fault
 pub record_told : {F E : Type 0} (items : F → List ℕ) (layout name text : List ℕ) (site drawn : Site) (read : Record) (cut : Cut) (tried : Result F E) → AreTexts layout name text site read → drawn ≡ site

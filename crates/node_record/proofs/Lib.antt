@@ -8,3 +8,4 @@ pub mod FoundEnds
 pub mod FirstWord
 pub mod Charts
 pub mod Stories
+pub mod KeptRows

@@ -5,3 +5,4 @@ pub mod RecordsRead
 pub mod SoundTexts
 pub mod CapturesSoFar
 pub mod EndsSoFar
+pub mod WordTables

@@ -1,8 +1,7 @@
 //! How a node's record goes on, line by line, and what each line tells of a lane.
 
 ghost use Rattle.std.specs.Prelude.{◌≡◌};
-ghost use Rattle.replay_words.specs.Cut.{words};
-ghost use Rattle.node_record.specs.Courses.{ends, first_course, heard, orders, parted, read_at, step_of, tells, written};
+ghost use Rattle.node_record.specs.Courses.{ends, first_course, orders, parted, read_at, step_by, tells};
 
 use crate::known_told::known_said;
 use crate::order_told::{fallen, is_renewed, told_by_order, until_of};
@@ -107,29 +106,6 @@ fn orders(role: Role, course: Course, order: Order) -> Step
     Step { course, time, told }
 }
 
-/// What was written: what an interlocking knows, or the order of a controller.
-fn written(layout: &Layout, role: Role, course: Course, text: &str) -> Step
-    ensures { result ≡ written layout.now role course (words text.now) }
-{
-    if let Role::Interlocking = role {
-        return tells(course, known_said(layout, text));
-    }
-    match read_order(text) {
-        Ok(line) => orders(role, course, line.order),
-        Err(_) => tells(course, None),
-    }
-}
-
-/// What was heard: a command, which changes no lane by itself, or what field equipment tells.
-fn heard(layout: &Layout, role: Role, course: Course, text: &str) -> Step
-    ensures { result ≡ heard layout.now role course (words text.now) }
-{
-    match role {
-        Role::Interlocking => tells(course, None),
-        _ => tells(course, report_said(layout, role, text)),
-    }
-}
-
 /// The first word of a line, and the text behind it.
 pub(crate) fn parted(line: &str) -> (&str, &str)
     ensures { (result.0.now, result.1.now) ≡ parted line.now }
@@ -140,18 +116,27 @@ pub(crate) fn parted(line: &str) -> (&str, &str)
     }
 }
 
-/// What a line comes to.
-pub(crate) fn step_of(layout: &Layout, role: Role, course: Course, line: &str) -> Step
-    ensures { result ≡ step_of layout.now role course line.now }
+/// What a line comes to, by its first word and the text behind it. What is written is what an interlocking knows, or the order of a
+/// controller. What is heard is a command, which changes no lane by itself, or what field equipment tells.
+pub(crate) fn step_of(layout: &Layout, role: Role, course: Course, kind: &str, text: &str) -> Step
+    ensures { result ≡ step_by layout.now role course kind.now text.now }
 {
-    let (kind, text) = parted(line);
     match kind {
         "at" => match decimal(text) {
             Ok(reading) => read_at(role, course, reading),
             Err(_) => tells(course, None),
         },
-        "hears" => heard(layout, role, course, text),
-        "writes" => written(layout, role, course, text),
+        "hears" => match role {
+            Role::Interlocking => tells(course, None),
+            _ => tells(course, report_said(layout, role, text)),
+        },
+        "writes" => match role {
+            Role::Interlocking => tells(course, known_said(layout, text)),
+            _ => match read_order(text) {
+                Ok(line) => orders(role, course, line.order),
+                Err(_) => tells(course, None),
+            },
+        },
         _ => tells(course, None),
     }
 }

@@ -2,7 +2,8 @@
 
 ghost use Rattle.std.specs.Prelude.{◌≡◌};
 ghost use Rattle.replay_words.specs.Cut.{words};
-ghost use Rattle.node_record.specs.KnownTold.{aspect_seen, authority_seen, known_said, known_words, link_lane, link_seen, point_lane, position_seen, progress_seen, section_lane, section_seen, signal_lane, told_of};
+ghost use Rattle.node_record.specs.KnownTold.{authority_seen, known_said, known_words, link_lane, point_lane, section_lane, signal_lane, told_of};
+ghost use Rattle.node_record.specs.inside.WordTables.{seen_by};
 
 use crate::role::{Role, role_of};
 use crate::told::Told;
@@ -69,57 +70,46 @@ fn point_lane(layout: &Layout, name: &str) -> Option<Lane>
 
 // ---- what they show
 
-fn link_seen(word: &str) -> Option<Seen>
-    ensures { result ≡ link_seen word.now }
-{
-    match word {
-        "ready" => Some(Seen::Link(Readiness::Ready)),
-        "lost" => Some(Seen::Link(Readiness::Down)),
-        _ => None,
-    }
-}
+/// The words for what is told of a link, of a section, of a point, of what a signal indicates, and of a route.
+const LINK: &[(&str, Seen)] = &[
+    ("ready", Seen::Link(Readiness::Ready)),
+    ("lost", Seen::Link(Readiness::Down)),
+];
 
-fn section_seen(word: &str) -> Option<Seen>
-    ensures { result ≡ section_seen word.now }
-{
-    match word {
-        "clear" => Some(Seen::Section(Some(Occupancy::Clear))),
-        "occupied" => Some(Seen::Section(Some(Occupancy::Occupied))),
-        "unknown" => Some(Seen::Section(None)),
-        _ => None,
-    }
-}
+const SECTION: &[(&str, Seen)] = &[
+    ("clear", Seen::Section(Some(Occupancy::Clear))),
+    ("occupied", Seen::Section(Some(Occupancy::Occupied))),
+    ("unknown", Seen::Section(None)),
+];
 
-fn position_seen(word: &str) -> Option<Seen>
-    ensures { result ≡ position_seen word.now }
-{
-    match word {
-        "left" => Some(Seen::Position(Some(Position::Left))),
-        "right" => Some(Seen::Position(Some(Position::Right))),
-        "unknown" => Some(Seen::Position(None)),
-        _ => None,
-    }
-}
+const POINT: &[(&str, Seen)] = &[
+    ("left", Seen::Position(Some(Position::Left))),
+    ("right", Seen::Position(Some(Position::Right))),
+    ("unknown", Seen::Position(None)),
+];
 
-fn aspect_seen(word: &str) -> Option<Seen>
-    ensures { result ≡ aspect_seen word.now }
-{
-    match word {
-        "stop" => Some(Seen::Aspect(Some(Aspect::Stop))),
-        "proceed" => Some(Seen::Aspect(Some(Aspect::Proceed))),
-        "slow" => Some(Seen::Aspect(Some(Aspect::Slow))),
-        _ => None,
-    }
-}
+const INDICATED: &[(&str, Seen)] = &[
+    ("stop", Seen::Aspect(Some(Aspect::Stop))),
+    ("proceed", Seen::Aspect(Some(Aspect::Proceed))),
+    ("slow", Seen::Aspect(Some(Aspect::Slow))),
+];
 
-fn progress_seen(word: &str) -> Option<Seen>
-    ensures { result ≡ progress_seen word.now }
+const ROUTE: &[(&str, Seen)] = &[
+    ("set", Seen::Route(Some(Progress::Waiting))),
+    ("free", Seen::Route(Some(Progress::Free))),
+];
+
+/// What a word tells, by a table of words.
+fn seen_by(table: &[(&str, Seen)], word: &str) -> Option<Seen>
+    ensures { result ≡ seen_by word.now table.now }
 {
-    match word {
-        "set" => Some(Seen::Route(Some(Progress::Waiting))),
-        "free" => Some(Seen::Route(Some(Progress::Free))),
-        _ => None,
+    for row in table {
+        let (known, seen) = *row;
+        if word == known {
+            return Some(seen);
+        }
     }
+    None
 }
 
 /// Without authority the aspect is stop, and a route into which one leads has another one.
@@ -157,18 +147,21 @@ fn known_words(
     ensures { result ≡ known_words layout.now thing.now name.now word.now more.entry }
 {
     match thing {
-        "link" => told_of(link_lane(layout, name), link_seen(word)),
-        "section" => told_of(section_lane(layout, name), section_seen(word)),
-        "point" => told_of(point_lane(layout, name), position_seen(word)),
+        "link" => told_of(link_lane(layout, name), seen_by(LINK, word)),
+        "section" => told_of(section_lane(layout, name), seen_by(SECTION, word)),
+        "point" => told_of(point_lane(layout, name), seen_by(POINT, word)),
         "signal" => {
             let lane = signal_lane(layout, Kind::Authority, name);
             told_of(lane, authority_seen(layout, word, more))
         }
-        "indicates" => told_of(signal_lane(layout, Kind::Aspect, name), aspect_seen(word)),
+        "indicates" => told_of(
+            signal_lane(layout, Kind::Aspect, name),
+            seen_by(INDICATED, word),
+        ),
         "route" => {
             let place = route_named(layout, name).0;
             let kind = Kind::Route;
-            told_of(Some(Lane { kind, place }), progress_seen(word))
+            told_of(Some(Lane { kind, place }), seen_by(ROUTE, word))
         }
         _ => None,
     }
@@ -179,8 +172,8 @@ pub(crate) fn known_said(layout: &Layout, line: &str) -> Option<Told>
     ensures { result ≡ known_said layout.now (words line.now) }
 {
     let mut words = Words::of(line);
-    let thing = words.next()?;
-    let name = words.next()?;
-    let word = words.next()?;
+    let (Some(thing), Some(name), Some(word)) = (words.next(), words.next(), words.next()) else {
+        return None;
+    };
     known_words(layout, thing, name, word, words)
 }

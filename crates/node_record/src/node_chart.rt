@@ -5,19 +5,18 @@ ghost use Rattle.node_record.specs.ChartedRecord.{Explained, IsChartBy, IsCharte
 ghost use Rattle.node_record.specs.DecodedRecord.{CanRead, ExplainsRecord};
 ghost use Rattle.node_record.specs.inside.SoundTexts.{IsLate};
 
+use crate::capture::stamp;
 use crate::node_rows::node_rows;
 use crate::node_story::{NodeStory, story_of};
 use crate::role::{Role, role_of};
 use crate::texts::read_texts;
+use crate::whole_lines::WholeLines;
 use control_table::layout::Layout;
 use drawing::svg;
 use lane_chart::{Window, chart};
 use station_check::{Failure, tell};
 use std::alloc::{AllocError, Global};
 use std::io::Write;
-
-/// How many microseconds a millisecond has.
-const MICROS: u64 = 1000;
 
 /// Which part of a record is drawn, in milliseconds of the node's clock. Without them it begins with its first reading, and it
 /// ends with its last one at the latest.
@@ -109,8 +108,9 @@ fn chart_of(
     ensures drawn { IfOk result (λ text. IsChartBy layout.now node recording.now cut text.items) }
     ensures failed { IfErr result IsLate }
 {
-    let story = story_of(alloc, layout, node, recording)?;
-    let text = text_of(alloc, layout, role_of(layout, node), cut, &story)?;
+    let role = role_of(layout, node);
+    let story = story_of(alloc, layout, role, node, WholeLines::of(recording))?;
+    let text = text_of(alloc, layout, role, cut, &story)?;
     Ok(text)
 }
 
@@ -119,7 +119,7 @@ fn micros_or(otherwise: u64, millis: Option<u64>) -> u64
     ensures { result ≡ micros_or otherwise millis }
 {
     match millis {
-        Some(millis) => millis.saturating_mul(MICROS),
+        Some(millis) => stamp(millis),
         None => otherwise,
     }
 }

@@ -3,13 +3,12 @@
 ghost use Rattle.std.specs.Prelude.{◌≡◌, ◌++◌, IfOk, OnOk, map};
 ghost use Rattle.std.specs.Option.{option_map, option_to_list};
 ghost use Rattle.replay_words.specs.Read.{decimal};
-ghost use Rattle.node_record.specs.Courses.{parted};
-ghost use Rattle.node_record.specs.NodeChanges.{IsStoryOf, TellsLines, begin_of, begins_at, change_by, is_marked, mark_by, said_at, seen_mark};
+ghost use Rattle.node_record.specs.NodeChanges.{TellsLines, begin_of, begins_at, change_by, is_marked, mark_by, said_at, seen_mark};
 ghost use Rattle.node_record.specs.inside.Marking.{marked};
 
 use crate::capture::stamp;
 use crate::course::{Course, first_course, parted, step_of};
-use crate::role::{Role, role_of};
+use crate::role::Role;
 use crate::told::Told;
 use crate::whole_lines::WholeLines;
 use control_table::layout::Layout;
@@ -108,23 +107,23 @@ fn said_at<'a>(
     }
 }
 
-/// The mark of a line, if it has one.
+/// The mark of a line, if it has one, by its first word and the text behind it.
 fn mark_by<'a>(
     role: Role,
     node: usize,
     course: Course,
-    number: usize,
-    line: &'a str,
+    line: usize,
+    kind: &str,
+    text: &'a str,
 ) -> Option<Mark<'a>>
-    ensures { option_to_list (option_map marked result) ≡ mark_by role node course number (parted line.now).0 (parted line.now).1 }
+    ensures { option_to_list (option_map marked result) ≡ mark_by role node course line kind.now text.now }
 {
-    let (kind, text) = parted(line);
     if kind != "at" {
-        return said_at(role, course, number, kind, text);
+        return said_at(role, course, line, kind, text);
     }
     match course.first {
         Some(_) => None,
-        None => begins_at(node, number, text),
+        None => begins_at(node, line, text),
     }
 }
 
@@ -158,21 +157,8 @@ fn begin_of(first: Option<u64>) -> u64
     }
 }
 
-/// What happens by the record of the node of this number.
+/// What happens by these lines of the record of a node.
 pub(crate) fn story_of(
-    alloc: Global,
-    layout: &Layout,
-    node: usize,
-    text: &str,
-) -> Result<NodeStory, AllocError>
-    ensures { IfOk result (IsStoryOf layout.now node text.now) }
-{
-    let role = role_of(layout, node);
-    story_from(alloc, layout, role, node, WholeLines::of(text))
-}
-
-/// What happens by these lines.
-fn story_from(
     alloc: Global,
     layout: &Layout,
     role: Role,
@@ -186,9 +172,10 @@ fn story_from(
     let mut course = first_course();
     for (number, line) in lines {
         let place = number as usize;
-        let mark = mark_by(role, node, course, place, line);
+        let (kind, text) = parted(line);
+        let mark = mark_by(role, node, course, place, kind, text);
         add_mark(alloc, &mut happenings, mark)?;
-        let this = step_of(layout, role, course, line);
+        let this = step_of(layout, role, course, kind, text);
         add_change(&mut changes, place, this.time, this.told)?;
         course = this.course;
     }

@@ -64,8 +64,8 @@ pub(crate) fn fallen(order: Order) -> Order
     ensures { result ≡ fallen order }
 {
     match order {
-        Order::ShowProceed { .. } | Order::ShowSlow { .. } | Order::ShowStop => Order::ShowStop,
         Order::Drive { .. } | Order::DriveNone => Order::DriveNone,
+        _ => Order::ShowStop,
     }
 }
 

@@ -1,8 +1,8 @@
 //! The datagrams of which a record tells.
 
-ghost use Rattle.std.specs.Prelude.{◌≡◌, ◌++◌, IfOk, OnOk, map};
-ghost use Rattle.std.specs.Option.{option_map, option_to_list};
-ghost use Rattle.node_record.specs.NodeTraffic.{became, became_read, is_partner, latest_behind, passed_at, reading_behind, traffic};
+ghost use Rattle.std.specs.Prelude.{◌≡◌, IfOk, map};
+ghost use Rattle.std.specs.Option.{option_map};
+ghost use Rattle.node_record.specs.NodeTraffic.{became, is_partner, latest_behind, passed_at, reading_behind, traffic};
 ghost use Rattle.node_record.specs.RecordLines.{told};
 ghost use Rattle.node_record.specs.inside.Passing.{seen};
 
@@ -55,41 +55,20 @@ fn is_partner(node: usize, from: Option<usize>) -> bool
     }
 }
 
-/// What became of a datagram, by the lines behind it.
-fn became(partner: bool, behind: &[RecordLine]) -> Reception
-    ensures { result ≡ became partner (map told behind.now) }
+/// The reading that was taken behind a datagram, or else the last one before; and what became of it, by the lines behind it.
+fn received(latest: u64, partner: bool, behind: &[RecordLine]) -> (u64, Reception)
+    ensures reading { result.0 ≡ reading_behind latest (map told behind.now) }
+    ensures reception { result.1 ≡ became partner (map told behind.now) }
 {
-    let Some((next, more)) = behind.split_first() else {
-        return Reception::Unread;
+    let Some((RecordLine::Reads(reading), more)) = behind.split_first() else {
+        return (latest, Reception::Unread);
     };
-    match next {
-        RecordLine::Reads(_) => became_read(partner, more),
-        _ => Reception::Unread,
-    }
-}
-
-/// The same, by the lines behind the reading.
-fn became_read(partner: bool, behind: &[RecordLine]) -> Reception
-    ensures { result ≡ became_read partner (map told behind.now) }
-{
-    if let Some((RecordLine::ThrowsAway, _)) = behind.split_first() {
-        return Reception::ThrownAway;
-    }
-    if partner {
-        Reception::Delivered
-    } else {
-        Reception::FromNoPartner
-    }
-}
-
-/// The reading that was taken behind a datagram, or else the last one before.
-fn reading_behind(latest: u64, behind: &[RecordLine]) -> u64
-    ensures { result ≡ reading_behind latest (map told behind.now) }
-{
-    match behind.split_first() {
-        Some((RecordLine::Reads(reading), _)) => *reading,
-        _ => latest,
-    }
+    let reception = match more.split_first() {
+        Some((RecordLine::ThrowsAway, _)) => Reception::ThrownAway,
+        _ if partner => Reception::Delivered,
+        _ => Reception::FromNoPartner,
+    };
+    (*reading, reception)
 }
 
 /// The last reading behind a line.
@@ -112,30 +91,21 @@ fn datagram_at<'a>(
     ensures { option_map seen result ≡ passed_at node latest (told line.now) (map told behind.now) }
 {
     match line {
-        RecordLine::Comes { from, bytes } => Some(Passed {
-            reading: reading_behind(latest, behind),
-            way: Way::Came {
-                from: *from,
-                reception: became(is_partner(node, *from), behind),
-            },
-            bytes: bytes.as_slice(),
-        }),
+        RecordLine::Comes { from, bytes } => {
+            let from = *from;
+            let (reading, reception) = received(latest, is_partner(node, from), behind);
+            Some(Passed {
+                reading,
+                way: Way::Came { from, reception },
+                bytes: bytes.as_slice(),
+            })
+        }
         RecordLine::Sends { to, bytes } => Some(Passed {
             reading: latest,
             way: Way::Sent { to: *to },
             bytes: bytes.as_slice(),
         }),
         _ => None,
-    }
-}
-
-/// Adds a datagram, if there is one.
-fn add<'a>(all: &mut Vec<Passed<'a>>, one: Option<Passed<'a>>) -> Result<(), AllocError>
-    ensures { OnOk result (map seen all.new.items ≡ map seen all.old.items ++ option_to_list (option_map seen one.entry)) }
-{
-    match one {
-        Some(one) => Ok(all.push(one)?),
-        None => Ok(()),
     }
 }
 
@@ -151,7 +121,9 @@ pub(crate) fn traffic_of<'a>(
     let mut latest = 0;
     let mut left = lines;
     while let Some((line, behind)) = left.split_first() {
-        add(&mut all, datagram_at(node, latest, line, behind))?;
+        if let Some(one) = datagram_at(node, latest, line, behind) {
+            all.push(one)?;
+        }
         latest = latest_behind(latest, line);
         left = behind;
     }

@@ -4,8 +4,8 @@ ghost use Rattle.std.specs.Prelude.{◌≡◌};
 ghost use Rattle.replay_words.specs.Cut.{words};
 ghost use Rattle.node_record.specs.Records.{first_said, head_behind, head_said, head_words, time_said};
 
-use crate::record_line::node_of;
 use control_table::layout::Layout;
+use replay_lines::node_named;
 use replay_words::{Fault, Words, decimal};
 
 /// What the first line of a record tells: the place of the node, the number of its first PDU, and for how many milliseconds it
@@ -21,8 +21,8 @@ pub(crate) struct Head {
 pub(crate) fn read_head(layout: &Layout, name: &str, line: &str) -> Result<Head, Fault>
     ensures { result ≡ head_said layout.now name.now (words line.now) }
 {
-    let node = node_of(layout, name)?;
-    head_words(name, node, Words::of(line))
+    let node = node_named(layout, name)?;
+    head_words(name, node.0, Words::of(line))
 }
 
 /// What the words of a first line tell of the node of this name and place.

@@ -4,7 +4,7 @@ ghost use Rattle.std.specs.Prelude.{◌≡◌};
 ghost use Rattle.replay_lines.specs.Given.{Gives};
 ghost use Rattle.replay_words.specs.Cut.{words};
 ghost use Rattle.replay_words.specs.Read.{hexadecimal_or_none};
-ghost use Rattle.node_record.specs.RecordLines.{alone, breaks_off, comes, complains, followed, line_said, node_of, other, reads, sender_said, sends, throws_away, told};
+ghost use Rattle.node_record.specs.RecordLines.{alone, breaks_off, comes, complains, followed, line_said, other, reads, sender_said, sends, throws_away, told};
 
 use control_table::layout::Layout;
 use replay_lines::node_named;
@@ -63,19 +63,12 @@ fn reads(mut words: Words<'_>) -> Result<RecordLine, Fault>
     Ok(RecordLine::Reads(decimal(reading)?))
 }
 
-/// The place of the node of a name.
-pub(crate) fn node_of(layout: &Layout, word: &str) -> Result<usize, Fault>
-    ensures { result ≡ node_of layout.now word.now }
-{
-    Ok(node_named(layout, word)?.0)
-}
-
 /// The place of the node from whose address a datagram came, or none at a hyphen that is no node's name.
 fn sender_said(layout: &Layout, word: &str) -> Result<Option<usize>, Fault>
     ensures { result ≡ sender_said layout.now word.now }
 {
-    match node_of(layout, word) {
-        Ok(place) => Ok(Some(place)),
+    match node_named(layout, word) {
+        Ok(node) => Ok(Some(node.0)),
         Err(_) if word == "-" => Ok(None),
         Err(fault) => Err(fault),
     }
@@ -98,7 +91,7 @@ fn sends(alloc: Global, layout: &Layout, mut words: Words<'_>) -> Result<RecordL
     let (Some(word), Some(digits), None) = (words.next(), words.next(), words.next()) else {
         return Err(Fault::Words);
     };
-    let to = node_of(layout, word)?;
+    let to = node_named(layout, word)?.0;
     let bytes = bytes_of(alloc, digits)?;
     Ok(RecordLine::Sends { to, bytes })
 }

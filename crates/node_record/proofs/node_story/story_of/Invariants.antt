@@ -1,7 +1,7 @@
 use Rattle.std.proofs.Common.{◌≡◌, ◌++◌, map}
 use Rattle.node_record.specs.Courses.{first_course}
 use Rattle.node_record.specs.NodeChanges.{changes_from, course_behind, marks_from, seen_mark}
-use Rattle.node_record.proofs.node_story.story_from.Given as goal
+use Rattle.node_record.proofs.node_story.story_of.Given as goal
 
 -- what was told so far, and behind it what the lines tell that are left
 abbrev pub invariant-loop-number : goal.invariant-loop-number
