@@ -6,10 +6,12 @@ pub mod LetGo
 pub mod LetGoOnce
 pub mod LinesKept
 pub mod ListingLaws
+pub mod MissedNames
 pub mod NamesWritten
 pub mod OneTable
 pub mod ReasonLaws
 pub mod Rows
 pub mod SentenceEnds
 pub mod SignalFound
+pub mod TableFaults
 pub mod Tables

@@ -4,3 +4,4 @@ pub mod LetGoTexts
 pub mod RouteFrame
 pub mod Sentences
 pub mod TwoWords
+pub mod WordTables

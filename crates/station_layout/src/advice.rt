@@ -1,6 +1,6 @@
 //! What is told in a second line.
 
-ghost use Rattle.std.specs.Prelude.{◌≡◌, IfOk, Some};
+ghost use Rattle.std.specs.Prelude.{◌≡◌, ◌++◌, IfOk, Some, codes};
 ghost use Rattle.station_layout.specs.Advice.{advice_line, entry_advice_words, route_advice_words};
 ghost use Rattle.station_layout.specs.inside.EntryFrame.{about, wrong_words};
 ghost use Rattle.station_layout.specs.inside.Sentences.{sentence_words};
@@ -136,47 +136,49 @@ impl EntryAdvice {
     }
 }
 
+// A line of its own.
 impl fmt::Display for EntryAdvice {
-    ghost output = { λ advice. Some (entry_advice_words advice) };
+    ghost output = { λ advice. Some (entry_advice_words advice ++ codes "\n") };
 
     fn fmt<W: fmt::Write>(&self, f: &mut fmt::Formatter<W>) -> fmt::Result {
         let at = self.about().sentence();
         let what = self.sentence();
-        write!(f, "{at} {what}")
+        write!(f, "{at} {what}\n")
     }
 }
 
+// A line of its own.
 impl fmt::Display for RouteAdvice {
-    ghost output = { λ advice. Some (route_advice_words advice) };
+    ghost output = { λ advice. Some (route_advice_words advice ++ codes "\n") };
 
     fn fmt<W: fmt::Write>(&self, f: &mut fmt::Formatter<W>) -> fmt::Result {
         let before = self.detail.before_route();
         let route = &self.route;
         let behind = self.detail.behind_route();
-        write!(f, "{before}{route} {behind}")
+        write!(f, "{before}{route} {behind}\n")
     }
 }
 
 impl fmt::Display for Advice {
     ghost output = { λ advice. Some (advice_line advice) };
 
-    #[tactic(auto, unfolding(crate::specs::Advice::advice_line))]
+    #[tactic(auto, unfolding(crate::specs::Advice::advice_line, crate::specs::inside::Sentences::part_words))]
     fn fmt<W: fmt::Write>(&self, f: &mut fmt::Formatter<W>) -> fmt::Result {
         match self {
-            Advice::Broken(at) => {
-                let line = at.line;
-                let column = at.column;
-                write!(
-                    f,
-                    "the text is no TOML from line {line}, column {column} on\n"
-                )
-            }
-            Advice::Entry(advice) => write!(f, "{advice}\n"),
+            Advice::Broken(at) => two(
+                "the text is no TOML from line ",
+                Part::Number(at.line),
+                ", column ",
+                Part::Number(at.column),
+                " on\n",
+            )
+            .fmt(f),
+            Advice::Entry(advice) => advice.fmt(f),
             Advice::Layout(fault) => {
                 let words = layout_sentence(*fault);
                 write!(f, "{words}\n")
             }
-            Advice::Route(advice) => write!(f, "{advice}\n"),
+            Advice::Route(advice) => advice.fmt(f),
             Advice::Table(fault) => {
                 let words = table_sentence(fault);
                 write!(f, "{words}\n")

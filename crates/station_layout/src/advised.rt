@@ -24,21 +24,21 @@ pub(crate) fn advice_for(alloc: Global, text: &str) -> Advice
     ensures { IsAdvice text.now result }
 {
     match Layout::read(alloc, text) {
-        Ok(layout) => advice_on(alloc, layout),
+        Ok(layout) => advice_on(alloc, &layout),
         Err(fault) => advice_at(alloc, text, fault),
     }
 }
 
 /// The advice for the table of a layout.
-fn advice_on(alloc: Global, layout: Layout) -> Advice
-    ensures { IsTableAdvice layout result }
+fn advice_on(alloc: Global, layout: &Layout) -> Advice
+    ensures { IsTableAdvice layout.now result }
 {
-    let Ok(kept) = layout.copy(alloc) else {
+    let Ok(copy) = layout.copy(alloc) else {
         return Advice::Table(TableFault::OutOfMemory);
     };
-    match check(alloc, layout) {
-        Ok(_table) => Advice::Nothing,
-        Err(fault) => table_advice(&kept, &fault),
+    match check(alloc, copy).err() {
+        Some(fault) => table_advice(layout, &fault),
+        None => Advice::Nothing,
     }
 }
 

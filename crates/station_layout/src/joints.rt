@@ -1,28 +1,14 @@
 //! Which ports are joined, and what stands there.
 
 ghost use Rattle.std.specs.Prelude.{◌≡◌};
-ghost use Rattle.control_table.specs.layout.Known.{same_element, same_port};
-ghost use Rattle.station_layout.specs.Joints.{is_tip, joined_to, may_pass, other_port, same_end, signal_at};
+ghost use Rattle.control_table.specs.layout.Known.{same_port};
+ghost use Rattle.station_layout.specs.Joints.{is_tip, joined_to, may_pass, other_port, signal_at};
 
 use control_table::layout::{Element, End, Joint, Port, Signal};
 
 /// Whether two ports are the same.
 pub(crate) fn same_port(one: Port, other: Port) -> bool
     ensures { result ≡ same_port one other }
-{
-    one == other
-}
-
-/// Whether two elements are the same.
-pub(crate) fn same_element(one: Element, other: Element) -> bool
-    ensures { result ≡ same_element one other }
-{
-    one == other
-}
-
-/// Whether two ends of elements have the same word.
-pub(crate) fn same_end(one: End, other: End) -> bool
-    ensures { result ≡ same_end one other }
 {
     one == other
 }
@@ -65,7 +51,7 @@ fn is_tip(end: End) -> bool
 pub(crate) fn may_pass(entered: Port, left: Port) -> bool
     ensures { result ≡ may_pass entered left }
 {
-    if !same_element(entered.element, left.element) || same_port(entered, left) {
+    if entered.element != left.element || same_port(entered, left) {
         return false;
     }
     match entered.element {

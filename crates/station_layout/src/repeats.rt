@@ -6,7 +6,6 @@ ghost use Rattle.station_layout.specs.Search.{first_of};
 ghost use Rattle.station_layout.specs.Repeats.{back_at, comes_back, comes_twice, lies_in, repeated_detail, twice_at};
 
 use crate::detail::PathDetail;
-use crate::joints::same_element;
 use crate::layout_names::{element_name, item_at};
 use control_table::layout::{Element, Layout, Port, Route, SectionId};
 
@@ -17,7 +16,7 @@ fn comes_twice(path: &[Port], element: Element) -> bool
 {
     let mut was_there = false;
     for left in path {
-        let here = same_element(left.element, element);
+        let here = left.element == element;
         if here && was_there {
             return true;
         }
@@ -86,7 +85,7 @@ fn back_at(layout: &Layout, path: &[Port], left: Port) -> Option<PathDetail>
     if !comes_back(layout, path, section) {
         return None;
     }
-    Some(PathDetail::ComesBack(*layout.sections().get(section.0)?))
+    Some(PathDetail::ComesBack(item_at(layout.sections(), section.0)?))
 }
 
 /// The first element of a path that comes twice on it.

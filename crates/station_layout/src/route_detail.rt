@@ -7,7 +7,7 @@ ghost use Rattle.station_layout.specs.declared.detail.RouteDetail.TheVariants.{P
 ghost use Rattle.station_layout.specs.RouteDetails.{break_at, detail_of, elsewhere, exit_detail, in_the_way, is_exit, is_listed, is_signal, lists, open_at, path_detail, step_detail, table_detail, unanswered, unwritten_at};
 
 use crate::detail::{PathDetail, PointDetail, RouteAdvice, RouteDetail};
-use crate::joints::{joined_to, may_pass, same_element, same_port, signal_at};
+use crate::joints::{joined_to, may_pass, same_port, signal_at};
 use crate::layout_names::{
     exit_name, item_at, leg_names, point_name, port_name, route_at, route_name, signal_name,
 };
@@ -117,7 +117,7 @@ fn is_exit(layout: &Layout, exit: Exit, port: Port) -> bool
             None => false,
         },
         Exit::Border(border) => match joined_to(layout.joints(), port) {
-            Some(beyond) => same_element(beyond.element, Element::Border(border)),
+            Some(beyond) => beyond.element == Element::Border(border),
             None => false,
         },
     }
@@ -173,14 +173,17 @@ fn elsewhere(layout: &Layout, exit: Exit, last: Port) -> Option<PathDetail>
 fn exit_detail(layout: &Layout, route: &Route) -> Option<PathDetail>
     ensures { result ≡ exit_detail layout.now route.now }
 {
-    let last = *route.path().last()?;
-    if !is_exit(layout, route.exit(), last) {
-        return elsewhere(layout, route.exit(), last);
+    let path = route.path();
+    let last = *path.last()?;
+    let exit = route.exit();
+    if !is_exit(layout, exit, last) {
+        return elsewhere(layout, exit, last);
     }
-    if is_signal(route.exit(), route.entry().0) {
-        return Some(PathDetail::EndsAtEntry(signal_name(layout, route.entry().0)?));
+    let entry = route.entry().0;
+    if is_signal(exit, entry) {
+        return Some(PathDetail::EndsAtEntry(signal_name(layout, entry)?));
     }
-    first_in_the_way(layout, route.exit(), route.path())
+    first_in_the_way(layout, exit, path)
 }
 
 /// Whether a route stands in a list of extra conflicts.

@@ -2,9 +2,9 @@
 
 ghost use Rattle.std.specs.Prelude.{◌≡◌};
 ghost use Rattle.control_table.specs.Sides.{leg, other};
-ghost use Rattle.station_layout.specs.RouteSides.{guard, guard_behind, is_need, is_on_path, requires_at, requires_on, same_side, side_of, side_used, unused_leg, used_behind};
+ghost use Rattle.station_layout.specs.RouteSides.{guard, guard_behind, is_need, is_on_path, requires_at, requires_on, side_of, side_used, unused_leg, used_behind};
 
-use crate::joints::{joined_to, same_element};
+use crate::joints::joined_to;
 use control_table::layout::{Element, End, Layout, PointId, Port};
 use control_table::sci_telegram::Side;
 
@@ -27,13 +27,6 @@ pub(crate) fn other(side: Side) -> Side
         Side::Left => Side::Right,
         Side::Right => Side::Left,
     }
-}
-
-/// Whether two sides are the same.
-fn same_side(one: Side, another: Side) -> bool
-    ensures { result ≡ same_side one another }
-{
-    one == another
 }
 
 /// The leg of a point at a side.
@@ -92,7 +85,7 @@ pub(crate) fn unused_leg(layout: &Layout, before: Port, left: Port) -> Option<(P
 pub(crate) fn guard(leg: Port, from: Port) -> Option<(PointId, Side)>
     ensures { result ≡ guard leg from }
 {
-    if same_element(from.element, leg.element) {
+    if from.element == leg.element {
         return None;
     }
     match from.element {
@@ -115,7 +108,7 @@ fn is_need(need: Option<(PointId, Side)>, point: PointId, side: Side) -> bool
     ensures { result ≡ is_need point side need }
 {
     match need {
-        Some((wanted, at)) => wanted.0 == point.0 && same_side(at, side),
+        Some((wanted, at)) => wanted.0 == point.0 && at == side,
         None => false,
     }
 }
@@ -156,7 +149,7 @@ pub(crate) fn is_on_path(path: &[Port], point: PointId) -> bool
     ensures { result ≡ is_on_path path.now point }
 {
     for left in path {
-        if same_element(left.element, Element::Point(point)) {
+        if left.element == Element::Point(point) {
             return true;
         }
     }

@@ -1,37 +1,20 @@
 //! Which earlier entry has what a later one has too.
 
 ghost use Rattle.std.specs.Prelude.{◌≡◌, slice_get};
-ghost use Rattle.control_table.specs.layout.Known.{same_name};
 ghost use Rattle.station_layout.specs.Search.{first_of};
 ghost use Rattle.station_layout.specs.declared.advice.Common.TheVariants as common;
-ghost use Rattle.station_layout.specs.SharedAdvice.{detector_shared, double_told, entries, has, id_in, id_shared, joins, name_in, name_shared, place_having, port_told, reports, same_place, same_port_name, shared_with};
+ghost use Rattle.station_layout.specs.SharedAdvice.{detector_shared, double_told, entries, has, id_in, id_shared, joins, name_in, name_shared, place_having, port_told, reports, same_port_name, shared_with};
 
 use crate::advice::{Common, EntryAdvice};
-use crate::joints::same_end;
 use control_table::sci_telegram::Name;
 use layout_text::{Place, PortName, TableName, WrittenDetector, WrittenJoint, WrittenLayout};
-
-/// Whether two names are the same.
-fn same_name(one: Name, other: Name) -> bool
-    ensures { result ≡ same_name one other }
-{
-    one == other
-}
-
-/// Whether two places are the same.
-#[tactic(auto, unfolding(crate::specs::SharedAdvice::same_place))]
-fn same_place(one: Place, other: Place) -> bool
-    ensures { result ≡ same_place one other }
-{
-    one.table == other.table && one.entry == other.entry
-}
 
 /// Whether two ports are the same.
 #[tactic(auto, unfolding(crate::specs::SharedAdvice::same_port_name))]
 fn same_port_name(one: &PortName, other: &PortName) -> bool
     ensures { result ≡ same_port_name one.now other.now }
 {
-    same_name(one.element, other.element) && same_end(one.end, other.end)
+    one.element == other.element && one.end == other.end
 }
 
 /// Whether a joint joins a port.
@@ -137,7 +120,7 @@ fn has(written: &WrittenLayout, table: TableName, before: usize, what: &Common) 
 {
     match (what, table) {
         (Common::Name(name), _) => match name_in(written, table, before) {
-            Some(own) => same_name(own, *name),
+            Some(own) => own == *name,
             None => false,
         },
         (Common::Id(id), _) => match id_in(written, table, before) {
@@ -206,12 +189,12 @@ fn first_having(written: &WrittenLayout, what: &Common, tables: &[TableName]) ->
 }
 
 /// What an entry has, if an earlier one has it.
-#[tactic(auto, unfolding(crate::specs::SharedAdvice::shared_with))]
+#[tactic(auto, unfolding(crate::specs::SharedAdvice::same_place, crate::specs::SharedAdvice::shared_with))]
 fn shared_with(written: &WrittenLayout, place: Place, what: &Common) -> Option<EntryAdvice>
     ensures { result ≡ shared_with written.now place what.now }
 {
     let first = first_having(written, what, TABLES)?;
-    if same_place(first, place) {
+    if first.table == place.table && first.entry == place.entry {
         return None;
     }
     Some(EntryAdvice::Shared(place, *what, first))

@@ -2,7 +2,8 @@
 
 ghost use Rattle.std.specs.Prelude.{◌≡◌, [], ◌∷◌, IfSome, None};
 ghost use Rattle.station_layout.specs.inside.TwoWords.{two_words};
-ghost use Rattle.station_layout.specs.Sightings.{aspect_said, driven_said, not_shown, occupancy_said, point_sighting, position_said, route_sighting, section_sighting, set_said, sighting, sighting_of, signal_sighting, time_sighting, verdict};
+ghost use Rattle.station_layout.specs.inside.WordTables.{word_said};
+ghost use Rattle.station_layout.specs.Sightings.{driven_said, not_shown, point_sighting, route_sighting, section_sighting, sighting, signal_sighting, time_sighting, verdict};
 
 use crate::named_entries::{route_called, signal_called};
 use control_table::layout::{Layout, PointId, RouteId, SectionId, SignalId};
@@ -25,16 +26,46 @@ pub(crate) enum Sighting {
     Other,
 }
 
+/// What a signal shows.
+const ASPECTS: &[(&str, Aspect)] = &[
+    ("stop", Aspect::Stop),
+    ("proceed", Aspect::Proceed),
+    ("slow", Aspect::Slow),
+];
+
+/// Where a point lies.
+const POSITIONS: &[(&str, Position)] = &[
+    ("left", Position::Left),
+    ("right", Position::Right),
+    ("none", Position::NoEndPosition),
+];
+
+/// Whether a section is occupied.
+const OCCUPANCIES: &[(&str, Occupancy)] = &[
+    ("clear", Occupancy::Clear),
+    ("occupied", Occupancy::Occupied),
+];
+
+/// Whether a route is set.
+const STATES: &[(&str, bool)] = &[("free", false), ("set", true)];
+
+/// What a word says by a table.
+fn word_said<T: Copy>(rows: &[(&str, T)], word: &str) -> Result<T, Fault>
+    ensures { result ≡ word_said rows.now word.now }
+{
+    for (known, value) in rows {
+        if word == *known {
+            return Ok(*value);
+        }
+    }
+    Err(Fault::Words)
+}
+
 /// What a line of a picture says, or the lowest fault of its words.
 pub(crate) fn read_sighting(layout: &Layout, line: &str) -> Result<Sighting, Fault>
     ensures { result ≡ sighting layout.now line.now }
 {
-    said(layout, Words::of(line))
-}
-
-fn said(layout: &Layout, mut words: Words<'_>) -> Result<Sighting, Fault>
-    ensures { result ≡ sighting_of layout.now words.entry }
-{
+    let mut words = Words::of(line);
     match words.next() {
         Some("signal") => signal(layout, words),
         Some("point") => point(layout, words),
@@ -87,7 +118,7 @@ fn signal(layout: &Layout, mut words: Words<'_>) -> Result<Sighting, Fault>
     let Some((aspect, authority)) = two_words(words) else {
         return Err(Fault::Words);
     };
-    let aspect = aspect_said(aspect)?;
+    let aspect = word_said(ASPECTS, aspect)?;
     let signal = signal_called(layout, name)?;
     // The route that has authority from the signal, or a hyphen.
     if authority != "-" {
@@ -103,7 +134,7 @@ fn point(layout: &Layout, mut words: Words<'_>) -> Result<Sighting, Fault>
         return Err(Fault::Words);
     };
     driven_said(words)?;
-    let position = position_said(position)?;
+    let position = word_said(POSITIONS, position)?;
     let point = point_named(layout, name)?;
     Ok(Sighting::Point(point, position))
 }
@@ -114,7 +145,7 @@ fn section(layout: &Layout, words: Words<'_>) -> Result<Sighting, Fault>
     let Some((name, occupancy)) = two_words(words) else {
         return Err(Fault::Words);
     };
-    let occupancy = occupancy_said(occupancy)?;
+    let occupancy = word_said(OCCUPANCIES, occupancy)?;
     let section = section_named(layout, name)?;
     Ok(Sighting::Section(section, occupancy))
 }
@@ -125,7 +156,7 @@ fn route(layout: &Layout, words: Words<'_>) -> Result<Sighting, Fault>
     let Some((name, state)) = two_words(words) else {
         return Err(Fault::Words);
     };
-    let is_set = set_said(state)?;
+    let is_set = word_said(STATES, state)?;
     let route = route_called(layout, name)?;
     Ok(Sighting::Route(route, is_set))
 }
@@ -140,28 +171,6 @@ fn verdict(mut words: Words<'_>) -> Result<Sighting, Fault>
     }
 }
 
-fn aspect_said(word: &str) -> Result<Aspect, Fault>
-    ensures { result ≡ aspect_said word.now }
-{
-    match word {
-        "stop" => Ok(Aspect::Stop),
-        "proceed" => Ok(Aspect::Proceed),
-        "slow" => Ok(Aspect::Slow),
-        _ => Err(Fault::Words),
-    }
-}
-
-fn position_said(word: &str) -> Result<Position, Fault>
-    ensures { result ≡ position_said word.now }
-{
-    match word {
-        "left" => Ok(Position::Left),
-        "right" => Ok(Position::Right),
-        "none" => Ok(Position::NoEndPosition),
-        _ => Err(Fault::Words),
-    }
-}
-
 /// To which side a point is driven, if it is.
 fn driven_said(mut words: Words<'_>) -> Result<(), Fault>
     ensures { result ≡ driven_said words.entry }
@@ -169,26 +178,6 @@ fn driven_said(mut words: Words<'_>) -> Result<(), Fault>
     match (words.next(), words.next(), words.next()) {
         (None, _, _) => Ok(()),
         (Some("driven"), Some("left" | "right"), None) => Ok(()),
-        _ => Err(Fault::Words),
-    }
-}
-
-fn occupancy_said(word: &str) -> Result<Occupancy, Fault>
-    ensures { result ≡ occupancy_said word.now }
-{
-    match word {
-        "clear" => Ok(Occupancy::Clear),
-        "occupied" => Ok(Occupancy::Occupied),
-        _ => Err(Fault::Words),
-    }
-}
-
-fn set_said(word: &str) -> Result<bool, Fault>
-    ensures { result ≡ set_said word.now }
-{
-    match word {
-        "free" => Ok(false),
-        "set" => Ok(true),
         _ => Err(Fault::Words),
     }
 }
