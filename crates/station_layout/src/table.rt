@@ -45,8 +45,9 @@ fn table_lines(alloc: Global, text: &str, form: Form) -> Result<Vec<u8>, Failure
     ensures explains { IfErr result (Explains text.now) }
 {
     let table = table_of(alloc, text)?;
-    let lines = lines(alloc, form, &table)?;
-    Ok(lines)
+    let lines = lines(alloc, form, &table);
+    drop(table);
+    Ok(lines?)
 }
 
 /// Writes the control table of a text at once.

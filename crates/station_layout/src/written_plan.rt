@@ -72,7 +72,9 @@ fn drawn(
     ensures explains { IfErr result (ExplainsDrawn layout.now (option_copied route.entry) (option_copied picture.entry)) }
 {
     let table = table_of(alloc, layout)?;
-    drawn_of(alloc, &table, route, picture)
+    let drawn = drawn_of(alloc, &table, route, picture);
+    drop(table);
+    drawn
 }
 
 /// The plan of a layout, as SVG.
@@ -88,6 +90,7 @@ fn drawn_of(
     let route = route_asked(table, route)?;
     let seen = seen_in(alloc, table, picture)?;
     let plan = plan(alloc, table, &Shown { route, seen })?;
-    let text = svg(alloc, &plan)?;
-    Ok(text)
+    let text = svg(alloc, &plan);
+    drop(plan);
+    Ok(text?)
 }

@@ -32,8 +32,8 @@ module _ (layout : List ℕ) (name picture : Option (List ℕ)) (site : Site) (s
 
 pub returns-clause-drawn : goal.returns-clause-drawn
 returns-clause-drawn c =
-    is_drawn c.args.layout.now (option_copied c.args.route) (option_copied c.args.picture) c.in_ok-table.table c.in_ok-table.ensures.sound (λ text. text.items) c.drawn_of.result c.drawn_of.ensures.drawn
+    is_drawn c.args.layout.now (option_copied c.args.route) (option_copied c.args.picture) c.in_ok-table.table c.in_ok-table.ensures.sound (λ text. text.items) c.drawn_of-drawn.result c.drawn_of-drawn.ensures.drawn
 
 pub returns-clause-explains : goal.returns-clause-explains
 returns-clause-explains c =
-    explained c.args.layout.now (option_copied c.args.route) (option_copied c.args.picture) c.in_ok-table.table c.in_ok-table.ensures.sound c.drawn_of.result c.drawn_of.ensures.explains
+    explained c.args.layout.now (option_copied c.args.route) (option_copied c.args.picture) c.in_ok-table.table c.in_ok-table.ensures.sound c.drawn_of-drawn.result c.drawn_of-drawn.ensures.explains
