@@ -41,7 +41,9 @@ pub fn node_capture(
     ensures explains { IfErr result (Explains layout.now name.now recording.now given.now) }
 {
     let texts = read_texts(alloc, layout, name, recording)?;
-    capture_of_record(alloc, &texts.read, given)
+    let capture = capture_of_record(alloc, &texts.read, given);
+    drop(texts);
+    capture
 }
 
 /// The capture of the datagrams of a record.

@@ -60,7 +60,9 @@ fn decode<W: Write>(
     ensures explains { IfErr result (λ failure. ExplainsRecord layout.now name.now recording.now failure × Leaves failure out.old out.new) }
 {
     let texts = read_texts(alloc, layout, name, recording)?;
-    write_traffic(alloc, texts.table.layout(), &texts.read, out)
+    let told = write_traffic(alloc, texts.table.layout(), &texts.read, out);
+    drop(texts);
+    told
 }
 
 /// Writes the traffic of a record.

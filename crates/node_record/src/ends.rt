@@ -46,7 +46,9 @@ fn ends(alloc: Global, layout: &str, addresses: &str) -> Result<Vec<Endpoint>, E
     ensures explains { IfErr result (Explains layout.now addresses.now) }
 {
     let table = table_of(alloc, layout)?;
-    ends_in(alloc, table.layout(), addresses)
+    let ends = ends_in(alloc, table.layout(), addresses);
+    drop(table);
+    ends
 }
 
 /// The ends of the nodes of this layout, by the text of an addresses file.

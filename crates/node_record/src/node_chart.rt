@@ -88,13 +88,10 @@ fn record_chart(
     ensures explains { IfErr result (ExplainsRecord layout.now name.now recording.now) }
 {
     let texts = read_texts(alloc, layout, name, recording)?;
-    chart_of(
-        alloc,
-        texts.table.layout(),
-        texts.read.head.node,
-        recording,
-        cut,
-    )
+    let layout = texts.table.layout();
+    let chart = chart_of(alloc, layout, texts.read.head.node, recording, cut);
+    drop(texts);
+    chart
 }
 
 /// The chart of the record of the node of this number.
@@ -110,8 +107,9 @@ fn chart_of(
 {
     let role = role_of(layout, node);
     let story = story_of(alloc, layout, role, node, WholeLines::of(recording))?;
-    let text = text_of(alloc, layout, role, cut, &story)?;
-    Ok(text)
+    let text = text_of(alloc, layout, role, cut, &story);
+    drop(story);
+    Ok(text?)
 }
 
 /// A time in microseconds, or another one where none is given.
