@@ -102,6 +102,6 @@ fn drive_behind<N: Datagrams, C: Clock, W: Write>(
         recorder,
     );
     let Running(driven) = station;
-    *world = driven;
+    drop(mem::replace(world, driven));
     ended
 }

@@ -59,7 +59,10 @@ pub fn run<R: Files + Net + Timer + Eprint + AllocGlobal, O: Write, E: Write>(
     };
     match open(rt, prepared.nodes(), asked.record) {
         Ok(machine) => run_on(rt, prepared, machine, asked.for_ms, out, err, progress),
-        Err(failure) => fail(failure, err),
+        Err(failure) => {
+            drop(prepared);
+            fail(failure, err)
+        }
     }
 }
 
@@ -122,5 +125,7 @@ fn run_on<R: Files + Timer + Eprint + AllocGlobal, O: Write, E: Write>(
         err,
     );
     clock.end();
+    drop(sockets);
+    drop(recorder);
     status
 }

@@ -42,7 +42,10 @@ pub fn panel<R: Files + Net + Timer + RandomSource + AllocGlobal, O: Write, E: W
     };
     match open(rt, prepared.nodes(), asked.page.record) {
         Ok(machine) => attend_machine(rt, prepared, machine, asked, out, err),
-        Err(failure) => fail(failure, err),
+        Err(failure) => {
+            drop(prepared);
+            fail(failure, err)
+        }
     }
 }
 
@@ -63,21 +66,32 @@ fn attend_machine<R: Files + Net + Timer + RandomSource + AllocGlobal, O: Write,
         clock,
     } = machine;
     let (mut recorder, mut clock) = (recorder, clock);
-    match Loopback::open(rt, asked.page.port) {
-        Ok(mut listener) => attend_station(
-            rt,
-            rt.alloc(),
-            prepared,
-            sockets,
-            &mut clock,
-            &mut recorder,
-            &mut listener,
-            asked,
-            out,
-            err,
-        ),
-        Err(_) => fail(RunFailure::CannotRun, err),
-    }
+    let status = match Loopback::open(rt, asked.page.port) {
+        Ok(mut listener) => {
+            let status = attend_station(
+                rt,
+                rt.alloc(),
+                prepared,
+                sockets,
+                &mut clock,
+                &mut recorder,
+                &mut listener,
+                asked,
+                out,
+                err,
+            );
+            drop(listener);
+            status
+        }
+        Err(_) => {
+            drop(prepared);
+            drop(sockets);
+            fail(RunFailure::CannotRun, err)
+        }
+    };
+    drop(recorder);
+    drop(clock);
+    status
 }
 
 /// Attends a panel of a station, over a network, by a clock, with a record and a listener for browsers. It writes what `panel`

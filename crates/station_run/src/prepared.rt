@@ -68,7 +68,7 @@ impl Prepared {
     {
         let Prepared { station, script } = self;
         let mut station = station;
-        match go(
+        let gone = go(
             alloc,
             &mut station,
             &script,
@@ -77,7 +77,10 @@ impl Prepared {
             clock,
             recorder,
             out,
-        ) {
+        );
+        drop(station);
+        drop(script);
+        match gone {
             Ok(()) => 0,
             Err(failure) => {
                 tell_run(&failure, err);
