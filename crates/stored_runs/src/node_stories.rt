@@ -74,17 +74,35 @@ pub(crate) fn rest<W: Write>(rt: &HostRuntime, words: &str, out: &mut W) -> Resu
 
 /// So many addresses of the loopback interface, each with a port that the system gave.
 fn free_addresses(net: &impl Net, alloc: Global, count: usize) -> Result<Vec<SocketAddr>, Failure> {
-    let anywhere = SocketAddr::new(IpAddr::V4(Ipv4Addr::LOCALHOST), 0);
     let (mut sockets, mut addresses) = (Vec::new(alloc), Vec::new(alloc));
+    let bound = bind_all(net, count, &mut sockets, &mut addresses);
+    // All are held until the last is found, so that none is found twice.
+    drop(sockets);
+    match bound {
+        Ok(()) => Ok(addresses),
+        Err(failure) => {
+            drop(addresses);
+            Err(failure)
+        }
+    }
+}
+
+/// Binds so many sockets, each at an address with a port that the system gives.
+fn bind_all(
+    net: &impl Net,
+    count: usize,
+    sockets: &mut Vec<UdpSocket>,
+    addresses: &mut Vec<SocketAddr>,
+) -> Result<(), Failure> {
+    let anywhere = SocketAddr::new(IpAddr::V4(Ipv4Addr::LOCALHOST), 0);
     for _ in 0..count {
-        // All are held until the last is found, so that none is found twice.
         let Ok(socket) = net.bind_udp(anywhere) else {
             return Err(Failure::Socket);
         };
         addresses.push(address_of(&socket)?)?;
         sockets.push(socket)?;
     }
-    Ok(addresses)
+    Ok(())
 }
 
 fn address_of(socket: &UdpSocket) -> Result<SocketAddr, Failure> {

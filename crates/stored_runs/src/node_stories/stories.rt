@@ -143,7 +143,14 @@ fn tell<M: Makes<P>, P: Process, W: Write>(
         ..Played::new(alloc, story.script)
     };
     play::<M, P>(makes, played, story.rounds, &mut seen);
-    let (name, text) = (story.name, seen.text()?);
+    let told = write_seen(story.name, &seen, out);
+    drop(seen);
+    told
+}
+
+/// Writes what was seen in a story.
+fn write_seen<W: Write>(name: &str, seen: &Seen, out: &mut W) -> Result<(), Failure> {
+    let text = seen.text()?;
     writeln!(out, "{name}:{text}")?;
     Ok(())
 }
@@ -165,6 +172,18 @@ fn tell_failing<M: Makes<P>, P: Process, W: Write>(
     let mut wanted = Seen::new(alloc);
     let played = Played::new(alloc, PROCEED);
     play::<M, P>(makes, played, PROCEED_ROUNDS, &mut wanted);
+    let told = write_same::<M, P, W>(makes, played, &wanted, out);
+    drop(wanted);
+    told
+}
+
+/// Writes with how many of the failing calls the same is seen.
+fn write_same<M: Makes<P>, P: Process, W: Write>(
+    makes: &M,
+    played: Played,
+    wanted: &Seen,
+    out: &mut W,
+) -> Result<(), Failure> {
     let same = count_same::<M, P>(makes, played, wanted.text()?);
     writeln!(
         out,
@@ -186,6 +205,7 @@ fn count_same<M: Makes<P>, P: Process>(makes: &M, played: Played, wanted: &str) 
             &mut seen,
         );
         same = same.saturating_add(u64::from(seen.is(wanted)));
+        drop(seen);
     }
     same
 }
@@ -218,6 +238,13 @@ pub(crate) fn tell_rest<M: Makes<P>, P: Process, W: Write>(
         ..Played::new(alloc, REST)
     };
     play::<M, P>(makes, played, rounds, &mut seen);
+    let told = write_links(rounds, &seen, out);
+    drop(seen);
+    told
+}
+
+/// Writes how often a link became ready in so many rounds, and how often one was lost.
+fn write_links<W: Write>(rounds: u64, seen: &Seen, out: &mut W) -> Result<(), Failure> {
     seen.text()?;
     let (ready, lost) = (seen.ready, seen.lost);
     writeln!(out, "{rounds} rounds: {ready} links ready, {lost} lost")?;
