@@ -160,6 +160,27 @@ fn add_all(things: &mut Vec<Thing>, scene: Scene<'_>) -> Result<(), AllocError>
     add_detectors(things, scene, scene.layout.detectors())
 }
 
+/// Lays a sketch of a layout, and lists all that its plan draws.
+fn list_all(
+    things: &mut Vec<Thing>,
+    sketch: &mut Sketch,
+    layout: &Layout,
+    shown: &Shown,
+) -> Result<(), AllocError>
+    requires { things.old.items ≡ [] }
+    ensures listed { OnOk result (subjects_of things.new.items ≡ subjects layout.now) }
+    ensures drawn { OnOk result (AreDrawn layout.now shown.now.seen things.new.items) }
+{
+    sketch.lay(layout)?;
+    let scene = Scene {
+        layout,
+        sketch,
+        shown,
+        below: spot(Units(0), Units(0)),
+    };
+    add_all(things, scene)
+}
+
 /// The list of all that a plan of a layout draws. The error comes only where memory was refused.
 pub fn things(alloc: Global, table: &Checked, shown: &Shown) -> Result<Vec<Thing>, AllocError>
     ensures listed { IfOk result (λ things. subjects_of things.items ≡ subjects table.now) }
@@ -167,14 +188,9 @@ pub fn things(alloc: Global, table: &Checked, shown: &Shown) -> Result<Vec<Thing
 {
     let layout = table.layout();
     let mut sketch = Sketch::new(alloc, Numbers::of(layout));
-    sketch.lay(layout)?;
     let mut things = Vec::new(alloc);
-    let scene = Scene {
-        layout,
-        sketch: &sketch,
-        shown,
-        below: spot(Units(0), Units(0)),
-    };
-    add_all(&mut things, scene)?;
+    let listed = list_all(&mut things, &mut sketch, layout, shown);
+    drop(sketch);
+    listed?;
     Ok(things)
 }
