@@ -148,20 +148,8 @@ fn add_detectors(
     Ok(())
 }
 
-/// Adds all that a plan draws.
-fn add_all(things: &mut Vec<Thing>, scene: Scene<'_>) -> Result<(), AllocError>
-    requires { things.old.items ≡ [] }
-    ensures listed { OnOk result (subjects_of things.new.items ≡ subjects scene.entry.layout.now) }
-    ensures drawn { OnOk result (AreDrawn scene.entry.layout.now scene.entry.shown.now.seen things.new.items) }
-{
-    let mut placed = Vec::new(scene.sketch.alloc);
-    place_all(&mut placed, scene.sketch.numbers, scene.layout)?;
-    add_placed(things, scene, &placed)?;
-    add_detectors(things, scene, scene.layout.detectors())
-}
-
-/// Lays a sketch of a layout, and lists all that its plan draws.
-fn list_all(
+/// Lays the sketch of a layout, and adds all that its plan draws.
+fn add_all(
     things: &mut Vec<Thing>,
     sketch: &mut Sketch,
     layout: &Layout,
@@ -178,7 +166,10 @@ fn list_all(
         shown,
         below: spot(Units(0), Units(0)),
     };
-    add_all(things, scene)
+    let mut placed = Vec::new(scene.sketch.alloc);
+    place_all(&mut placed, scene.sketch.numbers, layout)?;
+    add_placed(things, scene, &placed)?;
+    add_detectors(things, scene, layout.detectors())
 }
 
 /// The list of all that a plan of a layout draws. The error comes only where memory was refused.
@@ -189,7 +180,7 @@ pub fn things(alloc: Global, table: &Checked, shown: &Shown) -> Result<Vec<Thing
     let layout = table.layout();
     let mut sketch = Sketch::new(alloc, Numbers::of(layout));
     let mut things = Vec::new(alloc);
-    let listed = list_all(&mut things, &mut sketch, layout, shown);
+    let listed = add_all(&mut things, &mut sketch, layout, shown);
     drop(sketch);
     listed?;
     Ok(things)
