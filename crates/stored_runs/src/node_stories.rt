@@ -4,72 +4,55 @@
 mod any_node;
 mod changes;
 mod desk;
+mod driven;
 mod gear;
 mod place;
 mod plant;
-mod process;
 mod records;
 mod script;
 mod station;
 mod stories;
 
 use crate::failure::Failure;
-use crate::files::{parts, read, table_in};
-use crate::node_stories::desk::Addressed;
-use crate::node_stories::process::{Maker, Seat};
+use crate::files::{read, table_in};
 use crate::node_stories::station::{NAMES, Station};
 use crate::node_stories::stories::{tell_all, tell_rest};
 use std::alloc::Global;
 use std::io::Write;
 use std::net::{IpAddr, Ipv4Addr, Net, SocketAddr, UdpSocket};
 
-/// Plays the stories of the station in a file, and writes what was seen in each.
-pub(crate) fn tell<W: Write>(rt: &HostRuntime, file: &str, out: &mut W) -> Result<(), Failure> {
-    let addresses = free_addresses(rt, rt.alloc(), NAMES.len())?;
+/// Plays the stories of the station in a file, and writes what was seen in each. Or, where a number of rounds stands behind the file,
+/// lets the station rest for so many, and writes how many links became ready and were lost.
+pub(crate) fn tell<W: Write>(rt: &HostRuntime, words: &str, out: &mut W) -> Result<(), Failure> {
+    let (file, rounds) = asked(words)?;
+    let alloc = rt.alloc();
+    let addresses = free_addresses(rt, alloc, NAMES.len())?;
     let text = read(rt, file)?;
-    let table = table_in(rt.alloc(), text.as_str())?;
+    let table = table_in(alloc, text.as_str())?;
     let station = Station {
+        rt,
+        alloc,
         text: text.as_str(),
         table: &table,
+        addresses: &addresses,
     };
-    let told = tell_of(rt, station, &addresses, out);
+    let told = match rounds {
+        Some(rounds) => tell_rest(station, rounds, out),
+        None => tell_all(station, out),
+    };
     drop(table);
     told
 }
 
-/// The same with these addresses for the nodes.
-fn tell_of<'a, W: Write>(
-    rt: &'a HostRuntime,
-    station: Station<'a>,
-    addresses: &'a [SocketAddr],
-    out: &mut W,
-) -> Result<(), Failure> {
-    let over_memory = Maker {
-        table: station.table,
-        addressed: None,
+/// A file, and a number of rounds if there is one.
+fn asked(words: &str) -> Result<(&str, Option<u64>), Failure> {
+    let Some((file, rounds)) = words.split_once(' ') else {
+        return Ok((words, None));
     };
-    let over_sockets = Maker {
-        table: station.table,
-        addressed: Some(Addressed { net: rt, addresses }),
-    };
-    tell_all::<Maker<'_>, Seat<'_>, W>(rt, station, &over_memory, &over_sockets, out)
-}
-
-/// Lets the station in a file rest for so many rounds, and writes how many links became ready and were lost.
-pub(crate) fn rest<W: Write>(rt: &HostRuntime, words: &str, out: &mut W) -> Result<(), Failure> {
-    let (file, rounds) = parts(words, " ")?;
-    let Ok(rounds) = rounds.parse::<u64>() else {
-        return Err(Failure::Words);
-    };
-    let text = read(rt, file)?;
-    let table = table_in(rt.alloc(), text.as_str())?;
-    let makes = Maker {
-        table: &table,
-        addressed: None,
-    };
-    let told = tell_rest::<Maker<'_>, Seat<'_>, W>(rt.alloc(), &makes, out, rounds);
-    drop(table);
-    told
+    match rounds.parse::<u64>() {
+        Ok(rounds) => Ok((file, Some(rounds))),
+        Err(_) => Err(Failure::Words),
+    }
 }
 
 /// So many addresses of the loopback interface, each with a port that the system gave.
@@ -94,20 +77,25 @@ fn bind_all(
     sockets: &mut Vec<UdpSocket>,
     addresses: &mut Vec<SocketAddr>,
 ) -> Result<(), Failure> {
-    let anywhere = SocketAddr::new(IpAddr::V4(Ipv4Addr::LOCALHOST), 0);
     for _ in 0..count {
-        let Ok(socket) = net.bind_udp(anywhere) else {
-            return Err(Failure::Socket);
-        };
-        addresses.push(address_of(&socket)?)?;
-        sockets.push(socket)?;
+        bind(net, sockets, addresses)?;
     }
     Ok(())
 }
 
-fn address_of(socket: &UdpSocket) -> Result<SocketAddr, Failure> {
-    match socket.local_addr() {
-        Ok(address) => Ok(address),
+fn bind(
+    net: &impl Net,
+    sockets: &mut Vec<UdpSocket>,
+    addresses: &mut Vec<SocketAddr>,
+) -> Result<(), Failure> {
+    let anywhere = SocketAddr::new(IpAddr::V4(Ipv4Addr::LOCALHOST), 0);
+    let Ok(socket) = net.bind_udp(anywhere) else {
+        return Err(Failure::Socket);
+    };
+    let address = socket.local_addr();
+    sockets.push(socket)?;
+    match address {
+        Ok(address) => Ok(addresses.push(address)?),
         Err(_) => Err(Failure::Socket),
     }
 }

@@ -32,8 +32,7 @@ fn carry_out<W: Write>(rt: &HostRuntime, run: &str, out: &mut W) -> Result<(), F
             cases::carry_out(rt, kind, words, out)
         }
         Kind::Restarts => lists::carry_out(rt, words, out),
-        Kind::Stories => node_stories::tell(rt, words, out),
-        Kind::Rest => node_stories::rest(rt, words, out),
+        Kind::Stories | Kind::Rest => node_stories::tell(rt, words, out),
         _ => with_texts(rt, kind, words, out),
     }
 }

@@ -3,10 +3,11 @@
 ghost use Rattle.std.specs.Prelude.{◌≡◌, ◌≤◌, IfOk, OnOk};
 ghost use Rattle.stored_runs.specs.Reached.{reached};
 
+use crate::node_stories::gear::Gear;
 use crate::node_stories::station::{D1, INTERLOCKING, P1, S1};
 use node_kinds::node_drive::{Course, Node, NodeFault, Outside, drive};
 use node_kinds::simulator_run::ixl_rules::control_table::Checked;
-use node_kinds::simulator_run::ixl_rules::control_table::sci_telegram::{Occupancy, Position};
+use node_kinds::simulator_run::ixl_rules::control_table::sci_telegram::Occupancy;
 use node_kinds::{DetectorNode, InterlockingNode, PointNode, SignalNode};
 use std::alloc::{AllocError, Global};
 
@@ -23,15 +24,16 @@ pub(crate) enum AnyNode<'a> {
 #[derive(Clone, Copy)]
 pub(crate) struct Beginning {
     pub(crate) number: usize,
-    /// Whether it has a node.
+    /// Whether it has a node, and a socket.
     pub(crate) runs: bool,
+    pub(crate) has_socket: bool,
     /// What its clock reads, and by how much that grows in a round.
     pub(crate) now: u64,
     pub(crate) step: u64,
     /// From which number on it numbers its PDUs.
     pub(crate) first: u32,
-    /// How its point lies, if it has one.
-    pub(crate) lies: Position,
+    /// The equipment at which it begins.
+    pub(crate) gear: Gear,
 }
 
 /// The node of a process that begins. Each section is clear.
@@ -87,7 +89,7 @@ fn made_point<'a>(
     if table.layout().points().is_empty() {
         return Err(AllocError);
     }
-    let node = PointNode::new(alloc, table, 0, begins.lies, begins.now, begins.first)?;
+    let node = PointNode::new(alloc, table, 0, begins.gear.lies, begins.now, begins.first)?;
     Ok(AnyNode::Point(node))
 }
 

@@ -3,33 +3,22 @@
 ghost use Rattle.std.specs.Prelude.{◌≡◌};
 
 use crate::failure::Failure;
+use crate::node_stories::station::Station;
 use node_kinds::node_drive::node_lines::replay_words::Fault;
 use node_kinds::node_drive::node_lines::simulator_event::NodeId;
 use node_kinds::node_drive::{Arrived, BrokenOff, NextLine, Outside};
 use station_node::node_network::{Lines, Machine, MemoryOutside, NodeClock, NodeSocket};
 use std::alloc::{AllocError, Global};
-use std::net::SocketAddr;
 
 /// A machine whose lines and whose clock nothing is asked for.
 pub(crate) type Wire<'a> = Machine<'a, HostRuntime, &'static [u8], Vec<u8>, Vec<u8>>;
 
-/// The addresses of all nodes in their order, on this machine.
-#[derive(Clone, Copy)]
-pub(crate) struct Addressed<'a> {
-    pub(crate) net: &'a HostRuntime,
-    pub(crate) addresses: &'a [SocketAddr],
-}
-
 /// Opens the socket of a node, at the node's own address.
-pub(crate) fn opened<'a>(
-    alloc: Global,
-    addressed: Addressed<'a>,
-    number: usize,
-) -> Result<Wire<'a>, Failure> {
-    let Addressed { net, addresses } = addressed;
+pub(crate) fn opened<'a>(station: Station<'a>, number: usize) -> Result<Wire<'a>, Failure> {
+    let alloc = station.alloc;
     let (Ok(clock), Ok(socket)) = (
-        NodeClock::start(net, 0),
-        NodeSocket::open(net, alloc, addresses, NodeId(number)),
+        NodeClock::start(station.rt, 0),
+        NodeSocket::open(station.rt, alloc, station.addresses, NodeId(number)),
     ) else {
         return Err(Failure::Socket);
     };

@@ -19,20 +19,21 @@ pub(crate) struct Gear {
     pub(crate) lies: Position,
     /// Whether the lamp showed proceed when it was looked at last.
     was_lit: bool,
+    /// Whether it says when an order is in force.
+    pub(crate) answers: bool,
 }
 
-impl Gear {
-    /// The lamp shows stop. The point lies left, and isn't driven.
-    pub(crate) fn new() -> Gear {
-        Gear {
-            until: 0,
-            to: None,
-            left: 0,
-            lies: Position::Left,
-            was_lit: false,
-        }
-    }
+/// A lamp that shows stop, and a point that lies left and isn't driven.
+pub(crate) const RESTING: Gear = Gear {
+    until: 0,
+    to: None,
+    left: 0,
+    lies: Position::Left,
+    was_lit: false,
+    answers: true,
+};
 
+impl Gear {
     /// An order comes. One that renews the last lets the motor go on.
     pub(crate) fn take(&mut self, order: Order) {
         let (until, to) = match order {
@@ -47,10 +48,13 @@ impl Gear {
         self.until = until;
     }
 
-    /// The process that it serves ends, and with it all that stands by its lines.
-    pub(crate) fn end(&mut self) {
-        self.until = 0;
-        self.to = None;
+    /// As it stands once the process that it serves has ended, and with it all that stood by its lines.
+    pub(crate) fn ended(self) -> Gear {
+        Gear {
+            until: 0,
+            to: None,
+            ..self
+        }
     }
 
     /// Whether the lamp shows proceed, or the motor drives.

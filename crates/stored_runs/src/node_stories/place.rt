@@ -1,33 +1,78 @@
-//! A node with its equipment.
+//! A node with what it has outside, and its equipment.
 
 use crate::failure::Failure;
+use crate::node_stories::any_node::Beginning;
 use crate::node_stories::changes::Seen;
+use crate::node_stories::desk::{Wire, opened};
+use crate::node_stories::driven::{Driven, put};
 use crate::node_stories::gear::Gear;
-use crate::node_stories::process::Process;
-use crate::node_stories::station::{D1, P1, name};
-use node_kinds::node_drive::NodeFault;
+use crate::node_stories::station::{D1, P1, Station, name};
 use node_kinds::node_drive::node_lines::read_order;
+use node_kinds::node_drive::{Course, NodeFault};
 use node_kinds::simulator_run::ixl_rules::control_table::sci_telegram::Position;
+use station_node::node_network::MemoryOutside;
 use std::alloc::Global;
 
-/// A node with its equipment, or its operator.
+/// The process of a node with what it has outside, and its equipment or its operator.
 #[derive(Drop)]
-pub(crate) struct Place<P> {
-    pub(crate) number: usize,
-    pub(crate) process: P,
+pub(crate) struct Place<'a> {
+    number: usize,
+    driven: Driven<'a>,
+    course: Course,
+    pub(crate) memory: MemoryOutside,
+    /// Its socket, if it has one.
+    wire: Option<Wire<'a>>,
     pub(crate) gear: Gear,
-    /// Whether the equipment says when an order is in force.
-    pub(crate) answers: bool,
 }
 
-impl<P: Process> Place<P> {
+impl<'a> Place<'a> {
+    /// A process that begins. What its contacts tell comes to it.
+    pub(crate) fn begun(
+        station: Station<'a>,
+        begins: Beginning,
+        seen: &mut Seen,
+    ) -> Result<Place<'a>, Failure> {
+        let wire = wire_of(station, begins)?;
+        let alloc = station.alloc;
+        match Driven::made(alloc, station.table, begins) {
+            Ok(driven) => {
+                let mut place = Place {
+                    number: begins.number,
+                    driven,
+                    course: Course::new(alloc),
+                    memory: fresh_memory(alloc, begins.now, begins.step),
+                    wire,
+                    gear: begins.gear,
+                };
+                place.tell_contacts(seen);
+                Ok(place)
+            }
+            Err(_) => {
+                drop(wire);
+                Err(Failure::OutOfMemory)
+            }
+        }
+    }
+
+    /// The process ends, and a new one begins at the same equipment.
+    pub(crate) fn make_anew(&mut self, station: Station<'a>, begins: Beginning, seen: &mut Seen) {
+        // What the first one had open is closed before the second opens it.
+        put(&mut self.wire, None);
+        let gear = self.gear.ended();
+        match Place::begun(station, Beginning { gear, ..begins }, seen) {
+            Ok(begun) => put(self, begun),
+            Err(failure) => seen.fail(failure),
+        }
+        seen.note(name(begins.number), "anew");
+    }
+
     /// A line comes to the node.
     pub(crate) fn bring_line(&mut self, line: &str, seen: &mut Seen) {
-        seen.expect(self.process.memory().bring_line(line));
+        seen.expect(self.memory.bring_line(line));
     }
 
     /// The equipment tells how its contacts stand.
-    pub(crate) fn tell_contacts(&mut self, seen: &mut Seen) {
+    fn tell_contacts(&mut self, seen: &mut Seen) {
         for line in contacts(self.number, self.gear.lies) {
             self.bring_line(*line, seen);
         }
@@ -36,13 +81,16 @@ impl<P: Process> Place<P> {
     /// Lets the node run for a round. Of the next calls of its network the one of the number `failing` fails; it answers the number
     /// behind the round.
     pub(crate) fn run(&mut self, alloc: Global, failing: u64, seen: &mut Seen) -> u64 {
-        self.process.memory().fail_after(failing);
-        match self.process.round(alloc) {
+        self.memory.fail_after(failing);
+        let ran = self
+            .driven
+            .round(alloc, &mut self.course, &mut self.memory, &mut self.wire);
+        match ran {
             Ok(()) => {}
             Err(NodeFault::OutOfMemory) => seen.fail(Failure::OutOfMemory),
             Err(_) => seen.note(name(self.number), "ended"),
         }
-        self.process.memory().fail_after(0)
+        self.memory.fail_after(0)
     }
 
     /// The equipment hears what the node wrote, and goes on.
@@ -57,7 +105,7 @@ impl<P: Process> Place<P> {
     /// All that the node wrote is heard.
     fn hear_all(&mut self, alloc: Global, seen: &mut Seen) {
         for _ in 0..u64::MAX {
-            let Some(line) = self.process.memory().take_written() else {
+            let Some(line) = self.memory.take_written() else {
                 return;
             };
             self.hear(alloc, line.as_str(), seen);
@@ -71,19 +119,31 @@ impl<P: Process> Place<P> {
             return;
         };
         self.gear.take(order.order);
-        if !self.answers {
+        if !self.gear.answers {
             return;
         }
-        self.answer(alloc, order.number, seen);
-    }
-
-    /// The equipment says that the order of this number is in force.
-    fn answer(&mut self, alloc: Global, number: u64, seen: &mut Seen) {
+        let number = order.number;
         match format!(in alloc; "done {number}") {
             Ok(line) => self.bring_line(line.as_str(), seen),
             Err(_) => seen.fail(Failure::OutOfMemory),
         }
     }
+}
+
+/// The socket of a process that begins, if it has one.
+fn wire_of<'a>(station: Station<'a>, begins: Beginning) -> Result<Option<Wire<'a>>, Failure> {
+    if begins.has_socket {
+        Ok(Some(opened(station, begins.number)?))
+    } else {
+        Ok(None)
+    }
+}
+
+/// A clock with this reading, which goes on by a step in each round. What is called isn't kept.
+pub(crate) fn fresh_memory(alloc: Global, now: u64, step: u64) -> MemoryOutside {
+    let mut memory = MemoryOutside::new(alloc, now, step);
+    memory.forget();
+    memory
 }
 
 /// What the contacts of a node tell: how its point lies, or that the sections of the detector are clear.

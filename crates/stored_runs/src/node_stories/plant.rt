@@ -1,18 +1,16 @@
 //! The small station: its nodes, their equipment, and the network between them.
 
-use crate::failure::Failure;
 use crate::node_stories::any_node::Beginning;
 use crate::node_stories::changes::Seen;
 use crate::node_stories::desk::Others;
-use crate::node_stories::gear::Gear;
+use crate::node_stories::gear::{Gear, RESTING};
 use crate::node_stories::place::Place;
-use crate::node_stories::process::{Makes, Process, put};
 use crate::node_stories::script::{Act, Row};
-use crate::node_stories::station::{NAMES, P1, S1, S3, S4, name};
+use crate::node_stories::station::{NAMES, P1, S1, S3, S4, Station};
 use node_kinds::simulator_run::ixl_rules::control_table::sci_telegram::Position;
 use node_kinds::simulator_run::simulator_event::NodeId;
 use station_node::node_network::MemoryOutside;
-use std::alloc::Global;
+use std::alloc::AllocError;
 use std::mem;
 
 /// What the clock of each node reads before the first round.
@@ -24,11 +22,12 @@ pub(crate) const STEP: u64 = 40;
 /// How a station is played.
 #[derive(Clone, Copy)]
 pub(crate) struct Played {
-    pub(crate) alloc: Global,
     /// What happens.
     pub(crate) script: &'static [Row],
     /// How many milliseconds two rounds are apart.
     pub(crate) step: u64,
+    /// Whether each node has a socket of its own.
+    pub(crate) is_over_sockets: bool,
     /// The node with which the story is played, where it is one of a node.
     pub(crate) chosen: usize,
     /// The node whose process is played elsewhere, if one is.
@@ -38,12 +37,12 @@ pub(crate) struct Played {
 }
 
 impl Played {
-    /// With rounds 40 ms apart. No call of the network fails.
-    pub(crate) fn new(alloc: Global, script: &'static [Row]) -> Played {
+    /// Over memory, with rounds 40 ms apart. No call of the network fails.
+    pub(crate) fn new(script: &'static [Row]) -> Played {
         Played {
-            alloc,
             script,
             step: STEP,
+            is_over_sockets: false,
             chosen: 0,
             guest: None,
             failing: 0,
@@ -53,10 +52,10 @@ impl Played {
 
 /// The small station.
 #[derive(Drop)]
-pub(crate) struct Plant<'m, M, P> {
-    makes: &'m M,
+pub(crate) struct Plant<'a> {
+    station: Station<'a>,
     played: Played,
-    places: Vec<Place<P>>,
+    places: Vec<Place<'a>>,
     pub(crate) seen: Seen,
     /// How many rounds were played.
     round: u64,
@@ -65,14 +64,14 @@ pub(crate) struct Plant<'m, M, P> {
     is_unsafe: bool,
 }
 
-impl<'m, M: Makes<P>, P: Process> Plant<'m, M, P> {
+impl<'a> Plant<'a> {
     /// A station without nodes.
-    pub(crate) fn new(makes: &'m M, played: Played) -> Plant<'m, M, P> {
+    pub(crate) fn new(station: Station<'a>, played: Played) -> Plant<'a> {
         Plant {
-            makes,
+            station,
             played,
-            places: Vec::new(played.alloc),
-            seen: Seen::new(played.alloc),
+            places: Vec::new(station.alloc),
+            seen: Seen::new(station.alloc),
             round: 0,
             made: 0,
             is_unsafe: false,
@@ -82,25 +81,16 @@ impl<'m, M: Makes<P>, P: Process> Plant<'m, M, P> {
     /// Each node begins, with equipment of its own.
     pub(crate) fn begin(&mut self) {
         for number in 0..NAMES.len() {
-            let runs = self.played.guest != Some(number);
-            let gear = Gear::new();
-            match self.begun(number, runs, gear.lies) {
-                Ok(process) => self.add(number, process, gear),
-                Err(failure) => self.seen.fail(failure),
-            }
+            self.add(number);
         }
     }
 
-    fn add(&mut self, number: usize, process: P, gear: Gear) {
-        let mut place = Place {
-            number,
-            process,
-            gear,
-            answers: true,
-        };
-        place.tell_contacts(&mut self.seen);
-        if self.places.push(place).is_err() {
-            self.seen.fail(Failure::OutOfMemory);
+    /// The process of one more node begins.
+    fn add(&mut self, number: usize) {
+        let begins = self.beginning(number);
+        match Place::begun(self.station, begins, &mut self.seen) {
+            Ok(place) => self.seen.expect(push(&mut self.places, place)),
+            Err(failure) => self.seen.fail(failure),
         }
     }
 
@@ -109,52 +99,18 @@ impl<'m, M: Makes<P>, P: Process> Plant<'m, M, P> {
         BEGINS.saturating_add(self.played.step.saturating_mul(self.round))
     }
 
-    /// A process that begins. Each numbers its PDUs from another number on.
-    fn begun(&mut self, number: usize, runs: bool, lies: Position) -> Result<P, Failure> {
+    /// How the next process begins, at equipment that rests. Each numbers its PDUs from another number on.
+    fn beginning(&mut self, number: usize) -> Beginning {
         self.made = self.made.wrapping_add(1);
-        let begins = Beginning {
+        let runs = self.played.guest != Some(number);
+        Beginning {
             number,
             runs,
+            has_socket: runs && self.played.is_over_sockets,
             now: self.now(),
             step: self.played.step,
             first: self.made.wrapping_mul(0xfff_fff0),
-            lies,
-        };
-        self.makes.begun(self.played.alloc, begins)
-    }
-
-    /// The process of a node ends, and a new one begins.
-    fn make_anew(&mut self, number: usize) {
-        let lies = self.lies(number);
-        // What the first one had open is closed before the second opens it.
-        self.replace(number, false, lies);
-        self.replace(number, true, lies);
-        self.seen.note(name(number), "anew");
-        if let Some(place) = self.places.get_mut(number) {
-            place.gear.end();
-            place.tell_contacts(&mut self.seen);
-        }
-    }
-
-    /// How the point of a node lies, if it has one.
-    fn lies(&self, number: usize) -> Position {
-        match self.places.get(number) {
-            Some(place) => place.gear.lies,
-            None => Position::NoEndPosition,
-        }
-    }
-
-    /// Another process, or none with a node, takes the place of one.
-    fn replace(&mut self, number: usize, runs: bool, lies: Position) {
-        match self.begun(number, runs, lies) {
-            Ok(process) => self.put(number, process),
-            Err(failure) => self.seen.fail(failure),
-        }
-    }
-
-    fn put(&mut self, number: usize, process: P) {
-        if let Some(place) = self.places.get_mut(number) {
-            put(&mut place.process, process);
+            gear: RESTING,
         }
     }
 
@@ -183,10 +139,18 @@ impl<'m, M: Makes<P>, P: Process> Plant<'m, M, P> {
         }
     }
 
+    /// The process of a node ends, and a new one begins.
+    fn make_anew(&mut self, number: usize) {
+        let begins = self.beginning(number);
+        if let Some(place) = self.places.get_mut(number) {
+            place.make_anew(self.station, begins, &mut self.seen);
+        }
+    }
+
     /// The equipment of a node doesn't say any more that an order is in force.
     fn silence(&mut self, number: usize) {
         if let Some(place) = self.places.get_mut(number) {
-            place.answers = false;
+            place.gear.answers = false;
         }
     }
 
@@ -194,7 +158,9 @@ impl<'m, M: Makes<P>, P: Process> Plant<'m, M, P> {
     fn go_on(&mut self) {
         self.act();
         self.run();
-        self.carry();
+        for from in 0..self.places.len() {
+            self.carry_from(from);
+        }
         self.round = self.round.saturating_add(1);
         self.equip();
         self.judge();
@@ -203,29 +169,31 @@ impl<'m, M: Makes<P>, P: Process> Plant<'m, M, P> {
     /// A round of each node.
     fn run(&mut self) {
         for place in &mut self.places {
-            self.played.failing = place.run(self.played.alloc, self.played.failing, &mut self.seen);
+            self.played.failing = place.run(
+                self.station.alloc,
+                self.played.failing,
+                &mut self.seen,
+            );
         }
     }
 
-    /// What was sent is brought to whom it is for.
-    fn carry(&mut self) {
-        for number in 0..self.places.len() {
-            self.carry_from(number);
-        }
-    }
-
+    /// What a node sent is brought to whom it is for.
     fn carry_from(&mut self, from: usize) {
         for _ in 0..u64::MAX {
             let Some(sender) = self.places.get_mut(from) else {
                 return;
             };
-            let Some((to, bytes)) = sender.process.memory().take_sent() else {
+            let Some((to, bytes)) = sender.memory.take_sent() else {
                 return;
             };
-            if let Some(receiver) = self.places.get_mut(to.0) {
-                let brought = receiver.process.memory().bring(Some(NodeId(from)), &bytes);
-                self.seen.expect(brought);
-            }
+            self.bring(NodeId(from), to, &bytes);
+        }
+    }
+
+    /// A datagram comes to a node.
+    fn bring(&mut self, from: NodeId, to: NodeId, bytes: &[u8]) {
+        if let Some(receiver) = self.places.get_mut(to.0) {
+            self.seen.expect(receiver.memory.bring(Some(from), bytes));
         }
     }
 
@@ -233,7 +201,7 @@ impl<'m, M: Makes<P>, P: Process> Plant<'m, M, P> {
     fn equip(&mut self) {
         let now = self.now();
         for place in &mut self.places {
-            place.equip(self.played.alloc, now, &mut self.seen);
+            place.equip(self.station.alloc, now, &mut self.seen);
         }
     }
 
@@ -247,22 +215,23 @@ impl<'m, M: Makes<P>, P: Process> Plant<'m, M, P> {
 
     /// Whether the lamps show what the point allows: one over either leg from the tip, the other one from its left leg.
     fn is_safe(&self) -> bool {
-        let lies = self.lies(P1);
-        let is_still = !self.is_on(P1);
-        let fits = match (self.is_on(S1), self.is_on(S3)) {
+        let now = self.now();
+        let point = self.gear(P1);
+        let is_still = !point.is_on(now);
+        let fits = match (self.gear(S1).is_on(now), self.gear(S3).is_on(now)) {
             (false, false) => true,
-            (true, false) => is_still && lies != Position::NoEndPosition,
-            (false, true) => is_still && lies == Position::Left,
+            (true, false) => is_still && point.lies != Position::NoEndPosition,
+            (false, true) => is_still && point.lies == Position::Left,
             (true, true) => false,
         };
-        fits && !self.is_on(S4)
+        fits && !self.gear(S4).is_on(now)
     }
 
-    /// Whether the lamp of a node shows proceed, or its motor drives.
-    fn is_on(&self, number: usize) -> bool {
+    /// The equipment of a node.
+    fn gear(&self, number: usize) -> Gear {
         match self.places.get(number) {
-            Some(place) => place.gear.is_on(self.now()),
-            None => false,
+            Some(place) => place.gear,
+            None => RESTING,
         }
     }
 
@@ -278,15 +247,21 @@ impl<'m, M: Makes<P>, P: Process> Plant<'m, M, P> {
     pub(crate) fn exchange(&mut self, memory: &mut MemoryOutside) {
         let guest = self.played.guest.unwrap_or(NAMES.len());
         if let Some(place) = self.places.get_mut(guest) {
-            mem::swap(place.process.memory(), memory);
+            mem::swap(&mut place.memory, memory);
         }
     }
 }
 
-impl<'m, M: Makes<P>, P: Process> Others for Plant<'m, M, P> {
+impl<'a> Others for Plant<'a> {
     fn go_on_beside(&mut self, memory: &mut MemoryOutside) {
         self.exchange(memory);
         self.go_on();
         self.exchange(memory);
     }
+}
+
+/// Adds a value behind others.
+fn push<T: Drop>(all: &mut Vec<T>, one: T) -> Result<(), AllocError> {
+    all.push(one)?;
+    Ok(())
 }

@@ -2,16 +2,14 @@
 
 use crate::failure::Failure;
 use crate::node_stories::desk::{Desk, Others};
+use crate::node_stories::place::fresh_memory;
 use crate::node_stories::plant::{BEGINS, Plant, Played, STEP};
-use crate::node_stories::process::{Makes, Process, fresh_memory};
 use crate::node_stories::script::{LATE, LATE_ROUNDS};
 use crate::node_stories::station::{Station, name};
 use node_kinds::node_drive::Outside;
-use node_kinds::simulator_run::ixl_rules::control_table::Checked;
 use node_kinds::simulator_run::simulator_event::NodeId;
 use station_node::node_network::{MemoryOutside, Recorded};
 use station_node::{replay_node_text, run_node};
-use std::alloc::Global;
 
 /// From which number on the node numbers its PDUs, and another one.
 const FIRST: u32 = 77;
@@ -23,26 +21,21 @@ const FOR_MS: u64 = STEP * LATE_ROUNDS;
 
 /// What comes of a node's record: whether it is the same once more, whether a half of it is, and whether it differs where the PDUs are
 /// numbered otherwise.
-pub(crate) fn verdict<M: Makes<P>, P: Process>(
-    rt: &HostRuntime,
-    station: Station<'_>,
-    makes: &M,
-    number: usize,
-) -> Result<&'static str, Failure> {
-    let mut record = Vec::new(rt.alloc());
-    if record_node::<M, P>(rt, station.table, makes, number, &mut record) {
-        Ok(judged(rt.alloc(), station.text, number, &record))
+pub(crate) fn verdict(station: Station<'_>, number: usize) -> Result<&'static str, Failure> {
+    let mut record = Vec::new(station.alloc);
+    if record_node(station, number, &mut record) {
+        Ok(judged(station, number, &record))
     } else {
         Err(Failure::Ended)
     }
 }
 
 /// What comes of the lines of a record behind its first one.
-fn judged(alloc: Global, layout: &str, number: usize, record: &[u8]) -> &'static str {
+fn judged(station: Station<'_>, number: usize, record: &[u8]) -> &'static str {
     let (front, _) = record.split_at(record.len() / 2);
-    let whole = replayed(alloc, layout, number, FIRST, record);
-    let half = replayed(alloc, layout, number, FIRST, front);
-    let other = replayed(alloc, layout, number, OTHER_FIRST, record);
+    let whole = replayed(station, number, FIRST, record);
+    let half = replayed(station, number, FIRST, front);
+    let other = replayed(station, number, OTHER_FIRST, record);
     match (whole, half, other) {
         (0, 0, 3) => "the same, and differs with other numbers",
         (0, 0, _) => "the same with other numbers",
@@ -52,7 +45,8 @@ fn judged(alloc: Global, layout: &str, number: usize, record: &[u8]) -> &'static
 }
 
 /// With which status a record that begins with this number is replayed: 0 where it is the same, and 3 where it differs.
-fn replayed(alloc: Global, layout: &str, number: usize, first: u32, lines: &[u8]) -> u8 {
+fn replayed(station: Station<'_>, number: usize, first: u32, lines: &[u8]) -> u8 {
+    let alloc = station.alloc;
     let Ok(lines) = str::from_utf8(lines) else {
         return 1;
     };
@@ -61,31 +55,26 @@ fn replayed(alloc: Global, layout: &str, number: usize, first: u32, lines: &[u8]
         return 1;
     };
     let (mut out, mut err) = (Vec::new(alloc), Vec::new(alloc));
-    let status = replay_node_text(alloc, layout, name, record.as_str(), &mut out, &mut err);
+    let record = record.as_str();
+    let status = replay_node_text(alloc, station.text, name, record, &mut out, &mut err);
     let is_same = out.as_slice() == b"same\n".as_slice();
     if is_same == (status == 0) { status } else { 1 }
 }
 
 /// Runs the process of a node while the others are played, and records it: the lines of its record behind the first one. It tells
 /// whether all went well, and the process ran to its end.
-fn record_node<M: Makes<P>, P: Process>(
-    rt: &HostRuntime,
-    table: &Checked,
-    makes: &M,
-    number: usize,
-    record: &mut Vec<u8>,
-) -> bool {
+fn record_node(station: Station<'_>, number: usize, record: &mut Vec<u8>) -> bool {
     // The process of this node is played elsewhere.
     let played = Played {
         guest: Some(number),
-        ..Played::new(rt.alloc(), LATE)
+        ..Played::new(LATE)
     };
-    let mut plant = Plant::<M, P>::new(makes, played);
+    let mut plant = Plant::new(station, played);
     plant.begin();
-    let mut memory = fresh_memory(rt.alloc(), BEGINS, STEP);
+    let mut memory = fresh_memory(station.alloc, BEGINS, STEP);
     // What its contacts have told comes to it.
     plant.exchange(&mut memory);
-    let ended = record_beside(rt, table, number, &mut memory, &mut plant, record);
+    let ended = record_beside(station, number, &mut memory, &mut plant, record);
     let is_whole = plant.seen.is_whole();
     drop(memory);
     drop(plant);
@@ -94,8 +83,7 @@ fn record_node<M: Makes<P>, P: Process>(
 
 /// Records a whole process over memory, beside others. It tells whether it ran to its end.
 fn record_beside<O: Others>(
-    rt: &HostRuntime,
-    table: &Checked,
+    station: Station<'_>,
     number: usize,
     memory: &mut MemoryOutside,
     others: &mut O,
@@ -108,23 +96,24 @@ fn record_beside<O: Others>(
         wire: &mut no_wire,
         others,
     };
-    record_whole(rt, table, number, desk, record)
+    let ended = record_whole(station, number, desk, record);
+    drop(no_wire);
+    ended
 }
 
 /// Records a whole process that has this outside. It tells whether it ran to its end.
 fn record_whole<'a, O: Outside + Drop>(
-    rt: &'a HostRuntime,
-    table: &'a Checked,
+    station: Station<'a>,
     number: usize,
     outside: O,
     record: &mut Vec<u8>,
 ) -> bool {
-    let layout = table.layout();
-    let mut recorded = Recorded::new(rt.alloc(), layout, outside, Some(&mut *record), rt);
-    let ended = match table.copy(rt.alloc()) {
+    let (rt, alloc, table) = (station.rt, station.alloc, station.table);
+    let mut recorded = Recorded::new(alloc, table.layout(), outside, Some(&mut *record), rt);
+    let ended = match table.copy(alloc) {
         Ok(copy) => {
             let node = NodeId(number);
-            run_node(rt.alloc(), copy, node, FIRST, FOR_MS, &mut recorded).is_ok()
+            run_node(alloc, copy, node, FIRST, FOR_MS, &mut recorded).is_ok()
         }
         Err(_) => false,
     };

@@ -1,12 +1,18 @@
 //! The small station.
 
 use node_kinds::simulator_run::ixl_rules::control_table::Checked;
+use std::alloc::Global;
+use std::net::SocketAddr;
 
-/// One point, with a route over each of its legs from the same signal, and one back over its left leg: its layout and its control table.
+/// One point, with a route over each of its legs from the same signal, and one back over its left leg: its layout, its control table,
+/// and the addresses of its nodes on this machine, in their order.
 #[derive(Clone, Copy)]
 pub(crate) struct Station<'a> {
+    pub(crate) rt: &'a HostRuntime,
+    pub(crate) alloc: Global,
     pub(crate) text: &'a str,
     pub(crate) table: &'a Checked,
+    pub(crate) addresses: &'a [SocketAddr],
 }
 
 /// Its nodes, by their numbers.

@@ -3,14 +3,12 @@
 use crate::failure::Failure;
 use crate::node_stories::changes::Seen;
 use crate::node_stories::plant::{Plant, Played};
-use crate::node_stories::process::{Makes, Process};
 use crate::node_stories::records::verdict;
 use crate::node_stories::script::{
     APPROACH_ROUNDS, APPROACH_UNKNOWN, DONE_NO_MORE, MADE_ANEW, MADE_ANEW_ROUNDS, NEVER_DONE,
     PROCEED, PROCEED_ROUNDS, REST, Row, SILENT_ROUNDS, TWO_RESTARTS, TWO_RESTARTS_ROUNDS,
 };
 use crate::node_stories::station::{D1, INTERLOCKING, NAMES, P1, S1, S3, S4, Station, name};
-use std::alloc::Global;
 use std::io::Write;
 use std::mem;
 
@@ -101,48 +99,23 @@ const STORIES: &[Story] = &[
 ];
 
 /// Plays all stories, and writes what was seen of each.
-pub(crate) fn tell_all<M: Makes<P>, P: Process, W: Write>(
-    rt: &HostRuntime,
-    station: Station<'_>,
-    over_memory: &M,
-    over_sockets: &M,
-    out: &mut W,
-) -> Result<(), Failure> {
-    tell_stories::<M, P, W>(rt.alloc(), over_memory, over_sockets, out)?;
-    tell_failing::<M, P, W>(rt.alloc(), over_memory, out)?;
-    tell_records::<M, P, W>(rt, station, over_memory, out)
-}
-
-fn tell_stories<M: Makes<P>, P: Process, W: Write>(
-    alloc: Global,
-    over_memory: &M,
-    over_sockets: &M,
-    out: &mut W,
-) -> Result<(), Failure> {
+pub(crate) fn tell_all<W: Write>(station: Station<'_>, out: &mut W) -> Result<(), Failure> {
     for story in STORIES {
-        let makes = if story.is_over_sockets {
-            over_sockets
-        } else {
-            over_memory
-        };
-        tell::<M, P, W>(alloc, makes, *story, out)?;
+        tell(station, *story, out)?;
     }
-    Ok(())
+    tell_failing(station, out)?;
+    tell_records(station, out)
 }
 
 /// Plays a story, and writes what was seen.
-fn tell<M: Makes<P>, P: Process, W: Write>(
-    alloc: Global,
-    makes: &M,
-    story: Story,
-    out: &mut W,
-) -> Result<(), Failure> {
-    let mut seen = Seen::new(alloc);
+fn tell<W: Write>(station: Station<'_>, story: Story, out: &mut W) -> Result<(), Failure> {
+    let mut seen = Seen::new(station.alloc);
     let played = Played {
+        is_over_sockets: story.is_over_sockets,
         chosen: story.chosen,
-        ..Played::new(alloc, story.script)
+        ..Played::new(story.script)
     };
-    play::<M, P>(makes, played, story.rounds, &mut seen);
+    play(station, played, story.rounds, &mut seen);
     let told = write_seen(story.name, &seen, out);
     drop(seen);
     told
@@ -156,35 +129,21 @@ fn write_seen<W: Write>(name: &str, seen: &Seen, out: &mut W) -> Result<(), Fail
 }
 
 /// Plays a station. What was seen is put in the place of `seen`.
-fn play<M: Makes<P>, P: Process>(makes: &M, played: Played, rounds: u64, seen: &mut Seen) {
-    let mut plant = Plant::<M, P>::new(makes, played);
+fn play(station: Station<'_>, played: Played, rounds: u64, seen: &mut Seen) {
+    let mut plant = Plant::new(station, played);
     plant.play(rounds);
     mem::swap(&mut plant.seen, seen);
     drop(plant);
 }
 
 /// Plays the first story once for each call of the network that fails, and writes how often the same was seen.
-fn tell_failing<M: Makes<P>, P: Process, W: Write>(
-    alloc: Global,
-    makes: &M,
-    out: &mut W,
-) -> Result<(), Failure> {
-    let mut wanted = Seen::new(alloc);
-    let played = Played::new(alloc, PROCEED);
-    play::<M, P>(makes, played, PROCEED_ROUNDS, &mut wanted);
-    let told = write_same::<M, P, W>(makes, played, &wanted, out);
+fn tell_failing<W: Write>(station: Station<'_>, out: &mut W) -> Result<(), Failure> {
+    let mut wanted = Seen::new(station.alloc);
+    let played = Played::new(PROCEED);
+    play(station, played, PROCEED_ROUNDS, &mut wanted);
+    let same = count_same(station, &wanted);
     drop(wanted);
-    told
-}
-
-/// Writes with how many of the failing calls the same is seen.
-fn write_same<M: Makes<P>, P: Process, W: Write>(
-    makes: &M,
-    played: Played,
-    wanted: &Seen,
-    out: &mut W,
-) -> Result<(), Failure> {
-    let same = count_same::<M, P>(makes, played, wanted.text()?);
+    let same = same?;
     writeln!(
         out,
         "{FAILING} calls of the network, each failing once: the same {same} times"
@@ -193,51 +152,50 @@ fn write_same<M: Makes<P>, P: Process, W: Write>(
 }
 
 /// With how many of the failing calls the same is seen.
-fn count_same<M: Makes<P>, P: Process>(makes: &M, played: Played, wanted: &str) -> u64 {
+fn count_same(station: Station<'_>, wanted: &Seen) -> Result<u64, Failure> {
+    let wanted = wanted.text()?;
     let mut same: u64 = 0;
     for failing in 0..FAILING {
-        let failing = failing.saturating_add(1);
-        let mut seen = Seen::new(played.alloc);
-        play::<M, P>(
-            makes,
-            Played { failing, ..played },
-            PROCEED_ROUNDS,
-            &mut seen,
-        );
+        let played = Played {
+            failing: failing.saturating_add(1),
+            ..Played::new(PROCEED)
+        };
+        let mut seen = Seen::new(station.alloc);
+        play(station, played, PROCEED_ROUNDS, &mut seen);
         same = same.saturating_add(u64::from(seen.is(wanted)));
         drop(seen);
     }
-    same
+    Ok(same)
 }
 
 /// Runs the whole process of each node while the others are played, and writes what comes of its record.
-fn tell_records<M: Makes<P>, P: Process, W: Write>(
-    rt: &HostRuntime,
-    station: Station<'_>,
-    makes: &M,
-    out: &mut W,
-) -> Result<(), Failure> {
+fn tell_records<W: Write>(station: Station<'_>, out: &mut W) -> Result<(), Failure> {
     for number in 0..NAMES.len() {
-        let verdict = verdict::<M, P>(rt, station, makes, number)?;
-        let name = name(number);
-        writeln!(out, "record of {name}: {verdict}")?;
+        let verdict = verdict(station, number)?;
+        write_verdict(number, verdict, out)?;
     }
     Ok(())
 }
 
+/// Writes what comes of the record of a node.
+fn write_verdict<W: Write>(number: usize, verdict: &str, out: &mut W) -> Result<(), Failure> {
+    let name = name(number);
+    writeln!(out, "record of {name}: {verdict}")?;
+    Ok(())
+}
+
 /// Lets the station rest for so many rounds, and writes how often a link became ready, and how often one was lost.
-pub(crate) fn tell_rest<M: Makes<P>, P: Process, W: Write>(
-    alloc: Global,
-    makes: &M,
-    out: &mut W,
+pub(crate) fn tell_rest<W: Write>(
+    station: Station<'_>,
     rounds: u64,
+    out: &mut W,
 ) -> Result<(), Failure> {
-    let mut seen = Seen::new(alloc);
+    let mut seen = Seen::new(station.alloc);
     let played = Played {
         step: REST_STEP,
-        ..Played::new(alloc, REST)
+        ..Played::new(REST)
     };
-    play::<M, P>(makes, played, rounds, &mut seen);
+    play(station, played, rounds, &mut seen);
     let told = write_links(rounds, &seen, out);
     drop(seen);
     told
