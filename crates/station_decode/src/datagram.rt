@@ -54,7 +54,6 @@ fn words_between(alloc: Global, ends: Ends<'_>, pdu: &Pdu) -> Result<String, All
 {
     let mut text = ends_words(alloc, ends, &pdu.body)?;
     push_numbers(&mut text, pdu)?;
-    push_stamps(&mut text, pdu)?;
     push_body(alloc, &mut text, ends, &pdu.body)?;
     Ok(text)
 }
@@ -68,22 +67,15 @@ fn ends_words(alloc: Global, ends: Ends<'_>, body: &Body) -> Result<String, Allo
     format!(in alloc; "{sender} > {receiver} {kind}")
 }
 
-/// Adds the sequence number of a PDU, and the confirmed one.
+/// Adds the sequence number and the time stamp of a PDU, each with the confirmed one.
 fn push_numbers(text: &mut String, pdu: &Pdu) -> Result<(), AllocError>
-    ensures { OnOk result (string_bytes text.new ≡ string_bytes text.old ++ numbers_text pdu.now) }
+    ensures { OnOk result (string_bytes text.new ≡ string_bytes text.old ++ (numbers_text pdu.now ++ stamps_text pdu.now)) }
 {
     let number = pdu.sequence_number;
-    let confirmed = pdu.confirmed_sequence_number;
-    write!(text, " SN {number} CS {confirmed}")
-}
-
-/// Adds the time stamp of a PDU, and the confirmed one.
-fn push_stamps(text: &mut String, pdu: &Pdu) -> Result<(), AllocError>
-    ensures { OnOk result (string_bytes text.new ≡ string_bytes text.old ++ stamps_text pdu.now) }
-{
+    let taken = pdu.confirmed_sequence_number;
     let stamp = pdu.time_stamp;
-    let confirmed = pdu.confirmed_time_stamp;
-    write!(text, " TS {stamp} CTS {confirmed}")
+    let returned = pdu.confirmed_time_stamp;
+    write!(text, " SN {number} CS {taken} TS {stamp} CTS {returned}")
 }
 
 /// Adds what a PDU carries.

@@ -64,9 +64,12 @@ fn decoded(alloc: Global, layout: Option<&str>, word: &str) -> Result<String, Fa
     ensures explains { IfErr result (Explains (option_copied layout.entry) word.now) }
 {
     let layout = read_layout(alloc, layout)?;
-    let bytes = hexadecimal_or_none(word)?;
-    let words = datagram_words(alloc, layout.as_ref(), &bytes)?;
-    Ok(words)
+    let words = match hexadecimal_or_none(word) {
+        Ok(bytes) => datagram_words(alloc, layout.as_ref(), &bytes).map_err(Failure::from),
+        Err(fault) => Err(Failure::from(fault)),
+    };
+    drop(layout);
+    words
 }
 
 /// The layout of a text, where there is a text.

@@ -91,9 +91,7 @@ fn push_fault(
     let fault = telegram_fault_words(fault);
     let digits = hex_digits(alloc, item)?;
     let digits = digits.as_str();
-    text.push_str("no telegram: fault ")?;
-    write!(text, "{fault} {digits}")?;
-    Ok(())
+    write!(text, "no telegram: fault {fault} {digits}")
 }
 
 /// Bytes in hexadecimal digits.

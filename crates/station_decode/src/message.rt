@@ -77,16 +77,12 @@ fn push_point(text: &mut String, message: &PointMessage) -> Result<(), AllocErro
 fn push_signal(text: &mut String, message: &SignalMessage) -> Result<(), AllocError>
     ensures { OnOk result (string_bytes text.new ≡ string_bytes text.old ++ join_with_byte 32 (message_words (says.Signal message.now))) }
 {
-    match message {
-        SignalMessage::IndicateAspect(aspect) => {
-            let aspect = aspect_word(*aspect);
-            write!(text, "indicate aspect {aspect}")
-        }
-        SignalMessage::IndicatedAspect(aspect) => {
-            let aspect = aspect_word(*aspect);
-            write!(text, "indicated aspect {aspect}")
-        }
-    }
+    let (words, aspect) = match message {
+        SignalMessage::IndicateAspect(aspect) => ("indicate aspect", aspect),
+        SignalMessage::IndicatedAspect(aspect) => ("indicated aspect", aspect),
+    };
+    let aspect = aspect_word(*aspect);
+    write!(text, "{words} {aspect}")
 }
 
 /// Adds a telegram of a detector.
