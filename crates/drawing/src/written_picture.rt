@@ -30,70 +30,24 @@ fn push_groups(svg: &mut Vec<u8>, alloc: Global, groups: &[Group]) -> Result<(),
     Ok(())
 }
 
-/// Adds a part of a plane, as a view.
-#[tactic(auto, unfolding(crate::specs::Svg::view_text))]
-fn push_view(svg: &mut Vec<u8>, alloc: Global, part: Frame) -> Result<(), AllocError>
-    ensures { OnOk result (svg.new.items ≡ svg.old.items ++ view_text part) }
-{
-    let left = part.left;
-    let top = part.top;
-    let width = part.width;
-    let height = part.height;
-    let text = format!(in alloc; "{left} {top} {width} {height}")?;
-    svg.extend_from_slice(text.as_bytes())
-}
-
-/// Adds where a part of a plane lies.
-#[tactic(auto, unfolding(crate::specs::Svg::place_text))]
-fn push_place(svg: &mut Vec<u8>, alloc: Global, part: Frame) -> Result<(), AllocError>
-    ensures { OnOk result (svg.new.items ≡ svg.old.items ++ place_text part) }
-{
-    let left = part.left;
-    let top = part.top;
-    let text = format!(in alloc; " x=\"{left}\" y=\"{top}\"")?;
-    svg.extend_from_slice(text.as_bytes())
-}
-
-/// Adds how large a part of a plane is.
-#[tactic(auto, unfolding(crate::specs::Svg::size_text))]
-fn push_size(svg: &mut Vec<u8>, alloc: Global, part: Frame) -> Result<(), AllocError>
-    ensures { OnOk result (svg.new.items ≡ svg.old.items ++ size_text part) }
-{
-    let width = part.width;
-    let height = part.height;
-    let text = format!(in alloc; " width=\"{width}\" height=\"{height}\"")?;
-    svg.extend_from_slice(text.as_bytes())
-}
-
-/// Adds how the text of every picture begins.
-#[tactic(auto, unfolding(crate::specs::Svg::beginning_text))]
-fn push_beginning(svg: &mut Vec<u8>) -> Result<(), AllocError>
-    ensures { OnOk result (svg.new.items ≡ svg.old.items ++ beginning_text) }
-{
-    svg.extend_from_slice(b"<svg xmlns=\"http://www.w3.org/2000/svg\"")
-}
-
-/// Adds how the text of a picture begins.
-#[tactic(auto, unfolding(crate::specs::Svg::sheet_text, crate::specs::Svg::viewed_text))]
+/// Adds how the text of a picture begins, and its ground.
 fn push_sheet(svg: &mut Vec<u8>, alloc: Global, paper: Frame) -> Result<(), AllocError>
-    ensures { OnOk result (svg.new.items ≡ svg.old.items ++ sheet_text paper) }
+    ensures { OnOk result (svg.new.items ≡ svg.old.items ++ (sheet_text paper ++ ground_text paper)) }
 {
-    push_beginning(svg)?;
-    push_size(svg, alloc, paper)?;
-    svg.extend_from_slice(b" viewBox=\"")?;
-    push_view(svg, alloc, paper)?;
-    svg.extend_from_slice(b"\">\n")
-}
-
-/// Adds the ground of a picture.
-#[tactic(auto, unfolding(crate::specs::Svg::ground_text))]
-fn push_ground(svg: &mut Vec<u8>, alloc: Global, paper: Frame) -> Result<(), AllocError>
-    ensures { OnOk result (svg.new.items ≡ svg.old.items ++ ground_text paper) }
-{
-    svg.extend_from_slice(b"<rect")?;
-    push_place(svg, alloc, paper)?;
-    push_size(svg, alloc, paper)?;
-    svg.extend_from_slice(b" fill=\"#fff\"/>\n")
+    let text = format!(in alloc;
+        "<svg xmlns=\"http://www.w3.org/2000/svg\" width=\"{}\" height=\"{}\" viewBox=\"{} {} {} {}\">\n<rect x=\"{}\" y=\"{}\" width=\"{}\" height=\"{}\" fill=\"#fff\"/>\n",
+        paper.width,
+        paper.height,
+        paper.left,
+        paper.top,
+        paper.width,
+        paper.height,
+        paper.left,
+        paper.top,
+        paper.width,
+        paper.height
+    )?;
+    svg.extend_from_slice(text.as_bytes())
 }
 
 /// Adds all that stands before what is drawn.
@@ -102,7 +56,6 @@ fn push_head(svg: &mut Vec<u8>, alloc: Global, picture: &Picture) -> Result<(), 
     ensures { OnOk result (svg.new.items ≡ svg.old.items ++ head_text picture.now) }
 {
     push_sheet(svg, alloc, picture.paper)?;
-    push_ground(svg, alloc, picture.paper)?;
     push_between(svg, b"<title>", picture.title.as_str(), b"</title>\n")?;
     push_between(svg, b"<style>", picture.style.as_str(), b"</style>\n")
 }
@@ -127,25 +80,23 @@ fn closing(strips: &[Strip]) -> &'static [u8]
     }
 }
 
-/// Adds the use of what is drawn.
-#[tactic(auto, unfolding(crate::specs::Svg::use_text))]
-fn push_use(svg: &mut Vec<u8>) -> Result<(), AllocError>
-    ensures { OnOk result (svg.new.items ≡ svg.old.items ++ use_text) }
-{
-    svg.extend_from_slice(b"\"><use href=\"#drawn\"/></svg>\n")
-}
-
 /// Adds the text of a strip.
-#[tactic(auto, unfolding(crate::specs::Svg::strip_text, crate::specs::Svg::window_text))]
 fn push_strip(svg: &mut Vec<u8>, alloc: Global, strip: Strip) -> Result<(), AllocError>
     ensures { OnOk result (svg.new.items ≡ svg.old.items ++ strip_text strip) }
 {
-    svg.extend_from_slice(b"<svg")?;
-    push_place(svg, alloc, strip.at)?;
-    push_size(svg, alloc, strip.at)?;
-    svg.extend_from_slice(b" viewBox=\"")?;
-    push_view(svg, alloc, strip.shows)?;
-    push_use(svg)
+    let Strip { at, shows } = strip;
+    let text = format!(in alloc;
+        "<svg x=\"{}\" y=\"{}\" width=\"{}\" height=\"{}\" viewBox=\"{} {} {} {}\"><use href=\"#drawn\"/></svg>\n",
+        at.left,
+        at.top,
+        at.width,
+        at.height,
+        shows.left,
+        shows.top,
+        shows.width,
+        shows.height
+    )?;
+    svg.extend_from_slice(text.as_bytes())
 }
 
 /// Adds the texts of strips, in order.
