@@ -60,23 +60,14 @@ fn push_head(svg: &mut Vec<u8>, alloc: Global, picture: &Picture) -> Result<(), 
     push_between(svg, b"<style>", picture.style.as_str(), b"</style>\n")
 }
 
-/// What stands before the groups, where they are shown in strips.
-fn opening(strips: &[Strip]) -> &'static [u8]
-    ensures { result.now ≡ opening_text strips.now }
+/// What stands before the groups, and what stands behind them, where they are shown in strips.
+fn round_groups(strips: &[Strip]) -> (&'static [u8], &'static [u8])
+    ensures before { result.0.now ≡ opening_text strips.now }
+    ensures behind { result.1.now ≡ closing_text strips.now }
 {
     match strips {
-        [] => b"",
-        _ => b"<defs><g id=\"drawn\">\n",
-    }
-}
-
-/// What stands behind the groups, where they are shown in strips.
-fn closing(strips: &[Strip]) -> &'static [u8]
-    ensures { result.now ≡ closing_text strips.now }
-{
-    match strips {
-        [] => b"",
-        _ => b"</g></defs>\n",
+        [] => (b"", b""),
+        _ => (b"<defs><g id=\"drawn\">\n", b"</g></defs>\n"),
     }
 }
 
@@ -109,24 +100,18 @@ fn push_strips(svg: &mut Vec<u8>, alloc: Global, strips: &[Strip]) -> Result<(),
     Ok(())
 }
 
-/// Adds the text of a picture.
-fn push_picture(svg: &mut Vec<u8>, alloc: Global, picture: &Picture) -> Result<(), AllocError>
-    ensures { OnOk result (svg.new.items ≡ svg.old.items ++ svg_text picture.now) }
-{
-    push_head(svg, alloc, picture)?;
-    svg.extend_from_slice(opening(&picture.strips))?;
-    push_groups(svg, alloc, &picture.groups)?;
-    svg.extend_from_slice(closing(&picture.strips))?;
-    push_strips(svg, alloc, &picture.strips)?;
-    svg.extend_from_slice(b"</svg>\n")
-}
-
 /// The text of a picture as SVG 2: it is valid XML where no two groups have one identity, since each text in it is
 /// escaped. The error comes only where memory was refused.
 pub fn svg(alloc: Global, picture: &Picture) -> Result<Vec<u8>, AllocError>
     ensures { IfOk result (λ svg. svg.items ≡ svg_text picture.now) }
 {
+    let (before, behind) = round_groups(&picture.strips);
     let mut svg = Vec::new(alloc);
-    push_picture(&mut svg, alloc, picture)?;
+    push_head(&mut svg, alloc, picture)?;
+    svg.extend_from_slice(before)?;
+    push_groups(&mut svg, alloc, &picture.groups)?;
+    svg.extend_from_slice(behind)?;
+    push_strips(&mut svg, alloc, &picture.strips)?;
+    svg.extend_from_slice(b"</svg>\n")?;
     Ok(svg)
 }

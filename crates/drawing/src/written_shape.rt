@@ -11,9 +11,7 @@ use std::alloc::{AllocError, Global};
 fn push_spot(svg: &mut Vec<u8>, alloc: Global, spot: Spot) -> Result<(), AllocError>
     ensures { OnOk result (svg.new.items ≡ svg.old.items ++ spot_text spot) }
 {
-    let x = spot.x;
-    let y = spot.y;
-    let text = format!(in alloc; " {x},{y}")?;
+    let text = format!(in alloc; " {},{}", spot.x, spot.y)?;
     svg.extend_from_slice(text.as_bytes())
 }
 
@@ -31,11 +29,13 @@ fn push_spots(svg: &mut Vec<u8>, alloc: Global, spots: &[Spot]) -> Result<(), Al
 fn push_line(svg: &mut Vec<u8>, alloc: Global, from: Spot, to: Spot) -> Result<(), AllocError>
     ensures { OnOk result (svg.new.items ≡ svg.old.items ++ line_rest from to) }
 {
-    let x1 = from.x;
-    let y1 = from.y;
-    let x2 = to.x;
-    let y2 = to.y;
-    let text = format!(in alloc; "\" x1=\"{x1}\" y1=\"{y1}\" x2=\"{x2}\" y2=\"{y2}\"/>\n")?;
+    let text = format!(in alloc;
+        "\" x1=\"{}\" y1=\"{}\" x2=\"{}\" y2=\"{}\"/>\n",
+        from.x,
+        from.y,
+        to.x,
+        to.y
+    )?;
     svg.extend_from_slice(text.as_bytes())
 }
 
@@ -48,9 +48,7 @@ fn push_circle(
 ) -> Result<(), AllocError>
     ensures { OnOk result (svg.new.items ≡ svg.old.items ++ circle_rest centre radius) }
 {
-    let x = centre.x;
-    let y = centre.y;
-    let text = format!(in alloc; "\" cx=\"{x}\" cy=\"{y}\" r=\"{radius}\"/>\n")?;
+    let text = format!(in alloc; "\" cx=\"{}\" cy=\"{}\" r=\"{radius}\"/>\n", centre.x, centre.y)?;
     svg.extend_from_slice(text.as_bytes())
 }
 
@@ -64,10 +62,10 @@ fn push_rectangle(
 ) -> Result<(), AllocError>
     ensures { OnOk result (svg.new.items ≡ svg.old.items ++ rectangle_rest corner width height) }
 {
-    let x = corner.x;
-    let y = corner.y;
     let text = format!(in alloc;
-        "\" x=\"{x}\" y=\"{y}\" width=\"{width}\" height=\"{height}\"/>\n"
+        "\" x=\"{}\" y=\"{}\" width=\"{width}\" height=\"{height}\"/>\n",
+        corner.x,
+        corner.y
     )?;
     svg.extend_from_slice(text.as_bytes())
 }
@@ -118,10 +116,8 @@ fn push_words(
 ) -> Result<(), AllocError>
     ensures { OnOk result (svg.new.items ≡ svg.old.items ++ words_rest at anchor words.now) }
 {
-    let x = at.x;
-    let y = at.y;
     let anchored = anchored(anchor);
-    let standing = format!(in alloc; "\" x=\"{x}\" y=\"{y}{anchored}")?;
+    let standing = format!(in alloc; "\" x=\"{}\" y=\"{}{anchored}", at.x, at.y)?;
     push_between(svg, standing.as_bytes(), words, b"</text>\n")
 }
 
