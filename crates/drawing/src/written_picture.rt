@@ -78,14 +78,7 @@ fn push_strip(svg: &mut Vec<u8>, alloc: Global, strip: Strip) -> Result<(), Allo
     let Strip { at, shows } = strip;
     let text = format!(in alloc;
         "<svg x=\"{}\" y=\"{}\" width=\"{}\" height=\"{}\" viewBox=\"{} {} {} {}\"><use href=\"#drawn\"/></svg>\n",
-        at.left,
-        at.top,
-        at.width,
-        at.height,
-        shows.left,
-        shows.top,
-        shows.width,
-        shows.height
+        at.left, at.top, at.width, at.height, shows.left, shows.top, shows.width, shows.height
     )?;
     svg.extend_from_slice(text.as_bytes())
 }

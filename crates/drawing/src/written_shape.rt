@@ -7,34 +7,13 @@ use crate::escaped::{push_between, push_escaped};
 use crate::shape::{Anchor, Mark, Shape, Spot};
 use std::alloc::{AllocError, Global};
 
-/// Adds the text of a spot.
-fn push_spot(svg: &mut Vec<u8>, alloc: Global, spot: Spot) -> Result<(), AllocError>
-    ensures { OnOk result (svg.new.items ≡ svg.old.items ++ spot_text spot) }
-{
-    let text = format!(in alloc; " {},{}", spot.x, spot.y)?;
-    svg.extend_from_slice(text.as_bytes())
-}
-
-/// Adds the text of each spot.
-fn push_spots(svg: &mut Vec<u8>, alloc: Global, spots: &[Spot]) -> Result<(), AllocError>
-    ensures { OnOk result (svg.new.items ≡ svg.old.items ++ spots_text spots.now) }
-{
-    for spot in spots {
-        push_spot(svg, alloc, *spot)?;
-    }
-    Ok(())
-}
-
 /// Adds where a line leads.
 fn push_line(svg: &mut Vec<u8>, alloc: Global, from: Spot, to: Spot) -> Result<(), AllocError>
     ensures { OnOk result (svg.new.items ≡ svg.old.items ++ line_rest from to) }
 {
     let text = format!(in alloc;
         "\" x1=\"{}\" y1=\"{}\" x2=\"{}\" y2=\"{}\"/>\n",
-        from.x,
-        from.y,
-        to.x,
-        to.y
+        from.x, from.y, to.x, to.y
     )?;
     svg.extend_from_slice(text.as_bytes())
 }
@@ -48,7 +27,10 @@ fn push_circle(
 ) -> Result<(), AllocError>
     ensures { OnOk result (svg.new.items ≡ svg.old.items ++ circle_rest centre radius) }
 {
-    let text = format!(in alloc; "\" cx=\"{}\" cy=\"{}\" r=\"{radius}\"/>\n", centre.x, centre.y)?;
+    let text = format!(in alloc;
+        "\" cx=\"{}\" cy=\"{}\" r=\"{radius}\"/>\n",
+        centre.x, centre.y
+    )?;
     svg.extend_from_slice(text.as_bytes())
 }
 
@@ -64,8 +46,7 @@ fn push_rectangle(
 {
     let text = format!(in alloc;
         "\" x=\"{}\" y=\"{}\" width=\"{width}\" height=\"{height}\"/>\n",
-        corner.x,
-        corner.y
+        corner.x, corner.y
     )?;
     svg.extend_from_slice(text.as_bytes())
 }
@@ -101,7 +82,10 @@ fn push_points(svg: &mut Vec<u8>, alloc: Global, spots: &[Spot]) -> Result<(), A
     ensures { OnOk result (svg.new.items ≡ svg.old.items ++ points_rest spots.now) }
 {
     svg.extend_from_slice(b"\" points=\"")?;
-    push_spots(svg, alloc, spots)?;
+    for spot in spots {
+        let text = format!(in alloc; " {},{}", spot.x, spot.y)?;
+        svg.extend_from_slice(text.as_bytes())?;
+    }
     svg.extend_from_slice(b"\"/>\n")
 }
 
@@ -139,21 +123,14 @@ fn push_rest(svg: &mut Vec<u8>, alloc: Global, shape: &Shape) -> Result<(), Allo
     }
 }
 
-/// Adds the text of a shape with its class.
-fn push_mark(svg: &mut Vec<u8>, alloc: Global, mark: &Mark) -> Result<(), AllocError>
-    ensures { OnOk result (svg.new.items ≡ svg.old.items ++ mark_text mark.now) }
-{
-    svg.extend_from_slice(opening(&mark.shape))?;
-    push_escaped(svg, mark.class.as_str())?;
-    push_rest(svg, alloc, &mark.shape)
-}
-
-/// Adds the texts of shapes, in order.
+/// Adds the texts of shapes with their classes, in order.
 pub(crate) fn push_marks(svg: &mut Vec<u8>, alloc: Global, marks: &[Mark]) -> Result<(), AllocError>
     ensures { OnOk result (svg.new.items ≡ svg.old.items ++ marks_text marks.now) }
 {
     for mark in marks {
-        push_mark(svg, alloc, mark)?;
+        svg.extend_from_slice(opening(&mark.shape))?;
+        push_escaped(svg, mark.class.as_str())?;
+        push_rest(svg, alloc, &mark.shape)?;
     }
     Ok(())
 }

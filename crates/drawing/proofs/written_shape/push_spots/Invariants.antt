@@ -1,7 +1,0 @@
-use Rattle.std.proofs.Common.{◌≡◌, ◌++◌, take}
-use Rattle.std.specs.List.{flat_map}
-use Rattle.drawing.specs.Svg.{spot_text}
-use Rattle.drawing.proofs.written_shape.push_spots.Given as goal
-
-abbrev pub invariant-loop-spot : goal.invariant-loop-spot
-invariant-loop-spot l = l.svg.items ≡ l.fn.svg.items ++ flat_map spot_text (take l.spot-index l.spots)
