@@ -1,5 +1,4 @@
 pub mod Grown
-pub mod Kept
 pub mod RowsMore
 pub mod SpansClose
 pub mod Together

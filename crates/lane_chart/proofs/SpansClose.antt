@@ -2,8 +2,10 @@
 use Rattle.std.proofs.Common.{◌≡◌, ◌∙◌, ℕ, ◌+◌, ◌<◌, ◌≤◌, get_or, ◌==◌, Bool, true, false, if◌then◌else◌, List, [], ◌∷◌, ◌++◌, length, drop, Option, Some, None, ap, sym, refl}
 use Rattle.std.proofs.Math.ListN.{drop_of_length-le}
 use Rattle.std.proofs.lemmas.List.{append-nil, append_assoc, at_drop_more}
-use Rattle.lane_chart.specs.Spans.{begun, ended, joined, spans_behind, unit_of}
+use Rattle.std.specs.List.{filter}
+use Rattle.lane_chart.specs.Spans.{begun, ended, is_drawn, joined, spans_behind, unit_of}
 use Rattle.lane_chart.specs.declared.change.Change.{Change}
+use Rattle.lane_chart.specs.declared.lane.Lane.{Lane}
 use Rattle.lane_chart.specs.declared.scale.Window.{Window}
 use Rattle.lane_chart.specs.declared.spans.Span.{Span}
 
@@ -37,17 +39,36 @@ pub none_open : (window : Window) (spans : List Span) → spans ≡ spans ++ spa
 unfolding spans_behind
 none_open window spans = sym (append-nil spans)
 
+-- ---- change by change, of those of a lane that are drawn
+
 -- no change is left
-pub closes : (window : Window) (changes : List Change) (place : ℕ) (before : Option Span) (spans new whole : List Span) → length changes ≤ place
-    → ((any : Window) → new ≡ spans ++ spans_behind any before []) → spans ++ spans_behind window before (drop place changes) ≡ whole → new ≡ whole
-closes window changes place before spans new whole past push so =
-    push window ∙ ap (λ (cs : List Change). spans ++ spans_behind window before cs) (sym (drop_of_length-le changes past)) ∙ so
+pub closes : (window : Window) (lane : Lane) (changes : List Change) (place : ℕ) (before : Option Span) (spans new whole : List Span) → length changes ≤ place
+    → ((any : Window) → new ≡ spans ++ spans_behind any before []) → spans ++ spans_behind window before (filter (is_drawn window lane) (drop place changes)) ≡ whole → new ≡ whole
+closes window lane changes place before spans new whole past push so =
+    push window ∙ ap (λ (cs : List Change). spans ++ spans_behind window before (filter (is_drawn window lane) cs)) (sym (drop_of_length-le changes past)) ∙ so
 
 -- one change more
-pub goes_on : (window : Window) (changes : List Change) (place : ℕ) (any : Change) (before next : Option Span) (spans new whole : List Span) → place < length changes
+pub goes_on : (window : Window) (lane : Lane) (changes : List Change) (place : ℕ) (any : Change) (before next : Option Span) (spans new whole : List Span) → place < length changes
+    → is_drawn window lane (get_or changes place any) ≡ true
     → ((later : List Change) → new ++ spans_behind window next later ≡ spans ++ spans_behind window before (get_or changes place any ∷ later))
-    → spans ++ spans_behind window before (drop place changes) ≡ whole → new ++ spans_behind window next (drop (place + 1) changes) ≡ whole
-goes_on window changes place any before next spans new whole within step so =
-    step (drop (place + 1) changes)
-    ∙ sym (at_drop_more (λ (left : List Change). spans ++ spans_behind window before left) changes place any within)
+    → spans ++ spans_behind window before (filter (is_drawn window lane) (drop place changes)) ≡ whole → new ++ spans_behind window next (filter (is_drawn window lane) (drop (place + 1) changes)) ≡ whole
+goes_on window lane changes place any before next spans new whole within is step so =
+    let drawn = is_drawn window lane in
+    let later = filter drawn (drop (place + 1) changes) in
+    let change = get_or changes place any in
+    step later
+    ∙ ap (λ (b : Bool). spans ++ spans_behind window before (if b then change ∷ later else later)) (sym is)
+    ∙ sym (at_drop_more (λ (left : List Change). spans ++ spans_behind window before (filter drawn left)) changes place any within)
+    ∙ so
+
+-- one that isn't drawn
+pub passes_over : (window : Window) (lane : Lane) (changes : List Change) (place : ℕ) (any : Change) (before : Option Span) (spans whole : List Span) → place < length changes
+    → is_drawn window lane (get_or changes place any) ≡ false
+    → spans ++ spans_behind window before (filter (is_drawn window lane) (drop place changes)) ≡ whole → spans ++ spans_behind window before (filter (is_drawn window lane) (drop (place + 1) changes)) ≡ whole
+passes_over window lane changes place any before spans whole within isnt so =
+    let drawn = is_drawn window lane in
+    let later = filter drawn (drop (place + 1) changes) in
+    let change = get_or changes place any in
+    ap (λ (b : Bool). spans ++ spans_behind window before (if b then change ∷ later else later)) (sym isnt)
+    ∙ sym (at_drop_more (λ (left : List Change). spans ++ spans_behind window before (filter drawn left)) changes place any within)
     ∙ so

@@ -5,3 +5,4 @@ pub mod Drawn
 pub mod Strokes
 pub mod Faces
 pub mod Chart
+pub mod inside

@@ -1,8 +1,8 @@
 //! How commands and restarts are drawn above the rows.
 
-ghost use Rattle.std.specs.Prelude.{◌≡◌, ◌++◌, ◌∷◌, [], IfOk, OnOk, string_bytes};
+ghost use Rattle.std.specs.Prelude.{◌≡◌, ◌++◌, ◌∷◌, [], OnOk};
 ghost use Rattle.lane_chart.specs.Chart.{faces, happening_faces};
-ghost use Rattle.lane_chart.specs.Faces.{face_of, happening_face, happening_id, happening_strokes, happening_title, kind_of};
+ghost use Rattle.lane_chart.specs.Faces.{happening_face, happening_strokes, kind_of};
 ghost use Rattle.lane_chart.specs.Strokes.{named, strokes};
 
 use crate::change::Happening;
@@ -87,39 +87,7 @@ fn draw_words(marks: &mut Marks, x: i32, words: &str, ends: &mut [i32]) -> Resul
     }
 }
 
-/// The identity of a happening, by its line.
-fn id_of(alloc: Global, line: usize) -> Result<String, AllocError>
-    ensures { IfOk result (λ text. string_bytes text ≡ happening_id line) }
-{
-    format!(in alloc; "line.{line}")
-}
-
-/// What a viewer says of a happening.
-fn title_of(alloc: Global, happening: &Happening) -> Result<String, AllocError>
-    ensures { IfOk result (λ text. string_bytes text ≡ happening_title happening.now) }
-{
-    let line = happening.line;
-    let millis = happening.time / MICROS;
-    let words = happening.words.as_str();
-    format!(in alloc; "line {line}, {millis} ms: {words}")
-}
-
-/// The marks of a happening as a group.
-fn group(happening: &Happening, marks: Marks) -> Result<Group, AllocError>
-    ensures { IfOk result (λ group. face_of group ≡ record { id = happening_id happening.now.line; title = happening_title happening.now; strokes = strokes marks.marks.items; name = named marks.marks.items }) }
-{
-    let id = id_of(marks.alloc, happening.line)?;
-    let class = String::from_str(marks.alloc, kind_word(happening.node))?;
-    let title = title_of(marks.alloc, happening)?;
-    Ok(Group {
-        id,
-        class,
-        title,
-        marks: marks.marks,
-    })
-}
-
-/// Adds a happening as a group.
+/// Adds a happening as a group, which goes by its line.
 fn add_happening(
     groups: &mut Vec<Group>,
     alloc: Global,
@@ -129,16 +97,36 @@ fn add_happening(
 ) -> Result<(), AllocError>
     ensures { OnOk result (faces groups.new.items ≡ faces groups.old.items ++ happening_face window happening.now ∷ []) }
 {
+    let line = happening.line;
+    let millis = happening.time / MICROS;
+    let words = happening.words.as_str();
+    let id = format!(in alloc; "line.{line}")?;
+    let title = format!(in alloc; "line {line}, {millis} ms: {words}")?;
     let mut marks = Marks::new(alloc);
     draw_happening(&mut marks, window, happening, ends)?;
-    add_group(groups, group(happening, marks)?)
+    let kind = kind_word(happening.node);
+    add_group(groups, id.as_str(), kind, title.as_str(), marks)
 }
 
-/// Adds a group.
-pub(crate) fn add_group(groups: &mut Vec<Group>, group: Group) -> Result<(), AllocError>
-    ensures { OnOk result (faces groups.new.items ≡ faces groups.old.items ++ face_of group ∷ []) }
+/// Adds marks as a group: by its identity, its class, and what a viewer says of it.
+pub(crate) fn add_group(
+    groups: &mut Vec<Group>,
+    id: &str,
+    class: &str,
+    title: &str,
+    marks: Marks,
+) -> Result<(), AllocError>
+    ensures { OnOk result (faces groups.new.items ≡ faces groups.old.items ++ record { id = id.now; title = title.now; strokes = strokes marks.marks.items; name = named marks.marks.items } ∷ []) }
 {
-    groups.push(group)?;
+    let id = String::from_str(marks.alloc, id)?;
+    let class = String::from_str(marks.alloc, class)?;
+    let title = String::from_str(marks.alloc, title)?;
+    groups.push(Group {
+        id,
+        class,
+        title,
+        marks: marks.marks,
+    })?;
     Ok(())
 }
 

@@ -80,8 +80,7 @@ impl Marks {
             x: at.x.saturating_add(4),
             y,
         };
-        let mut spots = Vec::new(self.alloc);
-        spots.extend_from_slice(&[at, left, right])?;
+        let spots = Vec::from_array(self.alloc, [at, left, right])?;
         self.add(class, Shape::Polygon(spots))
     }
 

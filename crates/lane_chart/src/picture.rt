@@ -1,10 +1,9 @@
 //! The picture of a chart.
 
-ghost use Rattle.std.specs.Prelude.{◌≡◌, ◌++◌, ◌∷◌, [], IfOk, OnOk, string_bytes};
+ghost use Rattle.std.specs.Prelude.{◌≡◌, ◌++◌, ◌∷◌, [], IfOk, OnOk};
 ghost use Rattle.lane_chart.specs.Chart.{AreChartGroups, IsChartOf, axis_id, faces, legend_id, row_faces};
-ghost use Rattle.lane_chart.specs.Faces.{face_of, row_face};
-ghost use Rattle.lane_chart.specs.Strokes.{named, strokes};
-ghost use Rattle.lane_chart.specs.Subjects.{subject_id};
+ghost use Rattle.lane_chart.specs.Faces.{row_face};
+ghost use Rattle.lane_chart.specs.inside.Added.{AddsGroup};
 
 use crate::axis::draw_axis;
 use crate::change::Happening;
@@ -16,7 +15,7 @@ use crate::row_marks::{draw_row, height};
 use crate::scale::{MICROS, Window};
 use crate::scene::{Nodes, Scene};
 use crate::style::STYLE;
-use crate::subject::{Sort, Subject, id_of, kind_word};
+use crate::subject::{Sort, kind_word};
 use control_table::layout::Layout;
 use drawing::{Anchor, Frame, Group, Picture, Spot};
 use std::alloc::{AllocError, Global};
@@ -36,77 +35,36 @@ fn height_of(rows: &[DrawnRow]) -> i32 {
     all
 }
 
-/// A group of these marks, which a viewer calls by its identity.
-fn group(id: String, class: String, marks: Marks) -> Result<Group, AllocError>
-    ensures { IfOk result (λ group. face_of group ≡ record { id = string_bytes id; title = string_bytes id; strokes = strokes marks.marks.items; name = named marks.marks.items }) }
-{
-    let title = String::from_str(marks.alloc, id.as_str())?;
-    Ok(Group {
-        id,
-        class,
-        title,
-        marks: marks.marks,
-    })
-}
-
-/// A group of these marks, whose class is its identity.
-fn named_group(id: &str, marks: Marks) -> Result<Group, AllocError>
-    ensures { IfOk result (λ group. string_bytes group.id ≡ id.now) }
-{
-    let class = String::from_str(marks.alloc, id)?;
-    let id = String::from_str(marks.alloc, id)?;
-    group(id, class, marks)
-}
-
-/// Writes the name of the station and what part of time is drawn, and draws the axis.
-fn draw_frame(
-    marks: &mut Marks,
-    station: &str,
-    window: Window,
-    bottom: i32,
-) -> Result<(), AllocError> {
-    let from = window.from / MICROS;
-    let to = window.to / MICROS;
-    let words = format!(in marks.alloc; "{station}: {from} to {to} ms of true time")?;
-    let at = Spot { x: 20, y: 24 };
-    marks.text("heading", at, Anchor::Start, words.as_str())?;
-    draw_axis(marks, window, bottom)
-}
-
-/// The heading and the axis of a chart as a group.
-fn axis_group(
+/// Adds the heading and the axis of a chart as a group: the name of the station, and what part of time is drawn.
+fn add_axis(
+    groups: &mut Vec<Group>,
     alloc: Global,
     station: &str,
     window: Window,
     bottom: i32,
-) -> Result<Group, AllocError>
-    ensures { IfOk result (λ group. string_bytes group.id ≡ axis_id) }
+) -> Result<(), AllocError>
+    ensures { OnOk result (AddsGroup axis_id groups.old.items groups.new.items) }
 {
+    let from = window.from / MICROS;
+    let to = window.to / MICROS;
+    let words = format!(in alloc; "{station}: {from} to {to} ms of true time")?;
+    let at = Spot { x: 20, y: 24 };
     let mut marks = Marks::new(alloc);
-    draw_frame(&mut marks, station, window, bottom)?;
-    named_group("axis", marks)
+    marks.text("heading", at, Anchor::Start, words.as_str())?;
+    draw_axis(&mut marks, window, bottom)?;
+    add_group(groups, "axis", "axis", "axis", marks)
 }
 
-/// What the marks mean, as a group.
-fn legend_group(alloc: Global, top: i32) -> Result<Group, AllocError>
-    ensures { IfOk result (λ group. string_bytes group.id ≡ legend_id) }
+/// Adds what the marks mean, as a group.
+fn add_legend(groups: &mut Vec<Group>, alloc: Global, top: i32) -> Result<(), AllocError>
+    ensures { OnOk result (AddsGroup legend_id groups.old.items groups.new.items) }
 {
     let mut marks = Marks::new(alloc);
     draw_legend(&mut marks, top)?;
-    named_group("legend", marks)
+    add_group(groups, "legend", "legend", "legend", marks)
 }
 
-/// The marks of a row as a group.
-fn row_group(subject: &Subject, marks: Marks) -> Result<Group, AllocError>
-    ensures { IfOk result (λ group. face_of group ≡ record { id = subject_id subject.now; title = subject_id subject.now; strokes = strokes marks.marks.items; name = named marks.marks.items }) }
-{
-    let kind = kind_word(subject.sort);
-    let id = id_of(marks.alloc, subject)?;
-    let class = format!(in marks.alloc; "{kind} {id}")?;
-    group(id, class, marks)
-}
-
-/// Adds a row as a group under a heading, from this height on.
+/// Adds a row as a group under a heading, from this height on. A viewer calls it by its identity.
 fn add_row(
     groups: &mut Vec<Group>,
     alloc: Global,
@@ -117,16 +75,22 @@ fn add_row(
 ) -> Result<(), AllocError>
     ensures { OnOk result (faces groups.new.items ≡ faces groups.old.items ++ row_face scene.entry.nodes scene.entry.window scene.entry.happenings.now drawn.now ∷ []) }
 {
+    let subject = &drawn.row.subject;
+    let kind = kind_word(subject.sort);
+    let name = subject.name.as_str();
+    let id = format!(in alloc; "{kind}.{name}")?;
+    let class = format!(in alloc; "{kind} {id}")?;
     let mut marks = Marks::new(alloc);
     draw_row(&mut marks, scene, drawn, heading, top)?;
-    add_group(groups, row_group(&drawn.row.subject, marks)?)
+    add_group(groups, id.as_str(), class.as_str(), id.as_str(), marks)
 }
 
 /// What stands before a row of a kind: its word, unless the row above is of this kind.
 fn heading_behind(above: Option<Sort>, sort: Sort) -> &'static str {
+    let kind = kind_word(sort);
     match above {
-        Some(above) if kind_word(above) == kind_word(sort) => "",
-        _ => kind_word(sort),
+        Some(above) if kind_word(above) == kind => "",
+        _ => kind,
     }
 }
 
@@ -163,10 +127,10 @@ fn add_groups(
     requires { groups.old.items ≡ [] }
     ensures { OnOk result (AreChartGroups scene.entry.nodes scene.entry.window rows.now scene.entry.happenings.now groups.new.items) }
 {
-    add_group(groups, axis_group(alloc, station, scene.window, bottom)?)?;
+    add_axis(groups, alloc, station, scene.window, bottom)?;
     add_rows(groups, alloc, scene, rows)?;
     add_happenings(groups, alloc, scene.window, scene.happenings)?;
-    add_group(groups, legend_group(alloc, bottom)?)
+    add_legend(groups, alloc, bottom)
 }
 
 /// The chart of a part of a session on a station of this layout, by its rows, as a picture: a group for each row, whose

@@ -1,6 +1,6 @@
 //! How a row is drawn: its name, a band for each of its lanes, and when its node was made anew.
 
-ghost use Rattle.std.specs.Prelude.{◌≡◌, ◌++◌, ◌∷◌, [], IfOk, OnOk, Some, codes, string_bytes};
+ghost use Rattle.std.specs.Prelude.{◌≡◌, ◌++◌, ◌∷◌, [], OnOk, Some, codes};
 ghost use Rattle.std.specs.List.{flat_map};
 ghost use Rattle.lane_chart.specs.Faces.{edge_class, edge_of, is_node, node_strokes, restart_strokes, row_strokes, span_end, span_strokes, state_text};
 ghost use Rattle.lane_chart.specs.Strokes.{line, named, on_paper, place_of, strokes};
@@ -17,7 +17,7 @@ use crate::words::{label, state_word};
 use control_table::layout::Route;
 use control_table::sci_telegram::Position;
 use drawing::{Anchor, Spot};
-use std::alloc::{AllocError, Global};
+use std::alloc::AllocError;
 
 /// How wide a letter is.
 pub(crate) const LETTER: usize = 6;
@@ -73,20 +73,13 @@ fn draw_span(marks: &mut Marks, routes: &[Route], span: Span, middle: i32) -> Re
     draw_label(marks, routes, span, middle)
 }
 
-/// The class of the line for what is seen.
-fn class_of(alloc: Global, seen: Seen) -> Result<String, AllocError>
-    ensures { IfOk result (λ class. string_bytes class ≡ codes "band " ++ state_text seen) }
-{
-    let state = state_word(seen);
-    format!(in alloc; "band {state}")
-}
-
 /// Draws what a span shows, as a line.
 fn draw_state(marks: &mut Marks, span: Span, middle: i32) -> Result<(), AllocError>
     ensures drawn { OnOk result (strokes marks.new.marks.items ≡ strokes marks.old.marks.items ++ line (codes "band " ++ state_text span.seen) (place_of span.left) (span_end span) ∷ []) }
     ensures named { OnOk result (named marks.new.marks.items ≡ named marks.old.marks.items) }
 {
-    let class = class_of(marks.alloc, span.seen)?;
+    let state = state_word(span.seen);
+    let class = format!(in marks.alloc; "band {state}")?;
     let height = middle.saturating_add(offset(span.seen));
     marks.level_line(class.as_str(), place_of(span.left), span_end(span), height)
 }

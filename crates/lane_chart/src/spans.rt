@@ -1,7 +1,6 @@
 //! What is drawn of a lane: from each change to the next.
 
-ghost use Rattle.std.specs.Prelude.{◌≡◌, ◌++◌, ◌∷◌, [], IfOk, List, None, OnOk, Some};
-ghost use Rattle.std.specs.List.{filter};
+ghost use Rattle.std.specs.Prelude.{◌≡◌, ◌++◌, ◌∷◌, [], IfOk, List, OnOk, Some};
 ghost use Rattle.lane_chart.specs.Spans.{is_drawn, kind_number, spans_behind, spans_of};
 ghost use Rattle.lane_chart.specs.declared.change.Change.{Change as ChangeTold};
 ghost use Rattle.lane_chart.specs.declared.scale.Window.{Window as WindowSeen};
@@ -48,24 +47,6 @@ fn is_drawn(window: Window, lane: Lane, change: Change) -> bool
     kind_number(change.lane.kind) == kind_number(lane.kind)
         && change.lane.place == lane.place
         && change.time <= window.to
-}
-
-/// The changes of a lane that are drawn, in order.
-fn drawn_changes(
-    alloc: Global,
-    window: Window,
-    lane: Lane,
-    changes: &[Change],
-) -> Result<Vec<Change>, AllocError>
-    ensures { IfOk result (λ drawn. drawn.items ≡ filter (is_drawn window lane) changes.now) }
-{
-    let mut drawn = Vec::new(alloc);
-    for change in changes {
-        if is_drawn(window, lane, *change) {
-            drawn.push(*change)?;
-        }
-    }
-    Ok(drawn)
 }
 
 /// A change closes the span before it, or is joined with it. The answer is the span that is open then.
@@ -115,20 +96,6 @@ fn close(spans: &mut Vec<Span>, before: Option<Span>) -> Result<(), AllocError>
     }
 }
 
-/// From each change to the next.
-fn spans_between(alloc: Global, window: Window, changes: &[Change]) -> Result<Vec<Span>, AllocError>
-    ensures { IfOk result (λ spans. spans.items ≡ spans_behind window None changes.now) }
-{
-    let mut spans = Vec::new(alloc);
-    let mut before = None;
-    for change in changes {
-        let next = open_span(&mut spans, window, before, *change)?;
-        before = Some(next);
-    }
-    close(&mut spans, before)?;
-    Ok(spans)
-}
-
 /// What is drawn of a lane, from left to right: from each of its changes to the next.
 pub(crate) fn spans_of(
     alloc: Global,
@@ -138,6 +105,14 @@ pub(crate) fn spans_of(
 ) -> Result<Vec<Span>, AllocError>
     ensures { IfOk result (λ spans. spans.items ≡ spans_of window lane changes.now) }
 {
-    let drawn = drawn_changes(alloc, window, lane, changes)?;
-    spans_between(alloc, window, &drawn)
+    let mut spans = Vec::new(alloc);
+    let mut before = None;
+    for change in changes {
+        if is_drawn(window, lane, *change) {
+            let next = open_span(&mut spans, window, before, *change)?;
+            before = Some(next);
+        }
+    }
+    close(&mut spans, before)?;
+    Ok(spans)
 }

@@ -1,10 +1,9 @@
 //! The rows of a chart.
 
-ghost use Rattle.std.specs.Prelude.{◌≡◌, IfOk, string_bytes};
-ghost use Rattle.lane_chart.specs.Subjects.{kind_text, subject_id};
+ghost use Rattle.std.specs.Prelude.{◌≡◌};
+ghost use Rattle.lane_chart.specs.Subjects.{kind_text};
 
 use control_table::sci_telegram::Name;
-use std::alloc::{AllocError, Global};
 
 /// What a row of a chart is for.
 #[derive(Clone, Copy)]
@@ -63,13 +62,4 @@ pub(crate) fn kind_word(sort: Sort) -> &'static str
         Sort::SignalLink | Sort::PointLink | Sort::DetectorLink => "link",
         Sort::Interlocking | Sort::SignalNode | Sort::PointNode | Sort::DetectorNode => "node",
     }
-}
-
-/// The identity of a row: its kind and its name, joined by a dot.
-pub(crate) fn id_of(alloc: Global, subject: &Subject) -> Result<String, AllocError>
-    ensures { IfOk result (λ text. string_bytes text ≡ subject_id subject.now) }
-{
-    let kind = kind_word(subject.sort);
-    let name = subject.name.as_str();
-    format!(in alloc; "{kind}.{name}")
 }

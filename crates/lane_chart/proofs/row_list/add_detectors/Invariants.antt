@@ -1,8 +1,0 @@
-use Rattle.std.proofs.Common.{◌≡◌, ◌++◌, drop}
-use Rattle.control_table.specs.layout.Entries.{DetectorEntry}
-use Rattle.lane_chart.specs.Subjects.{numbered}
-use Rattle.lane_chart.proofs.row_list.add_detectors.Given as goal
-
--- the rows so far, and behind them those of the entries that are left
-abbrev pub invariant-loop-place : goal.invariant-loop-place
-invariant-loop-place l = l.rows.items ++ numbered (λ (detector : DetectorEntry). detector.name) l.sort l.place (drop l.place l.detectors) ≡ l.fn.rows.items ++ numbered (λ (detector : DetectorEntry). detector.name) l.sort 0 l.detectors
