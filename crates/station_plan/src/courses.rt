@@ -1,6 +1,5 @@
 //! Which joints go on from left to right. Those that turn back or close a circle are left out of the rows.
 
-use crate::lists::{at, put};
 use crate::sketch::Sketch;
 use crate::yard::Place;
 use control_table::layout::Joint;
@@ -87,17 +86,16 @@ impl Sketch {
         }
         facts.is_visited = true;
         facts.is_open = true;
+        facts.before = self.visited;
         self.keep(element, facts);
-        put(&mut self.stack, self.depth, element);
-        self.depth = self.depth.saturating_add(1);
+        self.visited = Some(element);
     }
 
     /// Tries the next port of the element to which the search came last.
     fn step(&mut self) {
-        if self.depth == 0 {
+        let Some(element) = self.visited else {
             return;
-        }
-        let element = at(&self.stack, self.depth - 1, 0);
+        };
         let mut facts = self.facts(element);
         match self.numbers.ends(element).get(facts.tried) {
             Some(end) => {
@@ -108,7 +106,7 @@ impl Sketch {
             None => {
                 facts.is_open = false;
                 self.keep(element, facts);
-                self.depth = self.depth.saturating_sub(1);
+                self.visited = facts.before;
                 self.enlist(element);
             }
         }

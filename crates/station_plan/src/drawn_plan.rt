@@ -1,13 +1,14 @@
 //! The picture of a plan.
 
-ghost use Rattle.std.specs.Prelude.{◌≡◌, [], IfOk};
+ghost use Rattle.std.specs.Prelude.{◌≡◌, [], IfOk, OnOk};
+ghost use Rattle.drawing.specs.declared.picture.Picture.{Picture as Plan};
 ghost use Rattle.station_plan.specs.Plan.{IsPlanOf};
 
 use crate::extent::{EVERYWHERE, reach_of_things};
 use crate::groups::add_all;
 use crate::marks::Marks;
 use crate::notes::{LINES, draw_legend};
-use crate::paper::paper_for;
+use crate::paper::lay_paper;
 use crate::shown::Shown;
 use crate::sketch::spot;
 use crate::style::STYLE;
@@ -16,50 +17,47 @@ use crate::thing_list::things;
 use crate::units::Units;
 use control_table::Checked;
 use control_table::layout::Layout;
-use drawing::{Anchor, Mark, Picture};
+use drawing::{Anchor, Frame, Group, Picture, Strip};
 use std::alloc::{AllocError, Global};
 
-/// What is written below a plan.
-fn notes(
-    alloc: Global,
+/// Draws what stands below a plan, the name of its station and what its marks mean, and lays all on paper.
+fn lay_out(
+    notes: &mut Marks,
+    strips: &mut Vec<Strip>,
     layout: &Layout,
     things: &[Thing],
     shown: &Shown,
-) -> Result<Vec<Mark>, AllocError> {
+) -> Result<Frame, AllocError> {
     let (left, right) = EVERYWHERE;
     let drawn = reach_of_things(things, false, left, right);
     let all = reach_of_things(things, true, left, right)
         .with(drawn)
         .or_origin();
     let drawn = drawn.or_origin();
-    let mut marks = Marks::new(alloc);
     let name = layout.station().name.as_str();
     let below = spot(drawn.left, drawn.bottom + Units(32));
-    marks.text("heading", below, Anchor::Start, name)?;
-    let at = spot(drawn.left, all.bottom + LINES);
-    draw_legend(&mut marks, layout, shown, at)?;
-    Ok(marks.marks)
+    notes.text("heading", below, Anchor::Start, name)?;
+    let legend = spot(drawn.left, all.bottom + LINES);
+    draw_legend(notes, layout, shown, legend)?;
+    lay_paper(strips, things, &notes.marks)
 }
 
-/// The paper for what is drawn, with nothing on it.
-fn sheet(
+/// Adds the groups of a plan to a list that is empty, and the strips on its paper, which it tells.
+fn draw(
+    strips: &mut Vec<Strip>,
+    groups: &mut Vec<Group>,
     alloc: Global,
-    layout: &Layout,
-    things: &[Thing],
-    notes: &[Mark],
-) -> Result<Picture, AllocError>
-    ensures { IfOk result (λ picture. picture.groups.items ≡ []) }
+    table: &Checked,
+    shown: &Shown,
+) -> Result<Frame, AllocError>
+    requires { groups.old.items ≡ [] }
+    ensures { OnOk result ((picture : Plan) → picture.groups ≡ groups.new → IsPlanOf table.now shown.now.seen picture) }
 {
-    let (paper, strips) = paper_for(alloc, things, notes)?;
-    let title = String::from_str(alloc, layout.station().name.as_str())?;
-    let style = String::from_str(alloc, STYLE)?;
-    Ok(Picture {
-        title,
-        style,
-        paper,
-        strips,
-        groups: Vec::new(alloc),
-    })
+    let things = things(alloc, table, shown)?;
+    let mut notes = Marks::new(alloc);
+    let paper = lay_out(&mut notes, strips, table.layout(), &things, shown)?;
+    add_all(groups, alloc, things, notes.marks)?;
+    Ok(paper)
 }
 
 /// The plan of a layout, as a picture at most 1600 units wide: each of its elements is a group of its own, once, whose
@@ -67,10 +65,16 @@ fn sheet(
 pub fn plan(alloc: Global, table: &Checked, shown: &Shown) -> Result<Picture, AllocError>
     ensures { IfOk result (IsPlanOf table.now shown.now.seen) }
 {
-    let layout = table.layout();
-    let things = things(alloc, table, shown)?;
-    let notes = notes(alloc, layout, &things, shown)?;
-    let mut picture = sheet(alloc, layout, &things, &notes)?;
-    add_all(&mut picture.groups, alloc, things, notes)?;
-    Ok(picture)
+    let title = String::from_str(alloc, table.layout().station().name.as_str())?;
+    let style = String::from_str(alloc, STYLE)?;
+    let mut strips = Vec::new(alloc);
+    let mut groups = Vec::new(alloc);
+    let paper = draw(&mut strips, &mut groups, alloc, table, shown)?;
+    Ok(Picture {
+        title,
+        style,
+        paper,
+        strips,
+        groups,
+    })
 }

@@ -1,50 +1,30 @@
 //! Things as groups of a picture.
 
-ghost use Rattle.std.specs.Prelude.{◌≡◌, [], IfOk, OnOk, ◌++◌, codes, string_bytes};
+ghost use Rattle.std.specs.Prelude.{◌≡◌, [], IfOk, OnOk, string_bytes};
 ghost use Rattle.std.specs.List.{AllZip};
-ghost use Rattle.station_plan.specs.Subjects.{kind_text};
 ghost use Rattle.station_plan.specs.Plan.{AreGroupsOf, Shows, notes_id};
 
-use crate::subjects::{joined, kind_word};
-use crate::thing::{Subject, Thing};
+use crate::subjects::{end_word, words_of};
+use crate::thing::Thing;
 use drawing::{Group, Mark};
 use std::alloc::{AllocError, Global};
+use std::mem::replace;
 
-/// The words of a thing's class: its kind, its identity, how it is marked, and what is seen of it.
-fn class_of(
-    alloc: Global,
-    subject: &Subject,
-    id: &str,
-    marked: &str,
-    state: &str,
-) -> Result<String, AllocError>
-    ensures { IfOk result (λ text. string_bytes text ≡ kind_text subject.now ++ (codes " " ++ (id.now ++ (marked.now ++ state.now)))) }
+/// A thing as a group, to which it hands its marks over. Its class has the words of its kind and of its identity, how it is
+/// marked, and what is seen of it.
+fn group(alloc: Global, thing: &mut Thing) -> Result<Group, AllocError>
+    ensures { IfOk result (λ group. Shows thing.old group) }
 {
-    let kind = kind_word(subject);
-    format!(in alloc; "{kind} {id}{marked}{state}")
-}
-
-/// A thing as a group.
-fn group(alloc: Global, thing: Thing) -> Result<Group, AllocError>
-    ensures { IfOk result (λ group. Shows thing group) }
-{
-    let Thing {
-        subject,
-        marked,
-        state,
-        mut marks,
-        mut more,
-    } = thing;
-    let id = joined(alloc, &subject, ".")?;
-    let class = class_of(
-        alloc,
-        &subject,
-        id.as_str(),
-        marked.as_str(),
-        state.as_str(),
-    )?;
-    let title = joined(alloc, &subject, " ")?;
-    marks.append(&mut more)?;
+    let (kind, name) = words_of(&thing.subject);
+    let name = name.as_str();
+    let end = end_word(&thing.subject);
+    let marked = thing.marked.as_str();
+    let state = thing.state.as_str();
+    let id = format!(in alloc; "{kind}.{name}{end}")?;
+    let class = format!(in alloc; "{kind} {id}{marked}{state}")?;
+    let title = format!(in alloc; "{kind} {name}{end}")?;
+    thing.marks.append(&mut thing.more)?;
+    let marks = replace(&mut thing.marks, Vec::new(alloc));
     Ok(Group {
         id,
         class,
@@ -59,9 +39,10 @@ fn add_groups(groups: &mut Vec<Group>, alloc: Global, things: Vec<Thing>) -> Res
     requires { groups.old.items ≡ [] }
     ensures { OnOk result (AllZip Shows things.items groups.new.items) }
 {
-    for thing in things {
-        let group = group(alloc, thing)?;
-        groups.push(group)?;
+    for mut thing in things {
+        let group = group(alloc, &mut thing);
+        drop(thing);
+        groups.push(group?)?;
     }
     Ok(())
 }

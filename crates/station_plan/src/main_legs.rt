@@ -1,6 +1,5 @@
 //! The leg of each point by which its row goes on.
 
-use crate::shown::has_side;
 use crate::sketch::Sketch;
 use crate::yard::{FAR, Place};
 use control_table::layout::{End, PointId, Route};
@@ -153,7 +152,7 @@ fn legs(element: usize) -> (Place, Place) {
 fn is_fast(routes: &[Route], point: PointId, side: Side) -> bool {
     for route in routes {
         let is_slow = matches!(route.aspect(), Aspect::Slow);
-        if !is_slow && has_side(route.points(), point, side) {
+        if !is_slow && route.points().contains(&(point, side)) {
             return true;
         }
     }

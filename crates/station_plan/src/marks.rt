@@ -60,8 +60,7 @@ impl Marks {
         if from == corner || corner == to {
             return self.line(class, from, to);
         }
-        let mut spots = Vec::new(self.alloc);
-        spots.extend_from_slice(&[from, corner, to])?;
+        let spots = Vec::from_array(self.alloc, [from, corner, to])?;
         self.add(class, Shape::Polyline(spots))
     }
 
@@ -76,8 +75,7 @@ impl Marks {
         ensures drawn { OnOk result (strokes self.new.marks.items ≡ strokes self.old.marks.items ++ polygon class.now ∷ []) }
         ensures named { OnOk result (written self.new.marks.items ≡ written self.old.marks.items) }
     {
-        let mut spots = Vec::new(self.alloc);
-        spots.extend_from_slice(&[one, two, three])?;
+        let spots = Vec::from_array(self.alloc, [one, two, three])?;
         self.add(class, Shape::Polygon(spots))
     }
 

@@ -4,7 +4,7 @@ use crate::extent::{EVERYWHERE, Extent, reach_of_marks, reach_of_things};
 use crate::thing::Thing;
 use crate::units::{Units, count};
 use drawing::{Frame, Mark, Strip};
-use std::alloc::{AllocError, Global};
+use std::alloc::AllocError;
 
 /// The widest picture.
 const WIDEST: Units = Units(1600);
@@ -55,27 +55,25 @@ fn add_strips(
     add_strip(strips, down, below)
 }
 
-/// The paper of a plan, and the strips on it, if the plan is too wide.
-pub(crate) fn paper_for(
-    alloc: Global,
+/// Lays a plan on paper, which it tells: adds the strips, if the plan is too wide.
+pub(crate) fn lay_paper(
+    strips: &mut Vec<Strip>,
     things: &[Thing],
     notes: &[Mark],
-) -> Result<(Frame, Vec<Strip>), AllocError> {
+) -> Result<Frame, AllocError> {
     let (left, right) = EVERYWHERE;
     let below = reach_of_things(things, true, left, right).with(reach_of_marks(notes, left, right));
     let all = reach_of_things(things, false, left, right)
         .with(below)
         .grown(MARGIN);
-    let mut strips = Vec::new(alloc);
     if all.width().0 <= WIDEST.0 {
-        return Ok((all.frame(), strips));
+        return Ok(all.frame());
     }
-    let down = add_strips(&mut strips, things, all, below.grown(MARGIN))?;
-    let paper = Frame {
+    let down = add_strips(strips, things, all, below.grown(MARGIN))?;
+    Ok(Frame {
         left: 0,
         top: 0,
         width: WIDEST.0.unsigned_abs(),
         height: down.0.unsigned_abs(),
-    };
-    Ok((paper, strips))
+    })
 }

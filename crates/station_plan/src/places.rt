@@ -7,50 +7,70 @@ ghost use Rattle.std.specs.Str.{bytes_eq};
 use control_table::layout::{Point, Route, Signal};
 use control_table::sci_telegram::Name;
 
+/// An entry of a table of the layout, which goes by a name.
+pub(crate) trait Named {
+    ghost use Rattle.std.specs.Prelude.{◌≡◌, ℕ, List};
+
+    ghost own_name: { Self → List ℕ };
+
+    fn own_name(&self) -> &str
+        ensures { result.now ≡ own_name self.now };
+}
+
+impl Named for Signal {
+    ghost own_name = { λ signal. signal.name };
+
+    fn own_name(&self) -> &str {
+        self.name.as_str()
+    }
+}
+
+impl Named for Point {
+    ghost own_name = { λ point. point.name };
+
+    fn own_name(&self) -> &str {
+        self.name.as_str()
+    }
+}
+
+impl Named for Name {
+    ghost own_name = { λ name. name };
+
+    fn own_name(&self) -> &str {
+        self.as_str()
+    }
+}
+
+impl Named for Route {
+    ghost own_name = { λ route. route.name };
+
+    fn own_name(&self) -> &str {
+        self.name().as_str()
+    }
+}
+
+/// The place of the entry of a name.
+pub(crate) fn place_of<T: Named>(entries: &[T], name: &str) -> Option<usize>
+    ensures { result ≡ position (λ entry. bytes_eq (T.own_name entry) name.now) entries.now }
+{
+    for (place, entry) in entries.iter().enumerate() {
+        if entry.own_name() == name {
+            return Some(place);
+        }
+    }
+    None
+}
+
 /// The place of the signal of a name.
 pub fn signal_place(signals: &[Signal], name: &str) -> Option<usize>
     ensures { result ≡ position (λ signal. bytes_eq signal.name name.now) signals.now }
 {
-    for (place, signal) in signals.iter().enumerate() {
-        if signal.name.as_str() == name {
-            return Some(place);
-        }
-    }
-    None
-}
-
-/// The place of the point of a name.
-pub(crate) fn point_place(points: &[Point], name: &str) -> Option<usize>
-    ensures { result ≡ position (λ point. bytes_eq point.name name.now) points.now }
-{
-    for (place, point) in points.iter().enumerate() {
-        if point.name.as_str() == name {
-            return Some(place);
-        }
-    }
-    None
-}
-
-/// The place of the section of a name.
-pub(crate) fn section_place(sections: &[Name], name: &str) -> Option<usize>
-    ensures { result ≡ position (λ section. bytes_eq section name.now) sections.now }
-{
-    for (place, section) in sections.iter().enumerate() {
-        if section.as_str() == name {
-            return Some(place);
-        }
-    }
-    None
+    place_of(signals, name)
 }
 
 /// The place of the route of a name.
 pub fn route_place(routes: &[Route], name: &str) -> Option<usize>
     ensures { result ≡ position (λ route. bytes_eq route.name name.now) routes.now }
 {
-    for (place, route) in routes.iter().enumerate() {
-        if route.name().as_str() == name {
-            return Some(place);
-        }
-    }
-    None
+    place_of(routes, name)
 }

@@ -8,7 +8,7 @@ ghost use Rattle.station_plan.specs.Strokes.{strokes, written};
 use crate::element_marks::{draw_band, draw_point_band, moved};
 use crate::labels::{LETTER, LINE, lines};
 use crate::marks::Marks;
-use crate::sketch::{Sketch, spot};
+use crate::sketch::Sketch;
 use crate::units::{Units, count};
 use control_table::layout::{Detector, Layout, Point, SectionId, Track};
 use control_table::sci_telegram::Name;
@@ -159,56 +159,27 @@ pub(crate) fn draw_list(
     letters: usize,
 ) -> Result<Units, AllocError> {
     let mut words = String::from_str(more.alloc, ":")?;
-    let before = detector.name().as_str().len();
-    draw_names(
-        more,
-        &mut words,
-        names,
-        detector.sections(),
-        at,
-        before,
-        letters,
-    )
-}
-
-/// Writes names of sections behind the words with which the first line begins, which stand behind so many letters.
-fn draw_names(
-    more: &mut Marks,
-    words: &mut String,
-    names: &[Name],
-    sections: &[SectionId],
-    at: Spot,
-    behind: usize,
-    letters: usize,
-) -> Result<Units, AllocError> {
-    let begin = Units(at.x) + Units(30);
-    let mut before = behind;
-    let mut down = Units(at.y);
-    for section in sections {
+    let mut before = detector.name().as_str().len();
+    let mut next = moved(at, 30, 0);
+    for section in detector.sections() {
         let word = section_word(names, *section);
         let taken = before.saturating_add(words.len());
         if taken.saturating_add(word.len()) >= letters {
-            draw_words(more, begin, down, before, words.as_str())?;
+            draw_words(more, next, before, words.as_str())?;
             words.clear();
             before = 0;
-            down = down + LINE;
+            next = moved(next, 0, LINE.0);
         }
         words.push_str(" ")?;
         words.push_str(word)?;
     }
-    draw_words(more, begin, down, before, words.as_str())?;
-    Ok(down + LINE + Units(5))
+    draw_words(more, next, before, words.as_str())?;
+    Ok(Units(next.y) + LINE + Units(5))
 }
 
 /// Writes words behind so many letters.
-fn draw_words(
-    more: &mut Marks,
-    begin: Units,
-    down: Units,
-    before: usize,
-    words: &str,
-) -> Result<(), AllocError> {
-    let at = spot(begin + LETTER.times(count(before)), down);
+fn draw_words(more: &mut Marks, begin: Spot, before: usize, words: &str) -> Result<(), AllocError> {
+    let at = moved(begin, LETTER.times(count(before)).0, 0);
     more.text("label", at, Anchor::Start, words)
 }
 

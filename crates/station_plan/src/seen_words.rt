@@ -1,9 +1,9 @@
 //! What is seen of signals, points and sections, as words of their classes.
 
 ghost use Rattle.std.specs.Prelude.{◌≡◌};
-ghost use Rattle.station_plan.specs.Faces.{aspect_seen, aspect_state, known, leg_state, occupancy_seen, occupancy_state, position_seen, state_for};
+ghost use Rattle.station_plan.specs.Faces.{aspect_state, known, leg_state, occupancy_state, position_seen, state_for};
 
-use crate::places::{point_place, section_place, signal_place};
+use crate::places::place_of;
 use crate::shown::{Seen, Shown};
 use crate::thing::Subject;
 use control_table::layout::Layout;
@@ -22,28 +22,11 @@ fn known<T: Copy>(list: &[Option<T>], place: Option<usize>) -> Option<T>
     }
 }
 
-/// What a signal shows.
-fn aspect_seen(layout: &Layout, seen: &Seen, name: &Name) -> Option<Aspect>
-    ensures { result ≡ aspect_seen layout.now seen.now name.now }
-{
-    known(&seen.aspects, signal_place(layout.signals(), name.as_str()))
-}
-
 /// Where a point lies.
 fn position_seen(layout: &Layout, seen: &Seen, name: &Name) -> Option<Position>
     ensures { result ≡ position_seen layout.now seen.now name.now }
 {
-    known(&seen.positions, point_place(layout.points(), name.as_str()))
-}
-
-/// Whether a section is occupied.
-fn occupancy_seen(layout: &Layout, seen: &Seen, name: &Name) -> Option<Occupancy>
-    ensures { result ≡ occupancy_seen layout.now seen.now name.now }
-{
-    known(
-        &seen.occupancies,
-        section_place(layout.sections(), name.as_str()),
-    )
+    known(&seen.positions, place_of(layout.points(), name.as_str()))
 }
 
 fn aspect_words(aspect: Option<Aspect>) -> &'static str
@@ -89,10 +72,16 @@ pub(crate) fn state_word(layout: &Layout, shown: &Shown, subject: &Subject) -> &
         return "";
     };
     match subject {
-        Subject::Section(name) => occupancy_words(occupancy_seen(layout, seen, name)),
+        Subject::Section(name) => {
+            let place = place_of(layout.sections(), name.as_str());
+            occupancy_words(known(&seen.occupancies, place))
+        }
         Subject::Left(name) => leg_words(position_seen(layout, seen, name), Side::Left),
         Subject::Right(name) => leg_words(position_seen(layout, seen, name), Side::Right),
-        Subject::Signal(name) => aspect_words(aspect_seen(layout, seen, name)),
+        Subject::Signal(name) => {
+            let place = place_of(layout.signals(), name.as_str());
+            aspect_words(known(&seen.aspects, place))
+        }
         Subject::Track(_)
         | Subject::Point(_)
         | Subject::Tip(_)

@@ -49,24 +49,14 @@ fn passes(route: &Route, element: Element) -> bool {
     false
 }
 
-/// Whether a list has a point at a side.
-pub(crate) fn has_side(points: &[(PointId, Side)], point: PointId, side: Side) -> bool {
-    for (other, there) in points {
-        if *other == point && *there == side {
-            return true;
-        }
-    }
-    false
-}
-
 /// Whether a route passes over what is placed: a track, or the tip or a leg of a point.
 fn takes(route: &Route, placed: &Placed) -> bool {
     let point = PointId(placed.number);
     match placed.subject {
         Subject::Track(_) => passes(route, Element::Track(TrackId(placed.number))),
         Subject::Tip(_) => passes(route, Element::Point(point)),
-        Subject::Left(_) => has_side(route.points(), point, Side::Left),
-        Subject::Right(_) => has_side(route.points(), point, Side::Right),
+        Subject::Left(_) => route.points().contains(&(point, Side::Left)),
+        Subject::Right(_) => route.points().contains(&(point, Side::Right)),
         _ => false,
     }
 }
@@ -85,8 +75,8 @@ fn is_set_over(routes: &[Route], set: &[bool], placed: &Placed) -> bool {
 /// Whether a point, or this leg of it, protects the flank of a route.
 fn protects(route: &Route, placed: &Placed) -> bool {
     let point = PointId(placed.number);
-    let left = has_side(route.flank(), point, Side::Left);
-    let right = has_side(route.flank(), point, Side::Right);
+    let left = route.flank().contains(&(point, Side::Left));
+    let right = route.flank().contains(&(point, Side::Right));
     match placed.subject {
         Subject::Point(_) => left || right,
         Subject::Left(_) => left,

@@ -13,19 +13,36 @@ use control_table::sci_telegram::Name;
 use drawing::{Anchor, Spot};
 use std::alloc::AllocError;
 
-/// Where the parts of a signal lie.
-#[derive(Drop)]
-struct Symbol {
+/// The mast of a signal: where it begins, which way it leads, and how far along it its parts lie.
+#[derive(Clone, Copy)]
+struct Mast {
     /// The middle of its foot.
     foot: Spot,
+    /// Which way it leads to the side.
+    side: i32,
+    /// Which way it leads up or down.
+    slope: i32,
+    /// How far its top lies.
+    top: i32,
+    /// How far its lower lamp lies.
+    near: i32,
+    /// How far its upper lamp lies.
+    distant: i32,
+}
+
+impl Mast {
+    /// The spot so far along it.
+    fn at(self, length: i32) -> Spot {
+        along(self.foot, self.side, self.slope, length)
+    }
+}
+
+/// Where the parts of a signal lie.
+#[derive(Clone, Copy)]
+struct Symbol {
+    mast: Mast,
     /// The ends of its foot.
     ends: (Spot, Spot),
-    /// The top of its mast.
-    top: Spot,
-    /// Its lower lamp.
-    near: Spot,
-    /// Its upper lamp.
-    distant: Spot,
     /// Its name.
     name: Spot,
     anchor: Anchor,
@@ -43,14 +60,24 @@ fn level_symbol(sketch: &Sketch, place: Place) -> Symbol {
         back.times(side).0.saturating_neg(),
         side.saturating_mul(11),
     );
-    Symbol {
+    let mast = Mast {
         foot,
+        side,
+        slope: 0,
+        top: 12,
+        near: 16,
+        distant: 24,
+    };
+    let (anchor, down) = if right {
+        (Anchor::End, 14)
+    } else {
+        (Anchor::Start, -7)
+    };
+    Symbol {
+        mast,
         ends: (moved(foot, 0, -4), moved(foot, 0, 4)),
-        top: along(foot, side, 0, 12),
-        near: along(foot, side, 0, 16),
-        distant: along(foot, side, 0, 24),
-        name: moved(along(foot, side, 0, 28), 0, if right { 14 } else { -7 }),
-        anchor: if right { Anchor::End } else { Anchor::Start },
+        name: moved(mast.at(28), 0, down),
+        anchor,
         upward: !right,
     }
 }
@@ -63,17 +90,22 @@ fn slanted_symbol(sketch: &Sketch, place: Place) -> Symbol {
     let foot = moved(start, slope.saturating_mul(-8), side.saturating_mul(8));
     let across = slope.saturating_mul(3);
     let down = side.saturating_mul(3);
-    Symbol {
+    let mast = Mast {
         foot,
+        side,
+        slope,
+        top: 8,
+        near: 11,
+        distant: 17,
+    };
+    Symbol {
+        mast,
         ends: (
             moved(foot, across, down.saturating_neg()),
             moved(foot, across.saturating_neg(), down),
         ),
-        top: along(foot, side, slope, 8),
-        near: along(foot, side, slope, 11),
-        distant: along(foot, side, slope, 17),
         name: moved(
-            along(foot, side, slope, 11),
+            mast.at(mast.near),
             slope.saturating_mul(-9),
             side.saturating_mul(6).saturating_add(3),
         ),
@@ -102,31 +134,24 @@ pub(crate) fn draw_signal(
         slanted_symbol(sketch, place)
     };
     marks.line("mast", symbol.ends.0, symbol.ends.1)?;
-    draw_lamps(marks, symbol.foot, symbol.top, symbol.near, symbol.distant)?;
+    draw_mast(marks, symbol.mast)?;
     let at = symbol.name;
-    let upward = symbol.upward;
     marks.name(
         "name",
         Units(at.x),
         Units(at.y),
         symbol.anchor,
         name,
-        upward,
+        symbol.upward,
     )
 }
 
 /// Draws the mast of a signal from its foot to its top, and its two lamps.
-fn draw_lamps(
-    marks: &mut Marks,
-    foot: Spot,
-    top: Spot,
-    near: Spot,
-    distant: Spot,
-) -> Result<(), AllocError>
+fn draw_mast(marks: &mut Marks, mast: Mast) -> Result<(), AllocError>
     ensures drawn { OnOk result (strokes marks.new.marks.items ≡ strokes marks.old.marks.items ++ line (codes "mast") ∷ circle (codes "lamp near") ∷ circle (codes "lamp distant") ∷ []) }
     ensures named { OnOk result (written marks.new.marks.items ≡ written marks.old.marks.items) }
 {
-    marks.line("mast", foot, top)?;
-    marks.circle("lamp near", near, 4)?;
-    marks.circle("lamp distant", distant, 4)
+    marks.line("mast", mast.foot, mast.at(mast.top))?;
+    marks.circle("lamp near", mast.at(mast.near), 4)?;
+    marks.circle("lamp distant", mast.at(mast.distant), 4)
 }

@@ -22,10 +22,8 @@ pub(crate) struct Sketch {
     pub(crate) ports: Vec<PortFacts>,
     /// How many pieces there are.
     pub(crate) pieces: usize,
-    /// The elements at which the search for circles is.
-    pub(crate) stack: Vec<usize>,
-    /// How many these are.
-    pub(crate) depth: usize,
+    /// The element to which the search for circles came last.
+    pub(crate) visited: Option<usize>,
     /// The elements as a search finds them: in the end from right to left, and from left to right once the ways to the right
     /// are found.
     pub(crate) order: Vec<usize>,
@@ -62,8 +60,7 @@ impl Sketch {
             elements: Vec::new(alloc),
             ports: Vec::new(alloc),
             pieces: 0,
-            stack: Vec::new(alloc),
-            depth: 0,
+            visited: None,
             order: Vec::new(alloc),
             found: 0,
             chains: 0,
@@ -84,7 +81,6 @@ impl Sketch {
         self.lay_strands();
         self.lay_rows();
         self.rows.resize(self.row_count, EMPTY)?;
-        self.lay_widths();
         self.set_out();
         // Once more, as it is known which links are level between rows.
         self.set_out();
@@ -96,7 +92,6 @@ impl Sketch {
         let size = self.numbers.all();
         self.elements.resize(size, UNKNOWN)?;
         self.ports.resize(size.saturating_mul(3), UNJOINED)?;
-        self.stack.resize(size, 0)?;
         self.order.resize(size, 0)?;
         self.read_labels(layout);
         self.join(layout.joints());
@@ -117,6 +112,7 @@ impl Sketch {
     fn set_out(&mut self) {
         self.level_links();
         self.lay_heights();
+        self.lay_widths();
         self.lay_columns();
     }
 

@@ -22,11 +22,12 @@ const BESIDE: Units = Units(14);
 pub(crate) const CONNECTOR: Units = Units(34);
 
 impl Sketch {
-    /// Finds the widths of all elements.
+    /// Finds the widths of all elements, and puts them as far to the left as their own room allows.
     pub(crate) fn lay_widths(&mut self) {
         for element in 0..self.elements.len() {
             let mut facts = self.facts(element);
             facts.half = self.half_of(element);
+            facts.x = facts.half;
             self.keep(element, facts);
         }
     }

@@ -42,6 +42,8 @@ pub(crate) struct ElementFacts {
     pub(crate) is_open: bool,
     /// How many of its ports that search has tried.
     pub(crate) tried: usize,
+    /// The element from which that search came to it.
+    pub(crate) before: Option<usize>,
     /// The ways to the left.
     pub(crate) left: Ways,
     /// The ways to the right.
@@ -68,6 +70,7 @@ pub(crate) const UNKNOWN: ElementFacts = ElementFacts {
     is_visited: false,
     is_open: false,
     tried: 0,
+    before: None,
     left: Ways {
         longest: 1,
         points: FAR,

@@ -2,7 +2,7 @@ use Rattle.std.proofs.Common.{◌∙◌, [], ◌∷◌, ◌++◌, ap, append_ass
 use Rattle.std.proofs.lemmas.Result.{on_ok_weaker}
 use Rattle.std.specs.Prelude.{codes}
 use Rattle.station_plan.specs.Strokes.{circle, line, strokes}
-use Rattle.station_plan.proofs.signal_marks.draw_lamps.Goals as goal
+use Rattle.station_plan.proofs.signal_marks.draw_mast.Goals as goal
 
 pub returns : goal.returns
 returns c =
