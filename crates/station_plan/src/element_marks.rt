@@ -52,8 +52,8 @@ pub(crate) fn draw_track(
     draw_end(more, sketch, element, true)?;
     let room = sketch.signal_room(element, false);
     let middle = (Units(left.x) + room + Units(right.x)).half();
-    let y = Units(left.y) - Units(8);
-    marks.name("name", middle, y, Anchor::Middle, name, true)
+    let at = spot(middle, Units(left.y) - Units(8));
+    marks.name("name", at, Anchor::Middle, name, true)
 }
 
 /// Draws what stands at an end of a row: a dead end, or the number of the joint by which the line goes on elsewhere.
@@ -120,16 +120,15 @@ pub(crate) fn draw_point(
     ensures drawn { OnOk result (strokes marks.new.marks.items ≡ strokes marks.old.marks.items) }
     ensures named { OnOk result (written marks.new.marks.items ≡ written marks.old.marks.items ++ name) }
 {
-    let x = sketch.x(element);
-    let y = sketch.y(element);
+    let at = sketch.spot(element);
     let up = sketch.is_drawn_up(element);
-    let down = if up { Units(16) } else { Units(-8) };
-    marks.name("name", x, y + down, Anchor::Middle, name, !up)?;
+    let down = if up { 16 } else { -8 };
+    marks.name("name", moved(at, 0, down), Anchor::Middle, name, !up)?;
     if up != sketch.leads_up(sketch.minor(element)) {
         draw_hand(more, sketch, element)?;
     }
     if is_flank {
-        more.circle("guard", sketch.spot(element), 4)?;
+        more.circle("guard", at, 4)?;
     }
     Ok(())
 }
@@ -165,14 +164,13 @@ pub(crate) fn draw_border(
     let right = sketch.is_right(place);
     let side = sign(right);
     let x = sketch.x(element) - sketch.facts(element).half.times(side);
-    let y = sketch.y(element);
-    let outer = spot(x, y);
+    let outer = spot(x, sketch.y(element));
     let tip = moved(outer, side.saturating_mul(10), 0);
     marks.triangle("arrow", moved(outer, 0, -5), tip, moved(outer, 0, 5))?;
     marks.line("rail", tip, sketch.port_spot(place))?;
     draw_end(more, sketch, element, right)?;
     let anchor = if right { Anchor::Start } else { Anchor::End };
-    marks.name("name", x, y - Units(8), anchor, name, true)
+    marks.name("name", moved(outer, 0, -8), anchor, name, true)
 }
 
 /// Draws a joint across the line.

@@ -3,9 +3,8 @@
 ghost use Rattle.std.specs.Prelude.{◌≡◌, ◌++◌, ◌∷◌, [], IfSome, OnOk};
 ghost use Rattle.station_plan.specs.Strokes.{circle, line, polygon, stroke_of, strokes, text_of, written};
 
+use crate::element_marks::moved;
 use crate::labels::{LINE, WRAP};
-use crate::sketch::spot;
-use crate::units::Units;
 use control_table::sci_telegram::Name;
 use drawing::{Anchor, Mark, Shape, Spot};
 use std::alloc::{AllocError, Global};
@@ -111,17 +110,15 @@ impl Marks {
     pub(crate) fn number(&mut self, at: Spot, number: usize) -> Result<(), AllocError> {
         self.circle("ring", at, 8)?;
         let words = format!(in self.alloc; "{number}")?;
-        let foot = spot(Units(at.x), Units(at.y) + Units(3));
-        self.text("number", foot, Anchor::Middle, words.as_str())
+        self.text("number", moved(at, 0, 3), Anchor::Middle, words.as_str())
     }
 
-    /// Adds a name, on two lines if it is long: the first of them at `y`, or the last of them where they are to grow
+    /// Adds a name, on two lines if it is long: the first of them at a spot, or the last of them where they are to grow
     /// upward.
     pub(crate) fn name(
         &mut self,
         class: &str,
-        x: Units,
-        y: Units,
+        at: Spot,
         anchor: Anchor,
         name: Name,
         upward: bool,
@@ -130,11 +127,11 @@ impl Marks {
         ensures named { OnOk result (written self.new.marks.items ≡ written self.old.marks.items ++ name) }
     {
         let Some((first, second)) = halves(&name) else {
-            return self.text(class, spot(x, y), anchor, name.as_str());
+            return self.text(class, at, anchor, name.as_str());
         };
-        let upper = if upward { y - LINE } else { y };
-        self.text(class, spot(x, upper), anchor, first)?;
-        self.text(class, spot(x, upper + LINE), anchor, second)
+        let upper = if upward { moved(at, 0, -LINE.0) } else { at };
+        self.text(class, upper, anchor, first)?;
+        self.text(class, moved(upper, 0, LINE.0), anchor, second)
     }
 }
 

@@ -65,22 +65,7 @@ fn place_tracks(placed: &mut Vec<Placed>, tracks: &[Track]) -> Result<(), AllocE
     Ok(())
 }
 
-/// Places a point: its name, its tip and its two legs.
-fn place_point(
-    placed: &mut Vec<Placed>,
-    number: usize,
-    element: usize,
-    point: &Point,
-) -> Result<(), AllocError>
-    ensures { OnOk result (subjects_at placed.new.items ≡ subjects_at placed.old.items ++ point_subjects point.now) }
-{
-    let name = point.name;
-    place(placed, Subject::Point(name), number, element, End::Tip)?;
-    place(placed, Subject::Tip(name), number, element, End::Tip)?;
-    place(placed, Subject::Left(name), number, element, End::Left)?;
-    place(placed, Subject::Right(name), number, element, End::Right)
-}
-
+/// Places points: of each its name, its tip and its two legs.
 fn place_points(
     placed: &mut Vec<Placed>,
     numbers: Numbers,
@@ -89,7 +74,12 @@ fn place_points(
     ensures { OnOk result (subjects_at placed.new.items ≡ subjects_at placed.old.items ++ flat_map point_subjects points.now) }
 {
     for (number, point) in points.iter().enumerate() {
-        place_point(placed, number, numbers.point(number), point)?;
+        let name = point.name;
+        let element = numbers.point(number);
+        place(placed, Subject::Point(name), number, element, End::Tip)?;
+        place(placed, Subject::Tip(name), number, element, End::Tip)?;
+        place(placed, Subject::Left(name), number, element, End::Left)?;
+        place(placed, Subject::Right(name), number, element, End::Right)?;
     }
     Ok(())
 }

@@ -8,7 +8,7 @@ ghost use Rattle.station_plan.specs.Strokes.{strokes, written};
 use crate::element_marks::{draw_band, draw_point_band, moved};
 use crate::labels::{LETTER, LINE, lines};
 use crate::marks::Marks;
-use crate::sketch::Sketch;
+use crate::sketch::{Sketch, spot};
 use crate::units::{Units, count};
 use control_table::layout::{Detector, Layout, Point, SectionId, Track};
 use control_table::sci_telegram::Name;
@@ -115,8 +115,8 @@ fn draw_track_label(
     }
     let (left, right) = sketch.row_line(element);
     let x = (Units(left.x) + Units(right.x) - sketch.signal_room(element, true)).half();
-    let y = sketch.y(element) + Units(15);
-    more.name("label", x, y, Anchor::Middle, *name, false)
+    let at = spot(x, Units(left.y) + Units(15));
+    more.name("label", at, Anchor::Middle, *name, false)
 }
 
 /// Names the section of a point beyond the point's own name, where it is to be named.
@@ -131,13 +131,13 @@ fn draw_point_label(
     }
     let up = sketch.is_drawn_up(element);
     let beyond = LINE.times(count(lines(sketch.facts(element).label.name_letters)));
-    let y = if up {
-        sketch.y(element) + Units(16) + beyond
+    let down = if up {
+        Units(16) + beyond
     } else {
-        sketch.y(element) - Units(8) - beyond
+        Units(-8) - beyond
     };
-    let x = sketch.x(element);
-    more.name("label", x, y, Anchor::Middle, *name, !up)
+    let at = moved(sketch.spot(element), 0, down.0);
+    more.name("label", at, Anchor::Middle, *name, !up)
 }
 
 /// Draws a detection controller below the plan: its tint and its name.

@@ -135,15 +135,7 @@ pub(crate) fn draw_signal(
     };
     marks.line("mast", symbol.ends.0, symbol.ends.1)?;
     draw_mast(marks, symbol.mast)?;
-    let at = symbol.name;
-    marks.name(
-        "name",
-        Units(at.x),
-        Units(at.y),
-        symbol.anchor,
-        name,
-        symbol.upward,
-    )
+    marks.name("name", symbol.name, symbol.anchor, name, symbol.upward)
 }
 
 /// Draws the mast of a signal from its foot to its top, and its two lamps.
