@@ -66,21 +66,6 @@ fn band(
     }
 }
 
-/// A row with its spans.
-fn drawn_row(
-    alloc: Global,
-    window: Window,
-    changes: &[Change],
-    row: Row,
-) -> Result<DrawnRow, AllocError>
-    ensures { IfOk result (λ drawn. seen_row drawn ≡ drawn_of window changes.now row) }
-{
-    let Row { subject, place } = row;
-    let upper = band(alloc, window, changes, upper_kind(subject.sort), place)?;
-    let lower = band(alloc, window, changes, lower_kind(subject.sort), place)?;
-    Ok(DrawnRow { row, upper, lower })
-}
-
 /// Rows with their spans, in order.
 fn all_drawn(
     alloc: Global,
@@ -92,8 +77,11 @@ fn all_drawn(
 {
     let mut drawn = Vec::new(alloc);
     for row in rows {
-        let one = drawn_row(alloc, window, changes, *row)?;
-        drawn.push(one)?;
+        let sort = row.subject.sort;
+        let upper = band(alloc, window, changes, upper_kind(sort), row.place)?;
+        let lower = band(alloc, window, changes, lower_kind(sort), row.place)?;
+        let row = *row;
+        drawn.push(DrawnRow { row, upper, lower })?;
     }
     Ok(drawn)
 }

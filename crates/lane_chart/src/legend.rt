@@ -133,13 +133,19 @@ const SAMPLES: &[Sample] = &[
     },
 ];
 
-/// Draws the legend, from this height on.
+/// Draws the legend, from this height on: samples, and what they mean.
 pub(crate) fn draw_legend(marks: &mut Marks, top: i32) -> Result<(), AllocError> {
     let mut column: i32 = 0;
     let mut y = top.saturating_add(LINE);
     for sample in SAMPLES {
         let x = COLUMN.saturating_mul(column).saturating_add(24);
-        draw_sample(marks, *sample, x, y)?;
+        let height = y.saturating_add(sample.offset);
+        marks.level_line(sample.class, x, x.saturating_add(40), height)?;
+        let at = Spot {
+            x: x.saturating_add(50),
+            y: y.saturating_add(3),
+        };
+        marks.text("note", at, Anchor::Start, sample.words)?;
         column = column.saturating_add(1);
         if column == COLUMNS {
             column = 0;
@@ -147,15 +153,4 @@ pub(crate) fn draw_legend(marks: &mut Marks, top: i32) -> Result<(), AllocError>
         }
     }
     Ok(())
-}
-
-/// Draws a sample and what it means.
-fn draw_sample(marks: &mut Marks, sample: Sample, x: i32, y: i32) -> Result<(), AllocError> {
-    let height = y.saturating_add(sample.offset);
-    marks.level_line(sample.class, x, x.saturating_add(40), height)?;
-    let at = Spot {
-        x: x.saturating_add(50),
-        y: y.saturating_add(3),
-    };
-    marks.text("note", at, Anchor::Start, sample.words)
 }
