@@ -97,11 +97,13 @@ fn add_happening(
 ) -> Result<(), AllocError>
     ensures { OnOk result (faces groups.new.items ≡ faces groups.old.items ++ happening_face window happening.now ∷ []) }
 {
-    let line = happening.line;
-    let millis = happening.time / MICROS;
-    let words = happening.words.as_str();
-    let id = format!(in alloc; "line.{line}")?;
-    let title = format!(in alloc; "line {line}, {millis} ms: {words}")?;
+    let id = format!(in alloc; "line.{}", happening.line)?;
+    let title = format!(in alloc;
+        "line {}, {} ms: {}",
+        happening.line,
+        happening.time / MICROS,
+        happening.words
+    )?;
     let mut marks = Marks::new(alloc);
     draw_happening(&mut marks, window, happening, ends)?;
     let kind = kind_word(happening.node);

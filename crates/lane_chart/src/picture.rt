@@ -45,11 +45,13 @@ fn add_axis(
 ) -> Result<(), AllocError>
     ensures { OnOk result (AddsGroup axis_id groups.old.items groups.new.items) }
 {
-    let from = window.from / MICROS;
-    let to = window.to / MICROS;
-    let words = format!(in alloc; "{station}: {from} to {to} ms of true time")?;
-    let at = Spot { x: 20, y: 24 };
+    let words = format!(in alloc;
+        "{station}: {} to {} ms of true time",
+        window.from / MICROS,
+        window.to / MICROS
+    )?;
     let mut marks = Marks::new(alloc);
+    let at = Spot { x: 20, y: 24 };
     marks.text("heading", at, Anchor::Start, words.as_str())?;
     draw_axis(&mut marks, window, bottom)?;
     add_group(groups, "axis", "axis", "axis", marks)
@@ -75,10 +77,8 @@ fn add_row(
 ) -> Result<(), AllocError>
     ensures { OnOk result (faces groups.new.items ≡ faces groups.old.items ++ row_face scene.entry.nodes scene.entry.window scene.entry.happenings.now drawn.now ∷ []) }
 {
-    let subject = &drawn.row.subject;
-    let kind = kind_word(subject.sort);
-    let name = subject.name.as_str();
-    let id = format!(in alloc; "{kind}.{name}")?;
+    let kind = kind_word(drawn.row.subject.sort);
+    let id = format!(in alloc; "{kind}.{}", drawn.row.subject.name.as_str())?;
     let class = format!(in alloc; "{kind} {id}")?;
     let mut marks = Marks::new(alloc);
     draw_row(&mut marks, scene, drawn, heading, top)?;
@@ -146,6 +146,8 @@ pub fn chart(
     ensures { IfOk result (IsChartOf layout.now window rows.now happenings.now) }
 {
     let station = layout.station().name.as_str();
+    let title = String::from_str(alloc, station)?;
+    let style = String::from_str(alloc, STYLE)?;
     let scene = Scene {
         routes: layout.routes(),
         nodes: Nodes {
@@ -156,8 +158,6 @@ pub fn chart(
         happenings,
     };
     let bottom = ROWS.saturating_add(height_of(rows));
-    let title = String::from_str(alloc, station)?;
-    let style = String::from_str(alloc, STYLE)?;
     let mut groups = Vec::new(alloc);
     add_groups(&mut groups, alloc, station, scene, rows, bottom)?;
     let height = u32::try_from(bottom.saturating_add(HEIGHT)).unwrap_or(0);

@@ -76,7 +76,6 @@ fn add_entries<T: Named>(rows: &mut Vec<Row>, sort: Sort, entries: &[T]) -> Resu
 fn add_rows(rows: &mut Vec<Row>, layout: &Layout) -> Result<(), AllocError>
     ensures { OnOk result (rows.new.items ≡ rows.old.items ++ rows_of layout.now) }
 {
-    let station = [layout.station().name];
     add_entries(rows, Sort::Signal, layout.signals())?;
     add_entries(rows, Sort::Point, layout.points())?;
     add_entries(rows, Sort::Section, layout.sections())?;
@@ -84,7 +83,7 @@ fn add_rows(rows: &mut Vec<Row>, layout: &Layout) -> Result<(), AllocError>
     add_entries(rows, Sort::SignalLink, layout.signals())?;
     add_entries(rows, Sort::PointLink, layout.points())?;
     add_entries(rows, Sort::DetectorLink, layout.detectors())?;
-    add_entries(rows, Sort::Interlocking, &station)?;
+    add_entries(rows, Sort::Interlocking, &[layout.station().name])?;
     add_entries(rows, Sort::SignalNode, layout.signals())?;
     add_entries(rows, Sort::PointNode, layout.points())?;
     add_entries(rows, Sort::DetectorNode, layout.detectors())

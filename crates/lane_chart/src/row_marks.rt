@@ -250,13 +250,12 @@ pub(crate) fn draw_row(
     ensures drawn { OnOk result (strokes marks.new.marks.items ≡ strokes marks.old.marks.items ++ row_strokes scene.entry.nodes scene.entry.window scene.entry.happenings.now drawn.now) }
     ensures named { OnOk result (named marks.new.marks.items ≡ named marks.old.marks.items ++ drawn.now.row.subject.name) }
 {
-    let row = drawn.row;
-    let middle = top.saturating_add(9);
-    let below = middle.saturating_add(14);
     draw_kind(marks, heading, top)?;
-    draw_name(marks, &row, top)?;
+    draw_name(marks, &drawn.row, top)?;
+    let middle = top.saturating_add(9);
     draw_band(marks, scene.routes, &drawn.upper, middle)?;
+    let below = middle.saturating_add(14);
     draw_band(marks, scene.routes, &drawn.lower, below)?;
-    let node = scene.nodes.number_of(&row);
+    let node = scene.nodes.number_of(&drawn.row);
     draw_node(marks, scene.window, node, scene.happenings, middle)
 }

@@ -82,20 +82,6 @@ fn open_span(
     })
 }
 
-/// The span that is open at the end, if there is one, reaches to the end of the chart.
-#[tactic(auto, using(crate::proofs::SpansClose::last_open, crate::proofs::SpansClose::none_open))]
-fn close(spans: &mut Vec<Span>, before: Option<Span>) -> Result<(), AllocError>
-    ensures { OnOk result ((window : WindowSeen) → spans.new.items ≡ spans.old.items ++ spans_behind window before []) }
-{
-    match before {
-        Some(last) => {
-            spans.push(last)?;
-            Ok(())
-        }
-        None => Ok(()),
-    }
-}
-
 /// What is drawn of a lane, from left to right: from each of its changes to the next.
 pub(crate) fn spans_of(
     alloc: Global,
@@ -113,6 +99,9 @@ pub(crate) fn spans_of(
             before = Some(next);
         }
     }
-    close(&mut spans, before)?;
+    match before {
+        Some(last) => spans.push(last)?,
+        None => (),
+    }
     Ok(spans)
 }

@@ -15,8 +15,8 @@ loop-row-preserved c =
     let of_upper = c.in_ok-upper.ensures ∙ ap (λ kind. band_of c.args.window c.args.changes.now kind row.place) c.upper_kind.ensures in
     let of_lower = c.in_ok-lower.ensures ∙ ap (λ kind. band_of c.args.window c.args.changes.now kind row.place) c.lower_kind.ensures in
     let is : seen_row one ≡ drawn_of c.args.window c.args.changes.now row =
-      ap (λ spans. record { row = row; upper = spans; lower = lower.items }) of_upper
-      ∙ ap (λ spans. record { row = row; upper = (drawn_of c.args.window c.args.changes.now row).upper; lower = spans }) of_lower in
+    ap (λ spans. record { row = row; upper = spans; lower = lower.items }) of_upper
+    ∙ ap (λ spans. record { row = row; upper = (drawn_of c.args.window c.args.changes.now row).upper; lower = spans }) of_lower in
     grows_by_one [] c.args.rows.now c.loop-row.row-index row (map seen_row before) (map seen_row c.push.new.self.items) (drawn_of c.args.window c.args.changes.now)
     c.loop-row-test.true c.row-item.is c.loop-row.invariant
     (ap (λ rows. map seen_row rows) c.in_ok-push.ensures.items ∙ (map_push seen_row before one ∙ ap (λ drawn. map seen_row before ++ drawn ∷ []) is))

@@ -1,9 +1,10 @@
-use Rattle.std.proofs.Common.{◌∙◌, ◌+◌, ◌++◌, Global, Option, Some, Vec, ap, drop, sym}
+use Rattle.std.proofs.Common.{◌≡◌, [], List, ◌∙◌, ◌+◌, ◌++◌, Global, Option, Some, Vec, ap, drop, sym}
 use Rattle.std.specs.List.{filter}
 use Rattle.lane_chart.specs.Spans.{is_drawn, spans_behind}
+use Rattle.lane_chart.specs.declared.scale.Window.{Window}
 use Rattle.lane_chart.specs.declared.spans.Span.{Span}
-use Rattle.lane_chart.proofs.SpansClose.{closes, goes_on, passes_over}
-use Rattle.lane_chart.proofs.spans.spans_of.Goals.{else-is_drawn, then-is_drawn+in_ok-next}
+use Rattle.lane_chart.proofs.SpansClose.{closes, goes_on, last_open, none_open, passes_over}
+use Rattle.lane_chart.proofs.spans.spans_of.Goals.{else-is_drawn, in-None, in-Some+in_ok-push-in-Some, then-is_drawn+in_ok-next}
 use Rattle.lane_chart.proofs.spans.spans_of.Goals as goal
 
 pub loop-change-preserved : goal.loop-change-preserved
@@ -27,5 +28,15 @@ loop-change-preserved c =
 
 pub returns : goal.returns
 returns c =
-    closes c.args.window c.args.lane c.args.changes.now c.loop-change.change-index c.loop-change.before c.loop-change.spans.items c.close.new.spans.items _
-    c.loop-change-test.false c.in_ok-close.ensures c.loop-change.invariant
+    let spans = c.loop-change.spans.items in
+    let ended = λ (new : List Span) (push : (any : Window) → new ≡ spans ++ spans_behind any c.loop-change.before []).
+    closes c.args.window c.args.lane c.args.changes.now c.loop-change.change-index c.loop-change.before spans new _ c.loop-change-test.false push c.loop-change.invariant in
+    elim c.match-before.branch [
+      | in-Some+in_ok-push-in-Some w ↦
+          ap (λ (spans : Vec Span Global). spans.items) w.spans-is
+          ∙ ended w.push.new.self.items (λ any. last_open any w.in-Some.last spans w.push.new.self.items w.in_ok-push-in-Some.ensures.items
+          ∙ ap (λ (before : Option Span). spans ++ spans_behind any before []) (sym w.in-Some.is))
+      | in-None w ↦
+          ap (λ (spans : Vec Span Global). spans.items) w.spans-is
+          ∙ ended spans (λ any. none_open any spans ∙ ap (λ (before : Option Span). spans ++ spans_behind any before []) (sym w.in-None.is))
+    ]
