@@ -1,6 +1,6 @@
 //! Texts within SVG.
 
-ghost use Rattle.std.specs.Prelude.{◌≡◌, ◌++◌, OnOk};
+ghost use Rattle.std.specs.Prelude.{◌≡◌, ◌++◌, ℕ, IfOk, List, OnOk, string_bytes};
 ghost use Rattle.drawing.specs.Escaped.{escaped, escaped_byte};
 
 use std::alloc::AllocError;
@@ -49,4 +49,15 @@ pub(crate) fn push_between(
     svg.extend_from_slice(before)?;
     push_escaped(svg, text)?;
     svg.extend_from_slice(behind)
+}
+
+/// Adds a text as it was formatted, if there was memory for it.
+pub(crate) fn push_text(
+    svg: &mut Vec<u8>,
+    text: Result<String, AllocError>,
+) -> Result<(), AllocError>
+    ensures { (added : List ℕ) → IfOk text (λ text. string_bytes text ≡ added) → OnOk result (svg.new.items ≡ svg.old.items ++ added) }
+{
+    let text = text?;
+    svg.extend_from_slice(text.as_bytes())
 }

@@ -3,7 +3,7 @@
 ghost use Rattle.std.specs.Prelude.{◌≡◌, ◌++◌, OnOk, IfOk};
 ghost use Rattle.drawing.specs.Svg.{beginning_text, closing_text, ground_text, group_text, groups_text, head_text, opening_text, place_text, sheet_text, size_text, strip_text, strips_text, svg_text, use_text, view_text};
 
-use crate::escaped::push_between;
+use crate::escaped::{push_between, push_text};
 use crate::picture::{Frame, Group, Picture, Strip};
 use crate::written_shape::push_marks;
 use std::alloc::{AllocError, Global};
@@ -46,8 +46,8 @@ fn push_sheet(svg: &mut Vec<u8>, alloc: Global, paper: Frame) -> Result<(), Allo
         paper.top,
         paper.width,
         paper.height
-    )?;
-    svg.extend_from_slice(text.as_bytes())
+    );
+    push_text(svg, text)
 }
 
 /// Adds all that stands before what is drawn.
@@ -79,8 +79,8 @@ fn push_strip(svg: &mut Vec<u8>, alloc: Global, strip: Strip) -> Result<(), Allo
     let text = format!(in alloc;
         "<svg x=\"{}\" y=\"{}\" width=\"{}\" height=\"{}\" viewBox=\"{} {} {} {}\"><use href=\"#drawn\"/></svg>\n",
         at.left, at.top, at.width, at.height, shows.left, shows.top, shows.width, shows.height
-    )?;
-    svg.extend_from_slice(text.as_bytes())
+    );
+    push_text(svg, text)
 }
 
 /// Adds the texts of strips, in order.

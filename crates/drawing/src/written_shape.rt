@@ -3,7 +3,7 @@
 ghost use Rattle.std.specs.Prelude.{◌≡◌, ◌++◌, OnOk};
 ghost use Rattle.drawing.specs.Svg.{anchored_text, shape_opening, shape_rest, spot_text, spots_text, mark_text, marks_text, points_rest, words_rest, circle_rest, line_rest, rectangle_rest};
 
-use crate::escaped::{push_between, push_escaped};
+use crate::escaped::{push_between, push_escaped, push_text};
 use crate::shape::{Anchor, Mark, Shape, Spot};
 use std::alloc::{AllocError, Global};
 
@@ -14,8 +14,8 @@ fn push_line(svg: &mut Vec<u8>, alloc: Global, from: Spot, to: Spot) -> Result<(
     let text = format!(in alloc;
         "\" x1=\"{}\" y1=\"{}\" x2=\"{}\" y2=\"{}\"/>\n",
         from.x, from.y, to.x, to.y
-    )?;
-    svg.extend_from_slice(text.as_bytes())
+    );
+    push_text(svg, text)
 }
 
 /// Adds where a circle lies.
@@ -30,8 +30,8 @@ fn push_circle(
     let text = format!(in alloc;
         "\" cx=\"{}\" cy=\"{}\" r=\"{radius}\"/>\n",
         centre.x, centre.y
-    )?;
-    svg.extend_from_slice(text.as_bytes())
+    );
+    push_text(svg, text)
 }
 
 /// Adds where a rectangle lies.
@@ -47,8 +47,8 @@ fn push_rectangle(
     let text = format!(in alloc;
         "\" x=\"{}\" y=\"{}\" width=\"{width}\" height=\"{height}\"/>\n",
         corner.x, corner.y
-    )?;
-    svg.extend_from_slice(text.as_bytes())
+    );
+    push_text(svg, text)
 }
 
 /// Which part of a text lies where it stands.
@@ -83,8 +83,8 @@ fn push_points(svg: &mut Vec<u8>, alloc: Global, spots: &[Spot]) -> Result<(), A
 {
     svg.extend_from_slice(b"\" points=\"")?;
     for spot in spots {
-        let text = format!(in alloc; " {},{}", spot.x, spot.y)?;
-        svg.extend_from_slice(text.as_bytes())?;
+        let text = format!(in alloc; " {},{}", spot.x, spot.y);
+        push_text(svg, text)?;
     }
     svg.extend_from_slice(b"\"/>\n")
 }

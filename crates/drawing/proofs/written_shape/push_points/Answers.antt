@@ -7,8 +7,7 @@ use Rattle.drawing.proofs.written_shape.push_points.Goals as goal
 
 pub loop-spot-preserved : goal.loop-spot-preserved
 loop-spot-preserved c =
-    let text = c.as_bytes.ensures.value ∙ c.in_ok-text.ensures.ok in
-    let more = c.in_ok-extend_from_slice-2.ensures.items ∙ ap (λ text. c.loop-spot.svg.items ++ text) text in
+    let more = c.in_ok-push_text.ensures _ c.format-text.ensures.ok in
     grows spot_text (c.args.svg.now.items ++ codes "\" points=\"") c.args.spots.now c.loop-spot.spot-index _ c.loop-spot.svg.items _
     c.loop-spot-test.true (get_or_default c.args.spots.now c.loop-spot.spot-index _ _ c.loop-spot-test.true) c.loop-spot.invariant more
 
