@@ -1,6 +1,6 @@
 //! How commands and restarts are drawn above the rows.
 
-ghost use Rattle.std.specs.Prelude.{◌≡◌, ◌++◌, ◌∷◌, [], OnOk};
+ghost use Rattle.std.specs.Prelude.{◌≡◌, ◌++◌, ◌∷◌, [], ℕ, IfOk, List, OnOk, string_bytes};
 ghost use Rattle.lane_chart.specs.Chart.{faces, happening_faces};
 ghost use Rattle.lane_chart.specs.Faces.{happening_face, happening_strokes, kind_of};
 ghost use Rattle.lane_chart.specs.Strokes.{named, strokes};
@@ -97,32 +97,32 @@ fn add_happening(
 ) -> Result<(), AllocError>
     ensures { OnOk result (faces groups.new.items ≡ faces groups.old.items ++ happening_face window happening.now ∷ []) }
 {
-    let id = format!(in alloc; "line.{}", happening.line)?;
+    let mut marks = Marks::new(alloc);
+    draw_happening(&mut marks, window, happening, ends)?;
+    let id = format!(in alloc; "line.{}", happening.line);
+    let class = String::from_str(alloc, kind_word(happening.node));
     let title = format!(in alloc;
         "line {}, {} ms: {}",
         happening.line,
         happening.time / MICROS,
         happening.words
-    )?;
-    let mut marks = Marks::new(alloc);
-    draw_happening(&mut marks, window, happening, ends)?;
-    let kind = kind_word(happening.node);
-    add_group(groups, id.as_str(), kind, title.as_str(), marks)
+    );
+    add_group(groups, id, class, title, marks)
 }
 
-/// Adds marks as a group: by its identity, its class, and what a viewer says of it.
+/// Adds marks as a group: by its identity, its class, and what a viewer says of it, if there was memory for these.
 pub(crate) fn add_group(
     groups: &mut Vec<Group>,
-    id: &str,
-    class: &str,
-    title: &str,
+    id: Result<String, AllocError>,
+    class: Result<String, AllocError>,
+    title: Result<String, AllocError>,
     marks: Marks,
 ) -> Result<(), AllocError>
-    ensures { OnOk result (faces groups.new.items ≡ faces groups.old.items ++ record { id = id.now; title = title.now; strokes = strokes marks.marks.items; name = named marks.marks.items } ∷ []) }
+    ensures { (identity words : List ℕ) → IfOk id (λ id. string_bytes id ≡ identity) → IfOk title (λ title. string_bytes title ≡ words) → OnOk result (faces groups.new.items ≡ faces groups.old.items ++ record { id = identity; title = words; strokes = strokes marks.marks.items; name = named marks.marks.items } ∷ []) }
 {
-    let id = String::from_str(marks.alloc, id)?;
-    let class = String::from_str(marks.alloc, class)?;
-    let title = String::from_str(marks.alloc, title)?;
+    let id = id?;
+    let class = class?;
+    let title = title?;
     groups.push(Group {
         id,
         class,

@@ -35,6 +35,16 @@ fn height_of(rows: &[DrawnRow]) -> i32 {
     all
 }
 
+/// Adds marks as a group whose identity is its class, too, and what a viewer says of it.
+fn add_named(groups: &mut Vec<Group>, name: &str, marks: Marks) -> Result<(), AllocError>
+    ensures { OnOk result (AddsGroup name.now groups.old.items groups.new.items) }
+{
+    let id = String::from_str(marks.alloc, name);
+    let class = String::from_str(marks.alloc, name);
+    let title = String::from_str(marks.alloc, name);
+    add_group(groups, id, class, title, marks)
+}
+
 /// Adds the heading and the axis of a chart as a group: the name of the station, and what part of time is drawn.
 fn add_axis(
     groups: &mut Vec<Group>,
@@ -54,7 +64,7 @@ fn add_axis(
     let at = Spot { x: 20, y: 24 };
     marks.text("heading", at, Anchor::Start, words.as_str())?;
     draw_axis(&mut marks, window, bottom)?;
-    add_group(groups, "axis", "axis", "axis", marks)
+    add_named(groups, "axis", marks)
 }
 
 /// Adds what the marks mean, as a group.
@@ -63,7 +73,7 @@ fn add_legend(groups: &mut Vec<Group>, alloc: Global, top: i32) -> Result<(), Al
 {
     let mut marks = Marks::new(alloc);
     draw_legend(&mut marks, top)?;
-    add_group(groups, "legend", "legend", "legend", marks)
+    add_named(groups, "legend", marks)
 }
 
 /// Adds a row as a group under a heading, from this height on. A viewer calls it by its identity.
@@ -77,12 +87,14 @@ fn add_row(
 ) -> Result<(), AllocError>
     ensures { OnOk result (faces groups.new.items ≡ faces groups.old.items ++ row_face scene.entry.nodes scene.entry.window scene.entry.happenings.now drawn.now ∷ []) }
 {
-    let kind = kind_word(drawn.row.subject.sort);
-    let id = format!(in alloc; "{kind}.{}", drawn.row.subject.name.as_str())?;
-    let class = format!(in alloc; "{kind} {id}")?;
     let mut marks = Marks::new(alloc);
     draw_row(&mut marks, scene, drawn, heading, top)?;
-    add_group(groups, id.as_str(), class.as_str(), id.as_str(), marks)
+    let kind = kind_word(drawn.row.subject.sort);
+    let name = drawn.row.subject.name.as_str();
+    let id = format!(in alloc; "{kind}.{name}");
+    let class = format!(in alloc; "{kind} {kind}.{name}");
+    let title = format!(in alloc; "{kind}.{name}");
+    add_group(groups, id, class, title, marks)
 }
 
 /// What stands before a row of a kind: its word, unless the row above is of this kind.
