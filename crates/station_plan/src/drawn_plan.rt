@@ -34,8 +34,8 @@ fn lay_out(
         .with(drawn)
         .or_origin();
     let drawn = drawn.or_origin();
-    let name = layout.station().name.as_str();
     let below = spot(drawn.left, drawn.bottom + Units(32));
+    let name = layout.station().name.as_str();
     notes.text("heading", below, Anchor::Start, name)?;
     let legend = spot(drawn.left, all.bottom + LINES);
     draw_legend(notes, layout, shown, legend)?;

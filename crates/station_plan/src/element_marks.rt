@@ -163,8 +163,10 @@ pub(crate) fn draw_border(
     };
     let right = sketch.is_right(place);
     let side = sign(right);
-    let x = sketch.x(element) - sketch.facts(element).half.times(side);
-    let outer = spot(x, sketch.y(element));
+    let outer = spot(
+        sketch.x(element) - sketch.facts(element).half.times(side),
+        sketch.y(element),
+    );
     let tip = moved(outer, side.saturating_mul(10), 0);
     marks.triangle("arrow", moved(outer, 0, -5), tip, moved(outer, 0, 5))?;
     marks.line("rail", tip, sketch.port_spot(place))?;

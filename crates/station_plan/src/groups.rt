@@ -18,10 +18,8 @@ fn group(alloc: Global, thing: &mut Thing) -> Result<Group, AllocError>
     let (kind, name) = words_of(&thing.subject);
     let name = name.as_str();
     let end = end_word(&thing.subject);
-    let marked = thing.marked.as_str();
-    let state = thing.state.as_str();
     let id = format!(in alloc; "{kind}.{name}{end}")?;
-    let class = format!(in alloc; "{kind} {id}{marked}{state}")?;
+    let class = format!(in alloc; "{kind} {id}{}{}", thing.marked, thing.state)?;
     let title = format!(in alloc; "{kind} {name}{end}")?;
     thing.marks.append(&mut thing.more)?;
     let marks = replace(&mut thing.marks, Vec::new(alloc));
@@ -47,21 +45,6 @@ fn add_groups(groups: &mut Vec<Group>, alloc: Global, things: Vec<Thing>) -> Res
     Ok(())
 }
 
-/// What is written below a plan, as a group.
-fn notes_group(alloc: Global, marks: Vec<Mark>) -> Result<Group, AllocError>
-    ensures { IfOk result (λ group. string_bytes group.id ≡ notes_id) }
-{
-    let id = String::from_str(alloc, "notes")?;
-    let class = String::from_str(alloc, "notes")?;
-    let title = String::from_str(alloc, "notes")?;
-    Ok(Group {
-        id,
-        class,
-        title,
-        marks,
-    })
-}
-
 /// Adds things as groups, in order, and behind them what is written below the plan, to a list that is empty.
 pub(crate) fn add_all(
     groups: &mut Vec<Group>,
@@ -73,7 +56,14 @@ pub(crate) fn add_all(
     ensures { OnOk result (AreGroupsOf things.items groups.new.items) }
 {
     add_groups(groups, alloc, things)?;
-    let below = notes_group(alloc, notes)?;
-    groups.push(below)?;
+    let id = String::from_str(alloc, "notes")?;
+    let class = String::from_str(alloc, "notes")?;
+    let title = String::from_str(alloc, "notes")?;
+    groups.push(Group {
+        id,
+        class,
+        title,
+        marks: notes,
+    })?;
     Ok(())
 }

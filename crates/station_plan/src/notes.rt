@@ -101,8 +101,9 @@ fn draw_sample(marks: &mut Marks, at: Spot, sample: &Sample) -> Result<(), Alloc
     match sample {
         Sample::Line(class) => marks.line(class, moved(at, 0, -4), moved(at, 22, -4)),
         Sample::Guard => {
-            marks.line("flank-sample", moved(at, 4, -4), moved(at, 22, -4))?;
-            marks.circle("guard", moved(at, 4, -4), 4)
+            let guard = moved(at, 4, -4);
+            marks.line("flank-sample", guard, moved(at, 22, -4))?;
+            marks.circle("guard", guard, 4)
         }
         Sample::Lamps(first, second) => {
             marks.circle(first, moved(at, 8, -4), 4)?;

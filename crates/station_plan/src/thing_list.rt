@@ -79,10 +79,10 @@ fn add(
     draw(&mut marks, &mut more, scene, placed)?;
     let mut marked = String::new(alloc);
     mark(&mut marked, scene.layout, scene.shown, placed)?;
-    let subject = placed.subject;
-    let state = String::from_str(alloc, state_word(scene.layout, scene.shown, &subject))?;
+    let state = state_word(scene.layout, scene.shown, &placed.subject);
+    let state = String::from_str(alloc, state)?;
     things.push(Thing {
-        subject,
+        subject: placed.subject,
         marked,
         state,
         marks: marks.marks,

@@ -4,7 +4,7 @@ pub returns : goal.returns
 returns c = record {
   groups = c.add_groups.new.groups.items;
   grouped = c.in_ok-add_groups.ensures;
-  notes = c.in_ok-below.below;
-  noted = c.in_ok-below.ensures;
+  notes = _;
+  noted = c.in_ok-id.ensures.ok;
   is = c.in_ok-push.ensures.items;
 }

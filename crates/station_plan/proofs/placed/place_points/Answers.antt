@@ -12,7 +12,7 @@ loop-number-preserved c =
     let tip = c.in_ok-place-2.ensures ∙ ap (λ placed. placed ++ tip_subject point.name ∷ []) c.in_ok-place.ensures in
     let left = c.in_ok-place-3.ensures ∙ ap (λ placed. placed ++ subject.Left point.name ∷ []) tip in
     let more : subjects_at c.place-in-loop-number-3.new.placed.items ≡ before ++ point_subjects point =
-      c.in_ok-place-4.ensures ∙ (ap (λ placed. placed ++ subject.Right point.name ∷ []) left ∙ simp append_assoc) in
+    c.in_ok-place-4.ensures ∙ (ap (λ placed. placed ++ subject.Right point.name ∷ []) left ∙ simp append_assoc) in
     grows_by_all (subjects_at c.args.placed.now.items) c.args.points.now c.loop-number.number point point_subjects before _
     c.loop-number-test.true c.index-points-number.is c.loop-number.invariant more
 

@@ -21,6 +21,6 @@ returns c =
       drawn = subst (AreDrawn l seen) (sym c.in_ok-push.ensures.items) (one_more l seen before _ c.requires (record {
         symbol = c.in_ok-draw.ensures.drawn ∙ ap (λ m. strokes m ++ strokes_for l s) c.new-marks.ensures;
         name = c.in_ok-draw.ensures.named ∙ ap (λ m. written m ++ words_for s) c.new-marks.ensures;
-        state = c.in_ok-state.ensures.ok ∙ c.state_word.ensures;
+        state = c.in_ok-state.ensures.ok ∙ c.state_word-state.ensures;
       }));
     }
