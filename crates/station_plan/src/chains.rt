@@ -18,11 +18,9 @@ impl Sketch {
     /// The port at an element on its row, at a side, of the element beside it there.
     pub(crate) fn beside(&self, element: usize, right: bool) -> Option<Place> {
         let place = self.level_port(element, right)?;
-        let mate = self.next(place)?;
-        if self.is_level(mate) {
-            Some(mate)
-        } else {
-            None
+        match self.next(place) {
+            Some(mate) if self.is_level(mate) => Some(mate),
+            _ => None,
         }
     }
 

@@ -44,11 +44,9 @@ impl Sketch {
     /// The port that is joined to one by a joint that goes on: it leads from a right side to a left side, and closes no circle.
     pub(crate) fn next(&self, place: Place) -> Option<Place> {
         let port = self.port(place);
-        let mate = port.mate?;
-        if port.is_cut || self.is_right(mate) == self.is_right(place) {
-            None
-        } else {
-            Some(mate)
+        match port.mate {
+            Some(mate) if !port.is_cut && self.is_right(mate) != self.is_right(place) => Some(mate),
+            _ => None,
         }
     }
 

@@ -44,8 +44,10 @@ impl Sketch {
 
     /// A link with how far it reaches, and the row above its level part.
     fn measured(&self, link: Link) -> Link {
-        let (from, to) = (link.from.element, link.to.element);
-        let (one, other) = (self.x(from), self.x(to));
+        let from = link.from.element;
+        let to = link.to.element;
+        let one = self.x(from);
+        let other = self.x(to);
         let row = self.row(from);
         let is_upward = self.row(to) < row;
         let mut measured = link;

@@ -56,7 +56,10 @@ impl Sketch {
 
     /// The row of an element, if its chain is placed.
     fn row_of(&self, element: usize) -> Option<usize> {
-        self.strand(self.facts(element).chain?).row
+        match self.facts(element).chain {
+            Some(chain) => self.strand(chain).row,
+            None => None,
+        }
     }
 
     /// The row of an element.
@@ -66,7 +69,10 @@ impl Sketch {
 
     /// The row of its own of a link within one chain.
     pub(crate) fn link_row(&self, link: Link) -> Option<usize> {
-        self.strand(link.chain?).row
+        match link.chain {
+            Some(chain) => self.strand(chain).row,
+            None => None,
+        }
     }
 
     /// The chain that is placed next.
@@ -99,7 +105,8 @@ impl Sketch {
     /// Whether a chain hangs at one that is placed: by a link that joins it, or that is the chain itself.
     fn hangs(&self, chain: usize) -> bool {
         for link in &self.links {
-            let (from, to) = (link.from.element, link.to.element);
+            let from = link.from.element;
+            let to = link.to.element;
             let is_part = link.chain == Some(chain)
                 || self.facts(from).chain == Some(chain)
                 || self.facts(to).chain == Some(chain);
@@ -178,9 +185,10 @@ impl Sketch {
 
     /// What a link costs that a chain would cross: both its ends are placed, one above and one below.
     fn cost_over(&self, mine: Strand, link: Link, spot: usize) -> usize {
-        let from = self.row_of(link.from.element);
-        let to = self.row_of(link.to.element);
-        let (Some(from), Some(to)) = (from, to) else {
+        let Some(from) = self.row_of(link.from.element) else {
+            return 0;
+        };
+        let Some(to) = self.row_of(link.to.element) else {
             return 0;
         };
         let is_between = spot_of(from.min(to)) < spot && spot < spot_of(from.max(to));
@@ -219,7 +227,8 @@ impl Sketch {
             return SAME_ROW;
         }
         let side = if (spot < theirs) == up { 0 } else { WRONG_SIDE };
-        let (above, below) = (spot.min(theirs), spot.max(theirs));
+        let above = spot.min(theirs);
+        let below = spot.max(theirs);
         side.saturating_add(below.saturating_sub(above).saturating_mul(HALF_ROW))
             .saturating_add(self.crossed(link, above, below).saturating_mul(CROSSING))
     }

@@ -35,7 +35,10 @@ pub struct Shown {
 impl Shown {
     /// The route that is drawn thick.
     pub(crate) fn route<'a>(&self, layout: &'a Layout) -> Option<&'a Route> {
-        layout.routes().get(self.route?.0)
+        match self.route {
+            Some(route) => layout.routes().get(route.0),
+            None => None,
+        }
     }
 }
 

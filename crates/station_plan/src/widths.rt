@@ -59,11 +59,12 @@ impl Sketch {
     /// The point that parts behind a signal at a side of an element.
     fn parting(&self, element: usize, right: bool) -> Option<usize> {
         let place = self.level_port(element, right)?;
-        let mate = self.next(place)?;
-        if self.port(place).signal_letters > 0 && mate.end == self.main(mate.element) {
-            Some(mate.element)
-        } else {
-            None
+        if self.port(place).signal_letters == 0 {
+            return None;
+        }
+        match self.next(place) {
+            Some(mate) if mate.end == self.main(mate.element) => Some(mate.element),
+            _ => None,
         }
     }
 
