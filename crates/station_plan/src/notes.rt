@@ -12,7 +12,7 @@ use std::alloc::AllocError;
 pub(crate) const LINES: Units = Units(17);
 
 /// What is drawn before the words of a line.
-#[derive(Drop)]
+#[derive(Clone, Copy)]
 enum Sample {
     /// A line of this class.
     Line(&'static str),

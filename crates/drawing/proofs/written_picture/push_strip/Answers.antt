@@ -1,4 +1,4 @@
-use Rattle.std.proofs.Common.{◌∙◌, ◌++◌, append_assoc}
+use Rattle.std.proofs.Common.{◌∙◌, append_assoc}
 use Rattle.std.proofs.lemmas.Result.{IfOk-weaker}
 use Rattle.drawing.specs.Svg.{place_text, size_text, strip_text, use_text, view_text, window_text}
 use Rattle.drawing.proofs.written_picture.push_strip.Goals as goal

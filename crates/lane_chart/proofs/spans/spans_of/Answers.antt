@@ -1,4 +1,4 @@
-use Rattle.std.proofs.Common.{◌≡◌, [], List, ◌∙◌, ◌+◌, ◌++◌, Global, Option, Some, Vec, ap, drop, sym}
+use Rattle.std.proofs.Common.{◌≡◌, [], List, ◌∙◌, ◌+◌, ◌++◌, Global, Option, Vec, ap, drop, sym}
 use Rattle.std.specs.List.{filter}
 use Rattle.lane_chart.specs.Spans.{is_drawn, spans_behind}
 use Rattle.lane_chart.specs.declared.scale.Window.{Window}

@@ -1,5 +1,5 @@
 use Rattle.std.proofs.Common.{◌≡◌, ◌∙◌, [], ◌∷◌, ◌++◌, ap, append_assoc}
-use Rattle.station_plan.specs.Subjects.{point_subject, point_subjects, tip_subject}
+use Rattle.station_plan.specs.Subjects.{point_subjects, tip_subject}
 use Rattle.station_plan.specs.declared.thing.Subject.TheVariants as subject
 use Rattle.station_plan.specs.inside.Placing.{subjects_at}
 use Rattle.station_plan.proofs.Grown.{grown_by_all, grows_by_all}
