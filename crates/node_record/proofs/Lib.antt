@@ -9,3 +9,7 @@ pub mod FirstWord
 pub mod Charts
 pub mod Stories
 pub mod KeptRows
+pub mod Lines
+pub mod AnswerWords
+pub mod ThingsTold
+pub mod FormsSaid

@@ -6,3 +6,5 @@ pub mod SoundTexts
 pub mod CapturesSoFar
 pub mod EndsSoFar
 pub mod WordTables
+pub mod FormsSaid
+pub mod ThingsTold

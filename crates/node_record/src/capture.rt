@@ -1,7 +1,7 @@
 //! A node's record as a capture.
 
 ghost use Rattle.std.specs.Prelude.{◌≡◌, IfErr, IfOk, IsErr, OnOk, map};
-ghost use Rattle.node_record.specs.CapturedRecord.{Explains, IsCaptureOf, IsRecordCapture, captured, comment, journey, no_end, sender_end, stamp};
+ghost use Rattle.node_record.specs.CapturedRecord.{Explains, IsCaptureOf, IsRecordCapture, journey, stamp};
 ghost use Rattle.node_record.specs.DecodedRecord.{CanRead};
 ghost use Rattle.node_record.specs.NodeTraffic.{traffic};
 ghost use Rattle.node_record.specs.RecordLines.{told};
@@ -10,7 +10,7 @@ ghost use Rattle.node_record.specs.inside.Passing.{seen};
 
 use crate::capture_failure::CaptureFailure;
 use crate::passage::{Passed, Reception, Way, traffic_of};
-use crate::passed_line::why_text;
+use crate::passed_line::comment;
 use crate::record::Record;
 use crate::texts::read_texts;
 use capture_file::{CaptureFault, Endpoint, Journey, MOST_BYTES, begin, end_of, push_datagram};
@@ -41,36 +41,20 @@ pub fn node_capture(
     ensures explains { IfErr result (Explains layout.now name.now recording.now given.now) }
 {
     let texts = read_texts(alloc, layout, name, recording)?;
-    let capture = capture_of_record(alloc, &texts.read, given);
+    let capture = capture_of(alloc, &texts.read, given);
     drop(texts);
     capture
 }
 
 /// The capture of the datagrams of a record.
-fn capture_of_record(
-    alloc: Global,
-    read: &Record,
-    given: &[Endpoint],
-) -> Result<Vec<u8>, CaptureFailure>
+fn capture_of(alloc: Global, read: &Record, given: &[Endpoint]) -> Result<Vec<u8>, CaptureFailure>
     ensures is { IfOk result (λ file. IsCaptureOf given.now read.now.head.node (traffic read.now.head.node 0 (map told read.now.lines.items)) file.items) }
     ensures failed { IfErr result (IsNoCapture (traffic read.now.head.node 0 (map told read.now.lines.items))) }
 {
-    let all = traffic_of(alloc, read.head.node, &read.lines)?;
-    capture_of(alloc, read.head.node, &all, given)
-}
-
-/// The capture of some datagrams of a node.
-fn capture_of(
-    alloc: Global,
-    node: usize,
-    all: &[Passed<'_>],
-    given: &[Endpoint],
-) -> Result<Vec<u8>, CaptureFailure>
-    ensures is { IfOk result (λ file. IsCaptureOf given.now node (map seen all.now) file.items) }
-    ensures failed { IfErr result (IsNoCapture (map seen all.now)) }
-{
+    let node = read.head.node;
+    let all = traffic_of(alloc, node, &read.lines)?;
     let mut file = begin(alloc)?;
-    for one in all {
+    for one in all.as_slice() {
         push_passed(alloc, node, one, given, &mut file)?;
     }
     Ok(file)
@@ -102,16 +86,6 @@ pub(crate) fn stamp(reading: u64) -> u64
     reading.saturating_mul(MICROS)
 }
 
-/// Whence a datagram came.
-fn sender_end(given: &[Endpoint], from: Option<usize>) -> Endpoint
-    ensures { result ≡ sender_end given.now from }
-{
-    match from {
-        Some(from) => end_of(given, from),
-        None => NO_END,
-    }
-}
-
 /// When a datagram came to a node or was sent by it, from where and to where.
 fn journey(given: &[Endpoint], node: usize, one: &Passed<'_>) -> Journey
     ensures { result ≡ journey given.now node (seen one.now) }
@@ -119,21 +93,15 @@ fn journey(given: &[Endpoint], node: usize, one: &Passed<'_>) -> Journey
     let own = end_of(given, node);
     let (sender, receiver) = match one.way {
         Way::Sent { to } => (own, end_of(given, to)),
-        Way::Came { from, .. } => (sender_end(given, from), own),
+        Way::Came {
+            from: Some(from),
+            ..
+        } => (end_of(given, from), own),
+        Way::Came { from: None, .. } => (NO_END, own),
     };
     Journey {
         time: stamp(one.reading),
         sender,
         receiver,
-    }
-}
-
-/// What is remarked of a datagram.
-fn comment(way: Way) -> &'static str
-    ensures { result.now ≡ comment way }
-{
-    match way {
-        Way::Sent { .. } => "",
-        Way::Came { reception, .. } => why_text(reception),
     }
 }

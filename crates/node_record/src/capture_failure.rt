@@ -28,16 +28,6 @@ impl From<Failure> for CaptureFailure {
     }
 }
 
-impl From<CaptureFault> for CaptureFailure {
-    ghost use Rattle.node_record.specs.declared.capture_failure.CaptureFailure.TheVariants.{Capture};
-
-    ghost from_gives = { λ fault failure. failure ≡ Capture fault };
-
-    fn from(fault: CaptureFault) -> CaptureFailure {
-        CaptureFailure::Capture(fault)
-    }
-}
-
 impl From<AllocError> for CaptureFailure {
     ghost use Rattle.station_check.specs.declared.failure.Failure.TheVariants.{OutOfMemory};
     ghost use Rattle.node_record.specs.declared.capture_failure.CaptureFailure.TheVariants.{Station};

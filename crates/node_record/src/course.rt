@@ -1,10 +1,10 @@
 //! How a node's record goes on, line by line, and what each line tells of a lane.
 
 ghost use Rattle.std.specs.Prelude.{◌≡◌};
-ghost use Rattle.node_record.specs.Courses.{ends, first_course, orders, parted, read_at, step_by, tells};
+ghost use Rattle.node_record.specs.Courses.{orders, parted, read_at, step_by};
 
 use crate::known_told::known_said;
-use crate::order_told::{fallen, is_renewed, told_by_order, until_of};
+use crate::order_told::{order_number, told_by_order};
 use crate::report_told::report_said;
 use crate::role::Role;
 use crate::told::Told;
@@ -34,58 +34,43 @@ pub(crate) struct Step {
 }
 
 /// Nothing is read.
-pub(crate) fn first_course() -> Course
-    ensures { result ≡ first_course }
-{
-    Course {
-        first: None,
-        reading: 0,
-        order: None,
-    }
-}
-
-/// This is told at the last reading.
-fn tells(course: Course, told: Option<Told>) -> Step
-    ensures { result ≡ tells course told }
-{
-    Step {
-        course,
-        time: course.reading,
-        told,
-    }
-}
-
-/// An order has ended by itself at this reading.
-fn ends(role: Role, course: Course, order: Order, until: u64) -> Step
-    ensures { result ≡ ends role course order until }
-{
-    let left = fallen(order);
-    let course = Course {
-        order: Some(left),
-        ..course
-    };
-    Step {
-        course,
-        time: until,
-        told: told_by_order(role, left),
-    }
-}
+pub(crate) const FIRST_COURSE: Course = Course {
+    first: None,
+    reading: 0,
+    order: None,
+};
 
 /// The clock is read: the order that stands may have ended by itself.
 fn read_at(role: Role, course: Course, reading: u64) -> Step
     ensures { result ≡ read_at role course reading }
 {
-    let now = Course {
-        first: course.first.or(Some(reading)),
-        reading,
-        order: course.order,
+    let first = course.first.or(Some(reading));
+    let ended = match course.order {
+        Some(Order::ShowProceed { until } | Order::ShowSlow { until }) => {
+            Some((until, Order::ShowStop))
+        }
+        Some(Order::Drive { until, .. }) => Some((until, Order::DriveNone)),
+        _ => None,
     };
-    let Some(order) = course.order else {
-        return tells(now, None);
-    };
-    match until_of(order) {
-        Some(until) if until <= reading => ends(role, now, order, until),
-        _ => tells(now, None),
+    match ended {
+        Some((time, left)) if time <= reading => Step {
+            course: Course {
+                first,
+                reading,
+                order: Some(left),
+            },
+            time,
+            told: told_by_order(role, left),
+        },
+        _ => Step {
+            course: Course {
+                first,
+                reading,
+                ..course
+            },
+            time: reading,
+            told: None,
+        },
     }
 }
 
@@ -93,17 +78,18 @@ fn read_at(role: Role, course: Course, reading: u64) -> Step
 fn orders(role: Role, course: Course, order: Order) -> Step
     ensures { result ≡ orders role course order }
 {
-    let told = if is_renewed(course.order, order) {
-        None
-    } else {
-        told_by_order(role, order)
+    let told = match course.order {
+        Some(standing) if order_number(standing) == order_number(order) => None,
+        _ => told_by_order(role, order),
     };
-    let time = course.reading;
-    let course = Course {
-        order: Some(order),
-        ..course
-    };
-    Step { course, time, told }
+    Step {
+        course: Course {
+            order: Some(order),
+            ..course
+        },
+        time: course.reading,
+        told,
+    }
 }
 
 /// The first word of a line, and the text behind it.
@@ -121,22 +107,27 @@ pub(crate) fn parted(line: &str) -> (&str, &str)
 pub(crate) fn step_of(layout: &Layout, role: Role, course: Course, kind: &str, text: &str) -> Step
     ensures { result ≡ step_by layout.now role course kind.now text.now }
 {
-    match kind {
+    let told = match kind {
         "at" => match decimal(text) {
-            Ok(reading) => read_at(role, course, reading),
-            Err(_) => tells(course, None),
+            Ok(reading) => return read_at(role, course, reading),
+            Err(_) => None,
         },
         "hears" => match role {
-            Role::Interlocking => tells(course, None),
-            _ => tells(course, report_said(layout, role, text)),
+            Role::Interlocking => None,
+            _ => report_said(layout, role, text),
         },
         "writes" => match role {
-            Role::Interlocking => tells(course, known_said(layout, text)),
+            Role::Interlocking => known_said(layout, text),
             _ => match read_order(text) {
-                Ok(line) => orders(role, course, line.order),
-                Err(_) => tells(course, None),
+                Ok(line) => return orders(role, course, line.order),
+                Err(_) => None,
             },
         },
-        _ => tells(course, None),
+        _ => None,
+    };
+    Step {
+        course,
+        time: course.reading,
+        told,
     }
 }

@@ -10,10 +10,10 @@ ghost use Rattle.node_record.specs.RecordLines.{told};
 ghost use Rattle.node_record.specs.inside.Passing.{seen};
 ghost use Rattle.node_record.specs.inside.SoundTexts.{IsLate};
 
-use crate::passage::{Passed, traffic_of};
+use crate::passage::traffic_of;
 use crate::passed_line::line;
 use crate::record::Record;
-use crate::texts::{Texts, read_texts};
+use crate::texts::read_texts;
 use control_table::layout::Layout;
 use station_check::{Failure, tell};
 use std::alloc::Global;
@@ -75,24 +75,11 @@ fn write_traffic<W: Write>(
     ensures done { OnOk result (Appends (W.contents out.old) (W.contents out.new) (lines_text layout.now read.now.head.node (traffic read.now.head.node 0 (map told read.now.lines.items)))) }
     ensures failed { IfErr result IsLate }
 {
-    let all = traffic_of(alloc, read.head.node, &read.lines)?;
-    write_lines(alloc, layout, read.head.node, &all, out)
-}
-
-/// Writes the lines of datagrams.
-fn write_lines<W: Write>(
-    alloc: Global,
-    layout: &Layout,
-    node: usize,
-    all: &[Passed<'_>],
-    out: &mut W,
-) -> Result<(), Failure>
-    ensures done { OnOk result (Appends (W.contents out.old) (W.contents out.new) (lines_text layout.now node (map seen all.now))) }
-    ensures failed { IfErr result IsLate }
-{
-    for one in all {
+    let node = read.head.node;
+    let all = traffic_of(alloc, node, &read.lines)?;
+    for one in all.as_slice() {
         let text = line(alloc, layout, node, one)?;
-        out.write_all(text.as_str().as_bytes())?;
+        out.write_all(text.as_bytes())?;
     }
     out.flush()?;
     Ok(())

@@ -1,9 +1,8 @@
 //! Where the nodes of a station are found in captures, by the text of an addresses file.
 
-ghost use Rattle.std.specs.Prelude.{◌≡◌, ◌<◌, ◌∷◌, ◌++◌, [], ℕ, IfErr, IfNone, IfOk, IfSome, List, OnOk, OnSome, Some, length, map, slice_get};
+ghost use Rattle.std.specs.Prelude.{◌≡◌, ◌<◌, ◌∷◌, ◌++◌, [], IfErr, IfNone, IfOk, IfSome, OnOk, OnSome, Some, length, map};
 ghost use Rattle.replay_lines.specs.Names.{node_names};
 ghost use Rattle.node_record.specs.GivenEnds.{AreEnds, Explained, Explains, end_at};
-ghost use Rattle.node_record.specs.declared.ends_failure.EndsFailure.TheVariants.{NoIpv4};
 ghost use Rattle.node_record.specs.inside.EndsSoFar.{ExplainsOf, HasEnds, IsNoEnd, IsNoEndOf};
 
 use crate::ends_failure::{EndsFailure, tell_ends_failure};
@@ -77,7 +76,7 @@ fn ends_of(
     Ok(ends)
 }
 
-/// Adds the end of the address of the node at a place.
+/// Adds the end of the address of the node at a place, where it is one of IPv4.
 fn push_end(
     layout: &Layout,
     address: &SocketAddr,
@@ -88,32 +87,15 @@ fn push_end(
     ensures added { OnOk result (map (λ end. Some end) ends.new.items ≡ map (λ end. Some end) ends.old.items ++ end_at address.now ∷ []) }
     ensures failed { IfErr result (IsNoEndOf layout.now address.now place) }
 {
-    match end_at(address) {
-        Some(end) => Ok(ends.push(end)?),
-        None => Err(no_ipv4(layout, place)),
-    }
-}
-
-/// What is told of the node of a place whose address is none of IPv4.
-fn no_ipv4(layout: &Layout, place: usize) -> EndsFailure
-    requires { place < length (node_names layout.now) }
-    ensures { (name : List ℕ) × (slice_get (node_names layout.now) place ≡ Some name) × (result ≡ NoIpv4 name) }
-{
-    match node_name(layout, NodeId(place)) {
-        Some(name) => EndsFailure::NoIpv4(name),
-        None => EndsFailure::Station(Failure::OutOfMemory),
-    }
-}
-
-/// The end of an address, where it is one of IPv4.
-fn end_at(address: &SocketAddr) -> Option<Endpoint>
-    ensures { result ≡ end_at address.now }
-{
-    match address {
-        SocketAddr::V4(address) => Some(Endpoint {
-            address: address.ip().octets(),
-            port: address.port(),
-        }),
-        SocketAddr::V6(_) => None,
-    }
+    let SocketAddr::V4(address) = address else {
+        return match node_name(layout, NodeId(place)) {
+            Some(name) => Err(EndsFailure::NoIpv4(name)),
+            None => Err(EndsFailure::Station(Failure::OutOfMemory)),
+        };
+    };
+    ends.push(Endpoint {
+        address: address.ip().octets(),
+        port: address.port(),
+    })?;
+    Ok(())
 }

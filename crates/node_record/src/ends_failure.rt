@@ -81,17 +81,12 @@ fn no_ipv4_line(name: &str) -> Result<ArrayString<LINE_LENGTH>, fmt::Error>
 pub(crate) fn tell_ends_failure<E: Write>(failure: &EndsFailure, err: &mut E)
     ensures { Tells failure.now (E.contents err.old) (E.contents err.new) }
 {
-    match failure {
-        EndsFailure::Station(failure) => tell(failure, err),
-        EndsFailure::Addresses(fault) => {
-            if let Ok(line) = addresses_line(*fault) {
-                write_as_taken(line.as_str().as_bytes(), err);
-            }
-        }
-        EndsFailure::NoIpv4(name) => {
-            if let Ok(line) = no_ipv4_line(name.as_str()) {
-                write_as_taken(line.as_str().as_bytes(), err);
-            }
-        }
+    let line = match failure {
+        EndsFailure::Station(failure) => return tell(failure, err),
+        EndsFailure::Addresses(fault) => addresses_line(*fault),
+        EndsFailure::NoIpv4(name) => no_ipv4_line(name.as_str()),
+    };
+    if let Ok(line) = line {
+        write_as_taken(line.as_str().as_bytes(), err);
     }
 }

@@ -1,12 +1,14 @@
 //! What the lines of an interlocking to its operator tell of signals, points, sections, routes and links.
 
 ghost use Rattle.std.specs.Prelude.{◌≡◌};
+ghost use Rattle.std.specs.Option.{option_map, option_to_list};
 ghost use Rattle.replay_words.specs.Cut.{words};
-ghost use Rattle.node_record.specs.KnownTold.{authority_seen, known_said, known_words, link_lane, point_lane, section_lane, signal_lane, told_of};
-ghost use Rattle.node_record.specs.inside.WordTables.{seen_by};
+ghost use Rattle.node_record.specs.KnownTold.{authority_seen, known_said, link_lane, point_lane, section_lane, signal_lane};
+ghost use Rattle.node_record.specs.inside.ThingsTold.{thing_told};
 
 use crate::role::{Role, role_of};
 use crate::told::Told;
+use crate::word_table::told_by;
 use control_table::layout::Layout;
 use control_table::sci_telegram::{Aspect, Occupancy, Position};
 use lane_chart::{Kind, Lane, Progress, Readiness, Seen};
@@ -99,27 +101,14 @@ const ROUTE: &[(&str, Seen)] = &[
     ("free", Seen::Route(Some(Progress::Free))),
 ];
 
-/// What a word tells, by a table of words.
-fn seen_by(table: &[(&str, Seen)], word: &str) -> Option<Seen>
-    ensures { result ≡ seen_by word.now table.now }
-{
-    for row in table {
-        let (known, seen) = *row;
-        if word == known {
-            return Some(seen);
-        }
-    }
-    None
-}
-
 /// Without authority the aspect is stop, and a route into which one leads has another one.
-fn authority_seen(layout: &Layout, aspect: &str, mut more: Words<'_>) -> Option<Seen>
-    ensures { result ≡ authority_seen layout.now aspect.now more.entry }
+fn authority_seen(layout: &Layout, aspect: &str, route: Option<&str>) -> Option<Seen>
+    ensures { result ≡ authority_seen layout.now aspect.now (option_to_list (option_map (λ word. word.now) route.entry)) }
 {
     if aspect == "stop" {
         return Some(Seen::Authority(None));
     }
-    match more.next() {
+    match route {
         Some(route) => Some(Seen::Authority(Some(route_named(layout, route)))),
         None => None,
     }
@@ -127,42 +116,59 @@ fn authority_seen(layout: &Layout, aspect: &str, mut more: Words<'_>) -> Option<
 
 // ---- a line
 
-fn told_of(lane: Option<Lane>, seen: Option<Seen>) -> Option<Told>
-    ensures { result ≡ told_of lane seen }
-{
-    match (lane, seen) {
-        (Some(lane), Some(seen)) => Some(Told { lane, seen }),
-        _ => None,
-    }
+/// What a line tells of.
+#[derive(Clone, Copy)]
+enum Thing {
+    Link,
+    Section,
+    Point,
+    /// The authority at a signal.
+    Authority,
+    /// The aspect that a signal indicates.
+    Aspect,
+    Route,
 }
 
-/// By the first three words of a line.
-fn known_words(
+/// By its first word.
+const THINGS: &[(&str, Thing)] = &[
+    ("link", Thing::Link),
+    ("section", Thing::Section),
+    ("point", Thing::Point),
+    ("signal", Thing::Authority),
+    ("indicates", Thing::Aspect),
+    ("route", Thing::Route),
+];
+
+/// What the words behind the first one tell; there may be a third.
+fn thing_told(
     layout: &Layout,
-    thing: &str,
+    thing: Thing,
     name: &str,
     word: &str,
-    more: Words<'_>,
+    route: Option<&str>,
 ) -> Option<Told>
-    ensures { result ≡ known_words layout.now thing.now name.now word.now more.entry }
+    ensures { result ≡ thing_told layout.now thing name.now word.now (option_to_list (option_map (λ word. word.now) route.entry)) }
 {
-    match thing {
-        "link" => told_of(link_lane(layout, name), seen_by(LINK, word)),
-        "section" => told_of(section_lane(layout, name), seen_by(SECTION, word)),
-        "point" => told_of(point_lane(layout, name), seen_by(POINT, word)),
-        "signal" => {
-            let lane = signal_lane(layout, Kind::Authority, name);
-            told_of(lane, authority_seen(layout, word, more))
-        }
-        "indicates" => told_of(
-            signal_lane(layout, Kind::Aspect, name),
-            seen_by(INDICATED, word),
+    let (lane, seen) = match thing {
+        Thing::Link => (link_lane(layout, name), told_by(LINK, word)),
+        Thing::Section => (section_lane(layout, name), told_by(SECTION, word)),
+        Thing::Point => (point_lane(layout, name), told_by(POINT, word)),
+        Thing::Authority => (
+            signal_lane(layout, Kind::Authority, name),
+            authority_seen(layout, word, route),
         ),
-        "route" => {
-            let place = route_named(layout, name).0;
+        Thing::Aspect => (
+            signal_lane(layout, Kind::Aspect, name),
+            told_by(INDICATED, word),
+        ),
+        Thing::Route => {
             let kind = Kind::Route;
-            told_of(Some(Lane { kind, place }), seen_by(ROUTE, word))
+            let place = route_named(layout, name).0;
+            (Some(Lane { kind, place }), told_by(ROUTE, word))
         }
+    };
+    match (lane, seen) {
+        (Some(lane), Some(seen)) => Some(Told { lane, seen }),
         _ => None,
     }
 }
@@ -175,5 +181,8 @@ pub(crate) fn known_said(layout: &Layout, line: &str) -> Option<Told>
     let (Some(thing), Some(name), Some(word)) = (words.next(), words.next(), words.next()) else {
         return None;
     };
-    known_words(layout, thing, name, word, words)
+    match told_by(THINGS, thing) {
+        Some(thing) => thing_told(layout, thing, name, word, words.next()),
+        None => None,
+    }
 }

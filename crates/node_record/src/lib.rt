@@ -26,6 +26,7 @@ mod role;
 mod texts;
 mod told;
 mod whole_lines;
+mod word_table;
 
 pub use capture::node_capture;
 pub use capture_failure::CaptureFailure;

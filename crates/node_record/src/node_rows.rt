@@ -3,22 +3,12 @@
 ghost use Rattle.std.specs.Prelude.{◌≡◌, IfOk, map};
 ghost use Rattle.std.specs.List.{filter};
 ghost use Rattle.lane_chart.specs.Drawn.{drawn_rows, seen_row};
-ghost use Rattle.node_record.specs.NodeRows.{has_section, is_row_of};
+ghost use Rattle.node_record.specs.NodeRows.{is_row_of};
 
 use crate::role::Role;
 use control_table::layout::{Detector, Layout, SectionId};
 use lane_chart::{Change, DrawnRow, Row, Sort, Window, drawn_rows};
 use std::alloc::{AllocError, Global};
-
-/// Whether a detector has a section.
-fn has_section(detectors: &[Detector], detector: usize, section: usize) -> bool
-    ensures { result ≡ has_section detectors.now detector section }
-{
-    match detectors.get(detector) {
-        Some(detector) => detector.sections().contains(&SectionId(section)),
-        None => false,
-    }
-}
 
 /// Whether a row is one that a node tells of: an interlocking of all but the controllers themselves, and a controller of its own.
 fn is_row_of(detectors: &[Detector], role: Role, row: Row) -> bool
@@ -30,7 +20,10 @@ fn is_row_of(detectors: &[Detector], role: Role, row: Row) -> bool
         (Role::Signal(place), Sort::Signal | Sort::SignalNode) => row.place == place,
         (Role::Point(place), Sort::Point | Sort::PointNode) => row.place == place,
         (Role::Detector(place), Sort::DetectorNode) => row.place == place,
-        (Role::Detector(place), Sort::Section) => has_section(detectors, place, row.place),
+        (Role::Detector(place), Sort::Section) => match detectors.get(place) {
+            Some(detector) => detector.sections().contains(&SectionId(row.place)),
+            None => false,
+        },
         _ => false,
     }
 }

@@ -2,12 +2,11 @@
 
 ghost use Rattle.std.specs.Prelude.{◌≡◌, ◌++◌, IfOk, OnOk, map};
 ghost use Rattle.std.specs.Option.{option_map, option_to_list};
-ghost use Rattle.replay_words.specs.Read.{decimal};
-ghost use Rattle.node_record.specs.NodeChanges.{TellsLines, begin_of, begins_at, change_by, is_marked, mark_by, said_at, seen_mark};
+ghost use Rattle.node_record.specs.NodeChanges.{TellsLines, begin_of, change_by, is_marked, mark_by, seen_mark};
 ghost use Rattle.node_record.specs.inside.Marking.{marked};
 
 use crate::capture::stamp;
-use crate::course::{Course, first_course, parted, step_of};
+use crate::course::{Course, FIRST_COURSE, parted, step_of};
 use crate::role::Role;
 use crate::told::Told;
 use crate::whole_lines::WholeLines;
@@ -60,6 +59,9 @@ fn add_change(
     Ok(())
 }
 
+/// The first words of the lines that tell answers, or that no request is taken yet.
+const ANSWERS: &[&str] = &["accepted", "refused", "holding", "waiting"];
+
 /// Whether a line of an interlocking is marked: a command, an answer, or that it takes no request yet.
 fn is_marked(kind: &str, text: &str) -> bool
     ensures { result ≡ is_marked kind.now text.now }
@@ -68,46 +70,11 @@ fn is_marked(kind: &str, text: &str) -> bool
         return kind == "hears";
     }
     let (word, _) = parted(text);
-    matches!(word, "accepted" | "refused" | "holding" | "waiting")
+    ANSWERS.contains(&word)
 }
 
-/// At its first reading a node begins.
-fn begins_at(node: usize, line: usize, text: &str) -> Option<Mark<'static>>
-    ensures { option_to_list (option_map marked result) ≡ begins_at node line (decimal text.now) }
-{
-    match decimal(text) {
-        Ok(reading) => Some(Mark {
-            line,
-            time: stamp(reading),
-            node: Some(node),
-            words: "begins",
-        }),
-        Err(_) => None,
-    }
-}
-
-/// The mark of a line of an interlocking, if it has one.
-fn said_at<'a>(
-    role: Role,
-    course: Course,
-    line: usize,
-    kind: &str,
-    text: &'a str,
-) -> Option<Mark<'a>>
-    ensures { option_to_list (option_map marked result) ≡ said_at role course line kind.now text.now }
-{
-    match role {
-        Role::Interlocking if is_marked(kind, text) => Some(Mark {
-            line,
-            time: stamp(course.reading),
-            node: None,
-            words: text,
-        }),
-        _ => None,
-    }
-}
-
-/// The mark of a line, if it has one, by its first word and the text behind it.
+/// The mark of a line, if it has one, by its first word and the text behind it. At its first reading a node begins; then the
+/// lines of an interlocking are marked that tell commands and answers.
 fn mark_by<'a>(
     role: Role,
     node: usize,
@@ -118,12 +85,25 @@ fn mark_by<'a>(
 ) -> Option<Mark<'a>>
     ensures { option_to_list (option_map marked result) ≡ mark_by role node course line kind.now text.now }
 {
-    if kind != "at" {
-        return said_at(role, course, line, kind, text);
+    if kind == "at" {
+        return match (course.first, decimal(text)) {
+            (None, Ok(reading)) => Some(Mark {
+                line,
+                time: stamp(reading),
+                node: Some(node),
+                words: "begins",
+            }),
+            _ => None,
+        };
     }
-    match course.first {
-        Some(_) => None,
-        None => begins_at(node, line, text),
+    match role {
+        Role::Interlocking if is_marked(kind, text) => Some(Mark {
+            line,
+            time: stamp(course.reading),
+            node: None,
+            words: text,
+        }),
+        _ => None,
     }
 }
 
@@ -169,7 +149,7 @@ pub(crate) fn story_of(
 {
     let mut changes = Vec::new(alloc);
     let mut happenings = Vec::new(alloc);
-    let mut course = first_course();
+    let mut course = FIRST_COURSE;
     for (number, line) in lines {
         let place = number as usize;
         let (kind, text) = parted(line);

@@ -1,7 +1,7 @@
 //! The capture of a node's record, in a file of its own.
 
-ghost use Rattle.std.specs.Prelude.{◌≡◌, ◌≤◌, IsErr, IfErr, OnOk};
-ghost use Rattle.node_record.specs.CapturedRecord.{Explained, Explains, HasCapture};
+ghost use Rattle.std.specs.Prelude.{◌≡◌, ◌≤◌};
+ghost use Rattle.node_record.specs.CapturedRecord.{Explained, HasCapture};
 ghost use Rattle.node_record.specs.DecodedRecord.{CanRead};
 
 use crate::capture::node_capture;
@@ -39,28 +39,24 @@ pub fn capture_node_to_file<R: Files + AllocGlobal, E: Write>(
     // Only a beginning of the line was told where a write to `err` failed.
     ensures explains { result ≡ 1 → Explained asked.now.layout.now asked.now.name.now asked.now.recording.now asked.now.endpoints.now (E.contents err.old) (E.contents err.new) }
 {
-    match write_capture(rt, asked) {
-        Ok(()) => 0,
-        Err(failure) => {
-            tell_capture_failure(&failure, err);
-            1
-        }
-    }
-}
-
-/// Makes the capture, and then writes its file.
-fn write_capture<R: Files + AllocGlobal>(rt: &R, asked: &Asked<'_>) -> Result<(), CaptureFailure>
-    ensures done { OnOk result (HasCapture asked.now.layout.now asked.now.name.now asked.now.recording.now asked.now.endpoints.now) }
-    ensures faulty { (CanRead asked.now.layout.now asked.now.name.now asked.now.recording.now → ⊥) → IsErr result }
-    ensures explains { IfErr result (Explains asked.now.layout.now asked.now.name.now asked.now.recording.now asked.now.endpoints.now) }
-{
-    let capture = node_capture(
+    let capture = match node_capture(
         rt.alloc(),
         asked.layout,
         asked.name,
         asked.recording,
         asked.endpoints,
-    )?;
-    write_file(rt, asked.out, asked.force, &capture)?;
-    Ok(())
+    ) {
+        Ok(capture) => capture,
+        Err(failure) => {
+            tell_capture_failure(&failure, err);
+            return 1;
+        }
+    };
+    match write_file(rt, asked.out, asked.force, &capture) {
+        Ok(()) => 0,
+        Err(fault) => {
+            tell_capture_failure(&CaptureFailure::Capture(fault), err);
+            1
+        }
+    }
 }

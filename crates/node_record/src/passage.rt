@@ -2,7 +2,7 @@
 
 ghost use Rattle.std.specs.Prelude.{◌≡◌, IfOk, map};
 ghost use Rattle.std.specs.Option.{option_map};
-ghost use Rattle.node_record.specs.NodeTraffic.{became, is_partner, latest_behind, passed_at, reading_behind, traffic};
+ghost use Rattle.node_record.specs.NodeTraffic.{became, is_partner, passed_at, reading_behind, traffic};
 ghost use Rattle.node_record.specs.RecordLines.{told};
 ghost use Rattle.node_record.specs.inside.Passing.{seen};
 
@@ -60,25 +60,15 @@ fn received(latest: u64, partner: bool, behind: &[RecordLine]) -> (u64, Receptio
     ensures reading { result.0 ≡ reading_behind latest (map told behind.now) }
     ensures reception { result.1 ≡ became partner (map told behind.now) }
 {
-    let Some((RecordLine::Reads(reading), more)) = behind.split_first() else {
+    let [RecordLine::Reads(reading), more @ ..] = behind else {
         return (latest, Reception::Unread);
     };
-    let reception = match more.split_first() {
-        Some((RecordLine::ThrowsAway, _)) => Reception::ThrownAway,
+    let reception = match more {
+        [RecordLine::ThrowsAway, ..] => Reception::ThrownAway,
         _ if partner => Reception::Delivered,
         _ => Reception::FromNoPartner,
     };
     (*reading, reception)
-}
-
-/// The last reading behind a line.
-fn latest_behind(latest: u64, line: &RecordLine) -> u64
-    ensures { result ≡ latest_behind latest (told line.now) }
-{
-    match line {
-        RecordLine::Reads(reading) => *reading,
-        _ => latest,
-    }
 }
 
 /// The datagram of which a line tells, if it tells of one.
@@ -124,7 +114,9 @@ pub(crate) fn traffic_of<'a>(
         if let Some(one) = datagram_at(node, latest, line, behind) {
             all.push(one)?;
         }
-        latest = latest_behind(latest, line);
+        if let RecordLine::Reads(reading) = line {
+            latest = *reading;
+        }
         left = behind;
     }
     Ok(all)

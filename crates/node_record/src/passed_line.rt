@@ -1,7 +1,8 @@
 //! The line for a datagram of a record.
 
 ghost use Rattle.std.specs.Prelude.{◌≡◌, IfOk, string_bytes};
-ghost use Rattle.node_record.specs.NodeLines.{came_text, line_text, name_or_none, way_text, why_text};
+ghost use Rattle.node_record.specs.CapturedRecord.{comment};
+ghost use Rattle.node_record.specs.NodeLines.{line_text, name_or_none};
 ghost use Rattle.node_record.specs.inside.Passing.{seen};
 
 use crate::passage::{Passed, Reception, Way};
@@ -22,44 +23,18 @@ fn name_or_none(name: &Option<Name>) -> &str
     }
 }
 
-/// Why a datagram wasn't delivered; nothing where it was.
-pub(crate) fn why_text(reception: Reception) -> &'static str
-    ensures { result.now ≡ why_text reception }
+/// Why a datagram wasn't delivered; nothing where it was, or where it was sent.
+pub(crate) fn comment(way: Way) -> &'static str
+    ensures { result.now ≡ comment way }
 {
+    let Way::Came { reception, .. } = way else {
+        return "";
+    };
     match reception {
         Reception::Delivered => "",
         Reception::FromNoPartner => "from no partner",
         Reception::ThrownAway => "thrown away",
         Reception::Unread => "not read",
-    }
-}
-
-/// What became of a datagram that came, as a line tells it.
-fn came_text(alloc: Global, own: &str, reception: Reception) -> Result<String, AllocError>
-    ensures { IfOk result (λ text. string_bytes text ≡ came_text own.now reception) }
-{
-    match reception {
-        Reception::Delivered => format!(in alloc; "delivered to {own}"),
-        _ => {
-            let why = why_text(reception);
-            format!(in alloc; "not delivered to {own}, {why}")
-        }
-    }
-}
-
-/// What became of a datagram, as a line tells it.
-fn way_text(alloc: Global, layout: &Layout, node: usize, way: Way) -> Result<String, AllocError>
-    ensures { IfOk result (λ text. string_bytes text ≡ way_text layout.now node way) }
-{
-    let own = node_name(layout, NodeId(node));
-    let own = name_or_none(&own);
-    match way {
-        Way::Sent { to } => {
-            let to = node_name(layout, NodeId(to));
-            let to = name_or_none(&to);
-            format!(in alloc; "sent by {own} to {to}")
-        }
-        Way::Came { reception, .. } => came_text(alloc, own, reception),
     }
 }
 
@@ -73,7 +48,23 @@ pub(crate) fn line(
     ensures { IfOk result (λ line. string_bytes line ≡ line_text layout.now node (seen one.now)) }
 {
     let words = datagram_words(alloc, Some(layout), one.bytes)?;
-    let way = way_text(alloc, layout, node, one.way)?;
     let reading = one.reading;
-    format!(in alloc; "{reading}.000 {way}: {words}\n")
+    let own = node_name(layout, NodeId(node));
+    let own = name_or_none(&own);
+    match one.way {
+        Way::Sent { to } => {
+            let to = node_name(layout, NodeId(to));
+            let to = name_or_none(&to);
+            format!(in alloc; "{reading}.000 sent by {own} to {to}: {words}\n")
+        }
+        Way::Came { reception, .. } => match reception {
+            Reception::Delivered => format!(in alloc;
+                "{reading}.000 delivered to {own}: {words}\n"
+            ),
+            _ => {
+                let why = comment(one.way);
+                format!(in alloc; "{reading}.000 not delivered to {own}, {why}: {words}\n")
+            }
+        },
+    }
 }

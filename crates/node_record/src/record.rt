@@ -6,7 +6,7 @@ ghost use Rattle.replay_lines.specs.Text.{Tells};
 ghost use Rattle.replay_words.specs.Cut.{words};
 ghost use Rattle.node_record.specs.RecordLines.{Line, line_said, told};
 ghost use Rattle.node_record.specs.Records.{behind_first, first_of, lines_said, record_said};
-ghost use Rattle.node_record.specs.inside.RecordsRead.{at_first, said};
+ghost use Rattle.node_record.specs.inside.RecordsRead.{said};
 
 use crate::record_head::{Head, read_head};
 use crate::record_line::{RecordLine, read_line};
@@ -35,22 +35,17 @@ pub(crate) fn read_record(
 {
     let mut lines = WholeLines::of(text);
     let first = first_line(&mut lines);
-    let head = at_first(read_head(layout, name, first))?;
+    let head = match read_head(layout, name, first) {
+        Ok(head) => head,
+        Err(fault) => {
+            return Err(SessionFault {
+                line: 1,
+                number: fault.number(),
+            });
+        }
+    };
     let lines = read_lines(alloc, layout, lines)?;
     Ok(Record { head, lines })
-}
-
-/// What the first line tells, or its fault.
-fn at_first(head: Result<Head, Fault>) -> Result<Head, SessionFault>
-    ensures { result ≡ at_first head }
-{
-    match head {
-        Ok(head) => Ok(head),
-        Err(fault) => Err(SessionFault {
-            line: 1,
-            number: fault.number(),
-        }),
-    }
 }
 
 /// The first line, which is empty where there is none.

@@ -2,7 +2,7 @@
 
 ghost use Rattle.std.specs.Prelude.{◌≡◌};
 ghost use Rattle.replay_words.specs.Cut.{words};
-ghost use Rattle.node_record.specs.Records.{first_said, head_behind, head_said, head_words, time_said};
+ghost use Rattle.node_record.specs.Records.{first_said, head_said, time_said};
 
 use control_table::layout::Layout;
 use replay_lines::node_named;
@@ -21,34 +21,19 @@ pub(crate) struct Head {
 pub(crate) fn read_head(layout: &Layout, name: &str, line: &str) -> Result<Head, Fault>
     ensures { result ≡ head_said layout.now name.now (words line.now) }
 {
-    let node = node_named(layout, name)?;
-    head_words(name, node.0, Words::of(line))
-}
-
-/// What the words of a first line tell of the node of this name and place.
-fn head_words(name: &str, node: usize, mut words: Words<'_>) -> Result<Head, Fault>
-    ensures { result ≡ head_words name.now node words.entry }
-{
-    let (Some(kind), Some(word)) = (words.next(), words.next()) else {
+    let node = node_named(layout, name)?.0;
+    let mut words = Words::of(line);
+    let (Some("node"), Some(word)) = (words.next(), words.next()) else {
         return Err(Fault::Words);
     };
-    let (Some(first), Some(number)) = (words.next(), words.next()) else {
+    let (Some("first"), Some(number)) = (words.next(), words.next()) else {
         return Err(Fault::Words);
     };
-    if kind != "node" || first != "first" {
-        return Err(Fault::Words);
-    }
     if word != name {
         return Err(Fault::Name);
     }
-    head_behind(node, number, words)
-}
-
-fn head_behind(node: usize, number: &str, time: Words<'_>) -> Result<Head, Fault>
-    ensures { result ≡ head_behind node number.now time.entry }
-{
     let first = first_said(number)?;
-    let for_ms = time_said(time)?;
+    let for_ms = time_said(words)?;
     Ok(Head {
         node,
         first,
@@ -69,14 +54,9 @@ fn first_said(word: &str) -> Result<u32, Fault>
 fn time_said(mut words: Words<'_>) -> Result<Option<u64>, Fault>
     ensures { result ≡ time_said words.entry }
 {
-    let Some(word) = words.next() else {
-        return Ok(None);
-    };
-    let (Some(number), None) = (words.next(), words.next()) else {
-        return Err(Fault::Words);
-    };
-    if word != "for" {
-        return Err(Fault::Words);
+    match (words.next(), words.next(), words.next()) {
+        (None, _, _) => Ok(None),
+        (Some("for"), Some(number), None) => Ok(Some(decimal(number)?)),
+        _ => Err(Fault::Words),
     }
-    Ok(Some(decimal(number)?))
 }

@@ -3,9 +3,10 @@
 ghost use Rattle.std.specs.Prelude.{◌≡◌};
 ghost use Rattle.replay_lines.specs.Given.{Gives};
 ghost use Rattle.replay_words.specs.Cut.{words};
-ghost use Rattle.replay_words.specs.Read.{hexadecimal_or_none};
-ghost use Rattle.node_record.specs.RecordLines.{alone, breaks_off, comes, complains, followed, line_said, other, reads, sender_said, sends, throws_away, told};
+ghost use Rattle.node_record.specs.RecordLines.{complains, line_said, reads, told};
+ghost use Rattle.node_record.specs.inside.FormsSaid.{datagram, other_said};
 
+use crate::word_table::told_by;
 use control_table::layout::Layout;
 use replay_lines::node_named;
 use replay_words::{Fault, Words, decimal, hexadecimal_or_none};
@@ -26,30 +27,73 @@ pub(crate) enum RecordLine {
     Other,
 }
 
+/// What a line is, by its first word.
+#[derive(Clone, Copy)]
+enum Form {
+    Reads,
+    Comes,
+    ThrowsAway,
+    Sends,
+    /// Nothing stands behind its first word.
+    Alone,
+    /// A text stands behind it.
+    Followed,
+    BreaksOff,
+    Complains,
+}
+
+const FORMS: &[(&str, Form)] = &[
+    ("at", Form::Reads),
+    ("from", Form::Comes),
+    ("sends", Form::Sends),
+    ("throws", Form::ThrowsAway),
+    ("listens", Form::Alone),
+    ("closed", Form::Alone),
+    ("hears", Form::Followed),
+    ("writes", Form::Followed),
+    ("breaks", Form::BreaksOff),
+    ("complains", Form::Complains),
+];
+
 /// What a line of a record tells, or the first fault of its words.
 pub(crate) fn read_line(alloc: Global, layout: &Layout, line: &str) -> Result<RecordLine, Fault>
     ensures { Gives told (line_said layout.now (words line.now)) result }
 {
     let mut words = Words::of(line);
-    match words.next() {
-        Some("at") => reads(words),
-        Some("from") => comes(alloc, layout, words),
-        Some("sends") => sends(alloc, layout, words),
-        Some("throws") => throws_away(words),
-        Some(first) => other(first, words),
+    let Some(first) = words.next() else {
+        return Err(Fault::Words);
+    };
+    match told_by(FORMS, first) {
+        Some(Form::Reads) => reads(words),
+        Some(Form::Comes) => datagram(alloc, layout, true, words),
+        Some(Form::Sends) => datagram(alloc, layout, false, words),
+        Some(form) => other(form, words),
         None => Err(Fault::Words),
     }
 }
 
-/// The same of a line that tells of no datagram, behind its first word.
-fn other(first: &str, words: Words<'_>) -> Result<RecordLine, Fault>
-    ensures { Gives told (other first.now words.entry) result }
+/// What a line of another form tells, behind its first word.
+fn other(form: Form, mut words: Words<'_>) -> Result<RecordLine, Fault>
+    ensures { Gives told (other_said form words.entry) result }
 {
-    match first {
-        "listens" | "closed" => alone(words),
-        "hears" | "writes" => followed(words),
-        "breaks" => breaks_off(words),
-        "complains" => complains(words),
+    match form {
+        Form::ThrowsAway => match (words.next(), words.next()) {
+            (Some("away"), None) => Ok(RecordLine::ThrowsAway),
+            _ => Err(Fault::Words),
+        },
+        Form::Alone => match words.next() {
+            None => Ok(RecordLine::Other),
+            Some(_) => Err(Fault::Words),
+        },
+        Form::Followed => match words.next() {
+            Some(_) => Ok(RecordLine::Other),
+            None => Err(Fault::Words),
+        },
+        Form::BreaksOff => match (words.next(), words.next()) {
+            (Some("off"), Some(_)) => Ok(RecordLine::Other),
+            _ => Err(Fault::Words),
+        },
+        Form::Complains => complains(words),
         _ => Err(Fault::Words),
     }
 }
@@ -63,80 +107,29 @@ fn reads(mut words: Words<'_>) -> Result<RecordLine, Fault>
     Ok(RecordLine::Reads(decimal(reading)?))
 }
 
-/// The place of the node from whose address a datagram came, or none at a hyphen that is no node's name.
-fn sender_said(layout: &Layout, word: &str) -> Result<Option<usize>, Fault>
-    ensures { result ≡ sender_said layout.now word.now }
-{
-    match node_named(layout, word) {
-        Ok(node) => Ok(Some(node.0)),
-        Err(_) if word == "-" => Ok(None),
-        Err(fault) => Err(fault),
-    }
-}
-
-fn comes(alloc: Global, layout: &Layout, mut words: Words<'_>) -> Result<RecordLine, Fault>
-    ensures { Gives told (comes layout.now words.entry) result }
+/// What a line tells of a datagram that came, or of one that was sent, behind its first word. Of one that came a hyphen that is
+/// no node's name stands for an address that is no node's.
+fn datagram(
+    alloc: Global,
+    layout: &Layout,
+    came: bool,
+    mut words: Words<'_>,
+) -> Result<RecordLine, Fault>
+    ensures { Gives told (datagram layout.now came words.entry) result }
 {
     let (Some(word), Some(digits), None) = (words.next(), words.next(), words.next()) else {
         return Err(Fault::Words);
     };
-    let from = sender_said(layout, word)?;
-    let bytes = bytes_of(alloc, digits)?;
-    Ok(RecordLine::Comes { from, bytes })
-}
-
-fn sends(alloc: Global, layout: &Layout, mut words: Words<'_>) -> Result<RecordLine, Fault>
-    ensures { Gives told (sends layout.now words.entry) result }
-{
-    let (Some(word), Some(digits), None) = (words.next(), words.next(), words.next()) else {
-        return Err(Fault::Words);
+    let node = match node_named(layout, word) {
+        Ok(node) => Some(node.0),
+        Err(_) if came && word == "-" => None,
+        Err(fault) => return Err(fault),
     };
-    let to = node_named(layout, word)?.0;
-    let bytes = bytes_of(alloc, digits)?;
-    Ok(RecordLine::Sends { to, bytes })
-}
-
-/// The bytes that digits spell, or none for a hyphen.
-fn bytes_of(alloc: Global, digits: &str) -> Result<Vec<u8>, Fault>
-    ensures { Gives (λ bytes. bytes.items) (hexadecimal_or_none digits.now) result }
-{
-    let bytes = hexadecimal_or_none(digits)?;
-    Ok(Vec::from_slice(alloc, &bytes)?)
-}
-
-fn throws_away(mut words: Words<'_>) -> Result<RecordLine, Fault>
-    ensures { Gives told (throws_away words.entry) result }
-{
-    match (words.next(), words.next()) {
-        (Some("away"), None) => Ok(RecordLine::ThrowsAway),
-        _ => Err(Fault::Words),
-    }
-}
-
-fn alone(mut words: Words<'_>) -> Result<RecordLine, Fault>
-    ensures { Gives told (alone words.entry) result }
-{
-    match words.next() {
-        None => Ok(RecordLine::Other),
-        Some(_) => Err(Fault::Words),
-    }
-}
-
-fn followed(mut words: Words<'_>) -> Result<RecordLine, Fault>
-    ensures { Gives told (followed words.entry) result }
-{
-    match words.next() {
-        Some(_) => Ok(RecordLine::Other),
-        None => Err(Fault::Words),
-    }
-}
-
-fn breaks_off(mut words: Words<'_>) -> Result<RecordLine, Fault>
-    ensures { Gives told (breaks_off words.entry) result }
-{
-    match words.next() {
-        Some("off") => followed(words),
-        _ => Err(Fault::Words),
+    let digits = hexadecimal_or_none(digits)?;
+    let bytes = Vec::from_slice(alloc, &digits)?;
+    match node {
+        Some(to) if !came => Ok(RecordLine::Sends { to, bytes }),
+        from => Ok(RecordLine::Comes { from, bytes }),
     }
 }
 

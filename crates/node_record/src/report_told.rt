@@ -2,37 +2,27 @@
 
 ghost use Rattle.std.specs.Prelude.{◌≡◌};
 ghost use Rattle.replay_words.specs.Cut.{words};
-ghost use Rattle.node_record.specs.ReportsTold.{report_said, report_told};
+ghost use Rattle.node_record.specs.ReportsTold.{report_said};
 
 use crate::role::Role;
 use crate::told::Told;
 use control_table::layout::Layout;
-use lane_chart::{Kind, Seen};
+use lane_chart::{Kind, Lane, Seen};
 use node_lines::{FieldReport, read_report};
-
-/// What a report tells of a lane.
-fn report_told(role: Role, report: FieldReport) -> Option<Told>
-    ensures { result ≡ report_told role report }
-{
-    match (report, role) {
-        (FieldReport::Section { section, occupancy }, _) => {
-            let seen = Seen::Section(Some(occupancy));
-            Some(Told::of(Kind::Section, section.0, seen))
-        }
-        (FieldReport::Point(position), Role::Point(place)) => {
-            let seen = Seen::Position(Some(position));
-            Some(Told::of(Kind::Position, place, seen))
-        }
-        _ => None,
-    }
-}
 
 /// What a line of field equipment tells of a lane.
 pub(crate) fn report_said(layout: &Layout, role: Role, line: &str) -> Option<Told>
     ensures { result ≡ report_said layout.now role (words line.now) }
 {
-    match read_report(layout, line) {
-        Ok(report) => report_told(role, report),
-        Err(_) => None,
-    }
+    let (kind, place, seen) = match (read_report(layout, line), role) {
+        (Ok(FieldReport::Section { section, occupancy }), _) => {
+            (Kind::Section, section.0, Seen::Section(Some(occupancy)))
+        }
+        (Ok(FieldReport::Point(position)), Role::Point(place)) => {
+            (Kind::Position, place, Seen::Position(Some(position)))
+        }
+        _ => return None,
+    };
+    let lane = Lane { kind, place };
+    Some(Told { lane, seen })
 }

@@ -28,6 +28,11 @@ pub(crate) fn read_texts(
     ensures explains { IfErr result (ExplainsRecord layout.now name.now recording.now) }
 {
     let table = table_of(alloc, layout)?;
-    let read = read_record(alloc, table.layout(), name, recording)?;
-    Ok(Texts { table, read })
+    match read_record(alloc, table.layout(), name, recording) {
+        Ok(read) => Ok(Texts { table, read }),
+        Err(fault) => {
+            drop(table);
+            Err(Failure::Line(fault))
+        }
+    }
 }

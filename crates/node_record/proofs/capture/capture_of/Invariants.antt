@@ -3,4 +3,4 @@ use Rattle.node_record.proofs.Captures.{Captures}
 use Rattle.node_record.proofs.capture.capture_of.Given as goal
 
 abbrev pub invariant-loop-one : goal.invariant-loop-one
-invariant-loop-one l = Captures l.given l.node l.all (drop l.one-index l.all) l.file.items
+invariant-loop-one l = Captures l.given l.node l.one-items (drop l.one-index l.one-items) l.file.items
