@@ -1,11 +1,12 @@
 -- Charts of records.
-use Rattle.std.proofs.Common.{◌≡◌, ℕ, List, Result, Ok, Err, map, subst}
+use Rattle.std.proofs.Common.{◌≡◌, ℕ, List, Result, Ok, Err, map, refl, subst}
 use Rattle.std.specs.Prelude.{IfOk}
 use Rattle.std.specs.List.{enumerate_from}
 use Rattle.control_table.specs.layout.Entries.{Site}
 use Rattle.drawing.specs.Svg.{svg_text}
 use Rattle.drawing.specs.declared.picture.Picture.{Picture}
-use Rattle.node_record.specs.ChartedRecord.{IsChartBy, IsRecordChart, IsTextOf}
+use Rattle.node_record.specs.ChartedRecord.{IsChartBy, IsRecordChart, IsTextOf, Leaves}
+use Rattle.node_record.specs.DecodedRecord.{CanRead, ExplainsRecord}
 use Rattle.node_record.specs.NodeChanges.{TellsLines}
 use Rattle.node_record.specs.RecordLines.{told}
 use Rattle.node_record.specs.Records.{whole_lines}
@@ -14,7 +15,10 @@ use Rattle.node_record.specs.declared.node_chart.Cut.{Cut}
 use Rattle.node_record.specs.declared.node_story.NodeStory.{NodeStory}
 use Rattle.node_record.specs.declared.record.Record.{Record}
 use Rattle.node_record.specs.declared.role.Role.{Role}
-use Rattle.node_record.specs.inside.SoundTexts.{AreTexts}
+use Rattle.station_check.specs.declared.failure.Failure.{Failure}
+use Rattle.station_check.specs.declared.failure.Failure.TheVariants.{Layout, Table, Line, OutOfMemory, NotWritten}
+use Rattle.node_record.specs.inside.SoundTexts.{AreTexts, IsLate}
+use Rattle.node_record.proofs.Explained.{late}
 
 -- the text of a picture is the chart of a story
 pub text_told : {F E : Type 0} (items : F → List ℕ) (l : Site) (role : Role) (cut : Cut) (story : NodeStory) (picture : Picture) (tried : Result F E)
@@ -32,14 +36,25 @@ chart_told l node role recording lines cut story text lines_are is happens drawn
 }
 
 -- so it is of texts without a fault
-pub record_told : {F E : Type 0} (items : F → List ℕ) (layout name text : List ℕ) (site drawn : Site) (read : Record) (cut : Cut) (tried : Result F E) → AreTexts layout name text site read → drawn ≡ site
-    → IfOk tried (λ chart. IsChartBy drawn read.head.node text cut (items chart)) → IfOk tried (λ chart. IsRecordChart layout name text cut (items chart))
-record_told items layout name text site drawn read cut (Ok chart) are same is = record {
+pub record_told : (layout name text : List ℕ) (site drawn : Site) (read : Record) (cut : Cut) (chart : List ℕ) → AreTexts layout name text site read → drawn ≡ site
+    → IsChartBy drawn read.head.node text cut chart → IsRecordChart layout name text cut chart
+record_told layout name text site drawn read cut chart are same is = record {
   site = site;
   sound = are.sound;
   head = read.head;
   lines = map told read.lines.items;
   says = are.says;
-  is = subst (λ (s : Site). IsChartBy s read.head.node text cut (items chart)) same is;
+  is = subst (λ (s : Site). IsChartBy s read.head.node text cut chart) same is;
 }
-record_told items layout name text site drawn read cut (Err why) are same is = tt
+
+-- a writer to which no picture was written
+pub stays : {W : Type 0} (why : Failure) (out : W) → Leaves why out out
+stays (Layout fault) out = refl
+stays (Table fault) out = refl
+stays (Line fault) out = refl
+stays OutOfMemory out = refl
+stays NotWritten out = tt
+
+-- nothing is written of texts without a fault where something fails later
+pub late_stays : {W : Type 0} (layout name text : List ℕ) (why : Failure) (out : W) → IsLate why → CanRead layout name text → ExplainsRecord layout name text why × Leaves why out out
+late_stays layout name text why out is can = ((late layout name text why out out is can).0, stays why out)

@@ -58,10 +58,6 @@ pub late_told : {W T : Type 0} (layout name text : List ℕ) (tried : Result T F
 late_told layout name text (Ok done) old new is can = tt
 late_told layout name text (Err why) old new is can = late layout name text why old new is can
 
-pub late_explained : {T : Type 0} (layout name text : List ℕ) (tried : Result T Failure) → IfErr tried IsLate → CanRead layout name text → IfErr tried (ExplainsRecord layout name text)
-late_explained layout name text (Ok done) is can = tt
-late_explained layout name text (Err why) is can = (late layout name text why why why is can).0
-
 -- the traffic of texts was told
 pub decoded : {T E : Type 0} (layout name text : List ℕ) (site drawn : Site) (read : Record) (before now : Option (List ℕ)) (tried : Result T E) → AreTexts layout name text site read → drawn ≡ site
     → OnOk tried (Appends before now (lines_text drawn read.head.node (traffic read.head.node 0 (map told read.lines.items)))) → OnOk tried (IsDecoded layout name text before now)

@@ -11,5 +11,3 @@ pub mod Stories
 pub mod KeptRows
 pub mod Lines
 pub mod AnswerWords
-pub mod ThingsTold
-pub mod FormsSaid

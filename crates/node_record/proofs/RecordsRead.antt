@@ -1,5 +1,5 @@
 -- What the first line and those behind it tell, together.
-use Rattle.std.proofs.Common.{◌≡◌, ◌==◌, ◌∙◌, ℕ, Bool, true, false, List, [], Result, Ok, Err, ap, subst, sym}
+use Rattle.std.proofs.Common.{◌≡◌, ◌==◌, ◌∙◌, ℕ, Bool, true, false, List, Result, Ok, Err, ap, subst, sym}
 use Rattle.std.specs.Prelude.{IsErrAnd}
 use Rattle.std.specs.List.{enumerate_from}
 use Rattle.control_table.specs.layout.Entries.{Site}

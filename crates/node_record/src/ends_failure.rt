@@ -1,19 +1,19 @@
 //! Why the addresses of nodes don't go into captures, and how that is told.
 
 ghost use Rattle.std.specs.Prelude.{◌≡◌, IfOk};
-ghost use Rattle.node_record.specs.GivenEnds.{Tells, addresses_line, no_ipv4_line};
+ghost use Rattle.node_record.specs.GivenEnds.{Tells, told_line};
 
 use arrayvec::ArrayString;
 use control_table::sci_telegram::Name;
 use node_addresses::AddressesFault;
 use replay_words::write_as_taken;
-use station_check::{Failure, tell};
+use station_check::Failure;
 use std::alloc::AllocFailed;
 use std::fmt;
 use std::io::Write;
 
-/// More bytes than the line of a fault has: the longest one tells the name of a node.
-const LINE_LENGTH: usize = 64;
+/// More bytes than any line of a failure has: the longest one tells the name of a route, and has 61.
+const LINE_LENGTH: usize = 80;
 
 /// Why the addresses of nodes don't go into captures.
 #[derive(Drop)]
@@ -57,23 +57,20 @@ impl<T: Drop> From<AllocFailed<T>> for EndsFailure {
     }
 }
 
-/// The line of a fault of an addresses file, in a place of its own.
-fn addresses_line(fault: AddressesFault) -> Result<ArrayString<LINE_LENGTH>, fmt::Error>
-    ensures { IfOk result (λ line. line.bytes ≡ addresses_line fault) }
+/// The line that tells why, in a place of its own.
+fn line(failure: &EndsFailure) -> Result<ArrayString<LINE_LENGTH>, fmt::Error>
+    ensures { IfOk result (λ line. line.bytes ≡ told_line failure.now) }
 {
     use std::fmt::Write;
     let mut line = ArrayString::new();
-    write!(line, "{fault}\n")?;
-    Ok(line)
-}
-
-/// The line of an address that is none of IPv4: that of the node of this name.
-fn no_ipv4_line(name: &str) -> Result<ArrayString<LINE_LENGTH>, fmt::Error>
-    ensures { IfOk result (λ line. line.bytes ≡ no_ipv4_line name.now) }
-{
-    use std::fmt::Write;
-    let mut line = ArrayString::new();
-    write!(line, "capture fault 3 NoIpv4 at {name}\n")?;
+    match failure {
+        EndsFailure::Station(failure) => write!(line, "{failure}")?,
+        EndsFailure::Addresses(fault) => write!(line, "{fault}\n")?,
+        EndsFailure::NoIpv4(name) => {
+            let name = name.as_str();
+            write!(line, "capture fault 3 NoIpv4 at {name}\n")?;
+        }
+    }
     Ok(line)
 }
 
@@ -81,12 +78,7 @@ fn no_ipv4_line(name: &str) -> Result<ArrayString<LINE_LENGTH>, fmt::Error>
 pub(crate) fn tell_ends_failure<E: Write>(failure: &EndsFailure, err: &mut E)
     ensures { Tells failure.now (E.contents err.old) (E.contents err.new) }
 {
-    let line = match failure {
-        EndsFailure::Station(failure) => return tell(failure, err),
-        EndsFailure::Addresses(fault) => addresses_line(*fault),
-        EndsFailure::NoIpv4(name) => no_ipv4_line(name.as_str()),
-    };
-    if let Ok(line) = line {
+    if let Ok(line) = line(failure) {
         write_as_taken(line.as_str().as_bytes(), err);
     }
 }

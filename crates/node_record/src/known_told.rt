@@ -3,8 +3,8 @@
 ghost use Rattle.std.specs.Prelude.{◌≡◌};
 ghost use Rattle.std.specs.Option.{option_map, option_to_list};
 ghost use Rattle.replay_words.specs.Cut.{words};
-ghost use Rattle.node_record.specs.KnownTold.{authority_seen, known_said, link_lane, point_lane, section_lane, signal_lane};
-ghost use Rattle.node_record.specs.inside.ThingsTold.{thing_told};
+ghost use Rattle.node_record.specs.KnownTold.{authority_seen, known_said};
+ghost use Rattle.node_record.specs.inside.ThingsTold.{lane_of, node_lane, thing_told};
 
 use crate::role::{Role, role_of};
 use crate::told::Told;
@@ -17,57 +17,64 @@ use replay_words::Words;
 
 // ---- lanes
 
-/// The lane of the link to the node of a name.
-fn link_lane(layout: &Layout, name: &str) -> Option<Lane>
-    ensures { result ≡ link_lane layout.now name.now }
+/// What a line tells of.
+#[derive(Clone, Copy)]
+enum Thing {
+    Link,
+    Section,
+    Point,
+    /// The authority at a signal.
+    Authority,
+    /// The aspect that a signal indicates.
+    Aspect,
+    Route,
+}
+
+/// By its first word.
+const THINGS: &[(&str, Thing)] = &[
+    ("link", Thing::Link),
+    ("section", Thing::Section),
+    ("point", Thing::Point),
+    ("signal", Thing::Authority),
+    ("indicates", Thing::Aspect),
+    ("route", Thing::Route),
+];
+
+/// The lane of this thing at the node of a name.
+fn node_lane(layout: &Layout, thing: Thing, name: &str) -> Option<Lane>
+    ensures { result ≡ node_lane layout.now thing name.now }
 {
     let Ok(node) = node_named(layout, name) else {
         return None;
     };
-    let (kind, place) = match role_of(layout, node.0) {
-        Role::Interlocking => return None,
-        Role::Signal(place) => (Kind::SignalLink, place),
-        Role::Point(place) => (Kind::PointLink, place),
-        Role::Detector(place) => (Kind::DetectorLink, place),
+    let (kind, place) = match (thing, role_of(layout, node.0)) {
+        (Thing::Link, Role::Signal(place)) => (Kind::SignalLink, place),
+        (Thing::Link, Role::Point(place)) => (Kind::PointLink, place),
+        (Thing::Link, Role::Detector(place)) => (Kind::DetectorLink, place),
+        (Thing::Authority, Role::Signal(place)) => (Kind::Authority, place),
+        (Thing::Aspect, Role::Signal(place)) => (Kind::Aspect, place),
+        _ => return None,
     };
     Some(Lane { kind, place })
 }
 
-/// The lane of this kind of the signal of a name.
-fn signal_lane(layout: &Layout, kind: Kind, name: &str) -> Option<Lane>
-    ensures { result ≡ signal_lane layout.now kind name.now }
+/// The lane of what a line names.
+fn lane_of(layout: &Layout, thing: Thing, name: &str) -> Option<Lane>
+    ensures { result ≡ lane_of layout.now thing name.now }
 {
-    let Ok(node) = node_named(layout, name) else {
-        return None;
+    let (kind, place) = match thing {
+        Thing::Section => match section_named(layout, name) {
+            Ok(section) => (Kind::Section, section.0),
+            Err(_) => return None,
+        },
+        Thing::Point => match point_named(layout, name) {
+            Ok(point) => (Kind::Position, point.0),
+            Err(_) => return None,
+        },
+        Thing::Route => (Kind::Route, route_named(layout, name).0),
+        _ => return node_lane(layout, thing, name),
     };
-    match role_of(layout, node.0) {
-        Role::Signal(place) => Some(Lane { kind, place }),
-        _ => None,
-    }
-}
-
-fn section_lane(layout: &Layout, name: &str) -> Option<Lane>
-    ensures { result ≡ section_lane layout.now name.now }
-{
-    match section_named(layout, name) {
-        Ok(section) => Some(Lane {
-            kind: Kind::Section,
-            place: section.0,
-        }),
-        Err(_) => None,
-    }
-}
-
-fn point_lane(layout: &Layout, name: &str) -> Option<Lane>
-    ensures { result ≡ point_lane layout.now name.now }
-{
-    match point_named(layout, name) {
-        Ok(point) => Some(Lane {
-            kind: Kind::Position,
-            place: point.0,
-        }),
-        Err(_) => None,
-    }
+    Some(Lane { kind, place })
 }
 
 // ---- what they show
@@ -116,29 +123,6 @@ fn authority_seen(layout: &Layout, aspect: &str, route: Option<&str>) -> Option<
 
 // ---- a line
 
-/// What a line tells of.
-#[derive(Clone, Copy)]
-enum Thing {
-    Link,
-    Section,
-    Point,
-    /// The authority at a signal.
-    Authority,
-    /// The aspect that a signal indicates.
-    Aspect,
-    Route,
-}
-
-/// By its first word.
-const THINGS: &[(&str, Thing)] = &[
-    ("link", Thing::Link),
-    ("section", Thing::Section),
-    ("point", Thing::Point),
-    ("signal", Thing::Authority),
-    ("indicates", Thing::Aspect),
-    ("route", Thing::Route),
-];
-
 /// What the words behind the first one tell; there may be a third.
 fn thing_told(
     layout: &Layout,
@@ -149,25 +133,15 @@ fn thing_told(
 ) -> Option<Told>
     ensures { result ≡ thing_told layout.now thing name.now word.now (option_to_list (option_map (λ word. word.now) route.entry)) }
 {
-    let (lane, seen) = match thing {
-        Thing::Link => (link_lane(layout, name), told_by(LINK, word)),
-        Thing::Section => (section_lane(layout, name), told_by(SECTION, word)),
-        Thing::Point => (point_lane(layout, name), told_by(POINT, word)),
-        Thing::Authority => (
-            signal_lane(layout, Kind::Authority, name),
-            authority_seen(layout, word, route),
-        ),
-        Thing::Aspect => (
-            signal_lane(layout, Kind::Aspect, name),
-            told_by(INDICATED, word),
-        ),
-        Thing::Route => {
-            let kind = Kind::Route;
-            let place = route_named(layout, name).0;
-            (Some(Lane { kind, place }), told_by(ROUTE, word))
-        }
+    let seen = match thing {
+        Thing::Link => told_by(LINK, word),
+        Thing::Section => told_by(SECTION, word),
+        Thing::Point => told_by(POINT, word),
+        Thing::Authority => authority_seen(layout, word, route),
+        Thing::Aspect => told_by(INDICATED, word),
+        Thing::Route => told_by(ROUTE, word),
     };
-    match (lane, seen) {
+    match (lane_of(layout, thing, name), seen) {
         (Some(lane), Some(seen)) => Some(Told { lane, seen }),
         _ => None,
     }

@@ -1,7 +1,7 @@
 //! A node's record, drawn over the readings of its clock.
 
 ghost use Rattle.std.specs.Prelude.{◌≡◌, ◌≤◌, IsErr, IfErr, IfOk, OnOk};
-ghost use Rattle.node_record.specs.ChartedRecord.{Explained, IsChartBy, IsCharted, IsRecordChart, IsTextOf, Leaves, micros_or, window_of};
+ghost use Rattle.node_record.specs.ChartedRecord.{Explained, IsChartBy, IsCharted, IsTextOf, Leaves, window_of};
 ghost use Rattle.node_record.specs.DecodedRecord.{CanRead, ExplainsRecord};
 ghost use Rattle.node_record.specs.inside.SoundTexts.{IsLate};
 
@@ -56,7 +56,7 @@ pub fn chart_node_text<W: Write, E: Write>(
     }
 }
 
-/// Writes the chart of a record at once.
+/// Judges the texts, and writes the chart of what happens by the record at once.
 fn write_chart<W: Write>(
     alloc: Global,
     layout: &str,
@@ -69,29 +69,14 @@ fn write_chart<W: Write>(
     ensures faulty { (CanRead layout.now name.now recording.now → ⊥) → IsErr result × (out.new ≡ out.old) }
     ensures explains { IfErr result (λ failure. ExplainsRecord layout.now name.now recording.now failure × Leaves failure out.old out.new) }
 {
-    let text = record_chart(alloc, layout, name, recording, cut)?;
-    out.write_all(&text)?;
-    out.flush()?;
-    Ok(())
-}
-
-/// Judges the texts, and draws what happens by the record.
-fn record_chart(
-    alloc: Global,
-    layout: &str,
-    name: &str,
-    recording: &str,
-    cut: Cut,
-) -> Result<Vec<u8>, Failure>
-    ensures drawn { IfOk result (λ text. IsRecordChart layout.now name.now recording.now cut text.items) }
-    ensures reads { OnOk result (CanRead layout.now name.now recording.now) }
-    ensures explains { IfErr result (ExplainsRecord layout.now name.now recording.now) }
-{
     let texts = read_texts(alloc, layout, name, recording)?;
     let layout = texts.table.layout();
-    let chart = chart_of(alloc, layout, texts.read.head.node, recording, cut);
+    let drawn = chart_of(alloc, layout, texts.read.head.node, recording, cut);
     drop(texts);
-    chart
+    let chart = drawn?;
+    out.write_all(&chart)?;
+    out.flush()?;
+    Ok(())
 }
 
 /// The chart of the record of the node of this number.
@@ -112,23 +97,21 @@ fn chart_of(
     Ok(text?)
 }
 
-/// A time in microseconds, or another one where none is given.
-fn micros_or(otherwise: u64, millis: Option<u64>) -> u64
-    ensures { result ≡ micros_or otherwise millis }
-{
-    match millis {
-        Some(millis) => stamp(millis),
-        None => otherwise,
-    }
-}
-
-/// The part of a record that is drawn: no time behind its end.
+/// The part of a record that is drawn, in microseconds: no time behind its end.
 fn window_of(cut: Cut, begin: u64, end: u64) -> Window
     ensures { result ≡ window_of cut begin end }
 {
+    let from = match cut.from {
+        Some(from) => stamp(from),
+        None => begin,
+    };
+    let to = match cut.to {
+        Some(to) => stamp(to),
+        None => end,
+    };
     Window {
-        from: micros_or(begin, cut.from),
-        to: micros_or(end, cut.to).min(end),
+        from,
+        to: to.min(end),
     }
 }
 

@@ -1,9 +1,9 @@
 -- What a line tells, by its form.
-use Rattle.std.specs.Prelude.{ℕ, Bool, true, false, List, Option, Some, None, Result, Err}
+use Rattle.std.specs.Prelude.{ℕ, Bool, true, false, List, Result, Err}
 use Rattle.control_table.specs.layout.Entries.{Site}
 use Rattle.replay_words.specs.declared.fault.Fault.{Fault}
 use Rattle.replay_words.specs.declared.fault.Fault.TheVariants.{Words}
-use Rattle.node_record.specs.RecordLines.{Line, alone, breaks_off, comes, complains, followed, reads, sends, throws_away}
+use Rattle.node_record.specs.RecordLines.{Line, alone, breaks_off, comes, complains, followed, sends, throws_away}
 use Rattle.node_record.specs.declared.record_line.Form.{Form}
 use Rattle.node_record.specs.declared.record_line.Form.TheVariants as form
 
@@ -19,14 +19,3 @@ other_said form.Followed words = followed words
 other_said form.BreaksOff words = breaks_off words
 other_said form.Complains words = complains words
 other_said other words = Err Words
-
-abbrev pub form_said : Site → Form → List (List ℕ) → Result Line Fault
-form_said site form.Reads words = reads words
-form_said site form.Comes words = datagram site true words
-form_said site form.Sends words = datagram site false words
-form_said site other words = other_said other words
-
--- a line of no form is at fault
-abbrev pub said_if : Site → Option Form → List (List ℕ) → Result Line Fault
-said_if site (Some form) words = form_said site form words
-said_if site None words = Err Words

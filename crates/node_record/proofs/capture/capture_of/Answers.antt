@@ -1,4 +1,4 @@
-use Rattle.std.proofs.Common.{◌≡◌, ◌+◌, ◌∙◌, List, ap, drop, get_or, map, subst}
+use Rattle.std.proofs.Common.{◌+◌, ◌∙◌, List, ap, drop, get_or, map, subst}
 use Rattle.std.proofs.lemmas.List.{drop_all}
 use Rattle.std.specs.Prelude.{IfErr}
 use Rattle.node_record.specs.CapturedRecord.{IsCaptureOf}
