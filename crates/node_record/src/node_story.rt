@@ -6,7 +6,7 @@ ghost use Rattle.node_record.specs.NodeChanges.{TellsLines, begin_of, change_by,
 ghost use Rattle.node_record.specs.inside.Marking.{marked};
 
 use crate::capture::stamp;
-use crate::course::{Course, FIRST_COURSE, parted, step_of};
+use crate::course::{Course, FIRST_COURSE, Step, parted, step_of};
 use crate::role::Role;
 use crate::told::Told;
 use crate::whole_lines::WholeLines;
@@ -38,21 +38,15 @@ struct Mark<'a> {
 }
 
 /// Adds what was told of a lane at a reading, if something was.
-fn add_change(
-    changes: &mut Vec<Change>,
-    line: usize,
-    time: u64,
-    told: Option<Told>,
-) -> Result<(), AllocError>
-    ensures { OnOk result (changes.new.items ≡ changes.old.items ++ change_by line time told) }
+fn add_change(changes: &mut Vec<Change>, line: usize, step: Step) -> Result<(), AllocError>
+    ensures { OnOk result (changes.new.items ≡ changes.old.items ++ change_by line step.time step.told) }
 {
-    let Some(Told { lane, seen }) = told else {
+    let Some(Told { lane, seen }) = step.told else {
         return Ok(());
     };
-    let time = stamp(time);
     changes.push(Change {
         line,
-        time,
+        time: stamp(step.time),
         lane,
         seen,
     })?;
@@ -156,7 +150,7 @@ pub(crate) fn story_of(
         let mark = mark_by(role, node, course, place, kind, text);
         add_mark(alloc, &mut happenings, mark)?;
         let this = step_of(layout, role, course, kind, text);
-        add_change(&mut changes, place, this.time, this.told)?;
+        add_change(&mut changes, place, this)?;
         course = this.course;
     }
     Ok(NodeStory {

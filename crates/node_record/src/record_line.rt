@@ -1,9 +1,9 @@
 //! What the lines of a node's record tell of datagrams.
 
-ghost use Rattle.std.specs.Prelude.{◌≡◌};
+ghost use Rattle.std.specs.Prelude.{◌∷◌, []};
 ghost use Rattle.replay_lines.specs.Given.{Gives};
 ghost use Rattle.replay_words.specs.Cut.{words};
-ghost use Rattle.node_record.specs.RecordLines.{complains, line_said, reads, told};
+ghost use Rattle.node_record.specs.RecordLines.{complains, line_said, told};
 ghost use Rattle.node_record.specs.inside.FormsSaid.{datagram, other_said};
 
 use crate::word_table::told_by;
@@ -64,7 +64,6 @@ pub(crate) fn read_line(alloc: Global, layout: &Layout, line: &str) -> Result<Re
         return Err(Fault::Words);
     };
     match told_by(FORMS, first) {
-        Some(Form::Reads) => reads(words),
         Some(Form::Comes) => datagram(alloc, layout, true, words),
         Some(Form::Sends) => datagram(alloc, layout, false, words),
         Some(form) => other(form, words),
@@ -76,35 +75,34 @@ pub(crate) fn read_line(alloc: Global, layout: &Layout, line: &str) -> Result<Re
 fn other(form: Form, mut words: Words<'_>) -> Result<RecordLine, Fault>
     ensures { Gives told (other_said form words.entry) result }
 {
+    let (word, next) = (words.next(), words.next());
     match form {
-        Form::ThrowsAway => match (words.next(), words.next()) {
+        Form::Reads => match (word, next) {
+            (Some(reading), None) => Ok(RecordLine::Reads(decimal(reading)?)),
+            _ => Err(Fault::Words),
+        },
+        Form::ThrowsAway => match (word, next) {
             (Some("away"), None) => Ok(RecordLine::ThrowsAway),
             _ => Err(Fault::Words),
         },
-        Form::Alone => match words.next() {
+        Form::Alone => match word {
             None => Ok(RecordLine::Other),
             Some(_) => Err(Fault::Words),
         },
-        Form::Followed => match words.next() {
+        Form::Followed => match word {
             Some(_) => Ok(RecordLine::Other),
             None => Err(Fault::Words),
         },
-        Form::BreaksOff => match (words.next(), words.next()) {
+        Form::BreaksOff => match (word, next) {
             (Some("off"), Some(_)) => Ok(RecordLine::Other),
             _ => Err(Fault::Words),
         },
-        Form::Complains => complains(words),
+        Form::Complains => match (word, next, words.next()) {
+            (Some(line), Some(fault), None) => complains(line, fault),
+            _ => Err(Fault::Words),
+        },
         _ => Err(Fault::Words),
     }
-}
-
-fn reads(mut words: Words<'_>) -> Result<RecordLine, Fault>
-    ensures { Gives told (reads words.entry) result }
-{
-    let (Some(reading), None) = (words.next(), words.next()) else {
-        return Err(Fault::Words);
-    };
-    Ok(RecordLine::Reads(decimal(reading)?))
 }
 
 /// What a line tells of a datagram that came, or of one that was sent, behind its first word. Of one that came a hyphen that is
@@ -133,12 +131,10 @@ fn datagram(
     }
 }
 
-fn complains(mut words: Words<'_>) -> Result<RecordLine, Fault>
-    ensures { Gives told (complains words.entry) result }
+/// A line of two numbers.
+fn complains(line: &str, fault: &str) -> Result<RecordLine, Fault>
+    ensures { Gives told (complains (line.now ∷ fault.now ∷ [])) result }
 {
-    let (Some(line), Some(fault), None) = (words.next(), words.next(), words.next()) else {
-        return Err(Fault::Words);
-    };
     decimal(line)?;
     decimal(fault)?;
     Ok(RecordLine::Other)
