@@ -42,11 +42,6 @@ fails site all place one why (Err other) there so told = subst (IsNoEnd site all
 
 -- ---- of a text
 
-pub have_ends : {F E : Type 0} (items : F → List Endpoint) (site : Site) (text : List ℕ) (addresses lent : List SocketAddr) (tried : Result F E) → AreAddresses site text addresses → lent ≡ addresses
-    → IfOk tried (λ found. map end_at lent ≡ map (λ (end : Endpoint). Some end) (items found)) → IfOk tried (λ found. HasEnds site text (items found))
-have_ends items site text addresses lent (Ok found) are all is = record { addresses = addresses; are = are; ends_are = ap (λ l. map end_at l) (sym all) ∙ is }
-have_ends items site text addresses lent (Err why) are all is = tt
-
 pub lack_end : {F : Type 0} (site : Site) (text : List ℕ) (addresses lent : List SocketAddr) (tried : Result F EndsFailure) → AreAddresses site text addresses → lent ≡ addresses
     → IfErr tried (IsNoEnd site lent) → IfErr tried (ExplainsOf site text)
 lack_end site text addresses lent (Ok found) are all so = tt

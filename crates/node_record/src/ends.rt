@@ -3,7 +3,7 @@
 ghost use Rattle.std.specs.Prelude.{◌≡◌, ◌<◌, ◌∷◌, ◌++◌, [], IfErr, IfNone, IfOk, IfSome, OnOk, OnSome, Some, length, map};
 ghost use Rattle.replay_lines.specs.Names.{node_names};
 ghost use Rattle.node_record.specs.GivenEnds.{AreEnds, Explained, Explains, end_at};
-ghost use Rattle.node_record.specs.inside.EndsSoFar.{ExplainsOf, HasEnds, IsNoEnd, IsNoEndOf};
+ghost use Rattle.node_record.specs.inside.EndsSoFar.{ExplainsOf, HasEnds, IsNoEndOf};
 
 use crate::ends_failure::{EndsFailure, tell_ends_failure};
 use capture_file::Endpoint;
@@ -56,22 +56,10 @@ fn ends_in(alloc: Global, layout: &Layout, addresses: &str) -> Result<Vec<Endpoi
     ensures explains { IfErr result (ExplainsOf layout.now addresses.now) }
 {
     let addresses = read_addresses(alloc, layout, addresses)?;
-    ends_of(alloc, layout, &addresses)
-}
-
-/// The ends of these addresses.
-fn ends_of(
-    alloc: Global,
-    layout: &Layout,
-    addresses: &[SocketAddr],
-) -> Result<Vec<Endpoint>, EndsFailure>
-    requires { length addresses.now ≡ length (node_names layout.now) }
-    ensures found { IfOk result (λ ends. map end_at addresses.now ≡ map (λ end. Some end) ends.items) }
-    ensures failed { IfErr result (IsNoEnd layout.now addresses.now) }
-{
+    let all = addresses.as_slice();
     let mut ends = Vec::new(alloc);
-    for place in 0..addresses.len() {
-        push_end(layout, &addresses[place], place, &mut ends)?;
+    for place in 0..all.len() {
+        push_end(layout, &all[place], place, &mut ends)?;
     }
     Ok(ends)
 }

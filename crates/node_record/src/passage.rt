@@ -110,7 +110,7 @@ pub(crate) fn traffic_of<'a>(
     let mut all = Vec::new(alloc);
     let mut latest = 0;
     let mut left = lines;
-    while let Some((line, behind)) = left.split_first() {
+    while let [line, behind @ ..] = left {
         if let Some(one) = datagram_at(node, latest, line, behind) {
             all.push(one)?;
         }
