@@ -81,9 +81,12 @@ fn push_end(
             None => Err(EndsFailure::Station(Failure::OutOfMemory)),
         };
     };
-    ends.push(Endpoint {
+    let end = Endpoint {
         address: address.ip().octets(),
         port: address.port(),
-    })?;
-    Ok(())
+    };
+    match ends.push(end) {
+        Ok(()) => Ok(()),
+        Err(_) => Err(EndsFailure::Station(Failure::OutOfMemory)),
+    }
 }

@@ -8,7 +8,6 @@ use control_table::sci_telegram::Name;
 use node_addresses::AddressesFault;
 use replay_words::write_as_taken;
 use station_check::Failure;
-use std::alloc::AllocFailed;
 use std::fmt;
 use std::io::Write;
 
@@ -43,17 +42,6 @@ impl From<AddressesFault> for EndsFailure {
 
     fn from(why: AddressesFault) -> EndsFailure {
         EndsFailure::Addresses(why)
-    }
-}
-
-impl<T: Drop> From<AllocFailed<T>> for EndsFailure {
-    ghost use Rattle.station_check.specs.declared.failure.Failure.TheVariants.{OutOfMemory};
-    ghost use Rattle.node_record.specs.declared.ends_failure.EndsFailure.TheVariants.{Station};
-
-    ghost from_gives = { λ _ failure. failure ≡ Station OutOfMemory };
-
-    fn from(_error: AllocFailed<T>) -> EndsFailure {
-        EndsFailure::Station(Failure::OutOfMemory)
     }
 }
 

@@ -2,7 +2,7 @@
 
 ghost use Rattle.std.specs.Prelude.{◌≡◌};
 ghost use Rattle.replay_words.specs.Cut.{words};
-ghost use Rattle.node_record.specs.Records.{first_said, head_said, time_said};
+ghost use Rattle.node_record.specs.Records.{head_said, time_said};
 
 use control_table::layout::Layout;
 use replay_lines::node_named;
@@ -32,23 +32,16 @@ pub(crate) fn read_head(layout: &Layout, name: &str, line: &str) -> Result<Head,
     if word != name {
         return Err(Fault::Name);
     }
-    let first = first_said(number)?;
+    let first = decimal(number)?;
+    if first > u64::from(u32::MAX) {
+        return Err(Fault::Number);
+    }
     let for_ms = time_said(words)?;
     Ok(Head {
         node,
-        first,
+        first: first as u32,
         for_ms,
     })
-}
-
-fn first_said(word: &str) -> Result<u32, Fault>
-    ensures { result ≡ first_said word.now }
-{
-    let number = decimal(word)?;
-    if number > u64::from(u32::MAX) {
-        return Err(Fault::Number);
-    }
-    Ok(number as u32)
 }
 
 fn time_said(mut words: Words<'_>) -> Result<Option<u64>, Fault>
