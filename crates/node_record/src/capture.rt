@@ -9,7 +9,7 @@ ghost use Rattle.node_record.specs.inside.CapturesSoFar.{Adds, HasTooLongOf, IsN
 ghost use Rattle.node_record.specs.inside.Passing.{seen};
 
 use crate::capture_failure::CaptureFailure;
-use crate::passage::{Passed, Reception, Way, traffic_of};
+use crate::passage::{Passed, Way, traffic_of};
 use crate::passed_line::comment;
 use crate::record::Record;
 use crate::texts::read_texts;
