@@ -1,4 +1,4 @@
-pub mod AdviceFrames
+pub mod Columns
 pub mod Entries
 pub mod Found
 pub mod Joined
@@ -9,9 +9,12 @@ pub mod ListingLaws
 pub mod MissedNames
 pub mod NamesWritten
 pub mod OneTable
+pub mod PointsOnPath
 pub mod ReasonLaws
 pub mod Rows
 pub mod SentenceEnds
 pub mod SignalFound
+pub mod StepsFound
 pub mod TableFaults
 pub mod Tables
+pub mod WordLists

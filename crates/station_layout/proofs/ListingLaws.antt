@@ -1,28 +1,22 @@
 -- Lists grow place by place, and have the texts of what belongs to them, and no others.
-use Rattle.std.proofs.Common.{◌≡◌, ◌⊎◌, ℕ, zero, suc, ◌+◌, ◌<◌, ◌≤◌, Bool, true, false, List, [], ◌∷◌, ◌++◌, length, map, refl, inl, inr, sym, ap, subst, ◌∙◌, IsTrue, ◌↔◌, arith}
+use Rattle.std.proofs.Common.{◌≡◌, ◌⊎◌, ℕ, zero, suc, ◌+◌, ◌<◌, ◌≤◌, Bool, false, IsUtf8, List, [], ◌∷◌, ◌++◌, length, refl, inl, inr, sym, ap, subst, ◌∙◌, IsTrue, ◌↔◌, arith}
 use Rattle.std.proofs.lemmas.Bool.{cases_lt, false≢true}
-use Rattle.std.proofs.lemmas.List.{append-nil, map-append}
+use Rattle.std.proofs.lemmas.List.{append-nil}
 use Rattle.std.proofs.lemmas.List.Elements.{Contains-append_cases, Contains-append_left, Contains-append_right, Contains-push, Contains-push_cases}
 use Rattle.std.specs.List.{Contains}
 use Rattle.control_table.specs.layout.declared.ids.RouteId.{RouteId}
 use Rattle.control_table.specs.layout.Entries.{Site}
 use Rattle.control_table.specs.Table.{Conflict}
+use Rattle.station_layout.specs.inside.Joined.{joined, next_before}
 use Rattle.station_layout.specs.ListedPlaces.{ListsBelow, ListsOne, TellsIf}
 use Rattle.station_layout.specs.Row.{IsConflictText, TellsConflicts, route_at}
+use Rattle.station_layout.proofs.Joined.{between_next, one_more}
 
 -- ---- one place
 
 -- what was added to a list of texts
 abbrev pub Adds : Type 0 → (List ℕ → Type 0) → List (List ℕ) → List (List ℕ) → Type 0
 Adds Belongs IsText old new = (part : List (List ℕ)) × TellsIf Belongs IsText part × (new ≡ old ++ part)
-
-pub adds_none : (Belongs : Type 0) (IsText : List ℕ → Type 0) (r : Bool) (old : List (List ℕ)) → IsTrue r ↔ Belongs → r ≡ false → Adds Belongs IsText old old
-adds_none Belongs IsText r old decides out = ([], inr ((λ b. false≢true (sym out ∙ decides.1 b)), refl), sym (append-nil old))
-
-pub adds_one : {Y : Type 0} (view : Y → List ℕ) (Belongs : Type 0) (IsText : List ℕ → Type 0) (r : Bool) (old new : List Y) (y : Y) → IsTrue r ↔ Belongs → r ≡ true → IsText (view y)
-    → new ≡ old ++ y ∷ [] → Adds Belongs IsText (map view old) (map view new)
-adds_one view Belongs IsText r old new y decides into is push =
-    (view y ∷ [], inl (decides.0 into, (view y, is, refl)), ap (map view) push ∙ map-append view old (y ∷ []))
 
 -- ---- whether some place belongs to a list
 
@@ -136,6 +130,41 @@ module _ (Belongs : ℕ → Type 0) (IsText : ℕ → List ℕ → Type 0) where
   one_told n (text ∷ more) below some =
       let told = told_belongs n (text ∷ more) below text (0, omega arith, refl) in
       (told.0, told.1, told.2)
+
+-- ---- a text that grows
+
+-- A text has those of the first n places that belong to a list, one after the other, and this stands before the next.
+pub record IsListed (Belongs : ℕ → Type 0) (IsText : ℕ → List ℕ → Type 0) (first between : List ℕ) (n : ℕ) (text before : List ℕ) : Type 0 where
+  pub texts : List (List ℕ)
+  pub below : ListsBelow Belongs IsText n texts
+  pub is : text ≡ joined first between texts
+  pub next : before ≡ next_before first between texts
+  pub valid : IsUtf8 before
+
+module _ (Belongs : ℕ → Type 0) (IsText : ℕ → List ℕ → Type 0) (first between : List ℕ) where
+  pub listed_none : (text : List ℕ) → text ≡ [] → IsUtf8 first → IsListed Belongs IsText first between 0 text first
+  listed_none text none valid = record { texts = []; below = lists_none Belongs IsText; is = none; next = refl; valid = valid }
+
+  pub listed_one : (n : ℕ) (old before text new : List ℕ) → IsListed Belongs IsText first between n old before → Belongs n → IsText n text → new ≡ old ++ (before ++ text) → IsUtf8 between
+      → IsListed Belongs IsText first between (n + 1) new between
+  listed_one n old before text new so_far belongs is adds valid = record {
+    texts = so_far.texts ++ text ∷ [];
+    below = lists_more Belongs IsText n so_far.texts (so_far.texts ++ text ∷ []) so_far.below (text ∷ [], inl (belongs, (text, is, refl)), refl);
+    is =
+        adds ∙ ap (λ front. front ++ (before ++ text)) so_far.is ∙ ap (λ next. joined first between so_far.texts ++ (next ++ text)) so_far.next
+        ∙ sym (one_more first between so_far.texts text);
+    next = between_next first between text so_far.texts;
+    valid = valid;
+  }
+
+  pub listed_not : (n : ℕ) (text before : List ℕ) → IsListed Belongs IsText first between n text before → (Belongs n → ⊥) → IsListed Belongs IsText first between (n + 1) text before
+  listed_not n text before so_far never = record {
+    texts = so_far.texts;
+    below = lists_more Belongs IsText n so_far.texts so_far.texts so_far.below ([], inr (never, refl), sym (append-nil so_far.texts));
+    is = so_far.is;
+    next = so_far.next;
+    valid = so_far.valid;
+  }
 
 -- ---- conflicts
 

@@ -1,7 +1,11 @@
+pub mod CellLines
+pub mod Columns
 pub mod Drawn
-pub mod EntryFrame
+pub mod Joined
 pub mod LetGoTexts
-pub mod RouteFrame
 pub mod Sentences
+pub mod StepsFound
 pub mod TwoWords
+pub mod WordLists
 pub mod WordTables
+pub mod WrittenPoints

@@ -1,14 +1,13 @@
 //! What is told in a second line.
 
-ghost use Rattle.std.specs.Prelude.{◌≡◌, ◌++◌, IfOk, Some, codes};
-ghost use Rattle.station_layout.specs.Advice.{advice_line, entry_advice_words, route_advice_words};
-ghost use Rattle.station_layout.specs.inside.EntryFrame.{about, wrong_words};
-ghost use Rattle.station_layout.specs.inside.Sentences.{sentence_words};
+ghost use Rattle.std.specs.Prelude.{◌≡◌, IfOk, Some};
+ghost use Rattle.station_layout.specs.Advice.{advice_line};
 
 use crate::detail::RouteAdvice;
 use crate::fault_words::{layout_sentence, table_sentence};
 use crate::field_key::{FieldKey, Kind};
-use crate::sentence::{Part, Sentence, bare, two};
+use crate::sentence::Part::{self, Nothing};
+use crate::sentence::{Sentence, Words};
 use crate::text_place::TextPlace;
 use arrayvec::ArrayString;
 use control_table::TableFault;
@@ -21,7 +20,7 @@ use std::fmt;
 const ADVICE_LENGTH: usize = 640;
 
 /// What is told in a second line.
-#[derive(Drop)]
+#[derive(Clone, Copy)]
 pub(crate) enum Advice {
     /// The text is no TOML from a place on.
     Broken(TextPlace),
@@ -38,7 +37,7 @@ pub(crate) enum Advice {
 }
 
 /// What is told of an entry of a layout, or of the key of its entries.
-#[derive(Drop)]
+#[derive(Clone, Copy)]
 pub(crate) enum EntryAdvice {
     /// The key isn't there.
     Absent(TableName),
@@ -97,94 +96,37 @@ pub(crate) enum Missed {
     Unreported(Name),
 }
 
-impl EntryAdvice {
-    /// What it is about.
-    #[tactic(auto, unfolding(crate::specs::inside::EntryFrame::about))]
-    fn about(&self) -> Spot
-        ensures { result ≡ about self.now }
-    {
-        match self {
-            EntryAdvice::Absent(table) => Spot::Entry(Place {
-                table: *table,
-                entry: 0,
-            }),
-            EntryAdvice::Missing(place, _) | EntryAdvice::Shared(place, _, _) => {
-                Spot::Entry(*place)
-            }
-            EntryAdvice::Wrong(spot, _) | EntryAdvice::Unknown(spot, _) => *spot,
-        }
-    }
-
-    /// What is wrong with that.
-    #[tactic(auto, unfolding(crate::specs::inside::EntryFrame::wrong_words, crate::specs::inside::Sentences::part_words))]
-    fn sentence(&self) -> Sentence
-        ensures { sentence_words result ≡ wrong_words self.now }
-    {
-        match self {
-            EntryAdvice::Absent(_) => bare("is missing"),
-            EntryAdvice::Missing(place, key) => two(
-                "has no `",
-                Part::Key(*key),
-                "`: it has to be ",
-                Part::Nothing,
-                Spot::Entry(*place).form(),
-            ),
-            EntryAdvice::Wrong(spot, kind) => kind.sentence(spot.form()),
-            EntryAdvice::Shared(_, common, first) => common.sentence(*first),
-            EntryAdvice::Unknown(_, missed) => missed.sentence(),
-        }
-    }
-}
+// A text that is no TOML from a place on.
+const BROKEN: Words = &[
+    "the text is no TOML from line ",
+    ", column ",
+    " on",
+    "",
+    "",
+    "",
+];
 
 // A line of its own.
-impl fmt::Display for EntryAdvice {
-    ghost output = { λ advice. Some (entry_advice_words advice ++ codes "\n") };
-
-    fn fmt<W: fmt::Write>(&self, f: &mut fmt::Formatter<W>) -> fmt::Result {
-        let at = self.about().sentence();
-        let what = self.sentence();
-        write!(f, "{at} {what}\n")
-    }
-}
-
-// A line of its own.
-impl fmt::Display for RouteAdvice {
-    ghost output = { λ advice. Some (route_advice_words advice ++ codes "\n") };
-
-    fn fmt<W: fmt::Write>(&self, f: &mut fmt::Formatter<W>) -> fmt::Result {
-        let before = self.detail.before_route();
-        let route = &self.route;
-        let behind = self.detail.behind_route();
-        write!(f, "{before}{route} {behind}\n")
-    }
-}
-
 impl fmt::Display for Advice {
     ghost output = { λ advice. Some (advice_line advice) };
 
-    #[tactic(auto, unfolding(crate::specs::Advice::advice_line, crate::specs::inside::Sentences::part_words))]
+    #[tactic(auto, using(crate::proofs::SentenceEnds::around), unfolding(crate::specs::Advice::advice_line, crate::specs::inside::Sentences::part_words))]
     fn fmt<W: fmt::Write>(&self, f: &mut fmt::Formatter<W>) -> fmt::Result {
-        match self {
-            Advice::Broken(at) => two(
-                "the text is no TOML from line ",
-                Part::Number(at.line),
-                ", column ",
-                Part::Number(at.column),
-                " on\n",
-            )
-            .fmt(f),
-            Advice::Entry(advice) => advice.fmt(f),
-            Advice::Layout(fault) => {
-                let words = layout_sentence(*fault);
-                write!(f, "{words}\n")
+        let sentence = match *self {
+            Advice::Broken(at) => {
+                let (line, column) = (at.line, at.column);
+                return write!(
+                    f,
+                    "the text is no TOML from line {line}, column {column} on\n"
+                );
             }
-            Advice::Route(advice) => advice.fmt(f),
-            Advice::Table(fault) => {
-                let words = table_sentence(fault);
-                write!(f, "{words}\n")
-            }
-            Advice::Nothing => Ok(()),
-        }
+            Advice::Entry(advice) => advice.sentence(),
+            Advice::Layout(fault) => layout_sentence(fault),
+            Advice::Route(advice) => advice.sentence(),
+            Advice::Table(fault) => table_sentence(fault),
+            Advice::Nothing => return Ok(()),
+        };
+        write!(f, "{sentence}\n")
     }
 }
 

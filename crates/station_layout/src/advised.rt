@@ -24,7 +24,11 @@ pub(crate) fn advice_for(alloc: Global, text: &str) -> Advice
     ensures { IsAdvice text.now result }
 {
     match Layout::read(alloc, text) {
-        Ok(layout) => advice_on(alloc, &layout),
+        Ok(layout) => {
+            let advice = advice_on(alloc, &layout);
+            drop(layout);
+            advice
+        }
         Err(fault) => advice_at(alloc, text, fault),
     }
 }
@@ -129,7 +133,9 @@ fn by_written(alloc: Global, text: &str, fault: LayoutFault) -> Advice
     let Ok(document) = document(alloc, text) else {
         return Advice::Layout(LayoutFault::OutOfMemory);
     };
-    match written(alloc, &document) {
+    let written = written(alloc, &document);
+    drop(document);
+    match written {
         Ok(written) => written_advice(&written, fault),
         Err(_) => Advice::Layout(LayoutFault::OutOfMemory),
     }

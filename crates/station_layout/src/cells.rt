@@ -1,7 +1,7 @@
 //! The cells of a row that list more than one entry.
 
-ghost use Rattle.std.specs.Prelude.{◌≡◌, map, IfOk, string_bytes};
-ghost use Rattle.station_layout.specs.Names.{parted, spaced, with_word};
+ghost use Rattle.std.specs.Prelude.{◌≡◌, ◌++◌, IfOk, OnOk, string_bytes};
+ghost use Rattle.station_layout.specs.Names.{parted, spaced};
 ghost use Rattle.station_layout.specs.Row.{flank_texts, is_written, names_of_points, points_at, section_names};
 
 use crate::layout_names::{point_name, section_name, written};
@@ -10,27 +10,12 @@ use control_table::layout::{Element, Layout, PointId, Route, SectionId};
 use control_table::sci_telegram::Side;
 use std::alloc::{AllocError, Global};
 
-/// Words with a space between each two.
-#[tactic(auto, using(crate::proofs::Joined::join_map))]
-pub(crate) fn spaced(alloc: Global, words: &[String]) -> Result<String, AllocError>
-    ensures { IfOk result (λ text. string_bytes text ≡ spaced (map string_bytes words.now)) }
+/// Adds a text to a cell, behind what stands before it there.
+pub(crate) fn add(cell: &mut String, before: &str, text: &str) -> Result<(), AllocError>
+    ensures { OnOk result (string_bytes cell.new ≡ string_bytes cell.old ++ (before.now ++ text.now)) }
 {
-    words.join(alloc, " ")
-}
-
-/// Entries with a semicolon between each two.
-#[tactic(auto, using(crate::proofs::Joined::join_map))]
-pub(crate) fn parted(alloc: Global, entries: &[String]) -> Result<String, AllocError>
-    ensures { IfOk result (λ text. string_bytes text ≡ parted (map string_bytes entries.now)) }
-{
-    entries.join(alloc, "; ")
-}
-
-/// A name, and what is said of it.
-pub(crate) fn with_word(alloc: Global, name: &str, word: &str) -> Result<String, AllocError>
-    ensures { IfOk result (λ text. string_bytes text ≡ with_word name.now word.now) }
-{
-    format!(in alloc; "{name}: {word}")
+    cell.push_str(before)?;
+    cell.push_str(text)
 }
 
 /// Whether a point is written at a side.
@@ -54,15 +39,17 @@ pub(crate) fn points_cell(
 ) -> Result<String, AllocError>
     ensures { IfOk result (λ cell. string_bytes cell ≡ spaced (names_of_points layout.now (points_at route.now side))) }
 {
-    let mut names = Vec::new(alloc);
+    let mut cell = String::new(alloc);
+    let mut before = "";
     for port in route.path() {
         if let Element::Point(point) = port.element {
             if is_written(route.points(), side, point) {
-                names.push(String::from_str(alloc, written(&point_name(layout, point)))?)?;
+                add(&mut cell, before, written(&point_name(layout, point)))?;
+                before = " ";
             }
         }
     }
-    spaced(alloc, &names)
+    Ok(cell)
 }
 
 /// The cell of sections.
@@ -73,11 +60,13 @@ pub(crate) fn sections_cell(
 ) -> Result<String, AllocError>
     ensures { IfOk result (λ cell. string_bytes cell ≡ spaced (section_names layout.now sections.now)) }
 {
-    let mut names = Vec::new(alloc);
+    let mut cell = String::new(alloc);
+    let mut before = "";
     for section in sections {
-        names.push(String::from_str(alloc, written(&section_name(layout, *section)))?)?;
+        add(&mut cell, before, written(&section_name(layout, *section)))?;
+        before = " ";
     }
-    spaced(alloc, &names)
+    Ok(cell)
 }
 
 /// The cell of the flank points that a route writes, each with its side.
@@ -88,10 +77,12 @@ pub(crate) fn flank_cell(
 ) -> Result<String, AllocError>
     ensures { IfOk result (λ cell. string_bytes cell ≡ parted (flank_texts layout.now flank.now)) }
 {
-    let mut texts = Vec::new(alloc);
+    let mut cell = String::new(alloc);
+    let mut before = "";
     for (point, side) in flank {
-        let name = point_name(layout, *point);
-        texts.push(with_word(alloc, written(&name), side_word(*side))?)?;
+        add(&mut cell, before, written(&point_name(layout, *point)))?;
+        add(&mut cell, ": ", side_word(*side))?;
+        before = "; ";
     }
-    parted(alloc, &texts)
+    Ok(cell)
 }

@@ -1,11 +1,13 @@
 //! Why two routes conflict.
 
-ghost use Rattle.std.specs.Prelude.{◌≡◌, ◌++◌, ◌<◌, length, map, IfOk, OnOk, string_bytes};
-ghost use Rattle.station_layout.specs.Reasons.{AreReasons, reason_words, word_if};
+ghost use Rattle.std.specs.Prelude.{◌≡◌, ◌++◌, ◌<◌, length, OnOk, string_bytes};
+ghost use Rattle.station_layout.specs.Names.{spaced};
+ghost use Rattle.station_layout.specs.Reasons.{AreReasons, reason_words};
 
+use crate::cells::add;
 use control_table::Checked;
 use control_table::layout::RouteId;
-use std::alloc::{AllocError, Global};
+use std::alloc::AllocError;
 
 /// Which reasons two routes have to conflict.
 #[derive(Clone, Copy)]
@@ -36,27 +38,22 @@ pub(crate) fn reasons(table: &Checked, a: RouteId, b: RouteId) -> ConflictReason
     }
 }
 
-/// Adds a word, if it holds.
-fn add_if(alloc: Global, words: &mut Vec<String>, holds: bool, word: &str) -> Result<(), AllocError>
-    ensures { OnOk result (map string_bytes words.new.items ≡ map string_bytes words.old.items ++ word_if holds word.now) }
+/// Adds the words for reasons, in their order.
+pub(crate) fn add_reasons(reasons: ConflictReasons, cell: &mut String) -> Result<(), AllocError>
+    ensures { OnOk result (string_bytes cell.new ≡ string_bytes cell.old ++ spaced (reason_words reasons)) }
 {
-    if holds {
-        words.push(String::from_str(alloc, word)?)?;
+    let rows = [
+        (reasons.entry, "entry"),
+        (reasons.section, "section"),
+        (reasons.point, "point"),
+        (reasons.extra, "extra"),
+    ];
+    let mut before = "";
+    for (holds, word) in rows {
+        if holds {
+            add(cell, before, word)?;
+            before = " ";
+        }
     }
     Ok(())
-}
-
-/// The words for reasons, in their order.
-pub(crate) fn reason_words(
-    alloc: Global,
-    reasons: ConflictReasons,
-) -> Result<Vec<String>, AllocError>
-    ensures { IfOk result (λ words. map string_bytes words.items ≡ reason_words reasons) }
-{
-    let mut words = Vec::new(alloc);
-    add_if(alloc, &mut words, reasons.entry, "entry")?;
-    add_if(alloc, &mut words, reasons.section, "section")?;
-    add_if(alloc, &mut words, reasons.point, "point")?;
-    add_if(alloc, &mut words, reasons.extra, "extra")?;
-    Ok(words)
 }

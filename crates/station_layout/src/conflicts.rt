@@ -1,31 +1,31 @@
 //! The routes that a route conflicts with, with the reasons.
 
-ghost use Rattle.std.specs.Prelude.{◌<◌, length, IfOk, string_bytes};
+ghost use Rattle.std.specs.Prelude.{◌≡◌, ◌<◌, ◌++◌, ℕ, List, length, IfOk, OnOk, string_bytes};
 ghost use Rattle.station_layout.specs.Row.{IsConflictText, IsConflictsCell};
 
-use crate::cells::{parted, spaced, with_word};
-use crate::conflict_reasons::{reason_words, reasons};
+use crate::cells::add;
+use crate::conflict_reasons::{add_reasons, reasons};
 use crate::layout_names::{route_name, written};
 use control_table::Checked;
 use control_table::layout::RouteId;
 use std::alloc::{AllocError, Global};
 
-/// What is told of a route that conflicts with another: its name, and the reasons.
-fn conflict_text(
-    alloc: Global,
+/// Adds what is told of a route that conflicts with another, behind what stands before it: its name, and the reasons.
+fn add_conflict(
     table: &Checked,
     route: RouteId,
     other: RouteId,
-) -> Result<String, AllocError>
+    before: &str,
+    cell: &mut String,
+) -> Result<(), AllocError>
     requires first { route.0 < length table.now.routes }
     requires second { other.0 < length table.now.routes }
-    ensures { IfOk result (λ text. IsConflictText table.now route other (string_bytes text)) }
+    ensures { OnOk result ((text : List ℕ) × IsConflictText table.now route other text × (string_bytes cell.new ≡ string_bytes cell.old ++ (before.now ++ text))) }
 {
-    let words = reason_words(alloc, reasons(table, route, other))?;
-    let words = spaced(alloc, &words)?;
     let name = route_name(table.layout(), other);
-    let text = with_word(alloc, written(&name), words.as_str())?;
-    Ok(text)
+    add(cell, before, written(&name))?;
+    cell.push_str(": ")?;
+    add_reasons(reasons(table, route, other), cell)
 }
 
 /// The cell of the routes that conflict with a route.
@@ -37,12 +37,13 @@ pub(crate) fn conflicts_cell(
     requires { route.0 < length table.now.routes }
     ensures { IfOk result (λ cell. IsConflictsCell table.now route (string_bytes cell)) }
 {
-    let mut texts = Vec::new(alloc);
+    let mut cell = String::new(alloc);
+    let mut before = "";
     for place in 0..table.layout().routes().len() {
         if table.conflict(route, RouteId(place)) {
-            texts.push(conflict_text(alloc, table, route, RouteId(place))?)?;
+            add_conflict(table, route, RouteId(place), before, &mut cell)?;
+            before = "; ";
         }
     }
-    let cell = parted(alloc, &texts)?;
     Ok(cell)
 }

@@ -5,14 +5,14 @@ use control_table::sci_telegram::{Name, Side};
 use layout_text::PortName;
 
 /// What is told of a route.
-#[derive(Drop)]
+#[derive(Clone, Copy)]
 pub(crate) struct RouteAdvice {
     pub(crate) route: FaultyRoute,
     pub(crate) detail: RouteDetail,
 }
 
 /// What is wrong with a route.
-#[derive(Drop)]
+#[derive(Clone, Copy)]
 pub(crate) enum RouteDetail {
     /// This is wrong with its path.
     Path(PathDetail),
@@ -27,7 +27,7 @@ pub(crate) enum RouteDetail {
 }
 
 /// What is wrong with the path of a route.
-#[derive(Drop)]
+#[derive(Clone, Copy)]
 pub(crate) enum PathDetail {
     /// It is empty.
     Empty,
@@ -52,7 +52,7 @@ pub(crate) enum PathDetail {
 }
 
 /// What is wrong with the points of a route.
-#[derive(Drop)]
+#[derive(Clone, Copy)]
 pub(crate) enum PointDetail {
     /// This point stands under `points`, and the path doesn't lead over it.
     OffPath(Name),

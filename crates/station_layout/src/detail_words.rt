@@ -1,160 +1,239 @@
 //! What is wrong with a route, in words.
 
 ghost use Rattle.std.specs.Prelude.{◌≡◌};
-ghost use Rattle.station_layout.specs.DetailWords.{path_words, point_words};
-ghost use Rattle.station_layout.specs.inside.RouteFrame.{before_words, behind_words};
+ghost use Rattle.station_layout.specs.Advice.{route_advice_words, words_of_route};
+ghost use Rattle.station_layout.specs.declared.detail.RouteDetail.TheVariants.{Path, Points};
 ghost use Rattle.station_layout.specs.inside.Sentences.{sentence_words};
 
-use crate::detail::{PathDetail, PointDetail, RouteDetail};
+use crate::detail::{PathDetail, PointDetail, RouteAdvice, RouteDetail};
 use crate::route_sides::other;
-use crate::sentence::{Part, Sentence, bare, four, one, two};
+use crate::sentence::Part::{Name, Nothing, Port, Route, Side};
+use crate::sentence::{Sentence, Words};
+use control_table::FaultyRoute;
+
+// What is wrong with the path of a route.
+const EMPTY: Words = &["the path of ", " is empty", "", "", "", ""];
+
+const DEAD_END: Words = &[
+    "the path of ",
+    " breaks at ",
+    ": nothing is joined to it",
+    "",
+    "",
+    "",
+];
+
+const ASTRAY: Words = &[
+    "the path of ",
+    " breaks at ",
+    ": it is joined to ",
+    ", from where no train leaves by ",
+    "",
+    "",
+];
+
+const TWICE: Words = &["the path of ", " leads over ", " twice", "", "", ""];
+
+const COMES_BACK: Words = &[
+    "the path of ",
+    " comes back to section ",
+    ", which it left",
+    "",
+    "",
+    "",
+];
+
+const OPEN_LEG: Words = &[
+    "the path of ",
+    " doesn't use ",
+    ", which is open: no signal stands at ",
+    ", to which it is joined",
+    "",
+    "",
+];
+
+const FLANK_LACKS: Words = &[
+    "the path of ",
+    " doesn't use ",
+    ", which is joined to ",
+    ": point ",
+    " has to be written ",
+    " under `flank`",
+];
+
+const ENDS_ELSEWHERE: Words = &[
+    "the path of ",
+    " ends at ",
+    ", where its exit ",
+    " isn't",
+    "",
+    "",
+];
+
+const ENDS_AT_ENTRY: Words = &[
+    "the path of ",
+    " has its entry signal ",
+    " for its exit",
+    "",
+    "",
+    "",
+];
+
+const IN_THE_WAY: Words = &[
+    "the path of ",
+    " passes ",
+    ", where signal ",
+    " stands in the way",
+    "",
+    "",
+];
 
 impl PathDetail {
-    /// What is wrong, behind the path of its route.
+    /// That this is wrong with the path of a route.
     #[tactic(auto, using(crate::proofs::SentenceEnds::without_end), unfolding(crate::specs::DetailWords::path_words, crate::specs::inside::Sentences::part_words))]
-    pub(crate) fn sentence(&self) -> Sentence
-        ensures { sentence_words result ≡ path_words self.now }
+    fn sentence(self, route: FaultyRoute) -> Sentence
+        ensures { sentence_words result ≡ words_of_route route (Path self) }
     {
-        match self {
-            PathDetail::Empty => bare("is empty"),
-            PathDetail::DeadEnd(port) => one(
-                "breaks at ",
-                Part::Port(*port),
-                ": nothing is joined to it",
-            ),
-            PathDetail::Astray(before, entered, left) => four(
-                "breaks at ",
-                Part::Port(*before),
-                ": it is joined to ",
-                Part::Port(*entered),
-                ", from where no train leaves by ",
-                Part::Port(*left),
-                "",
-                Part::Nothing,
-                "",
-            ),
-            PathDetail::Twice(name) => { one("leads over ", Part::Name(*name), " twice") }
-            PathDetail::ComesBack(section) => one(
-                "comes back to section ",
-                Part::Name(*section),
-                ", which it left",
-            ),
-            PathDetail::OpenLeg(leg, from) => two(
-                "doesn't use ",
-                Part::Port(*leg),
-                ", which is open: no signal stands at ",
-                Part::Port(*from),
-                ", to which it is joined",
-            ),
-            PathDetail::FlankLacks(leg, from, side) => four(
-                "doesn't use ",
-                Part::Port(*leg),
-                ", which is joined to ",
-                Part::Port(*from),
-                ": point ",
-                Part::Name(from.element),
-                " has to be written ",
-                Part::Side(*side),
-                " under `flank`",
-            ),
-            PathDetail::EndsElsewhere(port, exit) => two(
-                "ends at ",
-                Part::Port(*port),
-                ", where its exit ",
-                Part::Name(*exit),
-                " isn't",
-            ),
-            PathDetail::EndsAtEntry(entry) => one(
-                "has its entry signal ",
-                Part::Name(*entry),
-                " for its exit",
-            ),
-            PathDetail::InTheWay(name, port) => two(
-                "passes ",
-                Part::Port(*port),
-                ", where signal ",
-                Part::Name(*name),
-                " stands in the way",
-            ),
-        }
+        let route = Route(route);
+        let (words, first, second) = match self {
+            PathDetail::Empty => (EMPTY, Nothing, Nothing),
+            PathDetail::DeadEnd(port) => (DEAD_END, Port(port), Nothing),
+            PathDetail::Astray(before, entered, left) => {
+                let (entered, left) = (Port(entered), Port(left));
+                return Sentence(ASTRAY, route, Port(before), entered, left, Nothing);
+            }
+            PathDetail::Twice(name) => (TWICE, Name(name), Nothing),
+            PathDetail::ComesBack(section) => (COMES_BACK, Name(section), Nothing),
+            PathDetail::OpenLeg(leg, from) => (OPEN_LEG, Port(leg), Port(from)),
+            PathDetail::FlankLacks(leg, from, side) => {
+                let (point, side) = (Name(from.element), Side(side));
+                return Sentence(FLANK_LACKS, route, Port(leg), Port(from), point, side);
+            }
+            PathDetail::EndsElsewhere(port, exit) => (ENDS_ELSEWHERE, Port(port), Name(exit)),
+            PathDetail::EndsAtEntry(entry) => (ENDS_AT_ENTRY, Name(entry), Nothing),
+            PathDetail::InTheWay(name, port) => (IN_THE_WAY, Port(port), Name(name)),
+        };
+        Sentence(words, route, first, second, Nothing, Nothing)
     }
 }
+
+// What is wrong with the points of a route.
+const OFF_PATH: Words = &[
+    "",
+    " writes point ",
+    " under `points`, and its path doesn't lead over it",
+    "",
+    "",
+    "",
+];
+
+const POINT_AT: Words = &[
+    "",
+    " writes point ",
+    " ",
+    " under `points`, and requires it ",
+    "",
+    "",
+];
+
+const ON_PATH: Words = &[
+    "",
+    " writes point ",
+    " under `flank`, and its path leads over it",
+    "",
+    "",
+    "",
+];
+
+const FLANK_AT: Words = &[
+    "",
+    " writes point ",
+    " ",
+    " under `flank`, and doesn't require it so",
+    "",
+    "",
+];
+
+const BOTH_SIDES: Words = &["", " requires point ", " at both sides", "", "", ""];
 
 impl PointDetail {
-    /// What is wrong, behind the route.
+    /// That this is wrong with the points of a route.
     #[tactic(auto, using(crate::proofs::SentenceEnds::without_end), unfolding(crate::specs::DetailWords::point_words, crate::specs::inside::Sentences::part_words))]
-    pub(crate) fn sentence(&self) -> Sentence
-        ensures { sentence_words result ≡ point_words self.now }
+    fn sentence(self, route: FaultyRoute) -> Sentence
+        ensures { sentence_words result ≡ words_of_route route (Points self) }
     {
-        match self {
-            PointDetail::OffPath(name) => one(
-                "writes point ",
-                Part::Name(*name),
-                " under `points`, and its path doesn't lead over it",
-            ),
-            PointDetail::PointAt(name, side) => four(
-                "writes point ",
-                Part::Name(*name),
-                " ",
-                Part::Side(*side),
-                " under `points`, and requires it ",
-                Part::Side(other(*side)),
-                "",
-                Part::Nothing,
-                "",
-            ),
-            PointDetail::OnPath(name) => one(
-                "writes point ",
-                Part::Name(*name),
-                " under `flank`, and its path leads over it",
-            ),
-            PointDetail::FlankAt(name, side) => two(
-                "writes point ",
-                Part::Name(*name),
-                " ",
-                Part::Side(*side),
-                " under `flank`, and doesn't require it so",
-            ),
-            PointDetail::BothSides(name) => one(
-                "requires point ",
-                Part::Name(*name),
-                " at both sides",
-            ),
-        }
+        let (words, name, first, second) = match self {
+            PointDetail::OffPath(name) => (OFF_PATH, name, Nothing, Nothing),
+            PointDetail::PointAt(name, side) => (POINT_AT, name, Side(side), Side(other(side))),
+            PointDetail::OnPath(name) => (ON_PATH, name, Nothing, Nothing),
+            PointDetail::FlankAt(name, side) => (FLANK_AT, name, Side(side), Nothing),
+            PointDetail::BothSides(name) => (BOTH_SIDES, name, Nothing, Nothing),
+        };
+        Sentence(words, Route(route), Name(name), first, second, Nothing)
     }
 }
 
-impl RouteDetail {
-    /// What is told before the route is named.
-    #[tactic(auto, unfolding(crate::specs::inside::RouteFrame::before_words, crate::specs::inside::Sentences::part_words))]
-    pub(crate) fn before_route(&self) -> Sentence
-        ensures { sentence_words result ≡ before_words self.now }
-    {
-        match self {
-            RouteDetail::Path(_) => bare("the path of "),
-            RouteDetail::Points(_) => bare(""),
-            RouteDetail::Unwritten(point) => {
-                one("point ", Part::Name(*point), " lies on the path of ")
-            }
-            RouteDetail::WithItself | RouteDetail::Unanswered(_) => bare("under `extra` "),
-        }
-    }
+// What else is wrong with a route.
+const UNWRITTEN: Words = &[
+    "point ",
+    " lies on the path of ",
+    " and isn't written under its `points`",
+    "",
+    "",
+    "",
+];
 
-    /// What is told behind the route.
-    #[tactic(auto, unfolding(crate::specs::inside::RouteFrame::behind_words, crate::specs::inside::Sentences::part_words))]
-    pub(crate) fn behind_route(&self) -> Sentence
-        ensures { sentence_words result ≡ behind_words self.now }
+const WITH_ITSELF: Words = &["under `extra` ", " lists itself", "", "", "", ""];
+
+const UNANSWERED: Words = &[
+    "under `extra` ",
+    " lists route ",
+    ", which doesn't list it",
+    "",
+    "",
+    "",
+];
+
+impl RouteAdvice {
+    /// What is told of a route.
+    #[tactic(auto, unfolding(crate::specs::Advice::route_advice_words, crate::specs::inside::Sentences::part_words))]
+    pub(crate) fn sentence(&self) -> Sentence
+        ensures { sentence_words result ≡ route_advice_words self.now }
     {
-        match self {
-            RouteDetail::Path(detail) => detail.sentence(),
-            RouteDetail::Points(detail) => detail.sentence(),
-            RouteDetail::Unwritten(_) => bare("and isn't written under its `points`"),
-            RouteDetail::WithItself => bare("lists itself"),
-            RouteDetail::Unanswered(other) => one(
-                "lists route ",
-                Part::Name(*other),
-                ", which doesn't list it",
-            ),
+        let route = self.route;
+        match self.detail {
+            RouteDetail::Path(detail) => detail.sentence(route),
+            RouteDetail::Points(detail) => detail.sentence(route),
+            RouteDetail::Unwritten(point) => {
+                Sentence(
+                    UNWRITTEN,
+                    Name(point),
+                    Route(route),
+                    Nothing,
+                    Nothing,
+                    Nothing,
+                )
+            }
+            RouteDetail::WithItself => {
+                Sentence(
+                    WITH_ITSELF,
+                    Route(route),
+                    Nothing,
+                    Nothing,
+                    Nothing,
+                    Nothing,
+                )
+            }
+            RouteDetail::Unanswered(other) => {
+                Sentence(
+                    UNANSWERED,
+                    Route(route),
+                    Name(other),
+                    Nothing,
+                    Nothing,
+                    Nothing,
+                )
+            }
         }
     }
 }

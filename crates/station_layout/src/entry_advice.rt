@@ -12,21 +12,16 @@ use crate::value_forms::misfit;
 use layout_text::{Place, TableName};
 use toml::{Table, Value};
 
+/// The words of the keys of the layout.
+const TABLE_WORDS: [&str; 9] = [
+    "station", "section", "track", "point", "border", "joint", "signal", "detector", "route",
+];
+
 /// The word of a key of the layout.
 fn table_word(table: TableName) -> &'static str
     ensures { result.now ≡ table_text table }
 {
-    match table {
-        TableName::Station => "station",
-        TableName::Section => "section",
-        TableName::Track => "track",
-        TableName::Point => "point",
-        TableName::Border => "border",
-        TableName::Joint => "joint",
-        TableName::Signal => "signal",
-        TableName::Detector => "detector",
-        TableName::Route => "route",
-    }
+    TABLE_WORDS[table as usize]
 }
 
 /// What stands under a key of a table.

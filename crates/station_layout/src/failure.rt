@@ -2,7 +2,6 @@
 
 ghost use Rattle.std.specs.Prelude.{◌≡◌, IfOk};
 ghost use Rattle.station_layout.specs.PlanText.{Tells, picture_fault_text};
-ghost use Rattle.station_layout.specs.declared.failure.Failure.TheVariants.{Picture};
 
 use arrayvec::ArrayString;
 use replay_lines::SessionFault;
@@ -90,16 +89,11 @@ pub(crate) fn tell_failure<E: Write>(failure: &Failure, err: &mut E)
         Failure::Route => {
             write_as_taken(ROUTE.as_bytes(), err);
         }
-        Failure::Picture(fault) => tell_picture(*fault, err),
-    }
-}
-
-/// Writes the fault of a picture, or as much of it as the writer takes.
-fn tell_picture<E: Write>(fault: SessionFault, err: &mut E)
-    ensures { Tells (Picture fault) (E.contents err.old) (E.contents err.new) }
-{
-    if let Ok(line) = picture_line(fault) {
-        write_as_taken(line.as_str().as_bytes(), err);
+        Failure::Picture(fault) => {
+            if let Ok(line) = picture_line(*fault) {
+                write_as_taken(line.as_str().as_bytes(), err);
+            }
+        }
     }
 }
 

@@ -1,82 +1,86 @@
 //! What the faults mean whose place alone is told.
 
 ghost use Rattle.std.specs.Prelude.{◌≡◌};
-ghost use Rattle.station_layout.specs.FaultWords.{layout_words, limit_words, most, route_words, table_words};
+ghost use Rattle.station_layout.specs.FaultWords.{layout_words, limit_words, route_words, table_words};
 ghost use Rattle.station_layout.specs.inside.Sentences.{sentence_words};
 
 use crate::route_detail::route_at_fault;
-use crate::sentence::{Part, Sentence, bare, one, two};
+use crate::sentence::Part::{self, Nothing};
+use crate::sentence::{Sentence, Words};
 use control_table::TableFault;
 use layout_text::{LayoutFault, Place, TableName};
 
-/// How many entries a station may have.
-fn most(table: TableName) -> usize
-    ensures { result ≡ most table }
-{
-    match table {
-        TableName::Section | TableName::Route => 64,
-        TableName::Track => 128,
-        TableName::Point | TableName::Signal => 32,
-        TableName::Border | TableName::Detector => 16,
-        TableName::Station | TableName::Joint => 0,
-    }
-}
+/// How many entries of each kind a station may have.
+const MOST: [usize; 9] = [0, 64, 128, 32, 16, 0, 32, 16, 64];
+
+/// That an entry of each kind is one too many.
+const ONE_TOO_MANY: [&str; 9] = [
+    "is one too many",
+    "is one too many: there may be 64",
+    "is one too many: there may be 128",
+    "is one too many: there may be 32",
+    "is one too many: there may be 16",
+    "is one too many",
+    "is one too many: there may be 32",
+    "is one too many: there may be 16",
+    "is one too many: there may be 64",
+];
 
 /// Which limit an entry goes beyond: it is too large, or one too many.
 fn limit_words(place: Place) -> &'static str
     ensures { result.now ≡ limit_words place }
 {
-    if place.entry <= most(place.table) {
-        return match place.table {
-            TableName::Detector => "reports no section, or more than 16",
-            TableName::Route => "has a path of more than 64 elements",
-            _ => "is too large",
-        };
+    let kind = place.table as usize;
+    if place.entry > MOST[kind] {
+        return ONE_TOO_MANY[kind];
     }
     match place.table {
-        TableName::Section | TableName::Route => "is one too many: there may be 64",
-        TableName::Track => "is one too many: there may be 128",
-        TableName::Point | TableName::Signal => "is one too many: there may be 32",
-        TableName::Border | TableName::Detector => "is one too many: there may be 16",
-        TableName::Station | TableName::Joint => "is one too many",
+        TableName::Detector => "reports no section, or more than 16",
+        TableName::Route => "has a path of more than 64 elements",
+        _ => "is too large",
     }
 }
+
+// The words for the faults of a layout.
+const NO_TOML: Words = &["the text is no TOML", "", "", "", "", ""];
+
+const MISSING_KEY: Words = &["a key is missing at ", "", "", "", "", ""];
+
+const WRONG_KIND: Words = &["a value is of another kind or form at ", "", "", "", "", ""];
+
+const UNKNOWN_NAME: Words = &["", " names something that isn't there", "", "", "", ""];
+
+const DOUBLE_NAME: Words = &["", " reports a section twice", "", "", "", ""];
+
+const DOUBLE_JOINT: Words = &["", " joins a port with itself", "", "", "", ""];
+
+const LACKS_MEMORY: Words = &["memory is lacking", "", "", "", "", ""];
+
+// For faults of which more is told in words, behind a place or a route.
+const BEHIND: Words = &["", " ", "", "", "", ""];
 
 /// The words for a fault of a layout.
 #[tactic(auto, using(crate::proofs::SentenceEnds::without_end), unfolding(crate::specs::FaultWords::layout_words, crate::specs::inside::Sentences::part_words))]
 pub(crate) fn layout_sentence(fault: LayoutFault) -> Sentence
     ensures { sentence_words result ≡ layout_words fault }
 {
-    match fault {
-        LayoutFault::Toml => bare("the text is no TOML"),
-        LayoutFault::MissingKey(place) => one("a key is missing at ", Part::Place(place), ""),
-        LayoutFault::WrongKind(place) => one(
-            "a value is of another kind or form at ",
-            Part::Place(place),
-            "",
-        ),
-        LayoutFault::UnknownName(place) => one(
-            "",
-            Part::Place(place),
-            " names something that isn't there",
-        ),
-        LayoutFault::DoubleName(place) => one("", Part::Place(place), " reports a section twice"),
-        LayoutFault::DoubleJoint(place) => one("", Part::Place(place), " joins a port with itself"),
-        LayoutFault::Limit(place) => two(
-            "",
-            Part::Place(place),
-            " ",
-            Part::Nothing,
-            limit_words(place),
-        ),
-        LayoutFault::OutOfMemory => bare("memory is lacking"),
-    }
+    let (words, at, why) = match fault {
+        LayoutFault::Toml => (NO_TOML, Nothing, Nothing),
+        LayoutFault::MissingKey(place) => (MISSING_KEY, Part::Place(place), Nothing),
+        LayoutFault::WrongKind(place) => (WRONG_KIND, Part::Place(place), Nothing),
+        LayoutFault::UnknownName(place) => (UNKNOWN_NAME, Part::Place(place), Nothing),
+        LayoutFault::DoubleName(place) => (DOUBLE_NAME, Part::Place(place), Nothing),
+        LayoutFault::DoubleJoint(place) => (DOUBLE_JOINT, Part::Place(place), Nothing),
+        LayoutFault::Limit(place) => (BEHIND, Part::Place(place), Part::Words(limit_words(place))),
+        LayoutFault::OutOfMemory => (LACKS_MEMORY, Nothing, Nothing),
+    };
+    Sentence(words, at, why, Nothing, Nothing, Nothing)
 }
 
 /// What a fault says of its route.
 #[tactic(auto, unfolding(crate::specs::FaultWords::route_words))]
-fn route_words(fault: &TableFault) -> &'static str
-    ensures { result.now ≡ route_words fault.now }
+fn route_words(fault: TableFault) -> &'static str
+    ensures { result.now ≡ route_words fault }
 {
     match fault {
         TableFault::PathBroken(_) => {
@@ -109,18 +113,15 @@ fn route_words(fault: &TableFault) -> &'static str
 }
 
 /// The words for a fault of a table.
-#[tactic(auto, unfolding(crate::specs::FaultWords::table_words, crate::specs::inside::Sentences::part_words))]
-pub(crate) fn table_sentence(fault: &TableFault) -> Sentence
-    ensures { sentence_words result ≡ table_words fault.now }
+#[tactic(auto, using(crate::proofs::SentenceEnds::without_end), unfolding(crate::specs::FaultWords::table_words, crate::specs::inside::Sentences::part_words))]
+pub(crate) fn table_sentence(fault: TableFault) -> Sentence
+    ensures { sentence_words result ≡ table_words fault }
 {
-    match route_at_fault(fault) {
-        Some(route) => two(
-            "",
-            Part::Route(route),
-            " ",
-            Part::Nothing,
-            route_words(fault),
-        ),
-        None => bare("memory is lacking"),
+    match route_at_fault(&fault) {
+        Some(route) => {
+            let why = Part::Words(route_words(fault));
+            Sentence(BEHIND, Part::Route(route), why, Nothing, Nothing, Nothing)
+        }
+        None => Sentence(LACKS_MEMORY, Nothing, Nothing, Nothing, Nothing, Nothing),
     }
 }

@@ -1,11 +1,11 @@
 //! The keys of entries, and what may stand under them.
 
-ghost use Rattle.std.specs.Prelude.{◌≡◌, ◌++◌, codes};
+ghost use Rattle.std.specs.Prelude.{◌≡◌};
 ghost use Rattle.toml.specs.View.{view};
 ghost use Rattle.station_layout.specs.FieldKeys.{all_keys, form_words, is_required, item_key, key_text, kind_of, kind_word, kind_words};
-ghost use Rattle.station_layout.specs.inside.Sentences.{sentence_words};
+ghost use Rattle.station_layout.specs.inside.Sentences.{part_words};
 
-use crate::sentence::{Part, Sentence, four, two};
+use crate::sentence::Part;
 use layout_text::TableName;
 use toml::Value;
 
@@ -29,49 +29,49 @@ pub(crate) enum FieldKey {
     Aspect,
 }
 
+/// The words of the keys.
+const WORDS: [&str; 14] = [
+    "name", "id", "key", "section", "sections", "at", "entry", "exit", "path", "points", "flank",
+    "approach", "extra", "aspect",
+];
+
+pub(crate) const NAME_FORM: &str = "a name: 1 to 20 of A to Z, a to z, 0 to 9 and `-`";
+
+const NAMES_FORM: &str = "an array of names: each 1 to 20 of A to Z, a to z, 0 to 9 and `-`";
+
+const SIDES_FORM: &str = "a table of points, each with `left` or `right`";
+
+/// What has to stand under the keys.
+const FORMS: [&str; 14] = [
+    NAME_FORM,
+    "an integer from 1 to 4294967295",
+    "a text of 32 hexadecimal digits",
+    NAME_FORM,
+    NAMES_FORM,
+    "a port: a name, a dot, and `a`, `b`, `tip`, `left`, `right` or `end`",
+    NAME_FORM,
+    NAME_FORM,
+    "an array of ports: each a name, a dot, and `a`, `b`, `tip`, `left`, `right` or `end`",
+    SIDES_FORM,
+    SIDES_FORM,
+    NAMES_FORM,
+    NAMES_FORM,
+    "`proceed` or `slow`",
+];
+
 impl FieldKey {
     /// The word of the key.
     pub(crate) fn word(self) -> &'static str
         ensures { result.now ≡ key_text self }
     {
-        match self {
-            FieldKey::Name => "name",
-            FieldKey::Id => "id",
-            FieldKey::Code => "key",
-            FieldKey::Section => "section",
-            FieldKey::Sections => "sections",
-            FieldKey::At => "at",
-            FieldKey::Entry => "entry",
-            FieldKey::Exit => "exit",
-            FieldKey::Path => "path",
-            FieldKey::Points => "points",
-            FieldKey::Flank => "flank",
-            FieldKey::Approach => "approach",
-            FieldKey::Extra => "extra",
-            FieldKey::Aspect => "aspect",
-        }
+        WORDS[self as usize]
     }
 
     /// What has to stand under the key.
     pub(crate) fn form(self) -> &'static str
         ensures { result.now ≡ form_words self }
     {
-        match self {
-            FieldKey::Name | FieldKey::Section | FieldKey::Entry | FieldKey::Exit => {
-                "a name: 1 to 20 of A to Z, a to z, 0 to 9 and `-`"
-            }
-            FieldKey::Id => "an integer from 1 to 4294967295",
-            FieldKey::Code => "a text of 32 hexadecimal digits",
-            FieldKey::Sections | FieldKey::Approach | FieldKey::Extra => {
-                "an array of names: each 1 to 20 of A to Z, a to z, 0 to 9 and `-`"
-            }
-            FieldKey::At => "a port: a name, a dot, and `a`, `b`, `tip`, `left`, `right` or `end`",
-            FieldKey::Path => {
-                "an array of ports: each a name, a dot, and `a`, `b`, `tip`, `left`, `right` or `end`"
-            }
-            FieldKey::Points | FieldKey::Flank => "a table of points, each with `left` or `right`",
-            FieldKey::Aspect => "`proceed` or `slow`",
-        }
+        FORMS[self as usize]
     }
 
     /// The key that wants of its value what this one wants of each item of its array.
@@ -169,30 +169,14 @@ impl Kind {
         }
     }
 
-    /// That a value is of the kind, an integer by its digits, and what is wanted.
+    /// What is told of a value of the kind: an integer itself, of others the kind.
     #[tactic(auto, unfolding(crate::specs::FieldKeys::kind_words, crate::specs::inside::Sentences::part_words))]
-    pub(crate) fn sentence(&self, wanted: &'static str) -> Sentence
-        ensures { sentence_words result ≡ codes "is " ++ (kind_words self.now ++ (codes ", and has to be " ++ wanted.now)) }
+    pub(crate) fn part(self) -> Part
+        ensures { part_words result ≡ kind_words self }
     {
         match self {
-            Kind::Integer(value) => two(
-                "is ",
-                Part::Integer(*value),
-                ", and has to be ",
-                Part::Nothing,
-                wanted,
-            ),
-            other => four(
-                "is ",
-                Part::Nothing,
-                other.word(),
-                Part::Nothing,
-                ", and has to be ",
-                Part::Nothing,
-                "",
-                Part::Nothing,
-                wanted,
-            ),
+            Kind::Integer(value) => Part::Integer(value),
+            other => Part::Words(other.word()),
         }
     }
 }

@@ -1,15 +1,14 @@
 //! The lines of the table, in either form.
 
-ghost use Rattle.std.specs.Prelude.{◌≡◌, ◌<◌, ◌++◌, length, map, codes, IfOk, OnOk};
-ghost use Rattle.std.specs.List.{flat_map};
-ghost use Rattle.csv.specs.Writing.{default_writer, row_text};
+ghost use Rattle.std.specs.Prelude.{◌≡◌, ◌<◌, ◌++◌, length, map, IfOk, OnOk, string_bytes};
 ghost use Rattle.control_table.specs.Topology.{IsRoute};
 ghost use Rattle.station_layout.specs.Lines.{IsTable, barred, heads, line_text, rule_text};
 ghost use Rattle.station_layout.specs.Row.{IsRowOf, Row};
+ghost use Rattle.station_layout.specs.declared.form.Form.TheVariants.{Csv, Markdown};
+ghost use Rattle.station_layout.specs.inside.CellLines.{line_of};
 
 use crate::form::Form;
-use crate::layout_names::written;
-use crate::row::{Row, row_of};
+use crate::row::cells_of;
 use control_table::Checked;
 use control_table::layout::{Route, RouteId};
 use csv::WriterBuilder;
@@ -25,53 +24,37 @@ fn add_cell(line: &mut Vec<u8>, cell: &[u8]) -> Result<(), AllocError>
     line.extend_from_slice(b" ")
 }
 
-/// The line of these cells in Markdown.
-fn markdown_line(alloc: Global, cells: &[&[u8]]) -> Result<Vec<u8>, AllocError>
-    ensures { IfOk result (λ line. line.items ≡ flat_map (λ cell. barred cell.now) cells.now ++ codes "|\n") }
+/// Adds the line of these cells in Markdown to a text.
+fn add_markdown(cells: &[String], text: &mut Vec<u8>) -> Result<(), AllocError>
+    ensures { OnOk result (text.new.items ≡ text.old.items ++ line_of Markdown (map string_bytes cells.now)) }
 {
-    let mut line = Vec::new(alloc);
     for cell in cells {
-        add_cell(&mut line, cell)?;
+        add_cell(text, cell.as_bytes())?;
     }
-    line.extend_from_slice(b"|\n")?;
-    Ok(line)
+    text.extend_from_slice(b"|\n")
 }
 
 /// The line of these cells as CSV.
-fn csv_line(alloc: Global, cells: &[&[u8]]) -> Result<Vec<u8>, AllocError>
-    ensures { IfOk result (λ line. line.items ≡ row_text default_writer (map (λ cell. cell.now) cells.now)) }
+fn csv_line(alloc: Global, cells: &[String]) -> Result<Vec<u8>, AllocError>
+    ensures { IfOk result (λ line. line.items ≡ line_of Csv (map string_bytes cells.now)) }
 {
+    let mut fields = Vec::new(alloc);
+    for cell in cells {
+        fields.push(cell.as_bytes())?;
+    }
     let mut writer = WriterBuilder::new().from_writer(Vec::new(alloc));
     // A vector refuses bytes only where memory is lacking.
-    if writer.write_fields(cells).is_err() {
-        return Err(AllocError);
-    }
+    let is_written = writer.write_fields(&fields).is_ok();
+    drop(fields);
     match writer.into_inner() {
-        Ok(line) => Ok(line),
+        Ok(line) => {
+            if is_written {
+                Ok(line)
+            } else {
+                Err(AllocError)
+            }
+        }
         Err(_) => Err(AllocError),
-    }
-}
-
-/// The line of a row.
-fn line<'a>(alloc: Global, form: Form, row: &'a Row<'a>) -> Result<Vec<u8>, AllocError>
-    ensures { IfOk result (λ line. line.items ≡ line_text form row.now) }
-{
-    let cells = [
-        row.route.as_bytes(),
-        written(&row.entry).as_bytes(),
-        written(&row.exit).as_bytes(),
-        row.aspect.as_bytes(),
-        row.right.as_bytes(),
-        row.left.as_bytes(),
-        row.flank.as_bytes(),
-        row.sections.as_bytes(),
-        row.let_go.as_bytes(),
-        row.approach.as_bytes(),
-        row.conflicts.as_bytes(),
-    ];
-    match form {
-        Form::Markdown => markdown_line(alloc, &cells),
-        Form::Csv => csv_line(alloc, &cells),
     }
 }
 
@@ -103,9 +86,11 @@ fn add_line(
     requires entry { IsRoute table.now id entry.now }
     ensures { OnOk result ((row : Row) × IsRowOf table.now id entry.now row × (text.new.items ≡ text.old.items ++ line_text form row)) }
 {
-    let row = row_of(alloc, table, id, entry)?;
-    let line = line(alloc, form, &row)?;
-    text.extend_from_slice(&line)
+    let cells = cells_of(alloc, table, id, entry)?;
+    match form {
+        Form::Markdown => add_markdown(&cells, text),
+        Form::Csv => text.extend_from_slice(&csv_line(alloc, &cells)?),
+    }
 }
 
 /// The heads, and a line for each route, in the order of the table.

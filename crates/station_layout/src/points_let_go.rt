@@ -1,12 +1,12 @@
 //! At which section a route lets the points go that it requires.
 
-ghost use Rattle.std.specs.Prelude.{◌≡◌, ◌<◌, ◌↔◌, length, map, IfOk, IsTrue, OnOk, Some, slice_get, string_bytes};
+ghost use Rattle.std.specs.Prelude.{◌≡◌, ◌<◌, ◌↔◌, length, IfOk, IsTrue, Some, slice_get, string_bytes};
 ghost use Rattle.std.specs.FinSet.{contains};
 ghost use Rattle.std.specs.List.{list_any};
-ghost use Rattle.station_layout.specs.Row.{IsLetGoAt, IsLetGoCell, NamesLetGo, point_at};
-ghost use Rattle.station_layout.specs.inside.LetGoTexts.{AddsLetGo};
+ghost use Rattle.station_layout.specs.Row.{IsLetGoAt, IsLetGoCell, point_at};
+ghost use Rattle.station_layout.specs.inside.LetGoTexts.{AddsLetGo, TellsPoints};
 
-use crate::cells::{parted, spaced, with_word};
+use crate::cells::add;
 use crate::layout_names::{point_name, section_name, written};
 use control_table::Checked;
 use control_table::bit_row::BitRow;
@@ -54,50 +54,53 @@ fn is_let_go(
     is_required & (awaits_there & !awaits_behind)
 }
 
-/// The names of the points that are let go at a place.
-fn names_let_go(
+/// The points that are let go at a place, with a colon before the first.
+fn points_told(
     alloc: Global,
     table: &Checked,
     route: RouteId,
     sections: &[SectionId],
     place: usize,
-) -> Result<Vec<String>, AllocError>
+) -> Result<String, AllocError>
     requires route { route.0 < length table.now.routes }
     requires place { place < length sections.now }
-    ensures { IfOk result (λ names. NamesLetGo table.now route sections.now place (map string_bytes names.items)) }
+    ensures { IfOk result (λ text. TellsPoints table.now route sections.now place (string_bytes text)) }
 {
-    let mut names = Vec::new(alloc);
+    let mut text = String::new(alloc);
+    let mut before = ": ";
     for point in 0..table.layout().points().len() {
         if is_let_go(table, route, sections, place, point) {
             let name = point_name(table.layout(), PointId(point));
-            names.push(String::from_str(alloc, written(&name))?)?;
+            add(&mut text, before, written(&name))?;
+            before = " ";
         }
     }
-    Ok(names)
+    Ok(text)
 }
 
-/// Adds what is told of a section at which points are let go: its name, and these points.
+/// Adds what is told of a section at which points are let go, behind what stands before it: its name, and these points.
+/// Answers whether there are any.
 fn add_let_go(
     alloc: Global,
     table: &Checked,
     route: RouteId,
     sections: &[SectionId],
     place: usize,
-    texts: &mut Vec<String>,
-) -> Result<(), AllocError>
+    before: &str,
+    cell: &mut String,
+) -> Result<bool, AllocError>
     requires route { route.0 < length table.now.routes }
     requires place { place < length sections.now }
-    ensures { OnOk result (AddsLetGo table.now route sections.now place (map string_bytes texts.old.items) (map string_bytes texts.new.items)) }
+    ensures { IfOk result (λ is_told. AddsLetGo table.now route sections.now place before.now is_told (string_bytes cell.old) (string_bytes cell.new)) }
 {
-    let names = names_let_go(alloc, table, route, sections, place)?;
-    if names.is_empty() {
-        return Ok(());
+    let points = points_told(alloc, table, route, sections, place)?;
+    if points.is_empty() {
+        return Ok(false);
     }
-    let points = spaced(alloc, &names)?;
     let section = section_name(table.layout(), section_at(sections, place));
-    let text = with_word(alloc, written(&section), points.as_str())?;
-    texts.push(text)?;
-    Ok(())
+    add(cell, before, written(&section))?;
+    cell.push_str(points.as_str())?;
+    Ok(true)
 }
 
 /// The cell of the sections at which a route lets points go, each with these points.
@@ -110,10 +113,12 @@ pub(crate) fn let_go_cell(
     ensures { IfOk result (λ cell. IsLetGoCell table.now route (string_bytes cell)) }
 {
     let sections = table.sections(route);
-    let mut texts = Vec::new(alloc);
+    let mut cell = String::new(alloc);
+    let mut before = "";
     for place in 0..sections.len() {
-        add_let_go(alloc, table, route, sections, place, &mut texts)?;
+        if add_let_go(alloc, table, route, sections, place, before, &mut cell)? {
+            before = "; ";
+        }
     }
-    let cell = parted(alloc, &texts)?;
     Ok(cell)
 }

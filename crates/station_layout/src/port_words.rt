@@ -1,10 +1,10 @@
 //! The words for ports and sides.
 
 ghost use Rattle.std.specs.Prelude.{◌≡◌, Some};
-ghost use Rattle.station_layout.specs.PortWords.{end_word, port_words, side_word};
+ghost use Rattle.station_layout.specs.PortWords.{port_words, side_word};
 
 use control_table::sci_telegram::Side;
-use layout_text::{End, PortName};
+use layout_text::PortName;
 use std::fmt;
 
 /// The word for a side.
@@ -18,20 +18,8 @@ pub(crate) fn side_word(side: Side) -> &'static str
     }
 }
 
-/// The word for a port of an element.
-#[tactic(auto, unfolding(crate::specs::PortWords::end_word))]
-fn end_word(end: End) -> &'static str
-    ensures { result.now ≡ end_word end }
-{
-    match end {
-        End::A => "a",
-        End::B => "b",
-        End::Tip => "tip",
-        End::Left => "left",
-        End::Right => "right",
-        End::End => "end",
-    }
-}
+/// The words for the ports of an element.
+pub(crate) const END_WORDS: &[&str; 6] = &["a", "b", "tip", "left", "right", "end"];
 
 /// A port as it is written.
 #[derive(Clone, Copy)]
@@ -40,10 +28,10 @@ pub(crate) struct PortWords(pub(crate) PortName);
 impl fmt::Display for PortWords {
     ghost output = { λ port. Some (port_words port.0) };
 
-    #[tactic(auto, unfolding(crate::specs::PortWords::port_words))]
+    #[tactic(auto, unfolding(crate::specs::PortWords::end_word, crate::specs::PortWords::port_words))]
     fn fmt<W: fmt::Write>(&self, f: &mut fmt::Formatter<W>) -> fmt::Result {
         let element = self.0.element.as_str();
-        let end = end_word(self.0.end);
+        let end = END_WORDS[self.0.end as usize];
         write!(f, "{element}.{end}")
     }
 }

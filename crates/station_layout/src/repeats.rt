@@ -3,7 +3,7 @@
 ghost use Rattle.std.specs.Prelude.{◌≡◌, false};
 ghost use Rattle.control_table.specs.Topology.{section_of};
 ghost use Rattle.station_layout.specs.Search.{first_of};
-ghost use Rattle.station_layout.specs.Repeats.{back_at, comes_back, comes_twice, lies_in, repeated_detail, twice_at};
+ghost use Rattle.station_layout.specs.Repeats.{back_at, comes_back, comes_twice, repeated_detail, twice_at};
 
 use crate::detail::PathDetail;
 use crate::layout_names::{element_name, item_at};
@@ -47,26 +47,18 @@ fn section_of(layout: &Layout, element: Element) -> Option<SectionId>
     }
 }
 
-/// Whether an element lies in a section.
-#[tactic(auto, unfolding(crate::specs::Repeats::lies_in))]
-fn lies_in(layout: &Layout, element: Element, section: SectionId) -> bool
-    ensures { result ≡ lies_in layout.now section element }
-{
-    match section_of(layout, element) {
-        Some(other) => other.0 == section.0,
-        None => false,
-    }
-}
-
 /// Whether a path comes back to a section that it left.
-#[tactic(auto, unfolding(crate::specs::Repeats::comes_back))]
+#[tactic(auto, unfolding(crate::specs::Repeats::comes_back, crate::specs::Repeats::lies_in))]
 fn comes_back(layout: &Layout, path: &[Port], section: SectionId) -> bool
     ensures { result ≡ comes_back layout.now section false false path.now }
 {
     let mut is_there = false;
     let mut has_left = false;
     for left in path {
-        let here = lies_in(layout, left.element, section);
+        let here = match section_of(layout, left.element) {
+            Some(other) => other.0 == section.0,
+            None => false,
+        };
         if here && has_left {
             return true;
         }

@@ -4,7 +4,8 @@ ghost use Rattle.std.specs.Prelude.{◌≡◌, Some, option_map};
 ghost use Rattle.station_layout.specs.FaultWords.{route_at_fault};
 ghost use Rattle.station_layout.specs.Search.{first_of};
 ghost use Rattle.station_layout.specs.declared.detail.RouteDetail.TheVariants.{Path, Points};
-ghost use Rattle.station_layout.specs.RouteDetails.{break_at, detail_of, elsewhere, exit_detail, in_the_way, is_exit, is_listed, is_signal, lists, open_at, path_detail, step_detail, table_detail, unanswered, unwritten_at};
+ghost use Rattle.station_layout.specs.RouteDetails.{break_at, detail_of, elsewhere, exit_detail, in_the_way, is_exit, is_signal, lists, open_at, table_detail, unanswered, unwritten_at};
+ghost use Rattle.station_layout.specs.inside.StepsFound.{first_step_found, step_found};
 
 use crate::detail::{PathDetail, PointDetail, RouteAdvice, RouteDetail};
 use crate::joints::{joined_to, may_pass, same_port, signal_at};
@@ -14,7 +15,7 @@ use crate::layout_names::{
 use crate::repeats::repeated_detail;
 use crate::route_sides::{guard, unused_leg};
 use crate::route_start::{is_written, start_of};
-use crate::side_detail::{contrary_detail, lacking_at, wrong_detail};
+use crate::side_detail::{contrary_at, lacking_at, wrong_detail};
 use control_table::layout::{Element, Exit, Layout, Port, Route, RouteId};
 use control_table::{FaultyRoute, TableFault};
 
@@ -71,34 +72,38 @@ fn open_at(layout: &Layout, before: Port, left: Port) -> Option<PathDetail>
     Some(PathDetail::OpenLeg(leg, from))
 }
 
-/// What is wrong with a step of a path, from one port to that by which the next element is left, by the test of a fault.
+/// What is wrong with a step of the path of a route that begins at a port, from one port to that by which the next element is
+/// left, by the test of a fault.
 fn step_detail(
     layout: &Layout,
     route: &Route,
+    start: Port,
     fault: &TableFault,
     before: Port,
     left: Port,
-) -> Option<PathDetail>
-    ensures { result ≡ step_detail layout.now route.now fault.now before left }
+) -> Option<RouteDetail>
+    ensures { result ≡ step_found layout.now route.now start fault.now before left }
 {
     match fault {
-        TableFault::PathBroken(_) => break_at(layout, before, left),
-        TableFault::FlankMissing(_) => lacking_at(layout, route, before, left),
-        TableFault::FlankOpen(_) => open_at(layout, before, left),
+        TableFault::PathBroken(_) => of_path(break_at(layout, before, left)),
+        TableFault::FlankMissing(_) => of_path(lacking_at(layout, route, before, left)),
+        TableFault::FlankOpen(_) => of_path(open_at(layout, before, left)),
+        TableFault::FlankContradicts(_) => {
+            of_points(contrary_at(layout, start, route.path(), before, left))
+        }
         _ => None,
     }
 }
 
 /// What is wrong with the first step of the path of a route that fails the test of a fault.
-#[tactic(auto, unfolding(crate::specs::RouteDetails::path_detail))]
-fn path_detail(layout: &Layout, route: &Route, fault: &TableFault) -> Option<PathDetail>
-    ensures { result ≡ path_detail layout.now route.now fault.now }
+fn first_step_detail(layout: &Layout, route: &Route, fault: &TableFault) -> Option<RouteDetail>
+    ensures { result ≡ first_step_found layout.now route.now fault.now }
 {
     let start = start_of(layout, route)?;
     let path = route.path();
     let mut before = start;
     for left in path {
-        if let Some(found) = step_detail(layout, route, fault, before, *left) {
+        if let Some(found) = step_detail(layout, route, start, fault, before, *left) {
             return Some(found);
         }
         before = *left;
@@ -186,21 +191,13 @@ fn exit_detail(layout: &Layout, route: &Route) -> Option<PathDetail>
     first_in_the_way(layout, exit, path)
 }
 
-/// Whether a route stands in a list of extra conflicts.
-#[tactic(auto, unfolding(crate::specs::RouteDetails::is_listed))]
-fn is_listed(extra: &[RouteId], other: RouteId) -> bool
-    ensures { result ≡ is_listed extra.now other }
-{
-    extra.contains(&other)
-}
-
 /// Whether a route lists another as an extra conflict.
-#[tactic(auto, unfolding(crate::specs::RouteDetails::lists))]
+#[tactic(auto, unfolding(crate::specs::RouteDetails::is_listed, crate::specs::RouteDetails::lists))]
 fn lists(layout: &Layout, route: RouteId, other: RouteId) -> bool
     ensures { result ≡ lists layout.now route other }
 {
     match route_at(layout, route) {
-        Some(entry) => is_listed(entry.extra(), other),
+        Some(entry) => entry.extra().contains(&other),
         None => false,
     }
 }
@@ -252,7 +249,7 @@ fn of_points(detail: Option<PointDetail>) -> Option<RouteDetail>
 }
 
 /// What is wrong with a route that has a fault.
-#[tactic(auto, unfolding(crate::specs::RouteDetails::detail_of, crate::specs::RouteDetails::path_detail, crate::specs::RouteDetails::broken_detail, crate::specs::RouteDetails::open_detail, crate::specs::SideDetails::lacking_detail))]
+#[tactic(auto, unfolding(crate::specs::RouteDetails::detail_of, crate::specs::RouteDetails::broken_detail))]
 fn detail_of(layout: &Layout, route: &Route, id: RouteId, fault: &TableFault) -> Option<RouteDetail>
     ensures { result ≡ detail_of layout.now route.now id fault.now }
 {
@@ -263,13 +260,9 @@ fn detail_of(layout: &Layout, route: &Route, id: RouteId, fault: &TableFault) ->
         TableFault::PathRepeats(_) => of_path(repeated_detail(layout, route)),
         TableFault::PointMissing(_) => first_unwritten(layout, route, route.path()),
         TableFault::PointWrong(_) => of_points(wrong_detail(layout, route)),
-        TableFault::PathBroken(_) | TableFault::FlankMissing(_) | TableFault::FlankOpen(_) => {
-            of_path(path_detail(layout, route, fault))
-        }
-        TableFault::FlankContradicts(_) => of_points(contrary_detail(layout, route)),
         TableFault::SignalPlace(_) => of_path(exit_detail(layout, route)),
         TableFault::NotSymmetric(_) => first_unanswered(layout, id, route.extra()),
-        TableFault::OutOfMemory => None,
+        _ => first_step_detail(layout, route, fault),
     }
 }
 

@@ -2,7 +2,7 @@
 
 ghost use Rattle.std.specs.Prelude.{◌≡◌};
 ghost use Rattle.control_table.specs.Sides.{leg, other};
-ghost use Rattle.station_layout.specs.RouteSides.{guard, guard_behind, is_need, is_on_path, requires_at, requires_on, side_of, side_used, unused_leg, used_behind};
+ghost use Rattle.station_layout.specs.RouteSides.{guard, guard_behind, is_need, is_on_path, requires_at, requires_on, side_of, unused_leg, used_behind};
 
 use crate::joints::joined_to;
 use control_table::layout::{Element, End, Layout, PointId, Port};
@@ -46,25 +46,18 @@ fn leg(point: PointId, side: Side) -> Port
     }
 }
 
-/// The side of the leg of a point that a train uses which enters it by one end and leaves it by another.
-#[tactic(auto, unfolding(crate::specs::RouteSides::side_used))]
-fn side_used(entered: End, left: End) -> Option<Side>
-    ensures { result ≡ side_used entered left }
-{
-    match left {
-        End::Tip => side_of(entered),
-        _ => side_of(left),
-    }
-}
-
 /// The point behind a port, with the side of the leg that a path uses which leaves it by another port.
-#[tactic(auto, unfolding(crate::specs::RouteSides::used_behind))]
+#[tactic(auto, unfolding(crate::specs::RouteSides::side_used, crate::specs::RouteSides::used_behind))]
 pub(crate) fn used_behind(layout: &Layout, before: Port, left: Port) -> Option<(PointId, Side)>
     ensures { result ≡ used_behind layout.now before left }
 {
     let entered = joined_to(layout.joints(), before)?;
-    match left.element {
-        Element::Point(point) => Some((point, side_used(entered.end, left.end)?)),
+    let side = match left.end {
+        End::Tip => side_of(entered.end),
+        leg => side_of(leg),
+    };
+    match (left.element, side) {
+        (Element::Point(point), Some(side)) => Some((point, side)),
         _ => None,
     }
 }

@@ -1,104 +1,108 @@
-//! The rows of the control table.
+//! The cells of the rows of the control table.
 
-ghost use Rattle.std.specs.Prelude.{◌≡◌, ◌<◌, length, IfOk};
+ghost use Rattle.std.specs.Prelude.{◌≡◌, ◌<◌, length, map, IfOk, string_bytes};
 ghost use Rattle.control_table.specs.Topology.{IsRoute};
-ghost use Rattle.station_layout.specs.Names.{aspect_word};
-ghost use Rattle.station_layout.specs.Row.{IsRowOf};
+ghost use Rattle.station_layout.specs.Lines.{cells};
+ghost use Rattle.station_layout.specs.Row.{IsRowOf, Row};
+ghost use Rattle.station_layout.specs.inside.Columns.{IsCell};
 
 use crate::cells::{flank_cell, points_cell, sections_cell};
 use crate::conflicts::conflicts_cell;
-use crate::layout_names::{exit_name, signal_name};
+use crate::layout_names::{exit_name, signal_name, written};
 use crate::points_let_go::let_go_cell;
 use control_table::Checked;
 use control_table::layout::{Route, RouteId};
-use control_table::sci_telegram::{Aspect, Name, Side};
+use control_table::sci_telegram::Side;
 use std::alloc::{AllocError, Global};
-use std::marker::Model;
 
-/// The cells of a row.
-#[derive(Drop)]
-pub(crate) struct Row<'a> {
+/// A column of the table.
+#[derive(Clone, Copy)]
+pub(crate) enum Column {
     /// The name of the route.
-    pub(crate) route: &'a str,
+    Route,
     /// The signal at which it begins.
-    pub(crate) entry: Option<Name>,
+    Entry,
     /// The signal or the border at which it ends.
-    pub(crate) exit: Option<Name>,
+    Exit,
     /// The aspect at which it is passed.
-    pub(crate) aspect: &'a str,
+    Aspect,
     /// The points on the path that have to lie right.
-    pub(crate) right: String,
+    Right,
     /// The points on the path that have to lie left.
-    pub(crate) left: String,
+    Left,
     /// The points that protect the flank, each with its side.
-    pub(crate) flank: String,
+    Flank,
     /// The sections over which the route leads.
-    pub(crate) sections: String,
+    Sections,
     /// The sections at which points are let go that are required, each with these points.
-    pub(crate) let_go: String,
+    LetGo,
     /// The sections on which a train approaches it.
-    pub(crate) approach: String,
+    Approach,
     /// The routes that conflict with it, with the reasons.
-    pub(crate) conflicts: String,
+    Conflicts,
 }
 
-impl<'a> Model for Row<'a> {
-    ghost use Rattle.std.specs.Prelude.{[], string_bytes};
-    ghost use Rattle.std.specs.Option.{unwrap_or};
-    ghost use Rattle.station_layout.specs.Row as row;
+/// The columns, in their order.
+const COLUMNS: &[Column] = &[
+    Column::Route,
+    Column::Entry,
+    Column::Exit,
+    Column::Aspect,
+    Column::Right,
+    Column::Left,
+    Column::Flank,
+    Column::Sections,
+    Column::LetGo,
+    Column::Approach,
+    Column::Conflicts,
+];
 
-    ghost Value = { row.Row };
+/// The words for aspects.
+const ASPECT_WORDS: [&str; 3] = ["stop", "proceed", "slow"];
 
-    ghost view = { λ r. record {
-      route = r.route.now;
-      entry = unwrap_or r.entry [];
-      exit = unwrap_or r.exit [];
-      aspect = r.aspect.now;
-      right = string_bytes r.right;
-      left = string_bytes r.left;
-      flank = string_bytes r.flank;
-      sections = string_bytes r.sections;
-      let_go = string_bytes r.let_go;
-      approach = string_bytes r.approach;
-      conflicts = string_bytes r.conflicts;
-    } };
-}
-
-/// The word for an aspect.
-fn aspect_word(aspect: Aspect) -> &'static str
-    ensures { result.now ≡ aspect_word aspect }
+/// The cell in a column of the row of a route, of which this is the entry.
+#[tactic(auto, using(crate::proofs::NamesWritten::signal_written, crate::proofs::NamesWritten::exit_written))]
+fn cell_of(
+    alloc: Global,
+    table: &Checked,
+    id: RouteId,
+    entry: &Route,
+    column: Column,
+) -> Result<String, AllocError>
+    requires there { id.0 < length table.now.routes }
+    requires entry { IsRoute table.now id entry.now }
+    ensures { IfOk result (λ cell. IsCell table.now id entry.now column (string_bytes cell)) }
 {
-    match aspect {
-        Aspect::Stop => "stop",
-        Aspect::Proceed => "proceed",
-        Aspect::Slow => "slow",
+    let layout = table.layout();
+    match column {
+        Column::Route => String::from_str(alloc, entry.name().as_str()),
+        Column::Entry => String::from_str(alloc, written(&signal_name(layout, entry.entry().0))),
+        Column::Exit => String::from_str(alloc, written(&exit_name(layout, entry.exit()))),
+        Column::Aspect => String::from_str(alloc, ASPECT_WORDS[entry.aspect() as usize]),
+        Column::Right => points_cell(alloc, layout, entry, Side::Right),
+        Column::Left => points_cell(alloc, layout, entry, Side::Left),
+        Column::Flank => flank_cell(alloc, layout, entry.flank()),
+        Column::Sections => sections_cell(alloc, layout, table.sections(id)),
+        Column::LetGo => let_go_cell(alloc, table, id),
+        Column::Approach => sections_cell(alloc, layout, entry.approach()),
+        Column::Conflicts => conflicts_cell(alloc, table, id),
     }
 }
 
-/// The row of a route, of which this is the entry.
-#[tactic(auto, using(crate::proofs::NamesWritten::signal_written, crate::proofs::NamesWritten::exit_written))]
-pub(crate) fn row_of<'a>(
+/// The cells of the row of a route, of which this is the entry.
+pub(crate) fn cells_of(
     alloc: Global,
-    table: &'a Checked,
+    table: &Checked,
     id: RouteId,
-    entry: &'a Route,
-) -> Result<Row<'a>, AllocError>
+    entry: &Route,
+) -> Result<Vec<String>, AllocError>
     requires there { id.0 < length table.now.routes }
     requires entry { IsRoute table.now id entry.now }
-    ensures { IfOk result (λ row. IsRowOf table.now id entry.now row) }
+    ensures { IfOk result (λ texts. (row : Row) × IsRowOf table.now id entry.now row × (map string_bytes texts.items ≡ cells row)) }
 {
-    let layout = table.layout();
-    Ok(Row {
-        route: entry.name().as_str(),
-        entry: signal_name(layout, entry.entry().0),
-        exit: exit_name(layout, entry.exit()),
-        aspect: aspect_word(entry.aspect()),
-        right: points_cell(alloc, layout, entry, Side::Right)?,
-        left: points_cell(alloc, layout, entry, Side::Left)?,
-        flank: flank_cell(alloc, layout, entry.flank())?,
-        sections: sections_cell(alloc, layout, table.sections(id))?,
-        let_go: let_go_cell(alloc, table, id)?,
-        approach: sections_cell(alloc, layout, entry.approach())?,
-        conflicts: conflicts_cell(alloc, table, id)?,
-    })
+    let mut texts = Vec::new(alloc);
+    for column in COLUMNS {
+        texts.push(cell_of(alloc, table, id, entry, *column)?)?;
+    }
+    Ok(texts)
 }

@@ -1,20 +1,22 @@
 //! Sentences: words with names, ports, sides, places and numbers between them.
 
-ghost use Rattle.std.specs.Prelude.{◌≡◌, ◌++◌, Some};
+ghost use Rattle.std.specs.Prelude.{◌≡◌, Some};
 ghost use Rattle.station_layout.specs.inside.Sentences.{part_words, sentence_words};
 
-use crate::entry_words::PlaceWords;
+use crate::advice::Spot;
+use crate::entry_words::{PlaceWords, SpotWords};
 use crate::field_key::FieldKey;
 use crate::port_words::{PortWords, side_word};
 use control_table::FaultyRoute;
 use control_table::sci_telegram::{Name, Side};
-use layout_text::{Place, PortName};
+use layout_text::{Place, PortName, TableName};
 use std::fmt;
 
 /// What stands between the words of a sentence.
 #[derive(Clone, Copy)]
 pub(crate) enum Part {
     Nothing,
+    Words(&'static str),
     Key(FieldKey),
     Name(Name),
     Port(PortName),
@@ -22,7 +24,9 @@ pub(crate) enum Part {
     Id(u32),
     Number(usize),
     Integer(i64),
+    Table(TableName),
     Place(Place),
+    Spot(Spot),
     Route(FaultyRoute),
 }
 
@@ -33,6 +37,7 @@ impl fmt::Display for Part {
     fn fmt<W: fmt::Write>(&self, f: &mut fmt::Formatter<W>) -> fmt::Result {
         match self {
             Part::Nothing => Ok(()),
+            Part::Words(words) => f.write_str(words),
             Part::Key(key) => f.write_str(key.word()),
             Part::Name(name) => f.write_str(name.as_str()),
             Part::Port(port) => PortWords(*port).fmt(f),
@@ -40,109 +45,37 @@ impl fmt::Display for Part {
             Part::Id(id) => id.fmt(f),
             Part::Number(number) => number.fmt(f),
             Part::Integer(value) => value.fmt(f),
+            Part::Table(table) => table.fmt(f),
             Part::Place(place) => PlaceWords(*place).fmt(f),
+            Part::Spot(spot) => SpotWords(*spot).fmt(f),
             Part::Route(route) => route.fmt(f),
         }
     }
 }
 
-/// Words with up to four parts between them.
+/// The words of a sentence: before its first part, between each two, and behind the last.
+pub(crate) type Words = &'static [&'static str; 6];
+
+/// Words with up to five parts between them.
 #[derive(Clone, Copy)]
-pub(crate) struct Sentence {
-    begin: &'static str,
-    first: Part,
-    then: &'static str,
-    second: Part,
-    on: &'static str,
-    third: Part,
-    at_last: &'static str,
-    fourth: Part,
-    end: &'static str,
-}
+pub(crate) struct Sentence(
+    pub(crate) Words,
+    pub(crate) Part,
+    pub(crate) Part,
+    pub(crate) Part,
+    pub(crate) Part,
+    pub(crate) Part,
+);
 
 impl fmt::Display for Sentence {
     ghost output = { λ sentence. Some (sentence_words sentence) };
 
     fn fmt<W: fmt::Write>(&self, f: &mut fmt::Formatter<W>) -> fmt::Result {
-        let begin = self.begin;
-        let first = &self.first;
-        let then = self.then;
-        let second = &self.second;
-        let on = self.on;
-        let third = &self.third;
-        let at_last = self.at_last;
-        let fourth = &self.fourth;
-        let end = self.end;
+        let Sentence(words, first, second, third, fourth, fifth) = self;
+        let [begin, then, on, further, at_last, end] = words;
         write!(
             f,
-            "{begin}{first}{then}{second}{on}{third}{at_last}{fourth}{end}"
+            "{begin}{first}{then}{second}{on}{third}{further}{fourth}{at_last}{fifth}{end}"
         )
-    }
-}
-
-/// A sentence without parts.
-#[tactic(auto, unfolding(crate::specs::inside::Sentences::part_words))]
-pub(crate) fn bare(words: &'static str) -> Sentence
-    ensures { sentence_words result ≡ words.now }
-{
-    one("", Part::Nothing, words)
-}
-
-/// A sentence with one part.
-#[tactic(auto, unfolding(crate::specs::inside::Sentences::part_words))]
-pub(crate) fn one(begin: &'static str, part: Part, end: &'static str) -> Sentence
-    ensures { sentence_words result ≡ begin.now ++ (part_words part ++ end.now) }
-{
-    two("", Part::Nothing, begin, part, end)
-}
-
-/// A sentence with two parts.
-#[tactic(auto, unfolding(crate::specs::inside::Sentences::part_words))]
-pub(crate) fn two(
-    begin: &'static str,
-    first: Part,
-    then: &'static str,
-    second: Part,
-    end: &'static str,
-) -> Sentence
-    ensures { sentence_words result ≡ begin.now ++ (part_words first ++ (then.now ++ (part_words second ++ end.now))) }
-{
-    Sentence {
-        begin: "",
-        first: Part::Nothing,
-        then: "",
-        second: Part::Nothing,
-        on: begin,
-        third: first,
-        at_last: then,
-        fourth: second,
-        end,
-    }
-}
-
-/// A sentence with four parts.
-pub(crate) fn four(
-    begin: &'static str,
-    first: Part,
-    then: &'static str,
-    second: Part,
-    on: &'static str,
-    third: Part,
-    at_last: &'static str,
-    fourth: Part,
-    end: &'static str,
-) -> Sentence
-    ensures { sentence_words result ≡ begin.now ++ (part_words first ++ (then.now ++ (part_words second ++ (on.now ++ (part_words third ++ (at_last.now ++ (part_words fourth ++ end.now))))))) }
-{
-    Sentence {
-        begin,
-        first,
-        then,
-        second,
-        on,
-        third,
-        at_last,
-        fourth,
-        end,
     }
 }

@@ -3,11 +3,11 @@
 ghost use Rattle.std.specs.Prelude.{◌≡◌, slice_get};
 ghost use Rattle.station_layout.specs.Search.{first_of};
 ghost use Rattle.station_layout.specs.declared.advice.Common.TheVariants as common;
-ghost use Rattle.station_layout.specs.SharedAdvice.{detector_shared, double_told, entries, has, id_in, id_shared, joins, name_in, name_shared, place_having, port_told, reports, same_port_name, shared_with};
+ghost use Rattle.station_layout.specs.SharedAdvice.{detector_shared, double_told, entries, has, id_in, id_shared, joins, name_in, name_shared, place_having, port_told, same_port_name, shared_with};
 
 use crate::advice::{Common, EntryAdvice};
 use control_table::sci_telegram::Name;
-use layout_text::{Place, PortName, TableName, WrittenDetector, WrittenJoint, WrittenLayout};
+use layout_text::{Place, PortName, TableName, WrittenJoint, WrittenLayout};
 
 /// Whether two ports are the same.
 #[tactic(auto, unfolding(crate::specs::SharedAdvice::same_port_name))]
@@ -23,14 +23,6 @@ fn joins(joint: &WrittenJoint, port: &PortName) -> bool
     ensures { result ≡ joins joint.now port.now }
 {
     same_port_name(&joint.first, port) || same_port_name(&joint.second, port)
-}
-
-/// Whether a detection controller reports a section.
-#[tactic(auto, unfolding(crate::specs::SharedAdvice::reports))]
-fn reports(detector: &WrittenDetector, section: Name) -> bool
-    ensures { result ≡ reports detector.now section }
-{
-    detector.sections().contains(&section)
 }
 
 /// The entry of a list at a place, counted from 0.
@@ -114,21 +106,15 @@ fn entries(written: &WrittenLayout, table: TableName) -> usize
 }
 
 /// Whether an entry of a table has something.
-#[tactic(auto, unfolding(crate::specs::SharedAdvice::has))]
+#[tactic(auto, unfolding(crate::specs::SharedAdvice::has, crate::specs::SharedAdvice::reports))]
 fn has(written: &WrittenLayout, table: TableName, before: usize, what: &Common) -> bool
     ensures { result ≡ has written.now table before what.now }
 {
     match (what, table) {
-        (Common::Name(name), _) => match name_in(written, table, before) {
-            Some(own) => own == *name,
-            None => false,
-        },
-        (Common::Id(id), _) => match id_in(written, table, before) {
-            Some(own) => own == *id,
-            None => false,
-        },
+        (Common::Name(name), _) => name_in(written, table, before) == Some(*name),
+        (Common::Id(id), _) => id_in(written, table, before) == Some(*id),
         (Common::Section(section), TableName::Detector) => match written.detectors.get(before) {
-            Some(detector) => reports(detector, *section),
+            Some(detector) => detector.sections().contains(section),
             None => false,
         },
         (Common::Joint(port), TableName::Joint) => match entry_at(&written.joints, before) {

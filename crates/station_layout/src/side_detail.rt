@@ -1,8 +1,9 @@
 //! What is wrong with the points that a route writes, or has to write.
 
 ghost use Rattle.std.specs.Prelude.{◌≡◌};
-ghost use Rattle.station_layout.specs.Search.{first_of, first_step};
-ghost use Rattle.station_layout.specs.SideDetails.{contrary, contrary_at, contrary_detail, lacking_at, wrong_detail, wrong_flank, wrong_point};
+ghost use Rattle.station_layout.specs.Search.{first_of};
+ghost use Rattle.station_layout.specs.SideDetails.{contrary, contrary_at, lacking_at, wrong_detail};
+ghost use Rattle.station_layout.specs.inside.WrittenPoints.{wrong_at};
 
 use crate::detail::{PathDetail, PointDetail};
 use crate::layout_names::{leg_names, point_name};
@@ -13,74 +14,50 @@ use crate::route_start::{is_written, start_of};
 use control_table::layout::{Layout, PointId, Port, Route};
 use control_table::sci_telegram::Side;
 
-/// What is wrong with a point under `points`.
-#[tactic(auto, unfolding(crate::specs::SideDetails::wrong_point))]
-fn wrong_point(
+/// Where a route writes points.
+#[derive(Clone, Copy)]
+enum Under {
+    /// Under `points`, those of its path.
+    Points,
+    /// Under `flank`, others.
+    Flank,
+}
+
+/// What is wrong with a point that is written there.
+#[tactic(auto, unfolding(crate::specs::SideDetails::wrong_point, crate::specs::SideDetails::wrong_flank))]
+fn wrong_at(
     layout: &Layout,
     start: Port,
     path: &[Port],
+    under: Under,
     written: (PointId, Side),
 ) -> Option<PointDetail>
-    ensures { result ≡ wrong_point layout.now start path.now written }
+    ensures { result ≡ wrong_at layout.now start path.now under written }
 {
-    let name = point_name(layout, written.0)?;
-    if !is_on_path(path, written.0) {
-        return Some(PointDetail::OffPath(name));
+    let (point, side) = written;
+    let name = point_name(layout, point)?;
+    let is_required = requires_on(layout, start, path, point, side);
+    match under {
+        Under::Points if !is_on_path(path, point) => Some(PointDetail::OffPath(name)),
+        Under::Flank if is_on_path(path, point) => Some(PointDetail::OnPath(name)),
+        _ if is_required => None,
+        Under::Points => Some(PointDetail::PointAt(name, side)),
+        Under::Flank => Some(PointDetail::FlankAt(name, side)),
     }
-    if requires_on(layout, start, path, written.0, written.1) {
-        return None;
-    }
-    Some(PointDetail::PointAt(name, written.1))
 }
 
-/// What is wrong with a point under `flank`.
-#[tactic(auto, unfolding(crate::specs::SideDetails::wrong_flank))]
-fn wrong_flank(
+/// What is wrong with the first point that is wrong there.
+fn first_wrong(
     layout: &Layout,
     start: Port,
     path: &[Port],
-    written: (PointId, Side),
-) -> Option<PointDetail>
-    ensures { result ≡ wrong_flank layout.now start path.now written }
-{
-    let name = point_name(layout, written.0)?;
-    if is_on_path(path, written.0) {
-        return Some(PointDetail::OnPath(name));
-    }
-    if requires_on(layout, start, path, written.0, written.1) {
-        return None;
-    }
-    Some(PointDetail::FlankAt(name, written.1))
-}
-
-/// What is wrong with the first point that is wrong under `points`.
-fn first_wrong_point(
-    layout: &Layout,
-    start: Port,
-    path: &[Port],
+    under: Under,
     points: &[(PointId, Side)],
 ) -> Option<PointDetail>
-    ensures { result ≡ first_of (wrong_point layout.now start path.now) points.now }
+    ensures { result ≡ first_of (wrong_at layout.now start path.now under) points.now }
 {
     for written in points {
-        if let Some(found) = wrong_point(layout, start, path, *written) {
-            return Some(found);
-        }
-    }
-    None
-}
-
-/// What is wrong with the first point that is wrong under `flank`.
-fn first_wrong_flank(
-    layout: &Layout,
-    start: Port,
-    path: &[Port],
-    points: &[(PointId, Side)],
-) -> Option<PointDetail>
-    ensures { result ≡ first_of (wrong_flank layout.now start path.now) points.now }
-{
-    for written in points {
-        if let Some(found) = wrong_flank(layout, start, path, *written) {
+        if let Some(found) = wrong_at(layout, start, path, under, *written) {
             return Some(found);
         }
     }
@@ -94,10 +71,11 @@ pub(crate) fn wrong_detail(layout: &Layout, route: &Route) -> Option<PointDetail
 {
     let start = start_of(layout, route)?;
     let path = route.path();
-    first_wrong_point(layout, start, path, route.points()).or(first_wrong_flank(
+    first_wrong(layout, start, path, Under::Points, route.points()).or(first_wrong(
         layout,
         start,
         path,
+        Under::Flank,
         route.flank(),
     ))
 }
@@ -140,7 +118,7 @@ fn contrary(
 
 /// The point that the path requires at both sides, of those behind a port.
 #[tactic(auto, unfolding(crate::specs::SideDetails::contrary_at))]
-fn contrary_at(
+pub(crate) fn contrary_at(
     layout: &Layout,
     start: Port,
     path: &[Port],
@@ -152,26 +130,4 @@ fn contrary_at(
     let used = used_behind(layout, before, left);
     let guard = guard_behind(layout, before, left);
     contrary(layout, start, path, used).or(contrary(layout, start, path, guard))
-}
-
-/// The first point that a path requires at both sides.
-fn first_contrary(layout: &Layout, start: Port, path: &[Port]) -> Option<PointDetail>
-    ensures { result ≡ first_step (contrary_at layout.now start path.now) start path.now }
-{
-    let mut before = start;
-    for left in path {
-        if let Some(found) = contrary_at(layout, start, path, before, *left) {
-            return Some(found);
-        }
-        before = *left;
-    }
-    None
-}
-
-/// The first point that a route requires at both sides.
-#[tactic(auto, unfolding(crate::specs::SideDetails::contrary_detail))]
-pub(crate) fn contrary_detail(layout: &Layout, route: &Route) -> Option<PointDetail>
-    ensures { result ≡ contrary_detail layout.now route.now }
-{
-    first_contrary(layout, start_of(layout, route)?, route.path())
 }

@@ -3,7 +3,7 @@
 ghost use Rattle.std.specs.Prelude.{◌≡◌, [], ◌∷◌, IfSome, None};
 ghost use Rattle.station_layout.specs.inside.TwoWords.{two_words};
 ghost use Rattle.station_layout.specs.inside.WordTables.{word_said};
-ghost use Rattle.station_layout.specs.Sightings.{driven_said, not_shown, point_sighting, route_sighting, section_sighting, sighting, signal_sighting, time_sighting, verdict};
+ghost use Rattle.station_layout.specs.Sightings.{driven_said, point_sighting, route_sighting, section_sighting, sighting, signal_sighting, time_sighting};
 
 use crate::named_entries::{route_called, signal_called};
 use control_table::layout::{Layout, PointId, RouteId, SectionId, SignalId};
@@ -49,6 +49,9 @@ const OCCUPANCIES: &[(&str, Occupancy)] = &[
 /// Whether a route is set.
 const STATES: &[(&str, bool)] = &[("free", false), ("set", true)];
 
+/// To which side a point is driven, which no plan shows.
+const SIDES: &[(&str, ())] = &[("left", ()), ("right", ())];
+
 /// What a word says by a table.
 fn word_said<T: Copy>(rows: &[(&str, T)], word: &str) -> Result<T, Fault>
     ensures { result ≡ word_said rows.now word.now }
@@ -61,30 +64,53 @@ fn word_said<T: Copy>(rows: &[(&str, T)], word: &str) -> Result<T, Fault>
     Err(Fault::Words)
 }
 
+/// What a line is about, by its first word.
+#[derive(Clone, Copy)]
+enum LineKind {
+    Signal,
+    Point,
+    Section,
+    Route,
+    Time,
+    /// Whether what is seen is safe.
+    Verdict,
+    Answer,
+}
+
+/// What a line is about.
+const KINDS: &[(&str, LineKind)] = &[
+    ("signal", LineKind::Signal),
+    ("point", LineKind::Point),
+    ("section", LineKind::Section),
+    ("route", LineKind::Route),
+    ("time", LineKind::Time),
+    ("safe", LineKind::Verdict),
+    ("unsafe", LineKind::Verdict),
+    ("ok", LineKind::Answer),
+    ("accepted", LineKind::Answer),
+    ("refused", LineKind::Answer),
+    ("no", LineKind::Answer),
+];
+
 /// What a line of a picture says, or the lowest fault of its words.
 pub(crate) fn read_sighting(layout: &Layout, line: &str) -> Result<Sighting, Fault>
     ensures { result ≡ sighting layout.now line.now }
 {
     let mut words = Words::of(line);
-    match words.next() {
-        Some("signal") => signal(layout, words),
-        Some("point") => point(layout, words),
-        Some("section") => section(layout, words),
-        Some("route") => route(layout, words),
-        Some(first) => not_shown(first, words),
-        None => Err(Fault::Words),
-    }
-}
-
-/// A line of what no plan shows: the time, whether what is seen is safe, or an answer.
-fn not_shown(first: &str, words: Words<'_>) -> Result<Sighting, Fault>
-    ensures { result ≡ not_shown first.now words.entry }
-{
-    match first {
-        "time" => time(words),
-        "safe" | "unsafe" => verdict(words),
-        "ok" | "accepted" | "refused" | "no" => Ok(Sighting::Other),
-        _ => Err(Fault::Words),
+    let Some(first) = words.next() else {
+        return Err(Fault::Words);
+    };
+    match word_said(KINDS, first)? {
+        LineKind::Signal => signal(layout, words),
+        LineKind::Point => point(layout, words),
+        LineKind::Section => section(layout, words),
+        LineKind::Route => route(layout, words),
+        LineKind::Time => time(words),
+        LineKind::Verdict => match words.next() {
+            None => Ok(Sighting::Other),
+            Some(_) => Err(Fault::Words),
+        },
+        LineKind::Answer => Ok(Sighting::Other),
     }
 }
 
@@ -161,23 +187,18 @@ fn route(layout: &Layout, words: Words<'_>) -> Result<Sighting, Fault>
     Ok(Sighting::Route(route, is_set))
 }
 
-/// Whether what is seen is safe stands alone.
-fn verdict(mut words: Words<'_>) -> Result<Sighting, Fault>
-    ensures { result ≡ verdict words.entry }
-{
-    match words.next() {
-        None => Ok(Sighting::Other),
-        Some(_) => Err(Fault::Words),
-    }
-}
-
 /// To which side a point is driven, if it is.
 fn driven_said(mut words: Words<'_>) -> Result<(), Fault>
     ensures { result ≡ driven_said words.entry }
 {
-    match (words.next(), words.next(), words.next()) {
-        (None, _, _) => Ok(()),
-        (Some("driven"), Some("left" | "right"), None) => Ok(()),
-        _ => Err(Fault::Words),
+    let Some(first) = words.next() else {
+        return Ok(());
+    };
+    let (Some(side), None) = (words.next(), words.next()) else {
+        return Err(Fault::Words);
+    };
+    if first != "driven" {
+        return Err(Fault::Words);
     }
+    word_said(SIDES, side)
 }

@@ -5,10 +5,12 @@ ghost use Rattle.std.specs.Char.{is_ascii_hexdigit};
 ghost use Rattle.std.specs.List.{list_all};
 ghost use Rattle.toml.specs.View.{items_view, view, table_view};
 ghost use Rattle.layout_text.specs.Values.{is_name};
-ghost use Rattle.station_layout.specs.ValueForms.{fits, is_code_text, is_end_word, is_id, is_port_text, is_side_word, misfit, side_fits, sides_fit, text_fits, unfit_item};
+ghost use Rattle.station_layout.specs.inside.WordLists.{is_among};
+ghost use Rattle.station_layout.specs.ValueForms.{fits, is_id, is_port_text, misfit, side_fits, sides_fit, text_fits, unfit_item};
 
 use crate::advice::{EntryAdvice, Spot};
 use crate::field_key::{FieldKey, kind_of};
+use crate::port_words::END_WORDS;
 use control_table::sci_telegram::Name;
 use layout_text::Place;
 use toml::{Table, Value};
@@ -36,11 +38,17 @@ fn is_id(value: &Value) -> bool
     }
 }
 
-/// Whether a word is that of a port.
-fn is_end_word(word: &str) -> bool
-    ensures { result ≡ is_end_word word.now }
+/// The words of sides.
+const SIDE_WORDS: &[&str] = &["left", "right"];
+
+/// The words of the aspects that a route may have.
+const ASPECT_WORDS: &[&str] = &["proceed", "slow"];
+
+/// Whether a word is one of these.
+fn is_among(words: &[&str], word: &str) -> bool
+    ensures { result ≡ is_among words.now word.now }
 {
-    matches!(word, "a" | "b" | "tip" | "left" | "right" | "end")
+    words.contains(&word)
 }
 
 /// Whether a text has the form of a port.
@@ -48,7 +56,7 @@ fn is_port_text(text: &str) -> bool
     ensures { result ≡ is_port_text text.now }
 {
     match text.split_once('.') {
-        Some((element, word)) => is_name(element) && is_end_word(word),
+        Some((element, word)) => is_name(element) && is_among(END_WORDS, word),
         None => false,
     }
 }
@@ -68,13 +76,6 @@ fn are_digits(text: &[u8]) -> bool
     true
 }
 
-/// Whether a text has the form of a key of the safety code.
-fn is_code_text(text: &str) -> bool
-    ensures { result ≡ is_code_text text.now }
-{
-    text.len() == DIGITS && are_digits(text.as_bytes())
-}
-
 /// Whether a text has the form that its key wants.
 #[tactic(auto, unfolding(crate::specs::ValueForms::text_fits))]
 fn text_fits(key: FieldKey, text: &str) -> bool
@@ -83,17 +84,10 @@ fn text_fits(key: FieldKey, text: &str) -> bool
     match key {
         FieldKey::Name | FieldKey::Section | FieldKey::Entry | FieldKey::Exit => is_name(text),
         FieldKey::At => is_port_text(text),
-        FieldKey::Code => is_code_text(text),
-        FieldKey::Aspect => text == "proceed" || text == "slow",
+        FieldKey::Code => text.len() == DIGITS && are_digits(text.as_bytes()),
+        FieldKey::Aspect => is_among(ASPECT_WORDS, text),
         _ => false,
     }
-}
-
-/// Whether a word is that of a side.
-fn is_side_word(word: &str) -> bool
-    ensures { result ≡ is_side_word word.now }
-{
-    matches!(word, "left" | "right")
 }
 
 /// Whether a member of a table is a point with its side.
@@ -101,7 +95,7 @@ fn side_fits(point: &str, side: &Value) -> bool
     ensures { result ≡ side_fits point.now (view side.now) }
 {
     match side.as_str() {
-        Some(word) => is_name(point) && is_side_word(word),
+        Some(word) => is_name(point) && is_among(SIDE_WORDS, word),
         None => false,
     }
 }

@@ -56,7 +56,9 @@ fn write_plan<W: Write>(
     ensures explains { IfErr result (λ failure. Explains layout.now (option_copied route.entry) (option_copied picture.entry) failure × Leaves failure out.old out.new) }
 {
     let text = drawn(alloc, layout, route, picture)?;
-    out.write_all(&text)?;
+    let written = out.write_all(&text);
+    drop(text);
+    written?;
     out.flush()?;
     Ok(())
 }
