@@ -31,10 +31,16 @@ impl<'a, R: Net + Timer> Caller<'a, R> {
     ) -> Caller<'a, R>
         ensures { result.clock.latest ≡ clock.entry.latest }
     {
+        let lines = CallingLines {
+            net,
+            address,
+            node: None,
+            left: 0,
+        };
         Caller {
             alloc,
             clock,
-            lines: CallingLines::new(net, address),
+            lines,
         }
     }
 }

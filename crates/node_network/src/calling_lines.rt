@@ -4,7 +4,7 @@ ghost use Rattle.std.specs.Prelude.{◌≡◌, ◌&&◌, false, not, true};
 ghost use Rattle.node_network.specs.Listeners.{is_there};
 
 use crate::line_input::LineInput;
-use crate::other_end::connected;
+use crate::other_end::connect;
 use std::net::{Net, SocketAddr};
 
 /// How many questions whether a node is there pass between two calls of it.
@@ -13,26 +13,14 @@ const PATIENCE: u64 = 100;
 /// The lines of a node's operator, over a connection to an address. It is made anew where it was lost.
 #[derive(Drop)]
 pub(crate) struct CallingLines<'a, R: Net> {
-    net: &'a R,
-    address: SocketAddr,
+    pub(crate) net: &'a R,
+    pub(crate) address: SocketAddr,
     pub(crate) node: Option<LineInput<R::Stream>>,
     /// How many questions pass until the next call.
-    left: u64,
+    pub(crate) left: u64,
 }
 
 impl<'a, R: Net> CallingLines<'a, R> {
-    /// Lines of a node that wasn't called yet.
-    pub(crate) fn new(net: &'a R, address: SocketAddr) -> CallingLines<'a, R>
-        ensures { is_there result.node ≡ false }
-    {
-        CallingLines {
-            net,
-            address,
-            node: None,
-            left: 0,
-        }
-    }
-
     /// Whether the node was reached since the last question.
     pub(crate) fn has_listener(&mut self) -> bool
         ensures came { result ≡ not (is_there self.old.node) && is_there self.new.node }
@@ -46,9 +34,9 @@ impl<'a, R: Net> CallingLines<'a, R> {
             return false;
         }
         self.left = PATIENCE;
-        if let Ok(stream) = self.net.connect(self.address) {
-            self.node = connected(stream);
+        match self.net.connect(self.address) {
+            Ok(stream) => connect(&mut self.node, stream),
+            Err(_) => false,
         }
-        self.node.is_some()
     }
 }

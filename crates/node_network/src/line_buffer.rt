@@ -70,7 +70,10 @@ impl LineBuffer {
     fn next_byte(&mut self) -> Option<u8>
         ensures { MatchOption result ((self.old.behind ≡ []) × (self.new ≡ self.old)) (λ byte. (self.old.behind ≡ byte ∷ self.new.behind) × (self.new.begun ≡ self.old.begun)) }
     {
-        let byte = *self.piece.as_slice().get(self.taken)?;
+        let Some(byte) = self.piece.as_slice().get(self.taken) else {
+            return None;
+        };
+        let byte = *byte;
         self.taken += 1;
         Some(byte)
     }
@@ -87,9 +90,10 @@ impl LineBuffer {
     fn lengthen(&mut self, byte: u8)
         ensures { self.new ≡ record self.old { begun = with_byte self.old.begun byte } }
     {
-        if self.begun.len() < LONGEST_LINE {
+        let length = self.begun.len();
+        if length < LONGEST_LINE {
             self.begun.push(byte);
-        } else if self.begun.len() == LONGEST_LINE {
+        } else if length == LONGEST_LINE {
             self.begun.push(TOO_LONG);
         }
     }

@@ -3,12 +3,12 @@
 ghost use Rattle.std.specs.Prelude.{◌≡◌, [], ◌++◌, ℕ, List, IfOk, false, option_map, true};
 ghost use Rattle.std.specs.Io.KnownBytes.{Consumes};
 ghost use Rattle.node_drive.specs.declared.outside.NextLine.TheVariants.{Closed, Nothing};
-ghost use Rattle.node_network.specs.Lines.{Answers, HandsOn, cut, nothing_waits};
+ghost use Rattle.node_network.specs.Lines.{HandsOn, cut, nothing_waits};
 
 use crate::line_buffer::{LineBuffer, LineBytes, PIECE};
 use node_drive::NextLine;
 use std::alloc::{AllocError, Global};
-use std::io::{Error, ErrorKind, Read};
+use std::io::{ErrorKind, Read};
 
 /// Lines from a reader that answers `WouldBlock` where it would wait.
 #[derive(Drop)]
@@ -39,8 +39,11 @@ impl<I: Read> LineInput<I> {
         ensures closed { IfOk result (λ answer. answer ≡ Closed → self.new.ended ≡ true) }
         ensures open { IfOk result (λ answer. answer ≡ Nothing → self.new.ended ≡ false) }
     {
-        let line = self.take_line();
-        answer(alloc, line, self.ended)
+        match self.take_line() {
+            Some(line) => Ok(NextLine::Text(String::from_utf8_lossy(alloc, &line)?)),
+            None if self.ended => Ok(NextLine::Closed),
+            None => Ok(NextLine::Nothing),
+        }
     }
 
     /// Takes the first line that is whole, perhaps once more bytes were read.
@@ -70,25 +73,13 @@ impl<I: Read> LineInput<I> {
                 let (bytes, _) = bytes.as_slice().split_at(count);
                 self.buffer.add(bytes);
             }
-            Err(error) => self.ended = !is_silence(&error),
+            // There was nothing to read, but may be later.
+            Err(error) => {
+                self.ended = !matches!(
+                    error.kind(),
+                    ErrorKind::WouldBlock | ErrorKind::Interrupted
+                );
+            }
         }
     }
-}
-
-/// What is answered where this line was cut, or none.
-fn answer(alloc: Global, line: Option<LineBytes>, ended: bool) -> Result<NextLine, AllocError>
-    ensures answers { IfOk result (λ answer. Answers answer (option_map (λ line. line.items) line)) }
-    ensures closed { IfOk result (λ answer. answer ≡ Closed → ended ≡ true) }
-    ensures open { IfOk result (λ answer. answer ≡ Nothing → ended ≡ false) }
-{
-    match line {
-        Some(line) => Ok(NextLine::Text(String::from_utf8_lossy(alloc, &line)?)),
-        None if ended => Ok(NextLine::Closed),
-        None => Ok(NextLine::Nothing),
-    }
-}
-
-/// Whether there was nothing to read, but may be later.
-fn is_silence(error: &Error) -> bool {
-    matches!(error.kind(), ErrorKind::WouldBlock | ErrorKind::Interrupted)
 }

@@ -15,14 +15,10 @@ pub(crate) fn write_line<O: Write>(
 ) -> Result<(), BrokenOff>
     ensures { OnOk result (Appends (O.contents output.old) (O.contents output.new) (text.now ++ 10 ∷ [])) }
 {
-    let Ok(mut line) = Vec::from_slice(alloc, text.as_bytes()) else {
+    let Ok(line) = format!(in alloc; "{text}\n") else {
         return Err(BrokenOff);
     };
-    if line.push(b'\n').is_err() {
-        return Err(BrokenOff);
-    }
-    if output.write_all(&line).is_err() || output.flush().is_err() {
-        return Err(BrokenOff);
-    }
-    Ok(())
+    let is_written = output.write_all(line.as_bytes()).is_ok() && output.flush().is_ok();
+    drop(line);
+    if is_written { Ok(()) } else { Err(BrokenOff) }
 }

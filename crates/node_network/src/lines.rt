@@ -1,19 +1,23 @@
 //! The lines of a node.
 
-ghost use Rattle.std.specs.Prelude.{◌≡◌, IfErr, IfOk, false};
+ghost use Rattle.std.specs.Prelude.{◌≡◌, Err, IfErr, IfOk, MatchResult, Ok, false};
+ghost use Rattle.node_drive.specs.declared.outside.NextLine.TheVariants.{Closed};
+ghost use Rattle.node_network.specs.Lines.{unless_closed};
 ghost use Rattle.node_network.specs.Listeners.{IsForNobody, began, first_lines};
 ghost use Rattle.node_network.specs.declared.fault.OpenFault.TheVariants.{NoListener};
 ghost use Rattle.node_network.specs.declared.lines.Kind.TheVariants.{Field, Operator};
+ghost use Rattle.node_network.specs.declared.stream_lines.StreamLines.{StreamLines};
 
 use crate::connection_lines::ConnectionLines;
 use crate::fault::OpenFault;
+use crate::line_input::LineInput;
 use crate::line_output::write_line;
-use crate::other_end::write_line_to;
+use crate::other_end::{next_line, write_line_to};
 use crate::stream_lines::{OperatorLines, StreamLines};
 use node_drive::{BrokenOff, NextLine};
 use std::alloc::{AllocError, Global};
 use std::io::{Read, Write};
-use std::net::{Net, SocketAddr};
+use std::net::{Net, OpenListener, SocketAddr};
 
 /// The lines of a node, in and out.
 #[derive(Drop)]
@@ -34,9 +38,9 @@ impl<R: Net, I: Read, O: Write> Lines<R, I, O> {
     pub fn of_field(input: I, output: O) -> Lines<R, I, O>
         ensures { result.kind ≡ Field (first_lines input output) }
     {
-        let lines = StreamLines::new(input, output);
+        let input = LineInput::new(input);
         Lines {
-            kind: Kind::Field(lines),
+            kind: Kind::Field(StreamLines { input, output }),
         }
     }
 
@@ -44,8 +48,9 @@ impl<R: Net, I: Read, O: Write> Lines<R, I, O> {
     pub fn of_operator(input: I, output: O) -> Lines<R, I, O>
         ensures { result.kind ≡ Operator (record { streams = first_lines input output; told = false }) }
     {
+        let input = LineInput::new(input);
         let lines = OperatorLines {
-            streams: StreamLines::new(input, output),
+            streams: StreamLines { input, output },
             told: false,
         };
         Lines {
@@ -58,7 +63,16 @@ impl<R: Net, I: Read, O: Write> Lines<R, I, O> {
         ensures nobody { IfOk result (λ lines. IsForNobody lines.kind) }
         ensures fault { IfErr result (λ fault. fault ≡ NoListener) }
     {
-        let lines = ConnectionLines::open(net, address)?;
+        let Ok(listener) = net.bind(address) else {
+            return Err(OpenFault::NoListener);
+        };
+        if listener.set_nonblocking(true).is_err() {
+            return Err(OpenFault::NoListener);
+        }
+        let lines = ConnectionLines {
+            listener,
+            operator: None,
+        };
         Ok(Lines {
             kind: Kind::Connection(lines),
         })
@@ -74,11 +88,14 @@ impl<R: Net, I: Read, O: Write> Lines<R, I, O> {
         }
     }
 
-    pub(crate) fn next_line(&mut self, alloc: Global) -> Result<NextLine, AllocError> {
+    /// The next line, if there is one. An operator who has gone says nothing.
+    pub(crate) fn next_line(&mut self, alloc: Global) -> Result<NextLine, AllocError>
+        ensures field { IfOk result (λ answer. answer ≡ Closed → (lines : StreamLines I O) × (self.old.kind ≡ Field lines)) }
+    {
         match &mut self.kind {
             Kind::Field(lines) => lines.input.next_line(alloc),
-            Kind::Operator(lines) => lines.next_line(alloc),
-            Kind::Connection(lines) => lines.next_line(alloc),
+            Kind::Operator(lines) => unless_closed(lines.streams.input.next_line(alloc)),
+            Kind::Connection(lines) => unless_closed(next_line(&mut lines.operator, alloc)),
         }
     }
 
@@ -92,5 +109,16 @@ impl<R: Net, I: Read, O: Write> Lines<R, I, O> {
                 Ok(())
             }
         }
+    }
+}
+
+/// That no line comes any more is told as that there is none yet.
+fn unless_closed(answer: Result<NextLine, AllocError>) -> Result<NextLine, AllocError>
+    ensures told { MatchResult answer (λ line. result ≡ Ok (unless_closed line)) (λ error. result ≡ Err error) }
+    ensures open { IfOk result (λ answer. answer ≡ Closed → ⊥) }
+{
+    match answer {
+        Ok(NextLine::Closed) => Ok(NextLine::Nothing),
+        answer => answer,
     }
 }

@@ -52,10 +52,9 @@ impl Log {
     pub(crate) fn add(&mut self, call: Result<OutsideCall, AllocError>)
         ensures { (one : Call) → IfOk call (λ kept. call_of kept ≡ one) → Grows (told_calls self.old.tells self.old.calls.items) (told_calls self.new.tells self.new.calls.items) (one ∷ []) }
     {
-        let Ok(call) = call else {
-            self.tells = false;
-            return;
-        };
-        self.tells = self.tells && self.calls.push(call).is_ok();
+        match call {
+            Ok(call) if self.tells => self.tells = self.calls.push(call).is_ok(),
+            _ => self.tells = false,
+        }
     }
 }

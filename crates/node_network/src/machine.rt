@@ -1,6 +1,7 @@
 //! What a node's process has outside on a machine.
 
-ghost use Rattle.std.specs.Prelude.{◌≡◌, IfOk, string_bytes};
+ghost use Rattle.std.specs.Prelude.{◌≡◌, ◌∷◌, [], ◌++◌, OnOk};
+ghost use Rattle.std.specs.Io.KnownBytes.{Appends};
 ghost use Rattle.node_network.specs.Complaints.{complaint};
 
 use crate::line_output::write_line;
@@ -87,17 +88,25 @@ impl<'a, R: Net + Timer, I: Read, O: Write, E: Write> Outside for Machine<'a, R,
     }
 
     fn complain(&mut self, line: u64, fault: Fault) {
-        if let Ok(text) = complaint(self.alloc, line, fault) {
-            // Where this fails the fault isn't told.
-            let _ = write_line(self.alloc, &mut self.complaints, text.as_str());
-        }
+        // Where this fails the fault isn't told.
+        let _ = write_complaint(self.alloc, &mut self.complaints, line, fault);
     }
 }
 
-/// How the fault of a line is told.
-fn complaint(alloc: Global, line: u64, fault: Fault) -> Result<String, AllocError>
-    ensures { IfOk result (λ text. string_bytes text ≡ complaint line fault) }
+/// Tells the fault of a line.
+fn write_complaint<E: Write>(
+    alloc: Global,
+    complaints: &mut E,
+    line: u64,
+    fault: Fault,
+) -> Result<(), BrokenOff>
+    ensures { OnOk result (Appends (E.contents complaints.old) (E.contents complaints.new) (complaint line fault ++ 10 ∷ [])) }
 {
     let number = fault.number();
-    format!(in alloc; "line {line}: fault {number}")
+    let Ok(text) = format!(in alloc; "line {line}: fault {number}") else {
+        return Err(BrokenOff);
+    };
+    let written = write_line(alloc, complaints, text.as_str());
+    drop(text);
+    written
 }

@@ -7,14 +7,12 @@ ghost use Rattle.node_drive.specs.Calls.{Arrival, AsksDatagram, AsksLine, Breaks
 ghost use Rattle.node_network.specs.Log.{call_of, told_calls};
 
 use crate::log::{Log, OutsideCall};
+use crate::node_socket::{LONGEST, arrived};
 use node_drive::node_lines::replay_words::Fault;
 use node_drive::node_lines::simulator_event::NodeId;
-use node_drive::{Arrived, BrokenOff, NextLine, Outside, Received};
+use node_drive::{Arrived, BrokenOff, NextLine, Outside};
 use std::alloc::{AllocError, Global};
 use std::collections::VecDeque;
-
-/// The longest datagram that is received whole.
-const LONGEST: usize = 512;
 
 /// What a node's process has outside, over memory: a clock that goes on by the same step in each round, what was brought, and what was
 /// written and sent. One call of its network may fail.
@@ -174,7 +172,11 @@ impl Outside for MemoryOutside {
     }
 
     fn next_line(&mut self, alloc: Global) -> Result<NextLine, AllocError> {
-        let line = take_line(&mut self.lines, self.closed);
+        let line = match self.lines.pop_front() {
+            Some(text) => NextLine::Text(text),
+            None if self.closed => NextLine::Closed,
+            None => NextLine::Nothing,
+        };
         self.log.add(heard_line(alloc, &line));
         Ok(line)
     }
@@ -240,16 +242,7 @@ fn fails(failing: &mut u64) -> bool
     fails
 }
 
-/// Takes the oldest line, if one waits.
-fn take_line(lines: &mut VecDeque<String>, closed: bool) -> NextLine {
-    match lines.pop_front() {
-        Some(text) => NextLine::Text(text),
-        None if closed => NextLine::Closed,
-        None => NextLine::Nothing,
-    }
-}
-
-/// Takes the oldest datagram, if one waits and the call doesn't fail.
+/// Takes the oldest datagram, if one waits and the call doesn't fail. One that is too long is cut.
 fn take_datagram(
     failing: &mut u64,
     datagrams: &mut VecDeque<(Option<NodeId>, Vec<u8>)>,
@@ -257,17 +250,11 @@ fn take_datagram(
     if fails(failing) {
         return None;
     }
-    let (from, bytes) = datagrams.pop_front()?;
-    arrived(from, &bytes)
-}
-
-/// A datagram that came. One that is too long is cut.
-fn arrived(from: Option<NodeId>, bytes: &[u8]) -> Option<Arrived> {
+    let Some((from, bytes)) = datagrams.pop_front() else {
+        return None;
+    };
     let (front, _) = bytes.split_at(bytes.len().min(LONGEST));
-    match Received::try_from(front) {
-        Ok(bytes) => Some(Arrived { from, bytes }),
-        Err(_) => None,
-    }
+    arrived(from, front)
 }
 
 /// The call by which a line was asked for, with what was answered.

@@ -13,7 +13,7 @@ use std::io::ErrorKind;
 use std::net::{Net, SocketAddr, UdpSocket};
 
 /// The longest datagram that is received whole.
-const LONGEST: usize = 512;
+pub(crate) const LONGEST: usize = 512;
 
 /// How many datagrams are thrown away at most: more than a socket keeps.
 const MOST_THROWN_AWAY: u32 = 4096;
@@ -55,9 +55,11 @@ impl NodeSocket {
         ensures { IfSome result (λ arrived. (sender : SocketAddr) × IsNodeOf self.now.addresses.items sender arrived.from) }
     {
         let mut buffer = [0u8; LONGEST];
-        let (count, sender) = self.socket.recv_from(&mut buffer).ok()?;
+        let Ok((count, sender)) = self.socket.recv_from(&mut buffer) else {
+            return None;
+        };
         let (bytes, _) = buffer.as_slice().split_at(count);
-        arrived(&self.addresses, &sender, bytes)
+        arrived(node_of(&self.addresses, &sender), bytes)
     }
 
     /// Throws away all datagrams that wait.
@@ -86,16 +88,15 @@ impl NodeSocket {
     }
 }
 
-/// Bytes that came from an address.
-fn arrived(addresses: &[SocketAddr], sender: &SocketAddr, bytes: &[u8]) -> Option<Arrived>
+/// A datagram that came from the address of a node, or from another.
+pub(crate) fn arrived(from: Option<NodeId>, bytes: &[u8]) -> Option<Arrived>
     requires { length bytes.now ≤ 512 }
-    ensures from { IsSomeAnd result (λ arrived. IsNodeOf addresses.now sender.now arrived.from) }
+    ensures from { IsSomeAnd result (λ arrived. arrived.from ≡ from) }
     ensures bytes { IsSomeAnd result (λ arrived. arrived.bytes.items ≡ bytes.now) }
 {
     let Ok(bytes) = Received::try_from(bytes) else {
         return None;
     };
-    let from = node_of(addresses, sender);
     Some(Arrived { from, bytes })
 }
 

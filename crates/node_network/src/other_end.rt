@@ -11,12 +11,21 @@ use std::alloc::{AllocError, Global};
 use std::io::{Read, Write};
 use std::net::OpenStream;
 
-/// The other end of a stream, whose calls don't wait.
-pub(crate) fn connected<S: OpenStream + Read + Drop>(stream: S) -> Option<LineInput<S>> {
-    stream.set_nonblocking(true).ok()?;
+/// The other end of a stream is there, if its calls needn't wait. It tells whether it is.
+pub(crate) fn connect<S: OpenStream + Read + Drop>(
+    end: &mut Option<LineInput<S>>,
+    stream: S,
+) -> bool
+    requires { is_there end.old ≡ false }
+    ensures { result ≡ is_there end.new }
+{
+    if stream.set_nonblocking(true).is_err() {
+        return false;
+    }
     // Where this fails, lines come later.
     let _ = stream.set_nodelay(true);
-    Some(LineInput::new(stream))
+    *end = Some(LineInput::new(stream));
+    true
 }
 
 /// The next line, if there is one. The connection is closed at its end, and none comes where nobody is there.
@@ -30,11 +39,11 @@ pub(crate) fn next_line<S: Read + Drop>(
     let Some(lines) = end else {
         return Ok(NextLine::Closed);
     };
-    let answer = lines.next_line(alloc)?;
-    if matches!(&answer, NextLine::Closed) {
+    let answer = lines.next_line(alloc);
+    if matches!(&answer, Ok(NextLine::Closed)) {
         *end = None;
     }
-    Ok(answer)
+    answer
 }
 
 /// Writes a line. The connection is closed where it can't be written at once.

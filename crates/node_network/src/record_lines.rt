@@ -6,29 +6,26 @@ use node_drive::node_lines::replay_words::{Lines, decimal};
 #[derive(Drop)]
 pub(crate) struct RecordLines<'a> {
     lines: Lines<'a>,
-    /// The next line with its number, if there is one.
-    next: Option<(u64, &'a str)>,
-    /// The number of the first line that differs.
-    differs: Option<u64>,
+    /// The next line, if there is one.
+    next: Option<&'a str>,
+    /// Its number, or that of the first line that differs.
+    number: Option<u64>,
 }
 
 impl<'a> RecordLines<'a> {
     pub(crate) fn new(lines: Lines<'a>) -> RecordLines<'a> {
-        let mut lines = lines;
-        let next = lines.next();
-        RecordLines {
+        let mut record = RecordLines {
             lines,
-            next,
-            differs: None,
-        }
+            next: None,
+            number: None,
+        };
+        record.pass();
+        record
     }
 
     /// The number of the first line that differs, or else of the next one.
     pub(crate) fn difference(&self) -> Option<u64> {
-        match (self.differs, self.next) {
-            (None, Some((number, _))) => Some(number),
-            (differs, _) => differs,
-        }
+        self.number
     }
 
     /// Whether there is no next line.
@@ -38,19 +35,27 @@ impl<'a> RecordLines<'a> {
 
     /// The next line was gone through.
     pub(crate) fn pass(&mut self) {
-        self.next = self.lines.next();
+        match self.lines.next() {
+            Some((number, line)) => {
+                self.number = Some(number);
+                self.next = Some(line);
+            }
+            None => {
+                self.number = None;
+                self.next = None;
+            }
+        }
     }
 
     /// The next line says something else.
     pub(crate) fn differ(&mut self) {
-        self.differs = self.difference();
         self.next = None;
     }
 
     /// Whether the next line is this one; it is gone through then.
     pub(crate) fn is_next(&mut self, line: &str) -> bool {
         let next = self.next;
-        let is_next = matches!(next, Some((_, text)) if text == line);
+        let is_next = matches!(next, Some(next) if next == line);
         if is_next {
             self.pass();
         }
@@ -59,7 +64,7 @@ impl<'a> RecordLines<'a> {
 
     /// What stands behind these words in the next line, which is gone through.
     pub(crate) fn behind(&mut self, words: &str) -> Option<&'a str> {
-        let rest = rest_of(self.next, words);
+        let rest = self.rest(words);
         if rest.is_some() {
             self.pass();
         }
@@ -68,17 +73,17 @@ impl<'a> RecordLines<'a> {
 
     /// The reading of the clock that the next line tells, if it tells one.
     pub(crate) fn reading(&self) -> Option<u64> {
-        match rest_of(self.next, "at ") {
+        match self.rest("at ") {
             Some(reading) => decimal(reading).ok(),
             None => None,
         }
     }
-}
 
-/// What stands behind these words in the next line.
-fn rest_of<'a>(next: Option<(u64, &'a str)>, words: &str) -> Option<&'a str> {
-    match next {
-        Some((_, line)) => line.strip_prefix(words),
-        None => None,
+    /// What stands behind these words in the next line.
+    fn rest(&self, words: &str) -> Option<&'a str> {
+        match self.next {
+            Some(line) => line.strip_prefix(words),
+            None => None,
+        }
     }
 }

@@ -87,13 +87,13 @@ impl<'a, O: Outside, W: Write + Drop, E: Eprint> Outside for Recorded<'a, O, W, 
     }
 
     fn next_line(&mut self, alloc: Global) -> Result<NextLine, AllocError> {
-        let next = self.outside.next_line(alloc)?;
+        let next = self.outside.next_line(alloc);
         match &next {
-            NextLine::Text(text) => self.note(Entry::Hears(text.as_str())),
-            NextLine::Nothing => (),
-            NextLine::Closed => self.note(Entry::Closed),
+            Ok(NextLine::Text(text)) => self.note(Entry::Hears(text.as_str())),
+            Ok(NextLine::Closed) => self.note(Entry::Closed),
+            Ok(NextLine::Nothing) | Err(_) => (),
         }
-        Ok(next)
+        next
     }
 
     fn next_datagram(&mut self) -> Option<Arrived> {

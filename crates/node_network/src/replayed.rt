@@ -8,7 +8,7 @@ use node_drive::node_lines::ixl_rules::control_table::layout::Layout;
 use node_drive::node_lines::replay_lines::node_named;
 use node_drive::node_lines::replay_words::{Fault, Lines, hexadecimal_or_none};
 use node_drive::node_lines::simulator_event::NodeId;
-use node_drive::{Arrived, BrokenOff, NextLine, Outside, Received};
+use node_drive::{Arrived, BrokenOff, NextLine, Outside};
 use std::alloc::{AllocError, Global};
 
 /// A record that is gone through once more: what came to the node is taken from it, and what the node does is compared with it.
@@ -72,9 +72,6 @@ fn arrived(layout: &Layout, rest: &str) -> Option<Arrived> {
         return None;
     };
     let Ok(bytes) = hexadecimal_or_none(bytes) else {
-        return None;
-    };
-    let Ok(bytes) = Received::try_from(bytes.as_slice()) else {
         return None;
     };
     let from = node_named(layout, word).ok();
