@@ -59,7 +59,7 @@ impl LineBuffer {
     {
         while let Some(byte) = self.next_byte() {
             if byte == LINE_FEED {
-                return Some(self.take_begun());
+                return Some(mem::replace(&mut self.begun, LineBytes::new()));
             }
             self.lengthen(byte);
         }
@@ -76,14 +76,6 @@ impl LineBuffer {
         let byte = *byte;
         self.taken += 1;
         Some(byte)
-    }
-
-    /// Takes the line that has begun.
-    fn take_begun(&mut self) -> LineBytes
-        ensures line { result.items ≡ self.old.begun }
-        ensures rest { self.new ≡ record self.old { begun = [] } }
-    {
-        mem::replace(&mut self.begun, LineBytes::new())
     }
 
     /// The line that has begun has one more byte.

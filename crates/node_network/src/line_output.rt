@@ -18,7 +18,13 @@ pub(crate) fn write_line<O: Write>(
     let Ok(line) = format!(in alloc; "{text}\n") else {
         return Err(BrokenOff);
     };
-    let is_written = output.write_all(line.as_bytes()).is_ok() && output.flush().is_ok();
+    let written = match output.write_all(line.as_bytes()) {
+        Ok(()) => output.flush(),
+        failed => failed,
+    };
     drop(line);
-    if is_written { Ok(()) } else { Err(BrokenOff) }
+    match written {
+        Ok(()) => Ok(()),
+        Err(_) => Err(BrokenOff),
+    }
 }

@@ -1,12 +1,11 @@
 //! What was asked of what a process has outside, and what it answered.
 
-ghost use Rattle.std.specs.Prelude.{◌≡◌, [], ◌∷◌, IfOk};
-ghost use Rattle.node_drive.specs.Calls.{Call, Grows};
+ghost use Rattle.std.specs.Prelude.{[], ◌∷◌};
+ghost use Rattle.node_drive.specs.Calls.{Grows};
 ghost use Rattle.node_network.specs.Log.{call_of, told_calls};
 
 use node_drive::node_lines::replay_words::Fault;
 use node_drive::node_lines::simulator_event::NodeId;
-use std::alloc::AllocError;
 
 /// A call of a node's process.
 #[derive(Drop)]
@@ -48,13 +47,16 @@ pub(crate) struct Log {
 }
 
 impl Log {
-    /// Keeps a call, if memory was there for it, and for each before it.
-    pub(crate) fn add(&mut self, call: Result<OutsideCall, AllocError>)
-        ensures { (one : Call) → IfOk call (λ kept. call_of kept ≡ one) → Grows (told_calls self.old.tells self.old.calls.items) (told_calls self.new.tells self.new.calls.items) (one ∷ []) }
+    /// Keeps a call, if memory is there for it, and was for each before it.
+    pub(crate) fn add(&mut self, call: OutsideCall)
+        ensures { Grows (told_calls self.old.tells self.old.calls.items) (told_calls self.new.tells self.new.calls.items) (call_of call ∷ []) }
     {
-        match call {
-            Ok(call) if self.tells => self.tells = self.calls.push(call).is_ok(),
-            _ => self.tells = false,
+        if self.tells {
+            let kept = self.calls.push(call);
+            self.tells = kept.is_ok();
+            drop(kept);
+        } else {
+            drop(call);
         }
     }
 }

@@ -155,19 +155,19 @@ impl Outside for MemoryOutside {
 
     fn rest(&mut self) {
         self.time = self.time.saturating_add(self.step);
-        self.log.add(Ok(OutsideCall::Rested));
+        self.log.add(OutsideCall::Rested);
     }
 
     fn read_clock(&mut self) -> u64 {
         self.latest = self.latest.max(self.time);
-        self.log.add(Ok(OutsideCall::Read(self.latest)));
+        self.log.add(OutsideCall::Read(self.latest));
         self.latest
     }
 
     fn has_listener(&mut self) -> bool {
         let began = self.began;
         self.began = false;
-        self.log.add(Ok(OutsideCall::AskedListener(began)));
+        self.log.add(OutsideCall::AskedListener(began));
         began
     }
 
@@ -177,29 +177,51 @@ impl Outside for MemoryOutside {
             None if self.closed => NextLine::Closed,
             None => NextLine::Nothing,
         };
-        self.log.add(heard_line(alloc, &line));
+        match &line {
+            NextLine::Text(text) => match String::from_str(alloc, text.as_str()) {
+                Ok(text) => self.log.add(OutsideCall::HeardLine(text)),
+                Err(_) => self.log.tells = false,
+            },
+            NextLine::Nothing => self.log.add(OutsideCall::HeardNoLine),
+            NextLine::Closed => self.log.add(OutsideCall::HeardEnd),
+        }
         Ok(line)
     }
 
     fn next_datagram(&mut self) -> Option<Arrived> {
         let arrived = take_datagram(&mut self.failing, &mut self.datagrams);
-        self.log.add(heard_datagram(self.alloc, &arrived));
+        match &arrived {
+            Some(arrived) => match Vec::from_slice(self.alloc, &arrived.bytes) {
+                Ok(bytes) => self
+                    .log
+                    .add(OutsideCall::HeardDatagram(arrived.from, bytes)),
+                Err(_) => self.log.tells = false,
+            },
+            None => self.log.add(OutsideCall::HeardNoDatagram),
+        }
         arrived
     }
 
     fn throw_away(&mut self) {
         self.datagrams.clear();
-        self.log.add(Ok(OutsideCall::ThrewAway));
+        self.log.add(OutsideCall::ThrewAway);
     }
 
     fn write_line(&mut self, text: &str) -> Result<(), BrokenOff> {
         let whole = keep_line(self.alloc, &mut self.written, text).is_ok();
-        self.log.add(written(self.alloc, text, whole));
+        match String::from_str(self.alloc, text) {
+            Ok(text) if whole => self.log.add(OutsideCall::Wrote(text)),
+            Ok(text) => self.log.add(OutsideCall::BrokeOff(text)),
+            Err(_) => self.log.tells = false,
+        }
         if whole { Ok(()) } else { Err(BrokenOff) }
     }
 
     fn send(&mut self, to: NodeId, bytes: &[u8]) {
-        self.log.add(sent(self.alloc, to, bytes));
+        match Vec::from_slice(self.alloc, bytes) {
+            Ok(bytes) => self.log.add(OutsideCall::Sent(to, bytes)),
+            Err(_) => self.log.tells = false,
+        }
         if !fails(&mut self.failing) {
             // Where no memory is left it is lost.
             let _ = keep_datagram(self.alloc, &mut self.sent, to, bytes);
@@ -207,7 +229,7 @@ impl Outside for MemoryOutside {
     }
 
     fn complain(&mut self, line: u64, fault: Fault) {
-        self.log.add(Ok(OutsideCall::Complained(line, fault)));
+        self.log.add(OutsideCall::Complained(line, fault));
     }
 }
 
@@ -255,50 +277,4 @@ fn take_datagram(
     };
     let (front, _) = bytes.split_at(bytes.len().min(LONGEST));
     arrived(from, front)
-}
-
-/// The call by which a line was asked for, with what was answered.
-fn heard_line(alloc: Global, line: &NextLine) -> Result<OutsideCall, AllocError>
-    ensures { IfOk result (λ call. call_of call ≡ AsksLine (line_heard line.now)) }
-{
-    match line {
-        NextLine::Text(text) => {
-            let text = String::from_str(alloc, text.as_str())?;
-            Ok(OutsideCall::HeardLine(text))
-        }
-        NextLine::Nothing => Ok(OutsideCall::HeardNoLine),
-        NextLine::Closed => Ok(OutsideCall::HeardEnd),
-    }
-}
-
-/// The call by which a datagram was asked for, with what was answered.
-fn heard_datagram(alloc: Global, arrived: &Option<Arrived>) -> Result<OutsideCall, AllocError>
-    ensures { IfOk result (λ call. call_of call ≡ AsksDatagram (option_map (λ d. (d.from, d.bytes.items)) arrived.now)) }
-{
-    match arrived {
-        Some(arrived) => {
-            let bytes = Vec::from_slice(alloc, &arrived.bytes)?;
-            Ok(OutsideCall::HeardDatagram(arrived.from, bytes))
-        }
-        None => Ok(OutsideCall::HeardNoDatagram),
-    }
-}
-
-/// The call by which a line was written, or wasn't written whole.
-fn written(alloc: Global, text: &str, whole: bool) -> Result<OutsideCall, AllocError>
-    ensures { IfOk result (λ call. call_of call ≡ (if whole then Writes text.now else BreaksOff text.now)) }
-{
-    let text = String::from_str(alloc, text)?;
-    Ok(if whole {
-        OutsideCall::Wrote(text)
-    } else {
-        OutsideCall::BrokeOff(text)
-    })
-}
-
-/// The call by which bytes were sent.
-fn sent(alloc: Global, to: NodeId, bytes: &[u8]) -> Result<OutsideCall, AllocError>
-    ensures { IfOk result (λ call. call_of call ≡ Sends to bytes.now) }
-{
-    Ok(OutsideCall::Sent(to, Vec::from_slice(alloc, bytes)?))
 }

@@ -65,17 +65,10 @@ impl NodeSocket {
     /// Throws away all datagrams that wait.
     pub(crate) fn throw_away(&self) {
         for _ in 0..MOST_THROWN_AWAY {
-            if self.is_empty() {
-                return;
+            match self.socket.recv_from(&mut [0u8; 1]) {
+                Err(error) if error.kind() == ErrorKind::WouldBlock => return,
+                _ => (),
             }
-        }
-    }
-
-    /// Takes a datagram, if one waits. It tells whether none did.
-    fn is_empty(&self) -> bool {
-        match self.socket.recv_from(&mut [0u8; 1]) {
-            Ok(_) => false,
-            Err(error) => error.kind() == ErrorKind::WouldBlock,
         }
     }
 

@@ -6,10 +6,10 @@ use node_drive::node_lines::replay_words::{Lines, decimal};
 #[derive(Drop)]
 pub(crate) struct RecordLines<'a> {
     lines: Lines<'a>,
-    /// The next line, if there is one.
-    next: Option<&'a str>,
+    /// The next line, if there is one, and none differed.
+    pub(crate) next: Option<&'a str>,
     /// Its number, or that of the first line that differs.
-    number: Option<u64>,
+    pub(crate) number: Option<u64>,
 }
 
 impl<'a> RecordLines<'a> {
@@ -21,16 +21,6 @@ impl<'a> RecordLines<'a> {
         };
         record.pass();
         record
-    }
-
-    /// The number of the first line that differs, or else of the next one.
-    pub(crate) fn difference(&self) -> Option<u64> {
-        self.number
-    }
-
-    /// Whether there is no next line.
-    pub(crate) fn are_over(&self) -> bool {
-        self.next.is_none()
     }
 
     /// The next line was gone through.
@@ -45,11 +35,6 @@ impl<'a> RecordLines<'a> {
                 self.next = None;
             }
         }
-    }
-
-    /// The next line says something else.
-    pub(crate) fn differ(&mut self) {
-        self.next = None;
     }
 
     /// Whether the next line is this one; it is gone through then.

@@ -37,7 +37,7 @@ impl<'a> Replayed<'a> {
 
     /// The number of the first line that differs, if one does: one of which the node does something else, or one that is left.
     pub fn difference(&self) -> Option<u64> {
-        self.lines.difference()
+        self.lines.number
     }
 
     /// Whether memory was there for each comparison.
@@ -61,7 +61,7 @@ impl<'a> Replayed<'a> {
         ensures { self.new.latest ≡ self.old.latest }
     {
         if !self.is_next(entry) {
-            self.lines.differ();
+            self.lines.next = None;
         }
     }
 }
@@ -91,7 +91,7 @@ impl<'a> Outside for Replayed<'a> {
                 self.latest = reading;
                 self.lines.pass();
             }
-            _ => self.lines.differ(),
+            _ => self.lines.next = None,
         }
         self.latest
     }
@@ -102,7 +102,7 @@ impl<'a> Outside for Replayed<'a> {
 
     /// Behind its last line a record has no more of what came, so the process ends there.
     fn next_line(&mut self, alloc: Global) -> Result<NextLine, AllocError> {
-        if self.lines.are_over() || self.is_next(Entry::Closed) {
+        if self.lines.next.is_none() || self.is_next(Entry::Closed) {
             return Ok(NextLine::Closed);
         }
         match self.lines.behind("hears ") {
