@@ -1,10 +1,10 @@
 //! What a node's process has outside, over memory.
 
-ghost use Rattle.std.specs.Prelude.{◌≡◌, ◌+◌, ◌-◌, [], ◌∷◌, ◌++◌, ℕ, if◌then◌else◌, IfOk, List, None, OnOk, Some, map, min, string_bytes, true};
+ghost use Rattle.std.specs.Prelude.{◌≡◌, ◌+◌, ◌-◌, [], ◌∷◌, ◌++◌, ℕ, List, None, OnOk, Some, map, min, string_bytes, true};
 ghost use Rattle.std.specs.Bool.{Decides};
-ghost use Rattle.std.specs.Option.{option_map, option_to_list};
-ghost use Rattle.node_drive.specs.Calls.{Arrival, AsksDatagram, AsksLine, BreaksOff, Sends, Writes, line_heard};
-ghost use Rattle.node_network.specs.Log.{call_of, told_calls};
+ghost use Rattle.std.specs.Option.{option_to_list};
+ghost use Rattle.node_drive.specs.Calls.{Arrival};
+ghost use Rattle.node_network.specs.Log.{told_calls};
 
 use crate::log::{Log, OutsideCall};
 use crate::node_socket::{LONGEST, arrived};

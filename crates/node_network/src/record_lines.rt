@@ -37,16 +37,6 @@ impl<'a> RecordLines<'a> {
         }
     }
 
-    /// Whether the next line is this one; it is gone through then.
-    pub(crate) fn is_next(&mut self, line: &str) -> bool {
-        let next = self.next;
-        let is_next = matches!(next, Some(next) if next == line);
-        if is_next {
-            self.pass();
-        }
-        is_next
-    }
-
     /// What stands behind these words in the next line, which is gone through.
     pub(crate) fn behind(&mut self, words: &str) -> Option<&'a str> {
         let rest = self.rest(words);

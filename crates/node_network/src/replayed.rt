@@ -53,7 +53,12 @@ impl<'a> Replayed<'a> {
             self.is_whole = false;
             return false;
         };
-        self.lines.is_next(line.as_str())
+        let next = self.lines.next;
+        let is_next = matches!(next, Some(next) if next == line.as_str());
+        if is_next {
+            self.lines.pass();
+        }
+        is_next
     }
 
     /// The node does this.

@@ -3,7 +3,6 @@
 ghost use Rattle.std.specs.Prelude.{◌≡◌, not, true};
 
 use crate::line_input::LineInput;
-use std::io::{Read, Write};
 
 /// Lines that come on one stream, and are written to another.
 #[derive(Drop)]
@@ -20,7 +19,7 @@ pub(crate) struct OperatorLines<I, O> {
     pub(crate) told: bool,
 }
 
-impl<I: Read, O: Write> OperatorLines<I, O> {
+impl<I, O> OperatorLines<I, O> {
     /// Whether the operator began to listen since the last question.
     pub(crate) fn has_listener(&mut self) -> bool
         ensures first { result ≡ not self.old.told }
