@@ -66,9 +66,9 @@ impl<R: Net, I: Read, O: Write> Lines<R, I, O> {
         let Ok(listener) = net.bind(address) else {
             return Err(OpenFault::NoListener);
         };
-        if listener.set_nonblocking(true).is_err() {
+        let Ok(()) = listener.set_nonblocking(true) else {
             return Err(OpenFault::NoListener);
-        }
+        };
         let lines = ConnectionLines {
             listener,
             operator: None,

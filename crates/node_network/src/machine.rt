@@ -106,7 +106,5 @@ fn write_complaint<E: Write>(
     let Ok(text) = format!(in alloc; "line {line}: fault {number}") else {
         return Err(BrokenOff);
     };
-    let written = write_line(alloc, complaints, text.as_str());
-    drop(text);
-    written
+    write_line(alloc, complaints, text.as_str())
 }

@@ -43,9 +43,9 @@ impl NodeSocket {
         let Ok(socket) = net.bind_udp(*address) else {
             return Err(OpenFault::NoSocket);
         };
-        if socket.set_nonblocking(true).is_err() {
+        let Ok(()) = socket.set_nonblocking(true) else {
             return Err(OpenFault::NoSocket);
-        }
+        };
         let addresses = Vec::from_slice(alloc, addresses)?;
         Ok(NodeSocket { socket, addresses })
     }

@@ -19,9 +19,9 @@ pub(crate) fn connect<S: OpenStream + Read + Drop>(
     requires { is_there end.old ≡ false }
     ensures { result ≡ is_there end.new }
 {
-    if stream.set_nonblocking(true).is_err() {
+    let Ok(()) = stream.set_nonblocking(true) else {
         return false;
-    }
+    };
     // Where this fails, lines come later.
     let _ = stream.set_nodelay(true);
     *end = Some(LineInput::new(stream));

@@ -1,11 +1,11 @@
 //! The lines of a record that is gone through.
 
-use node_drive::node_lines::replay_words::{Lines, decimal};
+use node_drive::node_lines::replay_words::Lines;
 
 /// The lines of a record that is gone through, up to the first that differs.
 #[derive(Drop)]
 pub(crate) struct RecordLines<'a> {
-    lines: Lines<'a>,
+    pub(crate) lines: Lines<'a>,
     /// The next line, if there is one, and none differed.
     pub(crate) next: Option<&'a str>,
     /// Its number, or that of the first line that differs.
@@ -13,16 +13,6 @@ pub(crate) struct RecordLines<'a> {
 }
 
 impl<'a> RecordLines<'a> {
-    pub(crate) fn new(lines: Lines<'a>) -> RecordLines<'a> {
-        let mut record = RecordLines {
-            lines,
-            next: None,
-            number: None,
-        };
-        record.pass();
-        record
-    }
-
     /// The next line was gone through.
     pub(crate) fn pass(&mut self) {
         match self.lines.next() {
@@ -46,16 +36,8 @@ impl<'a> RecordLines<'a> {
         rest
     }
 
-    /// The reading of the clock that the next line tells, if it tells one.
-    pub(crate) fn reading(&self) -> Option<u64> {
-        match self.rest("at ") {
-            Some(reading) => decimal(reading).ok(),
-            None => None,
-        }
-    }
-
     /// What stands behind these words in the next line.
-    fn rest(&self, words: &str) -> Option<&'a str> {
+    pub(crate) fn rest(&self, words: &str) -> Option<&'a str> {
         match self.next {
             Some(line) => line.strip_prefix(words),
             None => None,

@@ -6,7 +6,7 @@ use crate::entry::{Entry, entry_line};
 use crate::record_lines::RecordLines;
 use node_drive::node_lines::ixl_rules::control_table::layout::Layout;
 use node_drive::node_lines::replay_lines::node_named;
-use node_drive::node_lines::replay_words::{Fault, Lines, hexadecimal_or_none};
+use node_drive::node_lines::replay_words::{Fault, Lines, decimal, hexadecimal_or_none};
 use node_drive::node_lines::simulator_event::NodeId;
 use node_drive::{Arrived, BrokenOff, NextLine, Outside};
 use std::alloc::{AllocError, Global};
@@ -26,10 +26,16 @@ pub struct Replayed<'a> {
 impl<'a> Replayed<'a> {
     /// What stands behind the first line of a record.
     pub fn new(alloc: Global, layout: &'a Layout, lines: Lines<'a>) -> Replayed<'a> {
+        let mut lines = RecordLines {
+            lines,
+            next: None,
+            number: None,
+        };
+        lines.pass();
         Replayed {
             alloc,
             layout,
-            lines: RecordLines::new(lines),
+            lines,
             latest: 0,
             is_whole: true,
         }
@@ -91,7 +97,11 @@ impl<'a> Outside for Replayed<'a> {
     fn rest(&mut self) {}
 
     fn read_clock(&mut self) -> u64 {
-        match self.lines.reading() {
+        let reading = match self.lines.rest("at ") {
+            Some(reading) => decimal(reading).ok(),
+            None => None,
+        };
+        match reading {
             Some(reading) if reading >= self.latest => {
                 self.latest = reading;
                 self.lines.pass();
