@@ -10,10 +10,9 @@ use Rattle.node_kinds.specs.node_drive.Rounds.{CourseState, Standing}
 use Rattle.node_kinds.specs.Interlockings.{InterlockingNode, interlocking_kind}
 use Rattle.node_kinds.specs.Openings.{Equipment, Opening}
 use Rattle.node_kinds.specs.ixl_table.Table.{IsTableOf}
-use Rattle.node_kinds.specs.simulator_run.ixl_rules.Table.{Table}
 use Rattle.node_kinds.specs.node_drive.node_lines.declared.order.Order.{Order}
 use Rattle.node_kinds.specs.simulator_run.Nodes.{Node}
-use Rattle.station_node.specs.Processes.{NodeCut, NodeRuns, ProcessCut, at_end, at_once, in_life, rest_of, resting, Controls, waited, lived, ControlsCut, opened, living, LifeCut, unmade, cut, Lives, Opens, ReadsAt, StationCut, cut_off, StationRuns, interlocking_made, left_of, standing}
+use Rattle.station_node.specs.Processes.{NodeCut, NodeRuns, ProcessCut, at_end, at_once, in_life, rest_of, resting, Controls, lived, ControlsCut, living, LifeCut, unmade, cut, Lives, Opens, ReadsAt, StationCut, cut_off, StationRuns, interlocking_made, left_of, standing}
 
 -- ---- what is so of a result of either kind
 
@@ -35,61 +34,58 @@ map_err (Err e) f p = f p
 
 -- ---- a node that was made
 
-module _ {State Input : Type 0} (kind : Kind State Input) (made : ℕ → State) (for_ms begins now left : ℕ) (before : CourseState) (first : State) (old read new : Told)
-    (left_is : left ≡ left_of for_ms begins now) (reads : ReadsAt now old read) (first_is : first ≡ made now) where
-  pub it_lives : (after : CourseState) → (ticks : ℕ) × (state : State) × Ran kind left now ticks (standing first before) (standing state after) read new → Lives kind made for_ms begins before after old new
+module _ {State Input : Type 0} (kind : Kind State Input) (made : ℕ → State) (for_ms begins now : ℕ) (before : CourseState) (first : State) (old read new : Told)
+    (reads : ReadsAt now old read) (first_is : first ≡ made now) where
+  pub it_lives : (after : CourseState) → (ticks : ℕ) × (state : State) × Ran kind (left_of for_ms begins now) now ticks (standing first before) (standing state after) read new → Lives kind made for_ms begins before after old new
   it_lives after ran = record {
     now = now;
     read = read;
     reads = reads;
     ticks = ran.0;
     state = ran.1;
-    ran = subst (λ l. Ran kind l now ran.0 (standing (made now) before) (standing ran.1 after) read new) left_is
-        (subst (λ s. Ran kind left now ran.0 (standing s before) (standing ran.1 after) read new) first_is ran.2);
+    ran = subst (λ s. Ran kind (left_of for_ms begins now) now ran.0 (standing s before) (standing ran.1 after) read new) first_is ran.2;
   }
 
-  pub it_is_cut : CutOff kind left now (standing first before) read new → LifeCut kind made for_ms begins before old new
-  it_is_cut stopped = cut reads
-      (subst (λ l. CutOff kind l now (standing (made now) before) read new) left_is (subst (λ s. CutOff kind left now (standing s before) read new) first_is stopped))
+  pub it_is_cut : CutOff kind (left_of for_ms begins now) now (standing first before) read new → LifeCut kind made for_ms begins before old new
+  it_is_cut stopped = cut reads (subst (λ s. CutOff kind (left_of for_ms begins now) now (standing s before) read new) first_is stopped)
 
 -- ---- the interlocking
 
-module _ (site : Site) (first for_ms begins now left : ℕ) (before : CourseState) (old read new : Told) (node : InterlockingNode)
+module _ (site : Site) (first for_ms begins now : ℕ) (before : CourseState) (old read new : Told) (node : InterlockingNode)
     (site_is : node.site ≡ site) (is_table : IsTableOf node.site node.table) (node_is : node ≡ interlocking_made node.site first node.table now)
-    (before_is : before ≡ first_course) (left_is : left ≡ left_of for_ms begins now) (reads : ReadsAt now old read) where
+    (before_is : before ≡ first_course) (reads : ReadsAt now old read) where
   made_is : node ≡ interlocking_made site first node.table now
   made_is = node_is ∙ ap (λ s. interlocking_made s first node.table now) site_is
 
   table_is : IsTableOf site node.table
   table_is = subst (λ s. IsTableOf s node.table) site_is is_table
 
-  pub station_runs : (after : CourseState) → (ticks : ℕ) × (state : InterlockingNode) × Ran interlocking_kind left now ticks (standing node before) (standing state after) read new
+  pub station_runs : (after : CourseState) → (ticks : ℕ) × (state : InterlockingNode) × Ran interlocking_kind (left_of for_ms begins now) now ticks (standing node before) (standing state after) read new
       → StationRuns site first for_ms begins after old new
   station_runs after ran = record {
     table = node.table;
     is_table = table_is;
     lives = subst (λ b. Lives interlocking_kind (interlocking_made site first node.table) for_ms begins b after old new) before_is
-        (it_lives interlocking_kind (interlocking_made site first node.table) for_ms begins now left before node old read new left_is reads made_is after ran);
+        (it_lives interlocking_kind (interlocking_made site first node.table) for_ms begins now before node old read new reads made_is after ran);
   }
 
-  pub station_is_cut : CutOff interlocking_kind left now (standing node before) read new → StationCut site first for_ms begins old new
+  pub station_is_cut : CutOff interlocking_kind (left_of for_ms begins now) now (standing node before) read new → StationCut site first for_ms begins old new
   station_is_cut stopped = cut_off table_is reads
       (subst (λ b. CutOff interlocking_kind (left_of for_ms begins now) now (standing (interlocking_made site first node.table now) b) read new) before_is
-      (subst (λ l. CutOff interlocking_kind l now (standing (interlocking_made site first node.table now) before) read new) left_is
-      (subst (λ n. CutOff interlocking_kind left now (standing n before) read new) made_is stopped)))
+      (subst (λ n. CutOff interlocking_kind (left_of for_ms begins now) now (standing n before) read new) made_is stopped))
 
 -- ---- a controller
 
 module _ {State Input Contacts : Type 0} (kind : Kind State Input) (site : Site) (equipment : Equipment) (told : Opening → Option Contacts) (made : Contacts → ℕ → State) (for_ms begins : ℕ)
     (opening : Opening) (before : CourseState) (old then : Told) (opens : Opens site equipment for_ms begins opening before old then) where
-  module _ (contacts : Contacts) (told_is : told opening ≡ Some contacts) (now left : ℕ) (first : State) (read new : Told)
-      (left_is : left ≡ left_of for_ms begins now) (reads : ReadsAt now then read) where
-    pub controls : first ≡ made contacts now → (after : CourseState) → (ticks : ℕ) × (state : State) × Ran kind left now ticks (standing first before) (standing state after) read new
+  module _ (contacts : Contacts) (told_is : told opening ≡ Some contacts) (now : ℕ) (first : State) (read new : Told)
+      (reads : ReadsAt now then read) where
+    pub controls : first ≡ made contacts now → (after : CourseState) → (ticks : ℕ) × (state : State) × Ran kind (left_of for_ms begins now) now ticks (standing first before) (standing state after) read new
         → Controls kind site equipment told made for_ms begins after old new
-    controls first_is after ran = lived opens told_is (it_lives kind (made contacts) for_ms begins now left before first then read new left_is reads first_is after ran)
+    controls first_is after ran = lived opens told_is (it_lives kind (made contacts) for_ms begins now before first then read new reads first_is after ran)
 
-    pub controls_cut : first ≡ made contacts now → CutOff kind left now (standing first before) read new → ControlsCut kind site equipment told made for_ms begins old new
-    controls_cut first_is stopped = living opens told_is (it_is_cut kind (made contacts) for_ms begins now left before first then read new left_is reads first_is stopped)
+    pub controls_cut : first ≡ made contacts now → CutOff kind (left_of for_ms begins now) now (standing first before) read new → ControlsCut kind site equipment told made for_ms begins old new
+    controls_cut first_is stopped = living opens told_is (it_is_cut kind (made contacts) for_ms begins now before first then read new reads first_is stopped)
 
   pub not_made_yet : (contacts : Contacts) → told opening ≡ Some contacts → (now : ℕ) (new : Told) → ReadsAt now then new → ControlsCut kind site equipment told made for_ms begins old new
   not_made_yet contacts told_is now new reads = living opens told_is (unmade reads)

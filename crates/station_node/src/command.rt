@@ -7,12 +7,12 @@ use crate::digest::layout_digest;
 use crate::failure::NodeFailure;
 use crate::process::run_node;
 use node_addresses::read_addresses;
-use node_kinds::node_drive::Outside;
 use node_kinds::node_drive::node_lines::replay_lines::node_named;
+use node_kinds::node_drive::{NodeFault, Outside};
 use node_kinds::simulator_run::ixl_rules::control_table::Checked;
 use node_kinds::simulator_run::ixl_rules::control_table::layout::Layout;
 use node_kinds::simulator_run::simulator_event::NodeId;
-use node_network::{Lines, Machine, NodeClock, NodeSocket, Recorded};
+use node_network::{Lines, Machine, NodeClock, NodeSocket, OpenFault, Recorded};
 use station_check::{table_of, tell};
 use std::alloc::Global;
 use std::fs;
@@ -71,7 +71,7 @@ pub fn run<
     }
 }
 
-/// Judges the name and the addresses, opens what the process has outside, and runs it.
+/// Judges the name and the addresses, and runs the process.
 fn begin<
     R: Files + Net + Timer + RandomSource + Eprint + AllocGlobal,
     I: Read + Drop,
@@ -86,8 +86,9 @@ fn begin<
     complaints: E,
 ) -> Result<(), NodeFailure> {
     let own = own_of(rt, table.layout(), asked)?;
-    let machine = open(rt, asked, &own, input, output, complaints)?;
-    run_over(rt, asked, table, &own, machine)
+    let ran = run_own(rt, asked, table, &own, input, output, complaints);
+    drop(own);
+    ran
 }
 
 /// What a process is of its own: which node it is, where all nodes are, and the number of its first PDU.
@@ -107,45 +108,78 @@ fn own_of<R: RandomSource + AllocGlobal>(
     let Ok(node) = node_named(layout, asked.name) else {
         return Err(NodeFailure::NoNode);
     };
-    let addresses = read_addresses(rt.alloc(), layout, asked.addresses)?;
-    let first = first_number(rt)?;
+    let addresses = match read_addresses(rt.alloc(), layout, asked.addresses) {
+        Ok(addresses) => addresses,
+        Err(fault) => return Err(NodeFailure::Addresses(fault)),
+    };
+    let mut bytes = [0u8; 4];
+    if rt.fill_bytes(&mut bytes).is_err() {
+        return Err(NodeFailure::NoRandom);
+    }
     Ok(Own {
         node,
         addresses,
-        first,
+        first: u32::from_le_bytes(bytes),
     })
 }
 
-/// Opens what a process has outside: its lines first.
-fn open<
-    'a,
-    R: Net + Timer + Eprint + AllocGlobal,
+/// Opens what a process has outside, its lines first, and runs it.
+fn run_own<
+    R: Files + Net + Timer + Eprint + AllocGlobal,
     I: Read + Drop,
     O: Write + Drop,
     E: Write + Drop,
 >(
-    rt: &'a R,
+    rt: &R,
     asked: &Asked<'_>,
+    table: &Checked,
     own: &Own,
     input: I,
     output: O,
     complaints: E,
-) -> Result<Machine<'a, R, I, O, E>, NodeFailure> {
+) -> Result<(), NodeFailure> {
     let lines = lines_of(rt, asked.operator, own.node, input, output)?;
-    let (socket, clock) = open_socket(rt, asked, own)?;
-    Ok(Machine::new(rt.alloc(), clock, socket, lines, complaints))
+    match open_socket(rt, asked, own) {
+        Ok((socket, clock)) => {
+            let machine = Machine::new(rt.alloc(), clock, socket, lines, complaints);
+            run_over(rt, asked, table, own, machine)
+        }
+        Err(fault) => {
+            drop(lines);
+            drop(complaints);
+            Err(NodeFailure::Open(fault))
+        }
+    }
 }
 
-/// Opens the socket of a node, starts its clock, and tells the digest of the layout.
+/// Opens the socket of a node, and starts its clock.
 fn open_socket<'a, R: Net + Timer + Eprint + AllocGlobal>(
     rt: &'a R,
     asked: &Asked<'_>,
     own: &Own,
-) -> Result<(NodeSocket, NodeClock<'a, R>), NodeFailure> {
+) -> Result<(NodeSocket, NodeClock<'a, R>), OpenFault> {
     let socket = NodeSocket::open(rt, rt.alloc(), &own.addresses, own.node)?;
+    match start_clock(rt, asked) {
+        Ok(clock) => Ok((socket, clock)),
+        Err(fault) => {
+            drop(socket);
+            Err(fault)
+        }
+    }
+}
+
+/// Starts the clock of a node, and tells the digest of the layout on standard error: all nodes have to have the same one.
+fn start_clock<'a, R: Timer + Eprint + AllocGlobal>(
+    rt: &'a R,
+    asked: &Asked<'_>,
+) -> Result<NodeClock<'a, R>, OpenFault> {
     let clock = NodeClock::start(rt, asked.clock)?;
-    tell_digest(rt, asked.layout)?;
-    Ok((socket, clock))
+    let Ok(digest) = layout_digest(rt.alloc(), asked.layout) else {
+        return Err(OpenFault::OutOfMemory);
+    };
+    // Where this can't be written, the node begins all the same.
+    let _ = eprintln!(rt; "layout {digest}");
+    Ok(clock)
 }
 
 /// Runs a node over what it has outside, for so many milliseconds, or for ever, and records what comes to it and what it does, if that is
@@ -158,37 +192,34 @@ fn run_over<R: Files + Eprint + AllocGlobal, O: Outside + Drop>(
     outside: O,
 ) -> Result<(), NodeFailure> {
     let recorder = recorder_for(rt, asked, own.first)?;
-    let copy = table.copy(rt.alloc())?;
-    let mut recorded = Recorded::new(rt.alloc(), table.layout(), outside, recorder, rt);
+    let alloc = rt.alloc();
+    let mut recorded = Recorded::new(alloc, table.layout(), outside, recorder, rt);
     let for_ms = asked.for_ms.unwrap_or(u64::MAX);
-    run_node(rt.alloc(), copy, own.node, own.first, for_ms, &mut recorded)?;
-    Ok(())
+    let ran = match table.copy(alloc) {
+        Ok(copy) => run_node(alloc, copy, own.node, own.first, for_ms, &mut recorded),
+        Err(_) => Err(NodeFault::OutOfMemory),
+    };
+    drop(recorded);
+    match ran {
+        Ok(()) => Ok(()),
+        Err(fault) => Err(NodeFailure::Ended(fault)),
+    }
 }
 
-/// The record that is asked for, if one is.
+/// The record that is asked for, if one is, with its first line.
 fn recorder_for<R: Files>(
     rt: &R,
     asked: &Asked<'_>,
     first: u32,
 ) -> Result<Option<R::File>, NodeFailure> {
-    match asked.record {
-        Some(path) => Ok(Some(begin_record(rt, asked, first, path)?)),
-        None => Ok(None),
-    }
-}
-
-/// Makes a record, with its first line.
-fn begin_record<R: Files>(
-    rt: &R,
-    asked: &Asked<'_>,
-    first: u32,
-    path: &str,
-) -> Result<R::File, NodeFailure> {
+    let Some(path) = asked.record else {
+        return Ok(None);
+    };
     let Ok(mut recorder) = fs::create(rt, path) else {
         return Err(NodeFailure::NoRecord);
     };
     match write_head(asked, first, &mut recorder) {
-        Ok(()) => Ok(recorder),
+        Ok(()) => Ok(Some(recorder)),
         Err(_) => Err(NodeFailure::NoRecord),
     }
 }
@@ -211,36 +242,25 @@ fn lines_of<R: Net, I: Read + Drop, O: Write + Drop>(
     output: O,
 ) -> Result<Lines<R, I, O>, NodeFailure> {
     match operator {
-        Some(text) => {
-            let address = loopback(text, node)?;
-            Ok(Lines::over_connection(rt, address)?)
-        }
+        Some(text) => served_at(rt, text, node),
         None if node.0 == 0 => Ok(Lines::of_operator(input, output)),
         None => Ok(Lines::of_field(input, output)),
     }
 }
 
-/// The address at which the operator of the interlocking is served.
-fn loopback(text: &str, node: NodeId) -> Result<SocketAddr, NodeFailure> {
+/// The lines of the operator of the interlocking, who is served at an address of the loopback interface.
+fn served_at<R: Net, I: Read + Drop, O: Write + Drop>(
+    rt: &R,
+    text: &str,
+    node: NodeId,
+) -> Result<Lines<R, I, O>, NodeFailure> {
     match text.parse::<SocketAddr>() {
-        Ok(address) if node.0 == 0 && address.ip().is_loopback() => Ok(address),
+        Ok(address) if node.0 == 0 && address.ip().is_loopback() => {
+            match Lines::over_connection(rt, address) {
+                Ok(lines) => Ok(lines),
+                Err(fault) => Err(NodeFailure::Open(fault)),
+            }
+        }
         _ => Err(NodeFailure::Operator),
     }
-}
-
-/// The number of the first PDU, drawn anew.
-fn first_number<R: RandomSource>(rt: &R) -> Result<u32, NodeFailure> {
-    let mut bytes = [0u8; 4];
-    match rt.fill_bytes(&mut bytes) {
-        Ok(()) => Ok(u32::from_le_bytes(bytes)),
-        Err(_) => Err(NodeFailure::NoRandom),
-    }
-}
-
-/// Tells the digest of the layout on standard error: all nodes have to have the same one.
-fn tell_digest<R: Eprint + AllocGlobal>(rt: &R, layout: &str) -> Result<(), NodeFailure> {
-    let digest = layout_digest(rt.alloc(), layout)?;
-    // Where this can't be written, the node begins all the same.
-    let _ = eprintln!(rt; "layout {digest}");
-    Ok(())
 }

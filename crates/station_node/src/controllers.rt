@@ -9,7 +9,7 @@ ghost use Rattle.node_kinds.specs.simulator_run.layout.declared.entries.Point.{P
 ghost use Rattle.node_kinds.specs.simulator_run.layout.declared.entries.Signal.{Signal as SignalEntry};
 ghost use Rattle.station_node.specs.Processes.{Controls, ControlsCut, detector_made, point_made, signal_made, told_nothing, told_position, told_sections};
 
-use crate::lives::{Told, left, live, open};
+use crate::lives::{Told, live, open};
 use node_kinds::node_drive::{Course, NodeFault, Outside};
 use node_kinds::{DetectorNode, Equipment, PointNode, SignalNode};
 use std::alloc::Global;
@@ -31,8 +31,7 @@ pub(crate) fn run_signal<O: Outside>(
     drop(opening);
     let now = outside.read_clock();
     let node = SignalNode::new(alloc, told.table, place, now, told.first)?;
-    let for_ms = left(told.for_ms, told.begins, now);
-    live(alloc, node, course, outside, now, for_ms)
+    live(alloc, node, course, outside, now, told.begins, told.for_ms)
 }
 
 /// The process of the point at this place.
@@ -56,8 +55,7 @@ pub(crate) fn run_point<O: Outside>(
     };
     let now = outside.read_clock();
     let node = PointNode::new(alloc, told.table, place, lies, now, told.first)?;
-    let for_ms = left(told.for_ms, told.begins, now);
-    live(alloc, node, course, outside, now, for_ms)
+    live(alloc, node, course, outside, now, told.begins, told.for_ms)
 }
 
 /// The process of the detector at this place.
@@ -82,6 +80,5 @@ pub(crate) fn run_detector<O: Outside>(
     };
     let now = outside.read_clock();
     let node = DetectorNode::new(alloc, told.table, place, &sensed, now, told.first)?;
-    let for_ms = left(told.for_ms, told.begins, now);
-    live(alloc, node, course, outside, now, for_ms)
+    live(alloc, node, course, outside, now, told.begins, told.for_ms)
 }

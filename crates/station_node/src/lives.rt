@@ -24,13 +24,6 @@ pub(crate) struct Told<'a> {
     pub(crate) for_ms: u64,
 }
 
-/// How long a process may go on behind a reading.
-pub(crate) fn left(for_ms: u64, begins: u64, now: u64) -> u64
-    ensures { result ≡ left_of for_ms begins now }
-{
-    for_ms.saturating_sub(now.saturating_sub(begins))
-}
-
 /// Waits until the first line is in force and each contact has told how it is, or until the process is over.
 pub(crate) fn open<'a, O: Outside>(
     alloc: Global,
@@ -44,31 +37,39 @@ pub(crate) fn open<'a, O: Outside>(
     ensures stopped { OnErr result (CutOff opening_kind told.entry.for_ms told.entry.begins (standing (untold told.entry.table.now (equipment_of equipment.entry)) first_course) (O.told outside.old) (O.told outside.new)) }
 {
     let mut opening = OpeningNode::new(alloc, told.table, equipment)?;
-    drive(
+    match drive(
         alloc,
         &mut opening,
         course,
         outside,
         told.begins,
         told.for_ms,
-    )?;
-    Ok(opening)
+    ) {
+        Ok(_) => Ok(opening),
+        Err(fault) => {
+            drop(opening);
+            Err(fault)
+        }
+    }
 }
 
-/// The node lives, from the reading at which it was made, for so many milliseconds. Then it is gone.
+/// The node lives, from the reading at which it was made, until its process has gone on for so many milliseconds behind its beginning.
+/// Then it is gone.
 pub(crate) fn live<N: Node + Drop, O: Outside>(
     alloc: Global,
     node: N,
     course: &mut Course,
     outside: &mut O,
     now: u64,
+    begins: u64,
     for_ms: u64,
 ) -> Result<(), NodeFault>
     requires { (N.node node).reached ≤ (O.told outside.old).latest }
-    ensures done { OnOk result ((ticks : ℕ) × (state : N.State) × Ran N.does for_ms now ticks (standing_of (N.node node) course.old) (standing state course.new) (O.told outside.old) (O.told outside.new)) }
-    ensures stopped { OnErr result (CutOff N.does for_ms now (standing_of (N.node node) course.old) (O.told outside.old) (O.told outside.new)) }
+    ensures done { OnOk result ((ticks : ℕ) × (state : N.State) × Ran N.does (left_of for_ms begins now) now ticks (standing_of (N.node node) course.old) (standing state course.new) (O.told outside.old) (O.told outside.new)) }
+    ensures stopped { OnErr result (CutOff N.does (left_of for_ms begins now) now (standing_of (N.node node) course.old) (O.told outside.old) (O.told outside.new)) }
 {
     let mut node = node;
-    drive(alloc, &mut node, course, outside, now, for_ms)?;
+    let left = for_ms.saturating_sub(now.saturating_sub(begins));
+    drive(alloc, &mut node, course, outside, now, left)?;
     Ok(())
 }

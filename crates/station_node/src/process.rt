@@ -6,7 +6,7 @@ ghost use Rattle.node_kinds.specs.node_drive.Beginning.{first_course};
 ghost use Rattle.station_node.specs.Processes.{NodeCut, NodeRuns, Process, ProcessCut, StationCut, StationRuns, rest_of};
 
 use crate::controllers::{run_detector, run_point, run_signal};
-use crate::lives::{Told, left, live};
+use crate::lives::{Told, live};
 use node_kinds::InterlockingNode;
 use node_kinds::node_drive::node_lines::Order;
 use node_kinds::node_drive::{Course, NodeFault, Outside, finish};
@@ -42,10 +42,12 @@ pub fn run_node<O: Outside>(
         &mut course,
         outside,
     );
-    if ran == Err(NodeFault::WriteFailed) {
+    if matches!(ran, Err(NodeFault::WriteFailed)) {
         return ran;
     }
-    finish(alloc, &course, outside, rest)?;
+    let rested = finish(alloc, &course, outside, rest);
+    drop(course);
+    rested?;
     ran
 }
 
@@ -73,7 +75,9 @@ fn run<O: Outside>(
         begins,
         for_ms,
     };
-    run_controller(alloc, told, node.0 - 1, course, outside)
+    let ran = run_controller(alloc, told, node.0 - 1, course, outside);
+    drop(checked);
+    ran
 }
 
 /// Runs the interlocking.
@@ -92,8 +96,7 @@ fn run_station<O: Outside>(
 {
     let now = outside.read_clock();
     let station = InterlockingNode::new(alloc, checked, now, first)?;
-    let for_ms = left(for_ms, begins, now);
-    live(alloc, station, course, outside, now, for_ms)
+    live(alloc, station, course, outside, now, begins, for_ms)
 }
 
 /// Runs the controller of a link.

@@ -13,9 +13,10 @@ use station_check::{Failure, table_of, tell};
 use std::alloc::Global;
 use std::io::Write;
 
-/// What the first line of a record says: the number of the node's first PDU, and for how many milliseconds it was to run.
+/// What the first line of a record says: the node, the number of its first PDU, and for how many milliseconds it was to run.
 #[derive(Clone, Copy)]
 struct Head {
+    node: NodeId,
     first: u32,
     for_ms: u64,
 }
@@ -44,7 +45,8 @@ pub fn replay_node_text<W: Write, E: Write>(
     }
 }
 
-/// Judges the texts, applies the record, and writes the verdict. It answers the number of the first line that differs, if one does.
+/// Judges the texts, the layout first, applies the record, and writes the verdict. It answers the number of the first line that
+/// differs, if one does.
 fn verdict<W: Write>(
     alloc: Global,
     layout: &str,
@@ -52,48 +54,46 @@ fn verdict<W: Write>(
     record: &str,
     out: &mut W,
 ) -> Result<Option<u64>, Failure> {
-    let differs = difference(alloc, layout, name, record)?;
-    match differs {
-        Some(line) => out.writeln(format_args!("differs at line {line}"))?,
-        None => out.writeln("same")?,
-    }
+    let table = table_of(alloc, layout)?;
+    let differs = difference(alloc, &table, name, record);
+    drop(table);
+    let differs = differs?;
+    let written = match differs {
+        Some(line) => out.writeln(format_args!("differs at line {line}")),
+        None => out.writeln("same"),
+    };
+    written?;
     out.flush()?;
     Ok(differs)
 }
 
-/// Judges the texts, the layout first, and applies the record.
-fn difference(
-    alloc: Global,
-    layout: &str,
-    name: &str,
-    record: &str,
-) -> Result<Option<u64>, Failure> {
-    let table = table_of(alloc, layout)?;
-    let differs = difference_of(alloc, &table, name, record);
-    drop(table);
-    differs
-}
-
 /// Applies the record of a node of this station.
-fn difference_of(
+fn difference(
     alloc: Global,
     table: &Checked,
     name: &str,
     record: &str,
 ) -> Result<Option<u64>, Failure> {
     let mut lines = Lines::of(whole_lines(record));
-    let first = match lines.next() {
-        Some((_, line)) => line,
-        None => "",
-    };
-    let (node, head) = match begun(table.layout(), name, first) {
-        Ok(read) => read,
-        Err(fault) => return Err(Failure::Line(at_first_line(fault))),
+    let (_, first) = lines.next().unwrap_or((1, ""));
+    let head = match head_said(table.layout(), name, first) {
+        Ok(head) => head,
+        Err(fault) => {
+            let number = fault.number();
+            return Err(Failure::Line(SessionFault { line: 1, number }));
+        }
     };
     let copy = table.copy(alloc)?;
     let mut replayed = Replayed::new(alloc, table.layout(), lines);
     // A process ends early for want of memory, or since its record ends: what is told is whether it did the same to there.
-    let _ = run_node(alloc, copy, node, head.first, head.for_ms, &mut replayed);
+    let _ = run_node(
+        alloc,
+        copy,
+        head.node,
+        head.first,
+        head.for_ms,
+        &mut replayed,
+    );
     if !replayed.is_whole() {
         return Err(Failure::OutOfMemory);
     }
@@ -108,53 +108,46 @@ fn whole_lines(record: &str) -> &str {
     }
 }
 
-/// The fault of the first line.
-fn at_first_line(fault: Fault) -> SessionFault {
-    SessionFault {
-        line: 1,
-        number: fault.number(),
-    }
-}
-
-/// What the first line of a record says of the node of this name.
-fn begun(layout: &Layout, name: &str, line: &str) -> Result<(NodeId, Head), Fault> {
+/// What the first line of a record says, where it names the node of this name.
+fn head_said(layout: &Layout, name: &str, line: &str) -> Result<Head, Fault> {
     let node = node_named(layout, name)?;
-    let head = head_said(name, line)?;
-    Ok((node, head))
-}
-
-/// What it says, where it names this node.
-fn head_said(name: &str, line: &str) -> Result<Head, Fault> {
     let mut words = Words::of(line);
-    let (Some(kind), Some(word)) = (words.next(), words.next()) else {
-        return Err(Fault::Words);
-    };
-    let (Some(place), Some(first)) = (words.next(), words.next()) else {
+    let (kind, said, place) = (word(&mut words), word(&mut words), word(&mut words));
+    let Some(first) = words.next() else {
         return Err(Fault::Words);
     };
     if kind != "node" || place != "first" {
         return Err(Fault::Words);
     }
-    if word != name {
+    if said != name {
         return Err(Fault::Name);
     }
-    numbers_said(first, words)
-}
-
-/// The numbers in it.
-fn numbers_said(first: &str, more: Words<'_>) -> Result<Head, Fault> {
     let Ok(first) = u32::try_from(decimal(first)?) else {
         return Err(Fault::Number);
     };
-    let for_ms = time(more)?;
-    Ok(Head { first, for_ms })
+    let for_ms = time_said(words)?;
+    Ok(Head {
+        node,
+        first,
+        for_ms,
+    })
+}
+
+/// The next word of a line, or nothing where there is none.
+fn word<'a>(words: &mut Words<'a>) -> &'a str {
+    words.next().unwrap_or("")
 }
 
 /// For how many milliseconds a process was to run, or for ever.
-fn time(mut words: Words<'_>) -> Result<u64, Fault> {
-    match (words.next(), words.next(), words.next()) {
-        (None, _, _) => Ok(u64::MAX),
-        (Some("for"), Some(number), None) => decimal(number),
-        _ => Err(Fault::Words),
+fn time_said(mut words: Words<'_>) -> Result<u64, Fault> {
+    let Some(kind) = words.next() else {
+        return Ok(u64::MAX);
+    };
+    let Some(number) = words.next() else {
+        return Err(Fault::Words);
+    };
+    if kind != "for" || words.next().is_some() {
+        return Err(Fault::Words);
     }
+    decimal(number)
 }

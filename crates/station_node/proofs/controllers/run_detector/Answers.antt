@@ -57,7 +57,7 @@ returns-clause-done g c = map_ok c.live.result (λ ran (entry : DetectorEntry) t
     controls detector_kind c.args.told.table.now (Sections entry.sections) told_sections (detector_made c.args.told.table.now c.args.told.first entry) c.args.told.for_ms c.args.told.begins
     (opening_now c.in_ok-opening.opening).state c.open.new.course (g.O.Outside.told c.args.outside.now) (g.O.Outside.told c.open.new.outside) opens
     c.deref.result.now (sym c.in_ok-sensed.ensures ∙ ap (option_map (λ v. v.items)) c.in-Some.is ∙ ap Some (sym c.deref.ensures.value))
-    c.read_clock-now.result c.left-for_ms.result (detector_now c.in_ok-node.node).state (g.O.Outside.told c.read_clock-now.new.self) (g.O.Outside.told c.live.new.outside) c.left-for_ms.ensures c.read_clock-now.ensures
+    c.read_clock-now.result (detector_now c.in_ok-node.node).state (g.O.Outside.told c.read_clock-now.new.self) (g.O.Outside.told c.live.new.outside) c.read_clock-now.ensures
     (ap (λ n. n.state) (c.in_ok-node.ensures.made entry there)) c.live.new.course ran) c.live.ensures.done
 
 pub returns-clause-stopped : goal.returns-clause-stopped
@@ -70,5 +70,5 @@ returns-clause-stopped g c = map_err c.live.result (λ stopped (entry : Detector
     controls_cut detector_kind c.args.told.table.now (Sections entry.sections) told_sections (detector_made c.args.told.table.now c.args.told.first entry) c.args.told.for_ms c.args.told.begins
     (opening_now c.in_ok-opening.opening).state c.open.new.course (g.O.Outside.told c.args.outside.now) (g.O.Outside.told c.open.new.outside) opens
     c.deref.result.now (sym c.in_ok-sensed.ensures ∙ ap (option_map (λ v. v.items)) c.in-Some.is ∙ ap Some (sym c.deref.ensures.value))
-    c.read_clock-now.result c.left-for_ms.result (detector_now c.in_ok-node.node).state (g.O.Outside.told c.read_clock-now.new.self) (g.O.Outside.told c.live.new.outside) c.left-for_ms.ensures c.read_clock-now.ensures
+    c.read_clock-now.result (detector_now c.in_ok-node.node).state (g.O.Outside.told c.read_clock-now.new.self) (g.O.Outside.told c.live.new.outside) c.read_clock-now.ensures
     (ap (λ n. n.state) (c.in_ok-node.ensures.made entry there)) stopped) c.live.ensures.stopped

@@ -18,13 +18,13 @@ returns-then-node-eq0-clause-stopped g c = map_err c.run_station.result
     c.run_station.ensures.stopped
 
 pub returns-clause-done : goal.returns-clause-done
-returns-clause-done g c = map_ok c.run_controller.result
-    (subst (λ n. NodeRuns c.args.checked c.args.first c.args.for_ms c.args.begins c.run_controller.new.course (g.O.Outside.told c.args.outside.now) (g.O.Outside.told c.run_controller.new.outside) n)
+returns-clause-done g c = map_ok c.run_controller-ran.result
+    (subst (λ n. NodeRuns c.args.checked c.args.first c.args.for_ms c.args.begins c.run_controller-ran.new.course (g.O.Outside.told c.args.outside.now) (g.O.Outside.told c.run_controller-ran.new.outside) n)
     (at_link c.args.checked c.args.node.0 c.if-node-eq0.false))
-    c.run_controller.ensures.done
+    c.run_controller-ran.ensures.done
 
 pub returns-clause-stopped : goal.returns-clause-stopped
-returns-clause-stopped g c = map_err c.run_controller.result
-    (subst (λ n. NodeCut c.args.checked c.args.first c.args.for_ms c.args.begins (g.O.Outside.told c.args.outside.now) (g.O.Outside.told c.run_controller.new.outside) n)
+returns-clause-stopped g c = map_err c.run_controller-ran.result
+    (subst (λ n. NodeCut c.args.checked c.args.first c.args.for_ms c.args.begins (g.O.Outside.told c.args.outside.now) (g.O.Outside.told c.run_controller-ran.new.outside) n)
     (at_link c.args.checked c.args.node.0 c.if-node-eq0.false))
-    c.run_controller.ensures.stopped
+    c.run_controller-ran.ensures.stopped

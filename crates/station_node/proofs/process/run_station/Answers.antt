@@ -11,9 +11,9 @@ pub returns-clause-done : goal.returns-clause-done
 returns-clause-done g c =
     let node = seen c.in_ok-station.station in
     map_ok c.live.result
-    (station_runs c.args.checked c.args.first c.args.for_ms c.args.begins c.read_clock-now.result c.left-for_ms.result c.args.course.now
+    (station_runs c.args.checked c.args.first c.args.for_ms c.args.begins c.read_clock-now.result c.args.course.now
     (g.O.Outside.told c.args.outside.now) (g.O.Outside.told c.read_clock-now.new.self) (g.O.Outside.told c.live.new.outside) node.state
-    c.in_ok-station.ensures.site c.in_ok-station.ensures.table (ap (λ n. n.state) c.in_ok-station.ensures.node) c.requires c.left-for_ms.ensures c.read_clock-now.ensures
+    c.in_ok-station.ensures.site c.in_ok-station.ensures.table (ap (λ n. n.state) c.in_ok-station.ensures.node) c.requires c.read_clock-now.ensures
     c.live.new.course)
     c.live.ensures.done
 
@@ -21,7 +21,7 @@ pub returns-clause-stopped : goal.returns-clause-stopped
 returns-clause-stopped g c =
     let node = seen c.in_ok-station.station in
     map_err c.live.result
-    (station_is_cut c.args.checked c.args.first c.args.for_ms c.args.begins c.read_clock-now.result c.left-for_ms.result c.args.course.now
+    (station_is_cut c.args.checked c.args.first c.args.for_ms c.args.begins c.read_clock-now.result c.args.course.now
     (g.O.Outside.told c.args.outside.now) (g.O.Outside.told c.read_clock-now.new.self) (g.O.Outside.told c.live.new.outside) node.state
-    c.in_ok-station.ensures.site c.in_ok-station.ensures.table (ap (λ n. n.state) c.in_ok-station.ensures.node) c.requires c.left-for_ms.ensures c.read_clock-now.ensures)
+    c.in_ok-station.ensures.site c.in_ok-station.ensures.table (ap (λ n. n.state) c.in_ok-station.ensures.node) c.requires c.read_clock-now.ensures)
     c.live.ensures.stopped
