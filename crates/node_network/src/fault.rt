@@ -2,30 +2,23 @@
 
 ghost use Rattle.std.specs.Prelude.{◌≡◌};
 
-use std::alloc::AllocError;
-use std::fmt;
+use std::alloc::{AllocError, AllocFailed};
+use thiserror::Error;
 
 /// Why what a node's process has outside can't be opened.
-#[derive(Clone, Copy)]
+#[derive(Clone, Copy, Debug, PartialEq, Eq, Error)]
 pub enum OpenFault {
+    #[error("out of memory")]
     OutOfMemory = 1,
+    #[error("the node has no address")]
     NoAddress = 2,
-    /// The address isn't one of this machine, or another process has it.
+    /// It isn't one of this machine, or another process has it.
+    #[error("the node's address can't be used")]
     NoSocket = 3,
+    #[error("the operator's address can't be used")]
     NoListener = 4,
+    #[error("the clock can't be read")]
     NoClock = 5,
-}
-
-impl fmt::Display for OpenFault {
-    fn fmt<W: fmt::Write>(&self, f: &mut fmt::Formatter<W>) -> fmt::Result {
-        f.write_str(match self {
-            OpenFault::OutOfMemory => "out of memory",
-            OpenFault::NoAddress => "the node has no address",
-            OpenFault::NoSocket => "the node's address can't be used",
-            OpenFault::NoListener => "the operator's address can't be used",
-            OpenFault::NoClock => "the clock can't be read",
-        })
-    }
 }
 
 impl From<AllocError> for OpenFault {
