@@ -114,11 +114,8 @@ impl fmt::Display for Advice {
     fn fmt<W: fmt::Write>(&self, f: &mut fmt::Formatter<W>) -> fmt::Result {
         let sentence = match *self {
             Advice::Broken(at) => {
-                let (line, column) = (at.line, at.column);
-                return write!(
-                    f,
-                    "the text is no TOML from line {line}, column {column} on\n"
-                );
+                let (line, column) = (Part::Number(at.line), Part::Number(at.column));
+                Sentence(BROKEN, line, column, Nothing, Nothing, Nothing)
             }
             Advice::Entry(advice) => advice.sentence(),
             Advice::Layout(fault) => layout_sentence(fault),

@@ -1,6 +1,6 @@
 //! Sentences: words with names, ports, sides, places and numbers between them.
 
-ghost use Rattle.std.specs.Prelude.{◌≡◌, Some};
+ghost use Rattle.std.specs.Prelude.{Some};
 ghost use Rattle.station_layout.specs.inside.Sentences.{part_words, sentence_words};
 
 use crate::advice::Spot;
