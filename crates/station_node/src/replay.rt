@@ -3,6 +3,7 @@
 ghost use Rattle.std.specs.Prelude.{◌≡◌, ◌⊎◌};
 
 use crate::process::run_node;
+use node_kinds::node_drive::NodeFault;
 use node_kinds::node_drive::node_lines::replay_lines::{SessionFault, node_named};
 use node_kinds::node_drive::node_lines::replay_words::{Fault, Lines, Words, decimal};
 use node_kinds::simulator_run::ixl_rules::control_table::Checked;
@@ -85,8 +86,7 @@ fn difference(
     };
     let copy = table.copy(alloc)?;
     let mut replayed = Replayed::new(alloc, table.layout(), lines);
-    // A process ends early for want of memory, or since its record ends: what is told is whether it did the same to there.
-    let _ = run_node(
+    let ran = run_node(
         alloc,
         copy,
         head.node,
@@ -94,7 +94,8 @@ fn difference(
         head.for_ms,
         &mut replayed,
     );
-    if !replayed.is_whole() {
+    // A process that ends early otherwise does so since its record ends: what is told is whether it did the same to there.
+    if matches!(ran, Err(NodeFault::OutOfMemory)) || !replayed.is_whole() {
         return Err(Failure::OutOfMemory);
     }
     Ok(replayed.difference())
