@@ -3,19 +3,19 @@
 examples/machines/field.py; and lets the small station rest for a million rounds over memory. It prints what was seen, and ends with
 status 1 where a link was lost, a round wasn't kept, or memory grew.
 
-    python3 bench/nodes_at_limits.py STATION STORED_RUNS [--layout FILE] [limits] [flood] [million]
+    python3 bench/nodes_at_limits.py STATION TESTS [--layout FILE] [limits] [flood] [million]
 
 limits   all 80 links come up, and for 30 s they stay up, and the interlocking keeps its rounds of 10 ms, as its record has them
 flood    the same; then a controller is ended, and random bytes and copies of its datagrams come from its address, more and more of
          them: the other links stay up, and it is told up to which rate rounds are kept
-million  the program of `stored_runs` plays the small station at rest with made clocks: 1,000,000 rounds take no more memory than 20,000
+million  the tests of `station_tests`, whose built program TESTS is, play the small station at rest with made clocks: 1,000,000 rounds
+         take no more memory than 20,000
 """
 import argparse
 import itertools
 import os
 import pathlib
 import random
-import shutil
 import socket
 import subprocess
 import sys
@@ -153,33 +153,31 @@ def flood(station):
 
 def million(program):
     """The processor time and the memory of the small station at rest."""
-    seen = {}
-    for rounds in (20_000, 1_000_000):
-        with tempfile.TemporaryDirectory() as folder:
-            shutil.copy(TOP / "crates/stored_runs/data/small.toml", folder)
-            pathlib.Path(folder, "runs").write_text(f"rest small.toml {rounds}\n")
-            process = subprocess.Popen([program], cwd=folder, stdout=subprocess.PIPE, text=True)
-            said = process.stdout.read().splitlines()[-1]
-            _, status, used = os.wait4(process.pid, 0)
-        seen[rounds] = used.ru_maxrss
-        print(f"million: {said}: {used.ru_utime + used.ru_stime:.1f} s, {used.ru_maxrss} KB", flush=True)
-        # each link is told as lost once: at the start, before it is ready
-        if status or not said.endswith("5 links ready, 5 lost"):
+    taken = []
+    for rounds in ("20000", "a_million"):
+        words = [program, f"node_stories::links_stay_up_for_{rounds}_rounds_at_rest"]
+        process = subprocess.Popen(words, stdout=subprocess.DEVNULL)
+        _, status, used = os.wait4(process.pid, 0)
+        taken.append(used.ru_maxrss)
+        print(f"million: {rounds}: {used.ru_utime + used.ru_stime:.1f} s, {used.ru_maxrss} KB", flush=True)
+        if status:
             return False
-    return seen[1_000_000] <= seen[20_000] + 128
+    few, many = taken
+    # a process takes up to 300 KB more or less each time that it is started
+    return many <= few + 512
 
 
 def main():
     words = argparse.ArgumentParser(description=__doc__, formatter_class=argparse.RawDescriptionHelpFormatter)
     words.add_argument("station")
-    words.add_argument("stored_runs")
+    words.add_argument("tests")
     words.add_argument("--layout", default=str(TOP / "crates/stored_runs/data/layouts/at_every_limit.toml"))
     words.add_argument("kinds", nargs="*", default=["limits", "flood", "million"])
     given = words.parse_args()
     well = True
     for kind in given.kinds:
         if kind == "million":
-            well &= million(os.path.abspath(given.stored_runs))
+            well &= million(os.path.abspath(given.tests))
             continue
         with tempfile.TemporaryDirectory() as folder:
             station = Station(os.path.abspath(given.station), os.path.abspath(given.layout), folder)

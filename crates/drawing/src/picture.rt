@@ -25,7 +25,6 @@ pub struct Strip {
 }
 
 /// Shapes that belong together.
-#[derive(Drop)]
 pub struct Group {
     /// The identity, which no other group of a picture should have.
     pub id: String,
@@ -37,8 +36,19 @@ pub struct Group {
     pub marks: Vec<Mark>,
 }
 
+// Written by hand, so that it is proved and compiled here alone.
+impl Drop for Group {
+    fn drop(self) {
+        let Self {
+            id: _,
+            class: _,
+            title: _,
+            marks: _,
+        } = self;
+    }
+}
+
 /// A picture. Without strips the paper shows what is drawn as it lies; otherwise each strip shows its part.
-#[derive(Drop)]
 pub struct Picture {
     /// What a viewer says of it.
     pub title: String,
@@ -50,4 +60,17 @@ pub struct Picture {
     pub strips: Vec<Strip>,
     /// What is drawn, the lowest first.
     pub groups: Vec<Group>,
+}
+
+// Written by hand, so that it is proved and compiled here alone.
+impl Drop for Picture {
+    fn drop(self) {
+        let Self {
+            title: _,
+            style: _,
+            paper: _,
+            strips: _,
+            groups: _,
+        } = self;
+    }
 }

@@ -31,11 +31,22 @@ const ALL_LINKS: usize = 80;
 
 /// The interlocking of a station: the client of one link to each controller. It sets and frees routes, moves points and
 /// clears signals by its rules, and rests on nothing but what the controllers told in their present connections.
-#[derive(Debug, Drop)]
+#[derive(Debug)]
 pub struct Interlocking {
     state: State,
     key: Key,
     outbox: Outbox,
+}
+
+// Written by hand, so that it is proved and compiled here alone.
+impl Drop for Interlocking {
+    fn drop(self) {
+        let Self {
+            state: _,
+            key: _,
+            outbox: _,
+        } = self;
+    }
 }
 
 impl Model for Interlocking {

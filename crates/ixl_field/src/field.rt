@@ -9,7 +9,7 @@ use std::marker::Model;
 
 /// The nodes of a station's controllers, and where each of its sections is reported: by which detector, at which place of
 /// its order. Beside them stand rows of what is known of sections and points, which follow from these.
-#[derive(Debug, Drop)]
+#[derive(Debug)]
 pub struct Field {
     pub(crate) known_signals: Vec<KnownSignal>,
     pub(crate) known_points: Vec<KnownPoint>,
@@ -17,6 +17,20 @@ pub struct Field {
     pub(crate) reporters: Vec<(usize, usize)>,
     pub(crate) sections: SectionRows,
     pub(crate) points: PointRows,
+}
+
+// Written by hand, so that it is proved and compiled here alone.
+impl Drop for Field {
+    fn drop(self) {
+        let Self {
+            known_signals: _,
+            known_points: _,
+            detectors: _,
+            reporters: _,
+            sections: _,
+            points: _,
+        } = self;
+    }
 }
 
 impl Model for Field {

@@ -14,7 +14,7 @@ use std::marker::Model;
 
 /// An interlocking's table, its controllers, what the set routes lock, how far each route is, the clock reading of its
 /// creation, and whether it was told to resume.
-#[derive(Debug, Drop)]
+#[derive(Debug)]
 pub struct State {
     pub(crate) table: Table,
     pub(crate) field: Field,
@@ -22,6 +22,20 @@ pub struct State {
     pub(crate) routes: Vec<Route>,
     pub(crate) created: Millis,
     pub(crate) resumed: bool,
+}
+
+// Written by hand, so that it is proved and compiled here alone.
+impl Drop for State {
+    fn drop(self) {
+        let Self {
+            table: _,
+            field: _,
+            locks: _,
+            routes: _,
+            created: _,
+            resumed: _,
+        } = self;
+    }
 }
 
 impl Model for State {

@@ -16,7 +16,6 @@ pub struct Change {
 }
 
 /// A command is given, or a node is made anew.
-#[derive(Drop)]
 pub struct Happening {
     /// The line of the session, counted from 1.
     pub line: usize,
@@ -26,4 +25,16 @@ pub struct Happening {
     pub node: Option<usize>,
     /// The event, and what was answered to it.
     pub words: String,
+}
+
+// Written by hand, so that it is proved and compiled here alone.
+impl Drop for Happening {
+    fn drop(self) {
+        let Self {
+            line: _,
+            time: _,
+            node: _,
+            words: _,
+        } = self;
+    }
 }

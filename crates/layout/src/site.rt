@@ -25,7 +25,7 @@ use std::marker::Model;
 use toml::Table;
 
 /// The entries of a text, of which some port may still stand in two joints, or have two signals.
-#[derive(Debug, Drop)]
+#[derive(Debug)]
 pub(crate) struct Draft {
     pub(crate) station: Station,
     pub(crate) sections: Vec<Name>,
@@ -36,6 +36,23 @@ pub(crate) struct Draft {
     pub(crate) signals: Vec<Signal>,
     pub(crate) detectors: Vec<Detector>,
     pub(crate) routes: Vec<Route>,
+}
+
+// Written by hand, so that it is proved and compiled here alone.
+impl Drop for Draft {
+    fn drop(self) {
+        let Self {
+            station: _,
+            sections: _,
+            tracks: _,
+            points: _,
+            borders: _,
+            joints: _,
+            signals: _,
+            detectors: _,
+            routes: _,
+        } = self;
+    }
 }
 
 impl Model for Draft {

@@ -152,7 +152,7 @@ impl Model for WrittenRoute {
 }
 
 /// A layout: all entries of its text, each list in the order of the text.
-#[derive(Debug, Drop)]
+#[derive(Debug)]
 pub struct WrittenLayout {
     /// The station.
     pub station: Station,
@@ -172,6 +172,23 @@ pub struct WrittenLayout {
     pub detectors: Vec<WrittenDetector>,
     /// The routes.
     pub routes: Vec<WrittenRoute>,
+}
+
+// Written by hand, so that it is proved and compiled here alone.
+impl Drop for WrittenLayout {
+    fn drop(self) {
+        let Self {
+            station: _,
+            sections: _,
+            tracks: _,
+            points: _,
+            borders: _,
+            joints: _,
+            signals: _,
+            detectors: _,
+            routes: _,
+        } = self;
+    }
 }
 
 impl Model for WrittenLayout {

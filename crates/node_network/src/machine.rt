@@ -17,7 +17,6 @@ use std::net::Net;
 use std::time::Clock as Timer;
 
 /// What a node's process has outside on a machine. It tells no calls.
-#[derive(Drop)]
 pub struct Machine<'a, R: Net, I, O, E> {
     alloc: Global,
     clock: NodeClock<'a, R>,
@@ -25,6 +24,19 @@ pub struct Machine<'a, R: Net, I, O, E> {
     lines: Lines<R, I, O>,
     /// Where faulty lines are told.
     complaints: E,
+}
+
+// Written by hand, so that it is proved and compiled here alone.
+impl<R: Net, I: Drop, O: Drop, E: Drop> Drop for Machine<'_, R, I, O, E> {
+    fn drop(self) {
+        let Self {
+            alloc: _,
+            clock: _,
+            socket: _,
+            lines: _,
+            complaints: _,
+        } = self;
+    }
 }
 
 impl<'a, R: Net + Timer, I: Read, O: Write, E: Write> Machine<'a, R, I, O, E> {

@@ -12,7 +12,6 @@ use std::io::{Eprint, Write};
 
 /// What a process has outside, where each call is written to a record as it was answered, if there is one. A record that can't be
 /// written any more is told once, and the process goes on without it.
-#[derive(Drop)]
 pub struct Recorded<'a, O, W, E> {
     alloc: Global,
     layout: &'a Layout,
@@ -21,6 +20,19 @@ pub struct Recorded<'a, O, W, E> {
     recorder: Option<W>,
     /// Where it is told that the record can't be written any more.
     complaints: &'a E,
+}
+
+// Written by hand, so that it is proved and compiled here alone.
+impl<O: Drop, W: Drop, E> Drop for Recorded<'_, O, W, E> {
+    fn drop(self) {
+        let Self {
+            alloc: _,
+            layout: _,
+            outside: _,
+            recorder: _,
+            complaints: _,
+        } = self;
+    }
 }
 
 impl<'a, O: Outside, W: Write + Drop, E: Eprint> Recorded<'a, O, W, E> {

@@ -12,7 +12,6 @@ use node_drive::{Arrived, BrokenOff, NextLine, Outside};
 use std::alloc::{AllocError, Global};
 
 /// A record that is gone through once more: what came to the node is taken from it, and what the node does is compared with it.
-#[derive(Drop)]
 pub struct Replayed<'a> {
     alloc: Global,
     layout: &'a Layout,
@@ -21,6 +20,19 @@ pub struct Replayed<'a> {
     latest: u64,
     /// Whether memory was there for each comparison.
     is_whole: bool,
+}
+
+// Written by hand, so that it is proved and compiled here alone.
+impl Drop for Replayed<'_> {
+    fn drop(self) {
+        let Self {
+            alloc: _,
+            layout: _,
+            lines: _,
+            latest: _,
+            is_whole: _,
+        } = self;
+    }
 }
 
 impl<'a> Replayed<'a> {

@@ -20,10 +20,16 @@ use std::marker::Model;
 /// An object controller: the server of a link, the initialisation after each opening, and one field object. The
 /// object is restrictive at and past the moment at which the link dies, and as long as the initialisation of a
 /// connection isn't completed, whatever its own program does.
-#[derive(Drop)]
 pub struct Hosted<C: Controller> {
     host: Host<C>,
     outbox: Outbox,
+}
+
+// Written by hand, so that it is proved and compiled here alone.
+impl<C: Controller> Drop for Hosted<C> {
+    fn drop(self) {
+        let Self { host: _, outbox: _ } = self;
+    }
 }
 
 impl<C: Controller> Model for Hosted<C> {

@@ -28,7 +28,6 @@ const MOST: usize = 64;
 const TOO_MANY: &str = "too many commands wait";
 
 /// The desk at which requests are answered. Commands wait on it for the next round.
-#[derive(Drop)]
 pub struct Desk {
     alloc: Global,
     table: Checked,
@@ -39,6 +38,23 @@ pub struct Desk {
     station: Bytes,
     board: Board,
     waiting: Vec<PanelCommand>,
+}
+
+// Written by hand, so that it is proved and compiled here alone.
+impl Drop for Desk {
+    fn drop(self) {
+        let Self {
+            alloc: _,
+            table: _,
+            host: _,
+            origin: _,
+            token: _,
+            page: _,
+            station: _,
+            board: _,
+            waiting: _,
+        } = self;
+    }
 }
 
 impl Model for Desk {

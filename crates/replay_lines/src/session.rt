@@ -13,10 +13,20 @@ use simulator_event::{Answer, Event, Refused};
 use std::alloc::Global;
 
 /// A line of a session: an event, and what it answered when it was recorded.
-#[derive(Debug, Drop)]
+#[derive(Debug)]
 pub struct Entry {
     pub event: Event,
     pub answer: Result<Answer, Refused>,
+}
+
+// Written by hand, so that it is proved and compiled here alone.
+impl Drop for Entry {
+    fn drop(self) {
+        let Self {
+            event: _,
+            answer: _,
+        } = self;
+    }
 }
 
 /// The entries of a session, one a line, or where its first faulty line is. Fault 7 comes only where memory

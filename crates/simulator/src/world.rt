@@ -38,9 +38,15 @@ use std::marker::Model;
 
 /// A whole station. Events happen to it one after another, and each is tested first: the network delivers only what was
 /// sent and is at most 2000 ms old, or damaged bytes; clocks keep within 1 in 1000 of true time.
-#[derive(Drop)]
 pub struct World {
     parts: Parts,
+}
+
+// Written by hand, so that it is proved and compiled here alone.
+impl Drop for World {
+    fn drop(self) {
+        let Self { parts: _ } = self;
+    }
 }
 
 impl Model for World {

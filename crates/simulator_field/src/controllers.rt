@@ -7,7 +7,6 @@ use simulator_run::signal_ctl::Signal;
 use simulator_run::tds_ctl::Detection;
 
 /// The network, the controllers in the order of the layout, where each point stands, and whether each section is occupied.
-#[derive(Drop)]
 pub struct Controllers {
     pub network: Network,
     pub signals: Vec<ClockedController<Signal>>,
@@ -15,4 +14,18 @@ pub struct Controllers {
     pub detectors: Vec<ClockedController<Detection>>,
     pub positions: Vec<Position>,
     pub occupancies: Vec<Occupancy>,
+}
+
+// Written by hand, so that it is proved and compiled here alone.
+impl Drop for Controllers {
+    fn drop(self) {
+        let Self {
+            network: _,
+            signals: _,
+            points: _,
+            detectors: _,
+            positions: _,
+            occupancies: _,
+        } = self;
+    }
 }

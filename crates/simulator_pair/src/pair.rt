@@ -32,9 +32,16 @@ const SERVER: u32 = 2;
 /// A client and a server, their clocks, the network between them, and the lamp that the server keeps. Events happen
 /// to it one after the other, and each is tested first: the network delivers only what was sent and is at most
 /// 2000 ms old, or damaged bytes; clocks keep within 1 in 1000 of true time.
-#[derive(Debug, Drop)]
+#[derive(Debug)]
 pub struct Pair {
     parts: Parts,
+}
+
+// Written by hand, so that it is proved and compiled here alone.
+impl Drop for Pair {
+    fn drop(self) {
+        let Self { parts: _ } = self;
+    }
 }
 
 impl Model for Pair {

@@ -12,12 +12,23 @@ use station_drive::{Datagrams, NetFault, Received};
 use std::alloc::{AllocError, Global};
 
 /// A network over memory: what is sent to a node waits until it asks. One of its calls may fail.
-#[derive(Drop)]
 pub struct MemoryNetwork {
     waiting: Waiting,
     log: Log,
     counting: Counting,
     alloc: Global,
+}
+
+// Written by hand, so that it is proved and compiled here alone.
+impl Drop for MemoryNetwork {
+    fn drop(self) {
+        let Self {
+            waiting: _,
+            log: _,
+            counting: _,
+            alloc: _,
+        } = self;
+    }
 }
 
 impl MemoryNetwork {

@@ -59,9 +59,7 @@ pub fn run<
             return 1;
         }
     };
-    let ran = begin(rt, asked, &table, input, output, complaints);
-    drop(table);
-    match ran {
+    match begin(rt, asked, &table, input, output, complaints) {
         Ok(()) => 0,
         Err(failure) => {
             // Where this can't be written, the status has to do.
@@ -86,9 +84,7 @@ fn begin<
     complaints: E,
 ) -> Result<(), NodeFailure> {
     let own = own_of(rt, table.layout(), asked)?;
-    let ran = run_own(rt, asked, table, &own, input, output, complaints);
-    drop(own);
-    ran
+    run_own(rt, asked, table, &own, input, output, complaints)
 }
 
 /// What a process is of its own: which node it is, where all nodes are, and the number of its first PDU.
@@ -144,11 +140,7 @@ fn run_own<
             let machine = Machine::new(rt.alloc(), clock, socket, lines, complaints);
             run_over(rt, asked, table, own, machine)
         }
-        Err(fault) => {
-            drop(lines);
-            drop(complaints);
-            Err(NodeFailure::Open(fault))
-        }
+        Err(fault) => Err(NodeFailure::Open(fault)),
     }
 }
 
@@ -159,13 +151,8 @@ fn open_socket<'a, R: Net + Timer + Eprint + AllocGlobal>(
     own: &Own,
 ) -> Result<(NodeSocket, NodeClock<'a, R>), OpenFault> {
     let socket = NodeSocket::open(rt, rt.alloc(), &own.addresses, own.node)?;
-    match start_clock(rt, asked) {
-        Ok(clock) => Ok((socket, clock)),
-        Err(fault) => {
-            drop(socket);
-            Err(fault)
-        }
-    }
+    let clock = start_clock(rt, asked)?;
+    Ok((socket, clock))
 }
 
 /// Starts the clock of a node, and tells the digest of the layout on standard error: all nodes have to have the same one.
@@ -199,7 +186,6 @@ fn run_over<R: Files + Eprint + AllocGlobal, O: Outside + Drop>(
         Ok(copy) => run_node(alloc, copy, own.node, own.first, for_ms, &mut recorded),
         Err(_) => Err(NodeFault::OutOfMemory),
     };
-    drop(recorded);
     match ran {
         Ok(()) => Ok(()),
         Err(fault) => Err(NodeFailure::Ended(fault)),

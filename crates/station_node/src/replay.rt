@@ -56,9 +56,7 @@ fn verdict<W: Write>(
     out: &mut W,
 ) -> Result<Option<u64>, Failure> {
     let table = table_of(alloc, layout)?;
-    let differs = difference(alloc, &table, name, record);
-    drop(table);
-    let differs = differs?;
+    let differs = difference(alloc, &table, name, record)?;
     let written = match differs {
         Some(line) => out.writeln(format_args!("differs at line {line}")),
         None => out.writeln("same"),

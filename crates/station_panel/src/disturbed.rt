@@ -26,7 +26,6 @@ struct Late {
 }
 
 /// A network of which some nodes are cut off, which loses one datagram of so many, and over which datagrams come late.
-#[derive(Drop)]
 pub struct Disturbed<N> {
     net: N,
     alloc: Global,
@@ -42,6 +41,23 @@ pub struct Disturbed<N> {
     /// The clock, in microseconds.
     now: u64,
     late: VecDeque<Late>,
+}
+
+// Written by hand, so that it is proved and compiled here alone.
+impl<N: Drop> Drop for Disturbed<N> {
+    fn drop(self) {
+        let Self {
+            net: _,
+            alloc: _,
+            ids: _,
+            cut: _,
+            one_in: _,
+            since: _,
+            delay: _,
+            now: _,
+            late: _,
+        } = self;
+    }
 }
 
 impl<N: Drop> Disturbed<N> {

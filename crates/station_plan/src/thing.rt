@@ -30,7 +30,6 @@ pub enum Subject {
 }
 
 /// What is drawn of one subject.
-#[derive(Drop)]
 pub struct Thing {
     /// What it stands for.
     pub subject: Subject,
@@ -42,4 +41,17 @@ pub struct Thing {
     pub marks: Vec<Mark>,
     /// What its place adds: where a line ends or goes on elsewhere, the names of sections.
     pub more: Vec<Mark>,
+}
+
+// Written by hand, so that it is proved and compiled here alone.
+impl Drop for Thing {
+    fn drop(self) {
+        let Self {
+            subject: _,
+            marked: _,
+            state: _,
+            marks: _,
+            more: _,
+        } = self;
+    }
 }

@@ -100,8 +100,7 @@ fn file_of(
     file
 }
 
-/// Applies a session to a world, and makes the capture of all that was sent on its network. It borrows the world, since each
-/// way out of a function that owns one drops all its parts.
+/// Applies a session to a world, and makes the capture of all that was sent on its network.
 fn capture_behind(
     alloc: Global,
     world: &mut World,

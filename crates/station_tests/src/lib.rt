@@ -1,5 +1,5 @@
 //! Tests of what the programs `station` and `pair` do: reports, files, want of memory, runs over memory and sockets, captures,
-//! command lines, and links that a client closes.
+//! command lines, links that a client closes, and all nodes of a station in one process.
 #![tactic(auto)]
 
 #[cfg(test)]
@@ -16,6 +16,8 @@ mod endless_files;
 mod faults;
 #[cfg(test)]
 mod memory;
+#[cfg(test)]
+mod node_stories;
 #[cfg(test)]
 mod one_round;
 #[cfg(test)]

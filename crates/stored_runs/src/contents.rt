@@ -16,14 +16,9 @@ pub(crate) fn show_contents<W: Write>(
     out: &mut W,
 ) -> Result<(), Failure> {
     let layout = read_copy(alloc, text)?;
-    if let Err(error) = show_layout(&layout, out) {
-        drop(layout);
-        return Err(Failure::from(error));
-    }
+    show_layout(&layout, out)?;
     let table = check_copy(alloc, layout)?;
-    let shown = show_table(&table, out);
-    drop(table);
-    shown?;
+    show_table(&table, out)?;
     Ok(())
 }
 
@@ -32,9 +27,7 @@ fn read_copy(alloc: Global, text: &str) -> Result<Layout, Failure> {
     let Ok(layout) = Layout::read(alloc, text) else {
         return Err(Failure::Layout);
     };
-    let copy = layout.copy(alloc);
-    drop(layout);
-    Ok(copy?)
+    Ok(layout.copy(alloc)?)
 }
 
 /// A copy of the table of a layout.
@@ -42,9 +35,7 @@ fn check_copy(alloc: Global, layout: Layout) -> Result<Checked, Failure> {
     let Ok(table) = check(alloc, layout) else {
         return Err(Failure::Layout);
     };
-    let copy = table.copy(alloc);
-    drop(table);
-    Ok(copy?)
+    Ok(table.copy(alloc)?)
 }
 
 /// Writes the station, how many entries there are of each kind, the identities of the points, and the routes.

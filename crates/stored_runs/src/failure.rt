@@ -17,10 +17,6 @@ pub(crate) enum Failure {
     Layout,
     /// A node isn't made anew in all runs of a list.
     Restarts(Fault),
-    /// A socket can't be opened.
-    Socket,
-    /// The process of a node ended before its time.
-    Ended,
     OutOfMemory,
     /// An answer can't be written.
     NotWritten,
@@ -35,8 +31,6 @@ impl Failure {
             Failure::Change => "error: there is nothing to change",
             Failure::Layout => "error: a layout is not sound",
             Failure::Restarts(fault) => fault.text(),
-            Failure::Socket => "error: a socket cannot be opened",
-            Failure::Ended => "error: a process ended before its time",
             Failure::OutOfMemory => "out of memory",
             Failure::NotWritten => "error: an answer cannot be written",
         }

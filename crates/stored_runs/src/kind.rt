@@ -28,8 +28,6 @@ pub(crate) enum Kind {
     Pair,
     EachPair,
     Restarts,
-    Stories,
-    Rest,
 }
 
 /// The words of the list.
@@ -57,8 +55,6 @@ const KINDS: &[(&str, Kind)] = &[
     ("pair", Kind::Pair),
     ("each-pair", Kind::EachPair),
     ("restarts", Kind::Restarts),
-    ("stories", Kind::Stories),
-    ("rest", Kind::Rest),
 ];
 
 /// What a word asks for.

@@ -46,9 +46,8 @@ pub(crate) fn show_framed<W: Write>(
 /// Judges a script, and writes how many events it has, or its fault.
 pub(crate) fn judge<W: Write>(alloc: Global, asked: Asked<'_>, out: &mut W) -> Result<(), Failure> {
     let table = table_in(alloc, asked.layout)?;
-    let verdict = verdict(alloc, &table, asked.text);
-    drop(table);
-    out.writeln(verdict?.as_str())?;
+    let verdict = verdict(alloc, &table, asked.text)?;
+    out.writeln(verdict.as_str())?;
     Ok(())
 }
 

@@ -14,10 +14,6 @@
 //! - `restarts NAME LAYOUT EVENTS ROUNDS NUMBER: NODES`: each of these nodes is made anew behind every NUMBERth event that the
 //!   lines of EVENTS come to, ROUNDS follow behind them, and the station has to be safe after every event.
 //!
-//! - `stories LAYOUT`: stories are played with all nodes of the small station, each driven by its own engine, and what was seen in each
-//!   is told; `rest LAYOUT ROUNDS` lets them rest for so many rounds of 10 ms over memory, and tells how many links became ready and were
-//!   lost.
-//!
 //! Of layouts, most of them a small station with a change:
 //!
 //! - `report CASES`: what `station check` writes, and its status;
@@ -53,7 +49,6 @@ mod failure;
 mod files;
 mod kind;
 mod lines;
-mod node_stories;
 mod restarts;
 mod runs;
 

@@ -5,7 +5,7 @@ use crate::failure::Failure;
 use crate::files::{NOTHING, parts, read};
 use crate::kind::{Kind, kind_of};
 use crate::restarts::lists;
-use crate::{captures, cases, lines, node_stories};
+use crate::{captures, cases, lines};
 use std::io::{BufWriter, Write};
 
 /// The file that names what is run.
@@ -32,7 +32,6 @@ fn carry_out<W: Write>(rt: &HostRuntime, run: &str, out: &mut W) -> Result<(), F
             cases::carry_out(rt, kind, words, out)
         }
         Kind::Restarts => lists::carry_out(rt, words, out),
-        Kind::Stories | Kind::Rest => node_stories::tell(rt, words, out),
         _ => with_texts(rt, kind, words, out),
     }
 }

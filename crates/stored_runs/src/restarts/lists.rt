@@ -31,9 +31,7 @@ pub(crate) fn carry_out<W: Write>(
     };
     let layout = read(rt, line.layout)?;
     let table = table_in(rt.alloc(), layout.as_str())?;
-    let tried = try_list(rt, &table, line, out);
-    drop(table);
-    tried
+    try_list(rt, &table, line, out)
 }
 
 /// A line, as it is read.
@@ -67,10 +65,7 @@ fn try_list<W: Write>(
         rounds: &rounds,
         step: line.step,
     };
-    let tried = try_words(rt, &list, line.nodes, out);
-    drop(rounds);
-    drop(events);
-    tried
+    try_words(rt, &list, line.nodes, out)
 }
 
 /// Makes the nodes of names anew, and writes what happened.

@@ -45,23 +45,19 @@ pub(crate) fn events_of(
     let Ok(mut run) = Run::new(alloc, table, STATION, Way::Zero, Tally::new()) else {
         return Err(Fault::OutOfMemory);
     };
-    let kept = keep_all(alloc, &mut run, lines);
-    let events = mem::replace(&mut run.events, Vec::new(alloc));
-    drop(run);
-    match kept {
-        Ok(()) => Ok(events),
-        Err(fault) => Err(fault),
-    }
+    keep_all(alloc, &mut run, lines)?;
+    Ok(mem::replace(&mut run.events, Vec::new(alloc)))
 }
 
 /// Keeps what lines come to.
-fn keep_all(alloc: Global, run: &mut Run, lines: Vec<SimLine>) -> Result<(), Fault> {
-    for line in lines {
+fn keep_all(alloc: Global, run: &mut Run, mut lines: Vec<SimLine>) -> Result<(), Fault> {
+    for line in &mut lines {
         match line {
             // Each run here begins at rest.
             SimLine::Begins(_) => return Err(Fault::Event),
-            SimLine::Event(event) => run.keep(event)?,
-            SimLine::Flow(length) => run.flow(alloc, length)?,
+            // An event is taken out of its line, in which another one is left.
+            SimLine::Event(event) => run.keep(mem::replace(event, Event::Tick(STATION)))?,
+            SimLine::Flow(length) => run.flow(alloc, *length)?,
             SimLine::Picture => {}
         }
     }
@@ -132,7 +128,6 @@ impl List<'_> {
         };
         let played = self.play(alloc, trial, &mut run);
         *tally = run.watch.tally;
-        drop(run);
         played
     }
 

@@ -1,14 +1,14 @@
 //! The record of a node's whole process, and whether it is the same once more.
 
-use crate::failure::Failure;
 use crate::node_stories::desk::{Desk, Others};
 use crate::node_stories::place::fresh_memory;
 use crate::node_stories::plant::{BEGINS, Plant, Played, STEP};
 use crate::node_stories::script::{LATE, LATE_ROUNDS};
-use crate::node_stories::station::{Station, name};
+use crate::node_stories::station::{NAMES, Station, name};
+use crate::run_bench::SMALL;
 use node_kinds::node_drive::Outside;
 use node_kinds::simulator_run::simulator_event::NodeId;
-use station_node::node_network::{MemoryOutside, Recorded};
+use node_network::{MemoryOutside, Recorded};
 use station_node::{replay_node_text, run_node};
 
 /// From which number on the node numbers its PDUs, and another one.
@@ -19,32 +19,28 @@ const OTHER_FIRST: u32 = 78;
 /// For how many milliseconds the node runs.
 const FOR_MS: u64 = STEP * LATE_ROUNDS;
 
-/// What comes of a node's record: whether it is the same once more, whether a half of it is, and whether it differs where the PDUs are
-/// numbered otherwise.
-pub(crate) fn verdict(station: Station<'_>, number: usize) -> Result<&'static str, Failure> {
+/// Whether the record of each node is the same once more, and so is a half of it, and differs where the PDUs are numbered otherwise.
+pub(crate) fn records_are_same(station: Station<'_>) -> bool {
+    for number in 0..NAMES.len() {
+        if !is_same(station, number) {
+            return false;
+        }
+    }
+    true
+}
+
+/// The same of one node.
+fn is_same(station: Station<'_>, number: usize) -> bool {
     let mut record = Vec::new(station.alloc);
-    if record_node(station, number, &mut record) {
-        Ok(judged(station, number, &record))
-    } else {
-        Err(Failure::Ended)
-    }
-}
-
-/// What comes of the lines of a record behind its first one.
-fn judged(station: Station<'_>, number: usize, record: &[u8]) -> &'static str {
+    let is_recorded = record_node(station, number, &mut record);
     let (front, _) = record.split_at(record.len() / 2);
-    let whole = replayed(station, number, FIRST, record);
-    let half = replayed(station, number, FIRST, front);
-    let other = replayed(station, number, OTHER_FIRST, record);
-    match (whole, half, other) {
-        (0, 0, 3) => "the same, and differs with other numbers",
-        (0, 0, _) => "the same with other numbers",
-        (0, _, _) => "its half differs",
-        _ => "differs",
-    }
+    is_recorded
+        && replayed(station, number, FIRST, &record) == 0
+        && replayed(station, number, FIRST, front) == 0
+        && replayed(station, number, OTHER_FIRST, &record) == 3
 }
 
-/// With which status a record that begins with this number is replayed: 0 where it is the same, and 3 where it differs.
+/// With which status a record is replayed that begins with this number: 0 where it is the same, and 3 where it differs.
 fn replayed(station: Station<'_>, number: usize, first: u32, lines: &[u8]) -> u8 {
     let alloc = station.alloc;
     let Ok(lines) = str::from_utf8(lines) else {
@@ -55,8 +51,7 @@ fn replayed(station: Station<'_>, number: usize, first: u32, lines: &[u8]) -> u8
         return 1;
     };
     let (mut out, mut err) = (Vec::new(alloc), Vec::new(alloc));
-    let record = record.as_str();
-    let status = replay_node_text(alloc, station.text, name, record, &mut out, &mut err);
+    let status = replay_node_text(alloc, SMALL, name, record.as_str(), &mut out, &mut err);
     let is_same = out.as_slice() == b"same\n".as_slice();
     if is_same == (status == 0) { status } else { 1 }
 }
@@ -74,11 +69,8 @@ fn record_node(station: Station<'_>, number: usize, record: &mut Vec<u8>) -> boo
     let mut memory = fresh_memory(station.alloc, BEGINS, STEP);
     // What its contacts have told comes to it.
     plant.exchange(&mut memory);
-    let ended = record_beside(station, number, &mut memory, &mut plant, record);
-    let is_whole = plant.seen.is_whole();
-    drop(memory);
-    drop(plant);
-    ended && is_whole
+    let has_ended = record_beside(station, number, &mut memory, &mut plant, record);
+    has_ended && plant.seen.is_whole()
 }
 
 /// Records a whole process over memory, beside others. It tells whether it ran to its end.
@@ -96,27 +88,23 @@ fn record_beside<O: Others>(
         wire: &mut no_wire,
         others,
     };
-    let ended = record_whole(station, number, desk, record);
-    drop(no_wire);
-    ended
+    record_whole(station, number, desk, record)
 }
 
 /// Records a whole process that has this outside. It tells whether it ran to its end.
-fn record_whole<'a, O: Outside + Drop>(
-    station: Station<'a>,
+fn record_whole<O: Outside + Drop>(
+    station: Station<'_>,
     number: usize,
     outside: O,
     record: &mut Vec<u8>,
 ) -> bool {
     let (rt, alloc, table) = (station.rt, station.alloc, station.table);
-    let mut recorded = Recorded::new(alloc, table.layout(), outside, Some(&mut *record), rt);
-    let ended = match table.copy(alloc) {
+    let mut recorded = Recorded::new(alloc, table.layout(), outside, Some(record), rt);
+    match table.copy(alloc) {
         Ok(copy) => {
             let node = NodeId(number);
             run_node(alloc, copy, node, FIRST, FOR_MS, &mut recorded).is_ok()
         }
         Err(_) => false,
-    };
-    drop(recorded);
-    ended
+    }
 }

@@ -1,23 +1,22 @@
 //! A node with what it has outside, and its equipment.
 
-use crate::failure::Failure;
-use crate::node_stories::any_node::Beginning;
+use crate::node_stories::any_node::{AnyNode, Beginning};
 use crate::node_stories::changes::Seen;
 use crate::node_stories::desk::{Wire, opened};
-use crate::node_stories::driven::{Driven, put};
+use crate::node_stories::driven::put;
 use crate::node_stories::gear::Gear;
 use crate::node_stories::station::{D1, P1, Station, name};
+use control_table::sci_telegram::Position;
+use node_kinds::node_drive::Course;
 use node_kinds::node_drive::node_lines::read_order;
-use node_kinds::node_drive::{Course, NodeFault};
-use node_kinds::simulator_run::ixl_rules::control_table::sci_telegram::Position;
-use station_node::node_network::MemoryOutside;
+use node_network::MemoryOutside;
 use std::alloc::Global;
 
 /// The process of a node with what it has outside, and its equipment or its operator.
 #[derive(Drop)]
 pub(crate) struct Place<'a> {
     number: usize,
-    driven: Driven<'a>,
+    node: AnyNode<'a>,
     course: Course,
     pub(crate) memory: MemoryOutside,
     /// Its socket, if it has one.
@@ -26,32 +25,29 @@ pub(crate) struct Place<'a> {
 }
 
 impl<'a> Place<'a> {
-    /// A process that begins. What its contacts tell comes to it.
+    /// A process that begins, unless memory or a socket is lacking. What its contacts tell comes to it.
     pub(crate) fn begun(
         station: Station<'a>,
         begins: Beginning,
         seen: &mut Seen,
-    ) -> Result<Place<'a>, Failure> {
-        let wire = wire_of(station, begins)?;
+    ) -> Option<Place<'a>> {
         let alloc = station.alloc;
-        match Driven::made(alloc, station.table, begins) {
-            Ok(driven) => {
-                let mut place = Place {
-                    number: begins.number,
-                    driven,
-                    course: Course::new(alloc),
-                    memory: fresh_memory(alloc, begins.now, begins.step),
-                    wire,
-                    gear: begins.gear,
-                };
-                place.tell_contacts(seen);
-                Ok(place)
-            }
-            Err(_) => {
-                drop(wire);
-                Err(Failure::OutOfMemory)
-            }
-        }
+        let wire = if begins.has_socket {
+            Some(opened(station, begins.number)?)
+        } else {
+            None
+        };
+        let node = AnyNode::made(station, begins)?;
+        let mut place = Place {
+            number: begins.number,
+            node,
+            course: Course::new(alloc),
+            memory: fresh_memory(alloc, begins.now, begins.step),
+            wire,
+            gear: begins.gear,
+        };
+        place.tell_contacts(seen);
+        Some(place)
     }
 
     /// The process ends, and a new one begins at the same equipment.
@@ -60,8 +56,8 @@ impl<'a> Place<'a> {
         put(&mut self.wire, None);
         let gear = self.gear.ended();
         match Place::begun(station, Beginning { gear, ..begins }, seen) {
-            Ok(begun) => put(self, begun),
-            Err(failure) => seen.fail(failure),
+            Some(begun) => put(self, begun),
+            None => seen.fail(),
         }
         seen.note(name(begins.number), "anew");
     }
@@ -83,12 +79,10 @@ impl<'a> Place<'a> {
     pub(crate) fn run(&mut self, alloc: Global, failing: u64, seen: &mut Seen) -> u64 {
         self.memory.fail_after(failing);
         let ran = self
-            .driven
+            .node
             .round(alloc, &mut self.course, &mut self.memory, &mut self.wire);
-        match ran {
-            Ok(()) => {}
-            Err(NodeFault::OutOfMemory) => seen.fail(Failure::OutOfMemory),
-            Err(_) => seen.note(name(self.number), "ended"),
+        if ran.is_err() {
+            seen.note(name(self.number), "ended");
         }
         self.memory.fail_after(0)
     }
@@ -125,17 +119,8 @@ impl<'a> Place<'a> {
         let number = order.number;
         match format!(in alloc; "done {number}") {
             Ok(line) => self.bring_line(line.as_str(), seen),
-            Err(_) => seen.fail(Failure::OutOfMemory),
+            Err(_) => seen.fail(),
         }
-    }
-}
-
-/// The socket of a process that begins, if it has one.
-fn wire_of<'a>(station: Station<'a>, begins: Beginning) -> Result<Option<Wire<'a>>, Failure> {
-    if begins.has_socket {
-        Ok(Some(opened(station, begins.number)?))
-    } else {
-        Ok(None)
     }
 }
 

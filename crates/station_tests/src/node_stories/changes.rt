@@ -1,6 +1,5 @@
 //! What was seen to change.
 
-use crate::failure::Failure;
 use std::alloc::{AllocError, Global};
 
 /// What was seen to change in the field, or told to the operator.
@@ -10,10 +9,10 @@ pub(crate) struct Seen {
     /// In words, oldest first.
     text: String,
     /// How often the operator was told that a link became ready, and that one was lost.
-    pub(crate) ready: u64,
-    pub(crate) lost: u64,
-    /// What failed last, if anything did.
-    failure: Option<Failure>,
+    ready: u64,
+    lost: u64,
+    /// Whether something failed: what was seen counts for nothing then.
+    has_failed: bool,
 }
 
 impl Seen {
@@ -23,19 +22,19 @@ impl Seen {
             text: String::new(alloc),
             ready: 0,
             lost: 0,
-            failure: None,
+            has_failed: false,
         }
     }
 
-    /// Something failed: what was seen counts for nothing.
-    pub(crate) fn fail(&mut self, failure: Failure) {
-        self.failure = Some(failure);
+    /// Something failed.
+    pub(crate) fn fail(&mut self) {
+        self.has_failed = true;
     }
 
     /// Something was done, unless memory was lacking.
     pub(crate) fn expect(&mut self, done: Result<(), AllocError>) {
-        if let Err(error) = done {
-            self.fail(Failure::from(error));
+        if done.is_err() {
+            self.fail();
         }
     }
 
@@ -46,8 +45,8 @@ impl Seen {
     }
 
     fn add(&mut self, thing: &str, change: &str) -> Result<(), AllocError> {
-        let mark = if self.text.is_empty() { "" } else { "," };
-        let words = format!(in self.alloc; "{mark} {thing} {change}")?;
+        let mark = if self.text.is_empty() { "" } else { ", " };
+        let words = format!(in self.alloc; "{mark}{thing} {change}")?;
         self.text.push_str(words.as_str())
     }
 
@@ -64,24 +63,24 @@ impl Seen {
         self.lost = self.lost.saturating_add(u64::from(line.ends_with(" lost")));
     }
 
-    /// What changed, in words.
-    pub(crate) fn text(&self) -> Result<&str, Failure> {
-        match self.failure {
-            Some(failure) => Err(failure),
-            None => Ok(self.text.as_str()),
-        }
-    }
-
     /// Whether nothing failed.
     pub(crate) fn is_whole(&self) -> bool {
-        self.failure.is_none()
+        !self.has_failed
     }
 
-    /// Whether nothing failed, and this changed.
-    pub(crate) fn is(&self, wanted: &str) -> bool {
-        match self.text() {
-            Ok(text) => text == wanted,
-            Err(_) => false,
+    /// Whether nothing failed, and just this changed. Otherwise what did is told on standard error.
+    pub(crate) fn is(&self, rt: &HostRuntime, wanted: &str) -> bool {
+        let text = self.text.as_str();
+        let is_wanted = self.is_whole() && text == wanted;
+        if !is_wanted {
+            // Where this can't be written, the verdict has to do.
+            let _ = eprintln!(rt; "{text}");
         }
+        is_wanted
+    }
+
+    /// Whether so many links became ready, and so many were lost.
+    pub(crate) fn has_links(&self, ready: u64, lost: u64) -> bool {
+        self.ready == ready && self.lost == lost
     }
 }

@@ -7,10 +7,9 @@ use crate::node_stories::gear::{Gear, RESTING};
 use crate::node_stories::place::Place;
 use crate::node_stories::script::{Act, Row};
 use crate::node_stories::station::{NAMES, P1, S1, S3, S4, Station};
-use node_kinds::simulator_run::ixl_rules::control_table::sci_telegram::Position;
+use control_table::sci_telegram::Position;
 use node_kinds::simulator_run::simulator_event::NodeId;
-use station_node::node_network::MemoryOutside;
-use std::alloc::AllocError;
+use node_network::MemoryOutside;
 use std::mem;
 
 /// What the clock of each node reads before the first round.
@@ -89,8 +88,12 @@ impl<'a> Plant<'a> {
     fn add(&mut self, number: usize) {
         let begins = self.beginning(number);
         match Place::begun(self.station, begins, &mut self.seen) {
-            Ok(place) => self.seen.expect(push(&mut self.places, place)),
-            Err(failure) => self.seen.fail(failure),
+            Some(place) => {
+                if self.places.push(place).is_err() {
+                    self.seen.fail();
+                }
+            }
+            None => self.seen.fail(),
         }
     }
 
@@ -169,11 +172,8 @@ impl<'a> Plant<'a> {
     /// A round of each node.
     fn run(&mut self) {
         for place in &mut self.places {
-            self.played.failing = place.run(
-                self.station.alloc,
-                self.played.failing,
-                &mut self.seen,
-            );
+            let alloc = self.station.alloc;
+            self.played.failing = place.run(alloc, self.played.failing, &mut self.seen);
         }
     }
 
@@ -258,10 +258,4 @@ impl<'a> Others for Plant<'a> {
         self.go_on();
         self.exchange(memory);
     }
-}
-
-/// Adds a value behind others.
-fn push<T: Drop>(all: &mut Vec<T>, one: T) -> Result<(), AllocError> {
-    all.push(one)?;
-    Ok(())
 }

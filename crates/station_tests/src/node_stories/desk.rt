@@ -2,29 +2,24 @@
 
 ghost use Rattle.std.specs.Prelude.{◌≡◌};
 
-use crate::failure::Failure;
 use crate::node_stories::station::Station;
 use node_kinds::node_drive::node_lines::replay_words::Fault;
 use node_kinds::node_drive::node_lines::simulator_event::NodeId;
 use node_kinds::node_drive::{Arrived, BrokenOff, NextLine, Outside};
-use station_node::node_network::{Lines, Machine, MemoryOutside, NodeClock, NodeSocket};
+use node_network::{Lines, Machine, MemoryOutside, NodeClock, NodeSocket};
 use std::alloc::{AllocError, Global};
 
 /// A machine whose lines and whose clock nothing is asked for.
-pub(crate) type Wire<'a> = Machine<'a, HostRuntime, &'static [u8], Vec<u8>, Vec<u8>>;
+pub(crate) type Wire<'a> = Machine<'a, HostRuntime, &'a [u8], Vec<u8>, Vec<u8>>;
 
 /// Opens the socket of a node, at the node's own address.
-pub(crate) fn opened<'a>(station: Station<'a>, number: usize) -> Result<Wire<'a>, Failure> {
-    let alloc = station.alloc;
-    let (Ok(clock), Ok(socket)) = (
-        NodeClock::start(station.rt, 0),
-        NodeSocket::open(station.rt, alloc, station.addresses, NodeId(number)),
-    ) else {
-        return Err(Failure::Socket);
-    };
-    let nothing: &'static [u8] = &[];
+pub(crate) fn opened<'a>(station: Station<'a>, number: usize) -> Option<Wire<'a>> {
+    let (rt, alloc) = (station.rt, station.alloc);
+    let clock = NodeClock::start(rt, 0).ok()?;
+    let socket = NodeSocket::open(rt, alloc, station.addresses, NodeId(number)).ok()?;
+    let nothing: &'a [u8] = &[];
     let lines = Lines::of_field(nothing, Vec::new(alloc));
-    Ok(Machine::new(alloc, clock, socket, lines, Vec::new(alloc)))
+    Some(Machine::new(alloc, clock, socket, lines, Vec::new(alloc)))
 }
 
 /// Who has a round while a process rests.

@@ -1,53 +1,42 @@
 //! A node that is driven for a round at a time.
 
-ghost use Rattle.std.specs.Prelude.{◌≡◌};
+ghost use Rattle.std.specs.Prelude.{◌≡◌, ◌≤◌};
 
-use crate::node_stories::any_node::{AnyNode, Beginning, drive_once, made};
 use crate::node_stories::desk::{Desk, Nobody, Wire};
-use node_kinds::node_drive::{Course, NodeFault};
-use node_kinds::simulator_run::ixl_rules::control_table::Checked;
-use station_node::node_network::MemoryOutside;
-use std::alloc::{AllocError, Global};
+use node_kinds::node_drive::{Course, Node, NodeFault, drive};
+use node_network::MemoryOutside;
+use std::alloc::Global;
 use std::marker::Model;
 
-/// A node that was never stepped at a later reading than its clock was read at.
+/// A node that was never stepped at a later reading than its clock was read at. Where its process has ended, there is none any more.
 #[derive(Drop)]
-pub(crate) struct Driven<'a> {
-    node: Option<AnyNode<'a>>,
+pub(crate) struct Driven<N: Node> {
+    node: Option<N>,
     latest: u64,
     /// The reading of its last tick.
     ticked: u64,
 }
 
-impl<'a> Model for Driven<'a> {
+impl<N: Node> Model for Driven<N> {
     ghost use Rattle.std.specs.Prelude.{◌≡◌, ◌≤◌, Some};
-    ghost use Rattle.stored_runs.specs.Reached.{reached};
-    ghost use Rattle.stored_runs.specs.declared.node_stories.any_node.AnyNode.{AnyNode};
 
     ghost Value = { Unit {0} };
 
     ghost view = { λ d. tt };
 
-    ghost invariant = { λ d. (node : AnyNode) → d.node ≡ Some node → reached node ≤ d.latest };
+    ghost invariant = { λ d. (node : N) → d.node ≡ Some node → (N.node node).reached ≤ d.latest };
 }
 
-impl<'a> Driven<'a> {
-    /// The node of a process that begins, if it has one.
-    pub(crate) fn made(
-        alloc: Global,
-        table: &'a Checked,
-        begins: Beginning,
-    ) -> Result<Driven<'a>, AllocError> {
-        let node = if begins.runs {
-            Some(made(alloc, table, begins)?)
-        } else {
-            None
-        };
-        Ok(Driven {
-            node,
-            latest: begins.now,
-            ticked: begins.now,
-        })
+impl<N: Node + Drop> Driven<N> {
+    /// A node that was made at this reading.
+    pub(crate) fn begun(node: N, now: u64) -> Driven<N>
+        requires { (N.node node).reached ≤ now }
+    {
+        Driven {
+            node: Some(node),
+            latest: now,
+            ticked: now,
+        }
     }
 
     /// A round, if there is a node. Where it ends in that, there is none any more.
@@ -67,7 +56,7 @@ impl<'a> Driven<'a> {
             wire,
             others: &mut Nobody,
         };
-        let ticked = drive_once(alloc, node, course, &mut desk, self.ticked);
+        let ticked = drive(alloc, node, course, &mut desk, self.ticked, 0);
         self.latest = desk.latest;
         match ticked {
             Ok(ticked) => {
