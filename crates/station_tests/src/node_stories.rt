@@ -14,35 +14,62 @@ mod station;
 mod stories;
 
 use crate::node_stories::records::records_are_same;
-use crate::node_stories::station::Site;
+use crate::node_stories::station::{Station, free_addresses};
 use crate::node_stories::stories::{calls_that_fail_change_nothing, rests, stories_are_seen};
+use crate::run_bench::SMALL;
+use station_run::station_record::replay::station_check::table_of;
+
+/// What is tried with the small station.
+#[derive(Clone, Copy)]
+enum Trial {
+    Stories,
+    FailingCalls,
+    Records,
+    /// It rests for so many rounds.
+    Rest(u64),
+}
+
+/// Whether a trial comes out as it has to.
+fn comes_out(rt: &HostRuntime, trial: Trial) -> bool {
+    let alloc = rt.alloc();
+    let (Some(addresses), Ok(table)) = (free_addresses(rt), table_of(alloc, SMALL)) else {
+        return false;
+    };
+    let station = Station {
+        rt,
+        alloc,
+        table: &table,
+        addresses: &addresses,
+    };
+    match trial {
+        Trial::Stories => stories_are_seen(station),
+        Trial::FailingCalls => calls_that_fail_change_nothing(station),
+        Trial::Records => records_are_same(station),
+        Trial::Rest(rounds) => rests(station, rounds),
+    }
+}
 
 #[test]
 fn each_story_is_seen_as_it_is_told(rt: HostRuntime) {
-    let site = Site::new(&rt).expect(&rt, "a station");
-    assert!(rt; stories_are_seen(site.station(&rt)));
+    assert!(rt; comes_out(&rt, Trial::Stories));
 }
 
 #[test]
 fn a_call_of_the_network_that_fails_changes_nothing(rt: HostRuntime) {
-    let site = Site::new(&rt).expect(&rt, "a station");
-    assert!(rt; calls_that_fail_change_nothing(site.station(&rt)));
+    assert!(rt; comes_out(&rt, Trial::FailingCalls));
 }
 
 #[test]
 fn the_record_of_each_node_is_the_same_once_more(rt: HostRuntime) {
-    let site = Site::new(&rt).expect(&rt, "a station");
-    assert!(rt; records_are_same(site.station(&rt)));
+    assert!(rt; comes_out(&rt, Trial::Records));
 }
 
 #[test]
 fn links_stay_up_for_20000_rounds_at_rest(rt: HostRuntime) {
-    let site = Site::new(&rt).expect(&rt, "a station");
-    assert!(rt; rests(site.station(&rt), 20_000));
+    assert!(rt; comes_out(&rt, Trial::Rest(20_000)));
 }
 
 #[test]
 fn links_stay_up_for_a_million_rounds_at_rest(rt: HostRuntime) {
-    let site = Site::new(&rt).expect(&rt, "a station");
-    assert!(rt; rests(site.station(&rt), 1_000_000));
+    assert!(rt; comes_out(&rt, Trial::Rest(1_000_000)));
 }

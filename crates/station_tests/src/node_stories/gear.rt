@@ -33,6 +33,18 @@ pub(crate) const RESTING: Gear = Gear {
     answers: true,
 };
 
+/// Whether the lamps of S1, S3 and S4 show what the point allows: one over either leg from the tip, the other one from its left leg.
+pub(crate) fn is_safe(now: u64, [s1, s3, s4]: [Gear; 3], point: Gear) -> bool {
+    let is_still = !point.is_on(now);
+    let fits = match (s1.is_on(now), s3.is_on(now)) {
+        (false, false) => true,
+        (true, false) => is_still && point.lies != Position::NoEndPosition,
+        (false, true) => is_still && point.lies == Position::Left,
+        (true, true) => false,
+    };
+    fits && !s4.is_on(now)
+}
+
 impl Gear {
     /// An order comes. One that renews the last lets the motor go on.
     pub(crate) fn take(&mut self, order: Order) {

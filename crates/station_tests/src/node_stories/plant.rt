@@ -3,13 +3,13 @@
 use crate::node_stories::any_node::Beginning;
 use crate::node_stories::changes::Seen;
 use crate::node_stories::desk::Others;
-use crate::node_stories::gear::{Gear, RESTING};
+use crate::node_stories::gear::{RESTING, is_safe};
 use crate::node_stories::place::Place;
 use crate::node_stories::script::{Act, Row};
-use crate::node_stories::station::{NAMES, P1, S1, S3, S4, Station};
-use control_table::sci_telegram::Position;
+use crate::node_stories::station::{NAMES, Station};
 use node_kinds::simulator_run::simulator_event::NodeId;
 use node_network::MemoryOutside;
+use std::alloc::AllocError;
 use std::mem;
 
 /// What the clock of each node reads before the first round.
@@ -60,7 +60,6 @@ pub(crate) struct Plant<'a> {
     round: u64,
     /// How many processes were made.
     made: u32,
-    is_unsafe: bool,
 }
 
 impl<'a> Plant<'a> {
@@ -73,27 +72,15 @@ impl<'a> Plant<'a> {
             seen: Seen::new(station.alloc),
             round: 0,
             made: 0,
-            is_unsafe: false,
         }
     }
 
     /// Each node begins, with equipment of its own.
     pub(crate) fn begin(&mut self) {
         for number in 0..NAMES.len() {
-            self.add(number);
-        }
-    }
-
-    /// The process of one more node begins.
-    fn add(&mut self, number: usize) {
-        let begins = self.beginning(number);
-        match Place::begun(self.station, begins, &mut self.seen) {
-            Some(place) => {
-                if self.places.push(place).is_err() {
-                    self.seen.fail();
-                }
-            }
-            None => self.seen.fail(),
+            let begins = self.beginning(number);
+            let begun = Place::begun(self.station, begins, &mut self.seen);
+            self.seen.expect(push(&mut self.places, begun));
         }
     }
 
@@ -128,17 +115,18 @@ impl<'a> Plant<'a> {
 
     fn perform(&mut self, act: Act) {
         match act {
-            Act::Say(line) => self.say(line),
+            Act::Say(line) => {
+                if let Some(place) = self.places.first_mut() {
+                    place.bring_line(line, &mut self.seen);
+                }
+            }
             Act::MakeAnew(number) => self.make_anew(number),
             Act::MakeChosenAnew => self.make_anew(self.played.chosen),
-            Act::Silence(number) => self.silence(number),
-        }
-    }
-
-    /// The operator says a line.
-    fn say(&mut self, line: &str) {
-        if let Some(place) = self.places.first_mut() {
-            place.bring_line(line, &mut self.seen);
+            Act::Silence(number) => {
+                if let Some(place) = self.places.get_mut(number) {
+                    place.gear.answers = false;
+                }
+            }
         }
     }
 
@@ -147,13 +135,6 @@ impl<'a> Plant<'a> {
         let begins = self.beginning(number);
         if let Some(place) = self.places.get_mut(number) {
             place.make_anew(self.station, begins, &mut self.seen);
-        }
-    }
-
-    /// The equipment of a node doesn't say any more that an order is in force.
-    fn silence(&mut self, number: usize) {
-        if let Some(place) = self.places.get_mut(number) {
-            place.gear.answers = false;
         }
     }
 
@@ -205,33 +186,13 @@ impl<'a> Plant<'a> {
         }
     }
 
-    /// Whether what the lamps show is safe is noted, once.
+    /// It is noted where what the lamps show isn't safe.
     fn judge(&mut self) {
-        if !self.is_unsafe && !self.is_safe() {
-            self.is_unsafe = true;
-            self.seen.note("lamps", "UNSAFE");
-        }
-    }
-
-    /// Whether the lamps show what the point allows: one over either leg from the tip, the other one from its left leg.
-    fn is_safe(&self) -> bool {
-        let now = self.now();
-        let point = self.gear(P1);
-        let is_still = !point.is_on(now);
-        let fits = match (self.gear(S1).is_on(now), self.gear(S3).is_on(now)) {
-            (false, false) => true,
-            (true, false) => is_still && point.lies != Position::NoEndPosition,
-            (false, true) => is_still && point.lies == Position::Left,
-            (true, true) => false,
+        let [_, s1, s3, s4, p1, ..] = self.places.as_slice() else {
+            return;
         };
-        fits && !self.gear(S4).is_on(now)
-    }
-
-    /// The equipment of a node.
-    fn gear(&self, number: usize) -> Gear {
-        match self.places.get(number) {
-            Some(place) => place.gear,
-            None => RESTING,
+        if !is_safe(self.now(), [s1.gear, s3.gear, s4.gear], p1.gear) {
+            self.seen.note("lamps", "UNSAFE");
         }
     }
 
@@ -258,4 +219,13 @@ impl<'a> Others for Plant<'a> {
         self.go_on();
         self.exchange(memory);
     }
+}
+
+/// Adds a value behind others, if there is one.
+fn push<T: Drop>(all: &mut Vec<T>, one: Option<T>) -> Result<(), AllocError> {
+    let Some(one) = one else {
+        return Err(AllocError);
+    };
+    all.push(one)?;
+    Ok(())
 }

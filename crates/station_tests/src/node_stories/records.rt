@@ -1,6 +1,6 @@
 //! The record of a node's whole process, and whether it is the same once more.
 
-use crate::node_stories::desk::{Desk, Others};
+use crate::node_stories::desk::Desk;
 use crate::node_stories::place::fresh_memory;
 use crate::node_stories::plant::{BEGINS, Plant, Played, STEP};
 use crate::node_stories::script::{LATE, LATE_ROUNDS};
@@ -8,7 +8,7 @@ use crate::node_stories::station::{NAMES, Station, name};
 use crate::run_bench::SMALL;
 use node_kinds::node_drive::Outside;
 use node_kinds::simulator_run::simulator_event::NodeId;
-use node_network::{MemoryOutside, Recorded};
+use node_network::Recorded;
 use station_node::{replay_node_text, run_node};
 
 /// From which number on the node numbers its PDUs, and another one.
@@ -69,26 +69,15 @@ fn record_node(station: Station<'_>, number: usize, record: &mut Vec<u8>) -> boo
     let mut memory = fresh_memory(station.alloc, BEGINS, STEP);
     // What its contacts have told comes to it.
     plant.exchange(&mut memory);
-    let has_ended = record_beside(station, number, &mut memory, &mut plant, record);
-    has_ended && plant.seen.is_whole()
-}
-
-/// Records a whole process over memory, beside others. It tells whether it ran to its end.
-fn record_beside<O: Others>(
-    station: Station<'_>,
-    number: usize,
-    memory: &mut MemoryOutside,
-    others: &mut O,
-    record: &mut Vec<u8>,
-) -> bool {
     let mut no_wire = None;
     let desk = Desk {
         latest: 0,
-        memory,
+        memory: &mut memory,
         wire: &mut no_wire,
-        others,
+        others: &mut plant,
     };
-    record_whole(station, number, desk, record)
+    let has_ended = record_whole(station, number, desk, record);
+    has_ended && plant.seen.is_whole()
 }
 
 /// Records a whole process that has this outside. It tells whether it ran to its end.

@@ -1,10 +1,8 @@
 //! The small station.
 
-use crate::run_bench::SMALL;
 use control_table::Checked;
-use station_run::station_record::replay::station_check::table_of;
 use std::alloc::Global;
-use std::net::{IpAddr, Ipv4Addr, Net, SocketAddr, UdpSocket};
+use std::net::{IpAddr, Ipv4Addr, Net, SocketAddr};
 
 /// One point, with a route over each of its legs from the same signal, and one back over its left leg: its control table, and the
 /// addresses of its nodes on this machine, in their order.
@@ -14,13 +12,6 @@ pub(crate) struct Station<'a> {
     pub(crate) alloc: Global,
     pub(crate) table: &'a Checked,
     pub(crate) addresses: &'a [SocketAddr],
-}
-
-/// What a station is made of.
-#[derive(Drop)]
-pub(crate) struct Site {
-    table: Checked,
-    addresses: Vec<SocketAddr>,
 }
 
 /// Its nodes, by their numbers.
@@ -44,38 +35,20 @@ pub(crate) fn name(number: usize) -> &'static str {
     NAMES.get(number).copied().unwrap_or("-")
 }
 
-impl Site {
-    /// The small station, with addresses of the loopback interface, each with a port that the system gave.
-    pub(crate) fn new(rt: &HostRuntime) -> Option<Site> {
-        let alloc = rt.alloc();
-        let (mut sockets, mut addresses) = (Vec::new(alloc), Vec::new(alloc));
-        // All are held until the last is found, so that none is found twice.
-        for _ in 0..NAMES.len() {
-            bind(rt, &mut sockets, &mut addresses)?;
-        }
-        let table = table_of(alloc, SMALL).ok()?;
-        Some(Site { table, addresses })
-    }
-
-    pub(crate) fn station<'a>(&'a self, rt: &'a HostRuntime) -> Station<'a> {
-        Station {
-            rt,
-            alloc: rt.alloc(),
-            table: &self.table,
-            addresses: &self.addresses,
-        }
-    }
+/// An address of the loopback interface for each node, all with one port, which the system gave.
+pub(crate) fn free_addresses(net: &impl Net) -> Option<[SocketAddr; 6]> {
+    let port = net.bind_udp(at(1, 0)).ok()?.local_addr().ok()?.port();
+    Some([
+        at(1, port),
+        at(2, port),
+        at(3, port),
+        at(4, port),
+        at(5, port),
+        at(6, port),
+    ])
 }
 
-/// Binds a socket at an address with a port that the system gives.
-fn bind(
-    net: &impl Net,
-    sockets: &mut Vec<UdpSocket>,
-    addresses: &mut Vec<SocketAddr>,
-) -> Option<()> {
-    let anywhere = SocketAddr::new(IpAddr::V4(Ipv4Addr::LOCALHOST), 0);
-    let socket = net.bind_udp(anywhere).ok()?;
-    let address = socket.local_addr().ok()?;
-    sockets.push(socket).ok()?;
-    addresses.push(address).ok()
+/// An address of the loopback interface.
+fn at(last: u8, port: u16) -> SocketAddr {
+    SocketAddr::new(IpAddr::V4(Ipv4Addr::new(127, 0, 0, last)), port)
 }
