@@ -51,10 +51,12 @@ fn empty(outbox: &mut Outbox)
 }
 
 impl<C: Controller> Hosted<C> {
+    ghost use Rattle.std.specs.Borrow.{sem};
     ghost use Rattle.object_host.specs.Host.{is_completed};
     ghost use Rattle.object_host.specs.Made.{AreItems};
     ghost use Rattle.object_host.specs.Refused.{LeavesRefused};
     ghost use Rattle.object_host.specs.Step.{host_step};
+    ghost use Rattle.object_host.specs.Stepped.{EndsStepped};
     ghost use Rattle.object_host.specs.Hosted.{empty_outbox, new_host};
 
     /// A controller of these names and identities, with a link that isn't in a connection. Its PDUs are numbered
@@ -116,14 +118,12 @@ impl<C: Controller> Hosted<C> {
     }
 
     /// A step at a clock reading: the clock with the object's tick, the input, the owed reports, and on a tick the
-    /// link's. The outbox then has the datagrams of this step alone.
+    /// link's. It answers the outbox, which has the datagrams of this step alone.
     #[tactic(auto, using(crate::proofs::OutboxPosts::posting, crate::proofs::RefusedDatagrams::leaves_refused))]
-    pub fn step(&mut self, now: Millis, input: Input)
+    pub fn step(&mut self, now: Millis, input: Input) -> &Outbox
         requires { MayStep now self.old.host.link }
-        ensures host { self.new.host ≡ (host_step C.behaviour now input.entry self.old.host).host }
-        // Its link has this clock, and the identity that it had.
-        ensures kept { IsAt now self.old.host.link self.new.host.link }
-        ensures posted { self.new.outbox ≡ posted self.old.host.link.identity.key (host_step C.behaviour now input.entry self.old.host).pdus empty_outbox }
+        ensures* after { sem 𝓛 (EndsStepped C.row (record { behaviour = C.behaviour }) self.entry now input.entry) }
+        ensures value { result.now ≡ posted self.old.host.link.identity.key (host_step C.behaviour now input.entry self.old.host).pdus empty_outbox }
         // What it sends are items, so each call of the link is one that may be made.
         ensures items { AreItems (host_step C.behaviour now input.entry self.old.host).calls }
         // A datagram that the link refuses leaves what a step with that refusal in its place leaves.
@@ -131,6 +131,7 @@ impl<C: Controller> Hosted<C> {
     {
         empty(&mut self.outbox);
         self.host.step(now, &input, &mut self.outbox);
+        self.outbox()
     }
 
     /// The datagrams that the last step handed out and that weren't taken out since.

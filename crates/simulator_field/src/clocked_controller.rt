@@ -121,8 +121,7 @@ impl<C: Controller> ClockedController<C> {
     {
         let was_inside = self.is_inside_at(self.clock);
         let now = self.now();
-        self.hosted.step(now, input);
-        let sends = self.hosted.outbox().len();
+        let sends = self.hosted.step(now, input).len();
         let is_open = self.hosted.link().is_open();
         self.stay
             .note(was_inside, sends, is_open, connection, network.len());

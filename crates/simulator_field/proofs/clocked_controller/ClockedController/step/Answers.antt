@@ -6,29 +6,29 @@ use Rattle.simulator_field.proofs.clocked_controller.ClockedController.step.Goal
 
 pub note-requires : goal.note-requires
 note-requires g c =
-    let capacity = capacity_posted _ _ _ c.step.ensures.posted
-    in omega (arith, c.len-sends.ensures.within, ap (λ (o : OutboxState). o.capacity) c.outbox.ensures, c.len.ensures.fits, c.len.ensures.count, c.requires)
+    let capacity = capacity_posted _ _ _ c.step.follows.holds-at-none.posted
+    in omega (arith, c.len-sends.ensures.within, ap (λ (o : OutboxState). o.capacity) c.step.follows.claims.value, c.len.ensures.fits, c.len.ensures.count, c.requires)
 
 pub send_all-requires : goal.send_all-requires
 send_all-requires g c =
-    let capacity = capacity_posted _ _ _ c.step.ensures.posted
-    in omega (arith, c.len-sends.ensures.within, c.len-sends.ensures.count, ap (λ (o : OutboxState). o.capacity) c.outbox.ensures, ap (λ (o : OutboxState). length o.datagrams) c.outbox.ensures, c.requires)
+    let capacity = capacity_posted _ _ _ c.step.follows.holds-at-none.posted
+    in omega (arith, c.len-sends.ensures.within, c.len-sends.ensures.count, ap (λ (o : OutboxState). o.capacity) c.step.follows.claims.value, ap (λ (o : OutboxState). length o.datagrams) c.step.follows.claims.value, c.requires)
 
 pub returns-clause-server : goal.returns-clause-server
 returns-clause-server g c =
     let does = g.C.Controller.behaviour
-    in step_performed does c.args.input c.self.inside.hosted.host c.step.new.self.host c.send_all.new.hosted.host c.self.inside.clock c.now-now.result c.args.connection (length c.args.network.now.sent)
-    c.len-sends.result c.is_inside_at-was_inside.result c.is_open-is_open.result c.self.inside.stay c.note.new.self c.step.new.self.outbox c.args.self.now
-    c.self.view_is c.is_inside_at-was_inside.ensures c.now-now.ensures c.step.ensures.host c.step.ensures.posted (search rules) (search rules) (search rules) c.send_all.ensures.host
+    in step_performed does c.args.input c.self.inside.hosted.host c.step.follows.lender-at-none.host c.send_all.new.hosted.host c.self.inside.clock c.now-now.result c.args.connection (length c.args.network.now.sent)
+    c.len-sends.result c.is_inside_at-was_inside.result c.is_open-is_open.result c.self.inside.stay c.note.new.self c.step.follows.lender-at-none.outbox c.args.self.now
+    c.self.view_is c.is_inside_at-was_inside.ensures c.now-now.ensures c.step.follows.holds-at-none.host c.step.follows.holds-at-none.posted (search rules) (search rules) (search rules) c.send_all.ensures.host
 
 pub returns-clause-sent : goal.returns-clause-sent
 returns-clause-sent g c =
     c.send_all.ensures.sent
     ∙ ap (λ more. c.args.network.now.sent ++ more)
-    (step_handed_out g.C.Controller.behaviour c.args.input c.self.inside.hosted.host c.self.inside.clock c.now-now.result c.args.link c.args.network.now.time c.self.inside.stay c.step.new.self.outbox c.args.self.now
-    _ c.self.view_is c.now-now.ensures c.step.ensures.posted)
+    (step_handed_out g.C.Controller.behaviour c.args.input c.self.inside.hosted.host c.self.inside.clock c.now-now.result c.args.link c.args.network.now.time c.self.inside.stay c.step.follows.lender-at-none.outbox c.args.self.now
+    _ c.self.view_is c.now-now.ensures c.step.follows.holds-at-none.posted)
 
 pub returns-clause-room : goal.returns-clause-room
 returns-clause-room g c =
-    let capacity = capacity_posted _ _ _ c.step.ensures.posted
-    in omega (arith, c.send_all.ensures.room, c.len-sends.ensures.within, c.len-sends.ensures.count, ap (λ (o : OutboxState). o.capacity) c.outbox.ensures, ap (λ (o : OutboxState). length o.datagrams) c.outbox.ensures)
+    let capacity = capacity_posted _ _ _ c.step.follows.holds-at-none.posted
+    in omega (arith, c.send_all.ensures.room, c.len-sends.ensures.within, c.len-sends.ensures.count, ap (λ (o : OutboxState). o.capacity) c.step.follows.claims.value, ap (λ (o : OutboxState). length o.datagrams) c.step.follows.claims.value)
