@@ -1,0 +1,158 @@
+"""What stands in the repository: its crates, the names of its code and definitions, and its wrong bodies. It is no command: scripts
+beside it read what documents say, and ask it what is so."""
+import collections
+import functools
+import pathlib
+import re
+
+TOP = pathlib.Path(__file__).resolve().parent.parent
+
+WORD = re.compile(r"[A-Za-z_]\w*")
+# what is no name of code or of a definition: comments, and texts
+NO_CODE = re.compile(r'//[^\n]*|"(?:\\.|[^"\\])*"')
+NO_DEFINITION = re.compile(r"--[^\n]*")
+# a definition of `proofs/` that other files may name
+PROOF_NAME = re.compile(r"(?m)^(?:(?:abbrev|record|unfoldable) )?pub (\w+)")
+
+# the first line of a function, of a block that holds functions or values, and of what stands in none
+VISIBLE = r"( *)(?:pub(?:\([^)]*\))? )?"
+FUNCTION = re.compile(VISIBLE + r'(?:const )?(?:unsafe )?(?:extern "C" )?fn (\w+)')
+HOLDER = re.compile(VISIBLE + r"(?:unsafe )?(impl|struct|enum|trait|mod)\b(.*)")
+ITEM = re.compile(VISIBLE + r"(?:const|static|struct|enum|type) (\w+)")
+
+
+@functools.lru_cache(None)
+def text_of(file):
+    return file.read_text()
+
+
+@functools.lru_cache(None)
+def crates():
+    """The layer of each crate, in the order of crates.txt."""
+    layer, found = "", {}
+    for line in (TOP / "crates.txt").read_text().splitlines():
+        if line.startswith("# ") and ":" not in line:
+            layer = line[2:]
+        elif line and not line.startswith("#"):
+            found[line.split(":")[0].split()[0]] = layer
+    return found
+
+
+def sources(crate="*", parts=("src", "specs")):
+    """The files of code and definitions of a crate, or of all."""
+    return sorted(file for part in parts for file in TOP.glob(f"crates/{crate}/{part}/**/*.*"))
+
+
+def crate_of(file):
+    return file.relative_to(TOP / "crates").parts[0]
+
+
+@functools.lru_cache(None)
+def words_of(file):
+    """The names in a file of code or definitions."""
+    return set(WORD.findall((NO_CODE if file.suffix == ".rt" else NO_DEFINITION).sub(" ", text_of(file))))
+
+
+def holder_names(head):
+    """By which names a block goes that begins so, behind `impl`, `struct` or the like: those of a type, and of the trait that it is."""
+    bare = re.sub(r"<[^<>]*>", "", re.sub(r"<[^<>]*>", "", head))
+    return [it.split("::")[-1] for it in re.findall(r"[\w:]+", re.split(r"[{(]| where ", bare)[0]) if it != "for"]
+
+
+def members_of(text):
+    """What stands in the blocks of a file, by the names of each block: functions, and of types all words. A block ends as far in as it
+    begins, as `rt fmt` lays it out."""
+    found, inside = collections.defaultdict(set), []
+    for line in NO_CODE.sub(" ", text).splitlines():
+        holder, function = HOLDER.match(line), FUNCTION.match(line)
+        if holder:
+            inside.append((holder[1] + "}", holder[2], holder_names(holder[3])))
+        for _, kind, names in inside:
+            words = [function[2]] if function else [] if kind in ("impl", "trait") else WORD.findall(line)
+            for name in names:
+                found[name].update(words)
+        if inside and (line.startswith(inside[-1][0]) or holder and line.rstrip().endswith((";", "}"))):
+            inside.pop()
+    return found
+
+
+class Names:
+    """The names of code and of definitions: all of them, and those within a crate, a module, a type or a trait."""
+
+    def __init__(self):
+        self.all, self.within = set(crates()), collections.defaultdict(set)
+        for file in sources():
+            self.all |= words_of(file)
+            self.within[crate_of(file)] |= words_of(file)
+            if file.suffix == ".rt":
+                self.within[file.stem] |= words_of(file)
+                for holder, members in members_of(text_of(file)).items():
+                    self.within[holder] |= members
+        for file in sources(parts=["proofs"]):
+            self.all.add(file.stem)
+            self.all.update(PROOF_NAME.findall(text_of(file)))
+
+    def has(self, path):
+        """Whether there is what a path such as `Type::method` names: each part stands within the one before."""
+        parts = path.split("::")
+        return parts[0] in self.all and all(inner in self.within[outer] for outer, inner in zip(parts, parts[1:]))
+
+
+class WrongBody:
+    """An edit: its crate and name, whether the gate tries it, the file that it changes, and its pairs of an old and a new text."""
+
+    def __init__(self, file):
+        self.file, self.crate, self.name = file, crate_of(file), file.stem
+        self.is_tried_by_gate = file.parent.name == "must-fail"
+        self.pairs, old, path = [], "", ""
+        for line in file.read_text().splitlines():
+            word, _, rest = line.partition(": ")
+            if word == "file":
+                path = rest.strip()
+            elif word == "old":
+                old = rest
+            elif line.startswith("new:"):
+                self.pairs.append((path, old, rest))
+
+    def steps(self):
+        """Its pairs, one after the other, each with the text that it changes."""
+        texts = {}
+        for path, old, new in self.pairs:
+            file = TOP / "crates" / self.crate / path
+            text = texts.get(path) or (text_of(file) if file.is_file() else "")
+            yield path, text, old
+            texts[path] = text.replace(old, new)
+
+    def faults(self):
+        """What keeps it from being applied."""
+        for path, text, old in self.steps():
+            if text.count(old) != 1:
+                yield f"`{old.strip()}` stands {text.count(old)} times in {path}, and not once"
+        if not self.pairs:
+            yield "it has no pair of an old and a new text"
+
+    def places(self):
+        """What it changes: functions, each with its file, and each once."""
+        return list(dict.fromkeys((place_in(text, text.find(old)), path) for path, text, old in self.steps()))
+
+
+def place_in(text, at):
+    """The function that has a place of a file, as `Type::function` where it has a type; or else the constant or the type there."""
+    above = text[: text.find("\n", at)].split("\n")
+    depth, name = len(above[-1]), ""
+    for line in reversed(above):
+        head = not name and (FUNCTION.match(line) or ITEM.match(line))
+        holder = HOLDER.match(line)
+        if head and len(head[1]) <= depth:
+            depth, name = len(head[1]), head[2]
+        elif name and holder and len(holder[1]) < depth and holder[2] in ("impl", "trait"):
+            return f"{holder_names(holder[3])[-1]}::{name}"
+    return name
+
+
+@functools.lru_cache(None)
+def wrong_bodies():
+    """Those of the tree, in the order of the crates and of their names."""
+    order = list(crates())
+    files = [file for folder in ("must-fail", "by-hand") for file in TOP.glob(f"crates/*/{folder}/*.edit")]
+    return sorted(map(WrongBody, files), key=lambda it: (order.index(it.crate), it.name))
