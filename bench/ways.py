@@ -19,20 +19,25 @@ def read_crates(path):
     return {crate: [it for it in libraries if it in named] for crate, libraries in named.items()}
 
 
-def main(names):
-    below = read_crates(pathlib.Path(__file__).resolve().parent.parent / "crates.txt")
+def ways_of(below):
+    """How often the files of each crate and of those below it are read, each crate counted as one."""
 
-    @functools.cache
+    @functools.lru_cache(None)
     def ways(crate):
-        """How often the files of this crate and of those below it are read, each counted as one."""
         return 1 + sum(ways(it) for it in below[crate])
 
-    for crate in sorted(names or below, key=ways):
-        print(f"{ways(crate):9,} {crate}")
+    return {crate: ways(crate) for crate in below}
+
+
+def main(names):
+    below = read_crates(pathlib.Path(__file__).resolve().parent.parent / "crates.txt")
+    ways = ways_of(below)
+    for crate in sorted(names or below, key=ways.get):
+        print(f"{ways[crate]:9,} {crate}")
         if names:
-            for it in sorted(below[crate], key=ways, reverse=True):
-                print(f"          {ways(it):9,} by {it}")
-    print(f"{sum(map(ways, below)):9,} ways of {len(below)} crates together")
+            for it in sorted(below[crate], key=ways.get, reverse=True):
+                print(f"          {ways[it]:9,} by {it}")
+    print(f"{sum(ways.values()):9,} ways of {len(below)} crates together")
 
 
 if __name__ == "__main__":
