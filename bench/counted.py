@@ -1,17 +1,24 @@
 """What documents count, and what is counted anew: numbers, numbers of lines, and lists that are to be whole. It is no command:
 bench/documents.py asks it."""
+import functools
 import re
 
 import ways
 from tree import TOP, crates, text_of, wrong_bodies
 
-NUMBERS = "no one two three four five six seven eight nine ten eleven twelve thirteen fourteen fifteen sixteen seventeen eighteen nineteen"
+MAP, THEOREMS = "docs/MAP.md", "docs/THEOREMS.md"
+HALDEN, NEUSTADT = "examples/halden.toml", "examples/neustadt.toml"
+# what `station check` counts of a layout
+SIZED = ("signal", "point", "section", "route")
+
+NUMBERS = """no one two three four five six seven eight nine ten eleven twelve thirteen fourteen fifteen sixteen seventeen eighteen
+nineteen twenty""".split()
 
 
 def number_of(text):
-    """A number as it is written: 12, 1,234, 6.3 or twelve."""
-    words = NUMBERS.split()
-    return words.index(text.lower()) if text.lower() in words else float(text.replace(",", ""))
+    """A number as it is written: 12, 1,234, 6.3 or twelve; none where it isn't one."""
+    bare = text.lower().replace(",", "")
+    return NUMBERS.index(bare) if bare in NUMBERS else float(bare) if re.fullmatch(r"[\d.]+", bare) else None
 
 
 def read(name):
@@ -19,29 +26,40 @@ def read(name):
 
 
 def folder(pattern):
-    """The texts of some files, by their paths."""
-    return {str(file.relative_to(TOP)): text_of(file) for file in sorted(TOP.glob(pattern))}
+    """The texts of some files, by their paths below crates/."""
+    return {str(file.relative_to(TOP / "crates")): text_of(file) for file in sorted(TOP.glob(f"crates/{pattern}"))}
+
+
+def crate_of_path(path):
+    return path.split("/")[0]
 
 
 # ---- crates, wrong bodies, and the times of the gate
 
 
+@functools.lru_cache(None)
+def named_libraries():
+    return ways.read_crates(TOP / "crates.txt")
+
+
 def ways_of_all():
-    return sum(ways.ways_of(ways.read_crates(TOP / "crates.txt")).values())
+    return sum(ways.ways_of(named_libraries()).values())
+
+
+@functools.lru_cache(None)
+def below(crate):
+    """A crate, and all on which it stands."""
+    return {crate}.union(*map(below, named_libraries()[crate]))
 
 
 def tried_by_gate():
     return sum(it.is_tried_by_gate for it in wrong_bodies())
 
 
-def tried_by_hand():
-    return len(wrong_bodies()) - tried_by_gate()
-
-
 def times():
     """The rows of the table of times: a crate, the seconds of its proof, its tests and its wrong bodies, and the memory."""
-    rows = [[cell.strip(" `") for cell in line.split("|")[1:-1]] for line in read("docs/MAP.md").splitlines() if line.endswith(" GB |")]
-    return [row for row in rows if row[0] != "all"]
+    lines = [line for line in read(MAP).splitlines() if line.endswith(" GB |") and not line.startswith("| all ")]
+    return [[cell.strip(" `") for cell in line.split("|")[1:-1]] for line in lines]
 
 
 def seconds(column):
@@ -55,16 +73,24 @@ def minutes(*columns):
 # ---- code
 
 
+def crates_but_of_tests():
+    return {it for it in crates() if not it.endswith("_tests") and it != "chance"}
+
+
 def doors():
     """The crates that pass on a crate by its name; and `rasta_core`, which passes on the items of two."""
     name = "|".join(crates())
     whole = re.compile(rf"(?m)^pub use (?:(?:{name})::)*\{{?((?:{name})(?:, (?:{name}))*)\}}?;")
-    return {path.split("/")[1] for path, text in folder("crates/*/src/lib.rt").items() if whole.search(text)} | {"rasta_core"}
+    return {crate_of_path(path) for path, text in folder("*/src/lib.rt").items() if whole.search(text)} | {"rasta_core"}
 
 
 def files_with_handles():
     """The files that name the handles by which a call may end the process or wait."""
-    return [path for path, text in folder("crates/*/src/**/*.rt").items() if re.search(r"\b(Wait|Threads|Net)\b", text)]
+    return [path for path, text in folder("*/src/**/*.rt").items() if re.search(r"\b(Wait|Threads|Net)\b", text)]
+
+
+def crates_with_handles():
+    return set(map(crate_of_path, files_with_handles()))
 
 
 def conditions(path):
@@ -81,12 +107,16 @@ def variants(path, name):
 # ---- stations and stored runs
 
 
-def entries(path, table):
+def entries_of(text, table):
     """How many entries a table of a layout has: in an array, or each with a head of its own."""
-    array = re.search(rf"(?ms)^{table} = \[(.*?)\]$", read(path))
+    array = re.search(rf"(?ms)^{table} = \[(.*?)\]$", text)
     if not array:
-        return read(path).count(f"[[{table}]]")
+        return text.count(f"[[{table}]]")
     return len(re.findall(r"\bname = " if "name = " in array[1] else r'"\w+"', array[1]))
+
+
+def entries(path, *tables):
+    return [entries_of(read(path), table) for table in tables]
 
 
 def slow_routes(path):
@@ -110,6 +140,12 @@ def done(kind):
     return sum(it.rstrip().endswith("\nstatus 0") for it in runs(kind))
 
 
+def conflicts(layout):
+    """How many pairs of routes conflict, by the stored table of a layout, which tells each pair twice."""
+    table = next(it for it in runs("table") if it.startswith(f"\ntable {layout}\n"))
+    return sum(row.rstrip(" |").split(" | ")[-1].count(": ") for row in table.splitlines() if row.startswith("| ")) // 2
+
+
 def cases(name):
     return len(read(f"crates/stored_runs/data/layouts/{name}.cases").rstrip().split("\n\n"))
 
@@ -119,20 +155,30 @@ def restarts():
     return sum(int(it) for text in runs("restarts") for it in re.findall(r": (\d+) runs, ", text))
 
 
-# ---- what a page itself has behind what it counts
+# ---- what a page itself has
 
 
-def behind(page, words, item):
-    """How many items the first list or table has that comes behind some words of a page."""
+def behind(page, words):
+    """The lines of the first list or table that comes behind some words of a page."""
     rest = read(page).split(words, 1)[1].split("\n", 1)[1].lstrip("\n")
-    return len(re.findall(item, rest.split("\n\n")[0]))
+    return rest.split("\n\n")[0].splitlines()
+
+
+def items(page, words, begin):
+    """How many of these lines begin so."""
+    return sum(bool(re.match(begin, line)) for line in behind(page, words))
+
+
+def laws(lines):
+    """How many laws are named: by words without capitals."""
+    return len({name for line in lines for name in re.findall(r"`([a-z]\w*_\w+)`", line)})
 
 
 # ---- lines of files
 
 
 def files_told(cell):
-    """The files that a cell of a table tells: by their paths; or by a folder, alone, with names of its files, or with those left out."""
+    """The files that a cell of a table tells: by their paths; or by a folder, with names of its files or of those left out."""
     for group in cell.split("; "):
         first, *names = re.findall(r"`([^`]+)`", group)
         top = next(it for it in (TOP / first, TOP / "crates" / first) if it.exists())
@@ -160,54 +206,6 @@ def lines_told(cell):
     return sum(count(text_of(file)) for file in files_told(cell))
 
 
-# ---- where it is told
-
-STATION = r"(\d+) signals, (\d+) points, (\d+) sections, (\d+) routes"
-SMALL, CROSSOVER = "crates/station/data/small.toml", "examples/crossover.toml"
-
-
-def has(path, *tables):
-    return lambda: [entries(path, table) for table in tables]
-
-
-def size(path):
-    return has(path, "signal", "point", "section", "route")
-
-
-# the page, what stands there with a group for each number, and what counts them
-TOLD = [
-    ("docs/MAP.md", r"All (\d+) crates together have ([\d,]+) ways", lambda: [len(crates()), ways_of_all()]),
-    ("docs/MAP.md", r"proves (\d+) crates and their tests, tries (\d+) wrong", lambda: [len(crates()), tried_by_gate()]),
-    ("docs/MAP.md", r"The ([\d,]+) wrong bodies of `by-hand/`", lambda: [tried_by_hand()]),
-    ("docs/MAP.md", r"\| all \| (\d+) \| (\d+) \| (\d+) \|", lambda: [seconds(1), seconds(2), seconds(3)]),
-    ("docs/MAP.md", r"\| all \|.*\| ([\d.]+) GB \|", lambda: [max(float(row[4].split()[0]) for row in times())]),
-    ("docs/MAP.md", r"takes (\d+) min for proofs and programs, (\d+) for tests and", lambda: [minutes(1), minutes(2)]),
-    ("docs/MAP.md", r" (\d+) for wrong bodies: (\d+) min", lambda: [minutes(3), minutes(1, 2, 3)]),
-    ("docs/DECISIONS.md", r"(\w+) crates, and `rasta_core`, are doors", lambda: [len(doors()) - 1]),
-    ("README.md", r"Of real equipment all (\w+) are assumed", lambda: [behind("README.md", "## Premises", r"(?m)^\d\. ")]),
-    ("README.md", f"ok: {STATION}", size(CROSSOVER)),
-    ("docs/INTERLOCKING.md", f"\nok: {STATION}", size(SMALL)),
-    ("docs/INTERLOCKING.md", f"`ok: {STATION}`", size("examples/junction.toml")),
-    ("docs/INTERLOCKING.md", r"junction.toml` has (\w+) routes", has("examples/junction.toml", "route")),
-    ("docs/STATIONS.md", r"halden.toml`\): .*, (\d+) signals, (\d+) points, (\d+) routes", has("examples/halden.toml", "signal", "point", "route")),
-    ("docs/STATIONS.md", r"halden.toml`\): .* routes, (\d+) of them slow", lambda: [slow_routes("examples/halden.toml")]),
-    ("docs/STATIONS.md", r"(\d+) points, (\d+) signals, (\d+) sections, (\w+) detectors and (\d+) routes", has("examples/neustadt.toml", "point", "signal", "section", "detector", "route")),
-    ("docs/STATIONS.md", r"detectors and .* routes, (\d+) of them slow", lambda: [slow_routes("examples/neustadt.toml")]),
-    ("docs/PROTOCOL.md", r"Bytes that are no PDU have one of (\w+) faults", lambda: [variants("crates/rasta_pdu/src/fault.rt", "PduFault")]),
-    ("docs/PROTOCOL.md", r"Bytes that are no telegram have one of (\w+) faults", lambda: [variants("crates/sci_telegram/src/fault.rt", "SciFault")]),
-    ("docs/PROVED.md", r"(\d+) stored runs of whole stations", lambda: [len(runs("sim", "replay", "restarts"))]),
-    ("docs/PROVED.md", r"(\d+) layouts, sound and faulty", lambda: [statuses("report", "commented") + cases("contents")]),
-    ("docs/PROVED.md", r"tells of (\d+) of these layouts, .* and (\w+) more layouts", lambda: [statuses("explain") - cases("items"), cases("items")]),
-    ("docs/PROVED.md", r"(\d+) charts of sessions", lambda: [done("chart")]),
-    ("docs/PROVED.md", r"(\d+) plans: ", lambda: [done("plan")]),
-    ("docs/PROVED.md", r"In (\d+) runs the station is safe after every event", lambda: [restarts()]),
-    ("docs/THEOREMS.md", r"simulator/src/world.rt` \| (\w+) lines", lambda: [conditions("crates/simulator/src/world.rt")]),
-    ("docs/THEOREMS.md", r"`Threads`, `Wait` and `Net`. (\w+) files", lambda: [len(files_with_handles())]),
-    ("docs/THEOREMS.md", r"the (\w+) kinds of `Event`", lambda: [variants("crates/simulator_event/src/event.rt", "Event")]),
-    ("docs/THEOREMS.md", r"It has (\w+) facts", lambda: [behind("docs/THEOREMS.md", "It has five facts", r"(?m)^\| \*\w+\* \|")]),
-    ("docs/THEOREMS.md", r"(\w+) wrong bodies leave a station safe", lambda: [behind("docs/THEOREMS.md", "leave a station safe", r"(?m)^- ")]),
-]
-
 def column(page, head, at):
     """The names in backticks of a column of the table that begins so."""
     rows = read(page).split(f"\n{head}", 1)[1].split("\n\n")[0].splitlines()[2:]
@@ -221,24 +219,81 @@ def named(page, begin, end):
 
 def drawn(pattern):
     """The crates that stand so in the drawing of the map."""
-    return set(re.findall(pattern, read("docs/MAP.md").split("```")[1])) & set(crates())
+    return set(re.findall(pattern, read(MAP).split("```")[1])) & set(crates())
 
 
-def crates_drawn():
-    return {it for it in crates() if not it.endswith("_tests") and it != "chance"}
+# ---- where it is told
 
+# of each page: what stands there with a group for each number, and what counts them
+SIZE = r"(\d+) signals, (\d+) points, (\d+) sections, (\d+) routes"
+TOLD = {
+    "README.md": [
+        (r"Of real equipment all (\w+) are assumed", lambda: [items("README.md", "## Premises", r"\d\. ")]),
+        (f"ok: {SIZE}", lambda: entries("examples/crossover.toml", *SIZED)),
+    ],
+    "docs/DECISIONS.md": [
+        (r"(\w+) crates, and `rasta_core`, are doors", lambda: [len(doors()) - 1]),
+    ],
+    "docs/INTERLOCKING.md": [
+        (f"\nok: {SIZE}", lambda: entries("crates/station/data/small.toml", *SIZED)),
+        (f"`ok: {SIZE}`", lambda: entries("examples/junction.toml", *SIZED)),
+        (r"junction.toml` has (\w+) routes", lambda: entries("examples/junction.toml", "route")),
+        (r" and (\d+) conflicts:", lambda: [conflicts("junction.toml")]),
+    ],
+    MAP: [
+        (r"All (\d+) crates together have ([\d,]+) ways", lambda: [len(crates()), ways_of_all()]),
+        (r"proves (\d+) crates and their tests, tries (\d+) wrong", lambda: [len(crates()), tried_by_gate()]),
+        (r"The ([\d,]+) wrong bodies of `by-hand/`", lambda: [len(wrong_bodies()) - tried_by_gate()]),
+        (r"\| all \| (\d+) \| (\d+) \| (\d+) \|", lambda: [seconds(1), seconds(2), seconds(3)]),
+        (r"\| all \|.*\| ([\d.]+) GB \|", lambda: [max(float(row[4].split()[0]) for row in times())]),
+        (r"takes (\d+) min for proofs and programs, (\d+) for tests and", lambda: [minutes(1), minutes(2)]),
+        (r" (\d+) for wrong bodies: (\d+) min", lambda: [minutes(3), minutes(1, 2, 3)]),
+    ],
+    "docs/PROTOCOL.md": [
+        (r"Bytes that are no PDU have one of (\w+) faults", lambda: [variants("crates/rasta_pdu/src/fault.rt", "PduFault")]),
+        (r"Bytes that are no telegram have one of (\w+) faults", lambda: [variants("crates/sci_telegram/src/fault.rt", "SciFault")]),
+    ],
+    "docs/PROVED.md": [
+        (r"(\d+) stored runs of whole stations", lambda: [len(runs("sim", "replay", "restarts"))]),
+        (r"(\d+) layouts, sound and faulty", lambda: [statuses("report", "commented") + cases("contents")]),
+        (r"tells of (\d+) of these layouts", lambda: [statuses("explain") - cases("items")]),
+        (r"and (\w+) more layouts for items", lambda: [cases("items")]),
+        (r"(\d+) charts of sessions", lambda: [done("chart")]),
+        (r"(\d+) plans: ", lambda: [done("plan")]),
+        (r"In (\d+) runs the station is safe after every event", lambda: [restarts()]),
+    ],
+    "docs/STATIONS.md": [
+        (r"halden.*, (\d+) signals, (\d+) points, (\d+) routes", lambda: entries(HALDEN, "signal", "point", "route")),
+        (r"halden.* routes, (\d+) of them slow", lambda: [slow_routes(HALDEN)]),
+        (r"neustadt.*, (\d+) points, (\d+) signals, (\d+) sections", lambda: entries(NEUSTADT, "point", "signal", "section")),
+        (r"neustadt.*, (\w+) detectors and (\d+) routes", lambda: entries(NEUSTADT, "detector", "route")),
+        (r"neustadt.* routes, (\d+) of them slow", lambda: [slow_routes(NEUSTADT)]),
+    ],
+    THEOREMS: [
+        (r"simulator/src/world.rt` \| (\w+) lines", lambda: [conditions("crates/simulator/src/world.rt")]),
+        (r"`Threads`, `Wait` and `Net`. (\w+) files", lambda: [len(files_with_handles())]),
+        (r"the (\w+) kinds of `Event`", lambda: [variants("crates/simulator_event/src/event.rt", "Event")]),
+        (r"It has (\w+) facts", lambda: [items(THEOREMS, "still in flight:", r"\| \*\w+\* \|")]),
+        (r"(\w+) wrong bodies leave a station safe", lambda: [items(THEOREMS, "leave a station safe", "- ")]),
+        (r"(\w+) laws speak of any list of events", lambda: [laws(re.findall(".* laws speak of any list .*", read(THEOREMS)))]),
+        (
+            r"(\w+) laws are steps to the theorem",
+            lambda: [laws(line.split(" | ")[0] for line in behind(THEOREMS, "laws are steps to the theorem")[2:])],
+        ),
+    ],
+}
 
-# the page, what is listed there, the list, and what it is to have
-LISTED = [
-    ("docs/MAP.md", "the table of layers", lambda: column("docs/MAP.md", "| Layer |", 1), lambda: set(crates())),
-    ("docs/MAP.md", "the table of times", lambda: {row[0] for row in times()}, lambda: set(crates())),
-    ("docs/MAP.md", "the table of doors", lambda: column("docs/MAP.md", "| Door |", 0), doors),
-    ("docs/MAP.md", "the stars of the drawing", lambda: drawn(r"(\w+)\*"), doors),
-    ("docs/MAP.md", "the drawing", lambda: drawn(r"\w+"), crates_drawn),
-    (
-        "docs/THEOREMS.md",
-        "the sentence on handles",
-        lambda: named("docs/THEOREMS.md", "files use them", "None is of"),
-        lambda: {path.split("/")[1] for path in files_with_handles()},
-    ),
-]
+# of each page: what lists something, the list, and what it is to have
+LISTED = {
+    MAP: [
+        ("the table of layers", lambda: column(MAP, "| Layer |", 1), lambda: set(crates())),
+        ("the table of times", lambda: {row[0] for row in times()}, lambda: set(crates())),
+        ("the table of doors", lambda: column(MAP, "| Door |", 0), doors),
+        ("the drawing", lambda: drawn(r"\w+"), crates_but_of_tests),
+        ("what has a star in the drawing", lambda: drawn(r"(\w+)\*"), doors),
+    ],
+    THEOREMS: [
+        ("what uses handles", lambda: named(THEOREMS, "files use them", "None is of"), crates_with_handles),
+        ("what uses handles and isn't above `simulator`", set, lambda: crates_with_handles() & below("simulator")),
+    ],
+}

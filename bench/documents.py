@@ -1,6 +1,6 @@
 #!/usr/bin/env python3
-"""Judges what README.md, CHANGELOG.md and docs/*.md say of the tree, in seconds and without the prover. Each finding stands on a line
-of its own, `file:line: what`; with any it ends with status 1.
+"""Judges what README.md, CHANGELOG.md and docs/*.md say of the tree, in seconds and without the prover. Each finding stands on a
+line of its own, `file:line: what`; with any it ends with status 1.
 
     python3 bench/documents.py [PAGE ..]      PAGE is one of these files; all of them where none is told
 
@@ -14,23 +14,20 @@ wrong bodies  docs/WRONG_BODIES.md is what bench/wrong_bodies_page.py writes, an
 CHANGELOG.md tells what was: numbers aren't judged there.
 """
 import argparse
-import collections
-import functools
-import os
 import pathlib
 import re
 import sys
 
 import counted
 import wrong_bodies_page
-from contracts import COMMENT, clauses
-from tree import FUNCTION, TOP, WORD, Names, text_of, wrong_bodies
+from tree import OPTION, TOP, clauses_of_functions, ends_of_paths, names, options, text_of, words_of_command_lines, wrong_bodies
 
 # What stands in backticks, looks like a name, and is none of the tree's.
 OTHER_NAMES = {
     "programs of others": ["cmp", "mergecap", "wireshark"],
-    "items of the kit": ["thiserror::Error"],
-    "fields of HTTP": ["Host", "Origin"],
+    "items of the kit": ["thiserror::Error", "Threads", "Wait"],
+    "a field of HTTP": ["Origin"],
+    "what bench/panel.py is asked for": ["storm"],
     "what is gone, and is told as gone": ["md4_speed", "station_sim"],
 }
 # What looks like a path, and leads to no file of the tree.
@@ -50,18 +47,27 @@ BACKTICKED = re.compile(r"`([^`]+)`(\*(?!\*))?")
 NAME = re.compile(r"[A-Za-z_]\w*(?:::\w+)*")
 # what may stand behind a name: what it is called with, or of which types it is
 CALLED = re.compile(r"\(.*\)$|<.*>$")
-PATH = re.compile(r"[\w.-]*(?:/[\w.-]*)+|[\w-]+\.(?:antt|c|edit|events|h|json|lua|md|pair|png|py|rt|script|session|sh|svg|toml|tsv|txt)")
+ENDINGS = "antt|c|edit|events|h|json|lua|md|pair|png|py|rt|script|session|sh|svg|toml|tsv|txt"
+PATH = re.compile(rf"[\w.-]*(?:/[\w.-]*)+|[\w-]+\.(?:{ENDINGS})")
 FULL_PATH = re.compile(r"(?<![\w./-])(?:bench|crates|docs|examples|wireshark)/[\w./-]*\w")
-OPTION = re.compile(r"(?<![\w-])--[a-z][a-z-]*")
 COMMAND = re.compile(r"(?:`|out/)station ([a-z]+)\b")
 LISTED_NAMES = r"(?:`\w[\w:]*`(?:, | and )?)+"
 # `File.antt` (`Name`, `Name`); `name`, `name` of `crate`; `function`: *clause*, *clause*; `crate` `edit`*, `edit`
 IN_FILE = re.compile(rf"`([\w/]+\.(?:rt|antt)|[\w/]+/specs/\w+)` \(({LISTED_NAMES})\)")
 OF_CRATE = re.compile(rf"({LISTED_NAMES}) of `(\w+)`")
 HAS_CLAUSES = re.compile(r"`([\w:]+)`: (\*\w+\*(?:(?:, | and )\*\w+\*)*)")
-EDITS_OF_CRATE = re.compile(r"`(\w+)` (`\w+`\*?(?:, `\w+`\*?)*)")
+EDITS_OF_CRATE = re.compile(r"`(\w+)` (`\w+`\*?(?:, `\w+`(?! `)\*?)*)")
 
-DEFINITION = re.compile(r"(?m)^\s*(?:abbrev|record|unfoldable|pub fn)\b")
+# Parts of pages that are what a program reads or prints: how each begins, and the file in which it stands.
+STORED = "crates/stored_runs/stdout"
+COPIED = {
+    "README.md": [("# Two tracks side by side", "examples/crossover.toml"), ("ok\naccepted\naccepted\nrefused 5 X\n", STORED)],
+    "docs/INTERLOCKING.md": [("ok: 3 signals", STORED), ("table fault 6 FlankOpen", STORED)],
+    "docs/PAIR.md": [("ok\naccepted\n", "crates/pair/stdout")],
+    "docs/STATIONS.md": [("| Route | Entry | Exit |", STORED)],
+}
+
+DEFINITION = re.compile(r"(?m)^(?:pub )?(?:abbrev|record|unfoldable|fn)\b")
 LINK = re.compile(r"\]\(([^()\s#]*)(?:#([^()\s]*))?\)")
 
 
@@ -69,7 +75,7 @@ class Page:
     """A document: its lines, and where its blocks begin and end."""
 
     def __init__(self, file):
-        self.file, self.text = file, file.read_text()
+        self.file, self.text = file, file.read_text(encoding="utf-8")
         self.name, self.lines = str(file.relative_to(TOP)), self.text.splitlines()
         fences = [at for at, line in enumerate(self.lines) if line.startswith("```")]
         self.blocks = list(zip(fences[::2], fences[1::2]))
@@ -83,13 +89,17 @@ class Page:
         return [(number, line) for number, line in self.numbered() if number - 1 not in inside and not line.startswith("    ")]
 
     def quoted(self):
-        """The parts of each block, which an empty line ends: its number, its text, and the prose since the heading before."""
+        """The parts of each block of definitions, which an empty line ends: the number of its first line, its text, and the prose
+        since the heading before."""
         prose = dict(self.prose())
         for first, last in self.blocks:
+            block = "\n".join(self.lines[first + 1 : last])
+            if not DEFINITION.search(block):
+                continue
             heading = max((number for number in prose if number <= first and prose[number].startswith("#")), default=0)
             before = "\n".join(line for number, line in prose.items() if heading <= number <= first)
             number = first + 2
-            for part in "\n".join(self.lines[first + 1 : last]).split("\n\n"):
+            for part in block.split("\n\n"):
                 yield number, part, before
                 number += part.count("\n") + 2
 
@@ -101,66 +111,17 @@ class Page:
 # ---- what is there
 
 
-@functools.lru_cache(None)
-def names():
-    return Names()
-
-
-@functools.lru_cache(None)
-def ends_of_paths():
-    """How a file or a folder may be told: by the last parts of its path, also without the ending that tells its kind."""
-    found = {}
-    for folder, folders, files in os.walk(TOP):
-        folders[:] = [it for it in folders if it not in (".git", "out", "__pycache__")]
-        for it in folders + files:
-            parts = os.path.relpath(os.path.join(folder, it), TOP).split(os.sep)
-            for first in range(len(parts)):
-                end = "/".join(parts[first:])
-                found.setdefault(end, []).append(os.path.join(folder, it))
-                found.setdefault(re.sub(r"\.(antt|rt|edit|events|pair)$", "", end), []).append(os.path.join(folder, it))
-    return found
-
-
-@functools.lru_cache(None)
-def words_of_formats():
-    """The words of texts in code, and of what isn't code: they are what lines of files, commands and pages consist of."""
-    found = set()
-    for pattern, part in [("crates/*/src/**/*.rt", r'"(?:\\.|[^"\\])*"'), ("bench/*.py", ".+"), ("examples/*.*", ".+"), ("HANDLES", ".+")]:
-        for file in TOP.glob(pattern):
-            found.update(WORD.findall(" ".join(re.findall(part, text_of(file)))) if file.suffix != ".svg" else ())
-    return found
-
-
-@functools.lru_cache(None)
-def words_of_command_lines():
-    """The commands of `station`, and the names of its options."""
-    texts = [text_of(file) for file in TOP.glob("crates/station_command/src/*.rt")]
-    return {it for text in texts for it in re.findall(r'const \w+: &str = "([a-z-]+)";', text)} | {"help", "version"}
-
-
-@functools.lru_cache(None)
-def options():
-    scripts = {it for file in TOP.glob("bench/*.*") for it in OPTION.findall(text_of(file))}
-    return {f"--{it}" for it in words_of_command_lines()} | scripts | OTHER_OPTIONS
-
-
-@functools.lru_cache(None)
-def clauses_of_functions():
-    """The names of the clauses of all functions that have one name."""
-    found = collections.defaultdict(set)
-    for file in TOP.glob("crates/*/src/**/*.rt"):
-        text = COMMENT.sub("", text_of(file))
-        for function in re.finditer(f"(?m)^{FUNCTION.pattern}", text):
-            found[function[2]].update(name for _, name, _ in clauses(text, function.end()))
-    return found
-
-
 def is_file(path):
     return path.strip("/") in ends_of_paths() or OTHER_PATHS.fullmatch(path)
 
 
 def is_name(name):
-    return names().has(name) or any(name in it for it in (ends_of_paths(), words_of_formats(), *OTHER_NAMES.values()))
+    return names().has(name) or any(name in it for it in (ends_of_paths(), *OTHER_NAMES.values()))
+
+
+def files_at(path):
+    """The files that may be told by a path, or by an end of one."""
+    return [it for it in ends_of_paths().get(path, ()) if it.is_file()]
 
 
 # ---- what is judged: each yields the number of a line, and what is off there
@@ -183,9 +144,9 @@ def check_whereabouts(page):
     """Names that are told with the file or the crate that has them."""
     for number, line in page.prose():
         for path, told in IN_FILE.findall(line):
-            texts = [text_of(pathlib.Path(it)) for it in ends_of_paths().get(path, ())]
-            for name in WORD.findall(told) if texts else ():
-                if name != "and" and not any(name in it for it in texts):
+            texts = [text_of(it) for it in files_at(path)]
+            for name in re.findall(r"`(\w+)", told) if texts else ():
+                if not any(name in it for it in texts):
                     yield number, f"{path} has no `{name}`"
         for told, crate in OF_CRATE.findall(line):
             for name in re.findall(r"`(\w+)", told):
@@ -208,9 +169,7 @@ def check_edits(page):
     crates = {crate for crate, _ in edits}
     for number, line in page.prose():
         for crate, told in EDITS_OF_CRATE.findall(line) if line.startswith("|") else ():
-            for name, star in BACKTICKED.findall(told):
-                if crate not in crates or name in crates:
-                    break
+            for name, star in BACKTICKED.findall(told) if crate in crates else ():
                 if (crate, name) not in edits:
                     yield number, f"`{crate}` has no wrong body `{name}`"
                 elif edits[crate, name] == bool(star):
@@ -223,25 +182,35 @@ def check_commands(page):
             if not is_file(path):
                 yield number, f"there is no file or folder {path}"
         for option in OPTION.findall(line):
-            if option not in options():
+            if option not in options() | OTHER_OPTIONS:
                 yield number, f"there is no option {option}"
         for command in COMMAND.findall(line):
             if command not in words_of_command_lines():
                 yield number, f"`station` has no command {command}"
 
 
-def lines_of(text):
+def stripped(text):
+    """The lines of a text without the spaces round them."""
     return "\n" + "\n".join(line.strip() for line in text.splitlines()) + "\n"
 
 
 def check_quotations(page):
     for number, part, before in page.quoted():
-        if not DEFINITION.search(part):
-            continue
-        paths = [path for text, _ in BACKTICKED.findall(before) for path in ends_of_paths().get(text, ()) if os.path.isfile(path)]
-        beside = [file for path in paths for file in pathlib.Path(path).parent.glob("*.antt") if f"`{file.stem}`" in before]
-        if not any(lines_of(part) in lines_of(text_of(pathlib.Path(file))) for file in paths + beside):
+        files = [file for text, _ in BACKTICKED.findall(before) for file in files_at(text)]
+        beside = [it for file in files for it in file.parent.glob("*.antt") if f"`{it.stem}`" in before]
+        if not any(stripped(part) in stripped(text_of(it)) for it in files + beside):
             yield number, "this doesn't stand so in a file that is named before it"
+
+
+def check_copies(page):
+    """A part of a page, up to the end of its block or to an empty line, stands so in a file."""
+    for begin, path in COPIED.get(page.name, ()):
+        places = [it.start() + 1 for it in re.finditer(re.escape(f"\n{begin}"), page.text)]
+        if not places:
+            yield 1, f"bench/documents.py looks for what begins with {begin!r} here, and doesn't find it"
+        for at in places:
+            if re.split(r"\n```|\n\n", page.text[at:])[0] not in text_of(TOP / path):
+                yield page.line_of(at), f"this doesn't stand so in {path}"
 
 
 def anchors(page):
@@ -263,34 +232,33 @@ def check_links(page):
 
 
 def check_numbers(page):
-    for name, pattern, count in counted.TOLD:
-        told = list(re.finditer(pattern, page.text)) if name == page.name else ()
-        if name == page.name and not told:
+    for pattern, count in counted.TOLD.get(page.name, ()):
+        told = list(re.finditer(pattern, page.text))
+        if not told:
             yield 1, f"bench/counted.py looks for a number here, and doesn't find it: {pattern}"
         for it in told:
-            there = count()
-            if [*map(counted.number_of, it.groups())] != there:
-                yield page.line_of(it.start(1)), f"{it[0]}: it is {', '.join(map(str, there))}"
+            if [counted.number_of(number) for number in it.groups()] != count():
+                yield page.line_of(it.start(1)), f"{it[0]}: counted, it is {', '.join(map(str, count()))}"
 
 
 def check_lines(page):
     """A table that tells what to read tells the number of its lines."""
-    rows = re.compile(r"(?m)^\| (`.*`.*?) \| (\d+) \| ")
     for table in re.finditer(r"\| Read \| Lines \|(?:.*\n)+?\n", page.text):
-        for row in rows.finditer(table[0]):
-            if counted.lines_told(row[1]) != int(row[2]):
-                yield page.line_of(table.start() + row.start()), f"{row[1]}: {row[2]} lines, and they are {counted.lines_told(row[1])}"
+        for row in re.finditer(r"(?m)^\| (`.*`.*?) \| (\d+) \| ", table[0]):
+            if int(row[2]) != counted.lines_told(row[1]):
+                yield page.line_of(table.start() + row.start()), f"{row[1]}: counted, it is {counted.lines_told(row[1])} lines"
 
 
 def check_lists(page):
-    for name, what, told, there in counted.LISTED:
-        if name == page.name:
-            for it in sorted(told() ^ there()):
-                yield 1, f"{what} has `{it}`, which it shouldn't" if it in told() else f"{what} lacks `{it}`"
+    for what, told, there in counted.LISTED.get(page.name, ()):
+        for it in sorted(told() - there()):
+            yield 1, f"{what} has `{it}`, which it shouldn't have"
+        for it in sorted(there() - told()):
+            yield 1, f"{what} lacks `{it}`"
 
 
 OF_NOW = [check_edits, check_numbers, check_lines, check_lists]
-OF_ALL = [check_names, check_whereabouts, check_clauses, check_commands, check_quotations, check_links]
+OF_ALL = [check_names, check_whereabouts, check_clauses, check_commands, check_quotations, check_copies, check_links]
 
 
 def findings(page):

@@ -2,8 +2,11 @@
 beside it read what documents say, and ask it what is so."""
 import collections
 import functools
+import os
 import pathlib
 import re
+
+import contracts
 
 TOP = pathlib.Path(__file__).resolve().parent.parent
 
@@ -11,6 +14,7 @@ WORD = re.compile(r"[A-Za-z_]\w*")
 # what is no name of code or of a definition: comments, and texts
 NO_CODE = re.compile(r'//[^\n]*|"(?:\\.|[^"\\])*"')
 NO_DEFINITION = re.compile(r"--[^\n]*")
+OPTION = re.compile(r"(?<![\w-])--[a-z][a-z-]*")
 # a definition of `proofs/` that other files may name
 PROOF_NAME = re.compile(r"(?m)^(?:(?:abbrev|record|unfoldable) )?pub (\w+)")
 
@@ -23,14 +27,14 @@ ITEM = re.compile(VISIBLE + r"(?:const|static|struct|enum|type) (\w+)")
 
 @functools.lru_cache(None)
 def text_of(file):
-    return file.read_text()
+    return file.read_text(encoding="utf-8")
 
 
 @functools.lru_cache(None)
 def crates():
     """The layer of each crate, in the order of crates.txt."""
     layer, found = "", {}
-    for line in (TOP / "crates.txt").read_text().splitlines():
+    for line in text_of(TOP / "crates.txt").splitlines():
         if line.startswith("# ") and ":" not in line:
             layer = line[2:]
         elif line and not line.startswith("#"):
@@ -54,14 +58,15 @@ def words_of(file):
 
 
 def holder_names(head):
-    """By which names a block goes that begins so, behind `impl`, `struct` or the like: those of a type, and of the trait that it is."""
+    """By which names a block goes that begins so, behind `impl` or the like: those of a type, and of the trait that it is."""
     bare = re.sub(r"<[^<>]*>", "", re.sub(r"<[^<>]*>", "", head))
-    return [it.split("::")[-1] for it in re.findall(r"[\w:]+", re.split(r"[{(]| where ", bare)[0]) if it != "for"]
+    paths = re.findall(r"[\w:]+", re.split(r"[{(]| where ", bare)[0])
+    return [it.split("::")[-1] for it in paths if it != "for"]
 
 
 def members_of(text):
-    """What stands in the blocks of a file, by the names of each block: functions, and of types all words. A block ends as far in as it
-    begins, as `rt fmt` lays it out."""
+    """What stands in the blocks of a file, by the names of each block: functions, and of types all words. A block ends as far in
+    as it begins, as `rt fmt` lays it out."""
     found, inside = collections.defaultdict(set), []
     for line in NO_CODE.sub(" ", text).splitlines():
         holder, function = HOLDER.match(line), FUNCTION.match(line)
@@ -98,6 +103,51 @@ class Names:
         return parts[0] in self.all and all(inner in self.within[outer] for outer, inner in zip(parts, parts[1:]))
 
 
+@functools.lru_cache(None)
+def names():
+    return Names()
+
+
+@functools.lru_cache(None)
+def clauses_of_functions():
+    """The names of the clauses of functions, by the name of the function; several may have it."""
+    found = collections.defaultdict(set)
+    for file in sources(parts=["src"]):
+        text = contracts.COMMENT.sub("", text_of(file))
+        for function in re.finditer(f"(?m)^{FUNCTION.pattern}", text):
+            found[function[2]].update(name for _, name, _ in contracts.clauses(text, function.end()))
+    return found
+
+
+@functools.lru_cache(None)
+def ends_of_paths():
+    """The files and folders by how they may be told: by the last parts of their paths, also without what tells their kind."""
+    found = collections.defaultdict(list)
+    for folder, folders, files in os.walk(TOP):
+        folders[:] = [it for it in folders if it not in (".git", "out", "__pycache__")]
+        for path in (pathlib.Path(folder, it) for it in folders + files):
+            parts = path.relative_to(TOP).parts
+            for first in range(len(parts)):
+                end = "/".join(parts[first:])
+                for told in {end, re.sub(r"\.(antt|rt|edit|events|pair)$", "", end)}:
+                    found[told].append(path)
+    return found
+
+
+@functools.lru_cache(None)
+def words_of_command_lines():
+    """The commands of `station`, and the names of its options."""
+    texts = [text_of(file) for file in sources("station_command", ["src"])]
+    return {it for text in texts for it in re.findall(r'const \w+: &str = "([a-z-]+)";', text)} | {"help", "version"}
+
+
+@functools.lru_cache(None)
+def options():
+    """The options of `station` and of the scripts."""
+    scripts = {it for file in TOP.glob("bench/*.*") for it in OPTION.findall(text_of(file))}
+    return scripts | {f"--{it}" for it in words_of_command_lines()}
+
+
 class WrongBody:
     """An edit: its crate and name, whether the gate tries it, the file that it changes, and its pairs of an old and a new text."""
 
@@ -105,7 +155,7 @@ class WrongBody:
         self.file, self.crate, self.name = file, crate_of(file), file.stem
         self.is_tried_by_gate = file.parent.name == "must-fail"
         self.pairs, old, path = [], "", ""
-        for line in file.read_text().splitlines():
+        for line in text_of(file).splitlines():
             word, _, rest = line.partition(": ")
             if word == "file":
                 path = rest.strip()

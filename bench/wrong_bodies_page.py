@@ -27,7 +27,7 @@ A wrong body is a change of a crate's code that the proof has to refuse, at the 
 
 def named():
     """What each named wrong body does wrong, with its crate and its edit."""
-    with open(NAMED, newline="") as file:
+    with open(NAMED, newline="", encoding="utf-8") as file:
         return [tuple(it) for it in csv.reader(file, delimiter="\t")][1:]
 
 
@@ -82,7 +82,7 @@ def faults():
     for number, (what, crate, edit) in enumerate(named(), 2):
         if (crate, edit) not in by_name():
             yield NAMED, number, f"{what}: there is no edit `{edit}` of `{crate}`"
-    if not PAGE.is_file() or PAGE.read_text() != page():
+    if not PAGE.is_file() or PAGE.read_text(encoding="utf-8") != page():
         yield PAGE, 1, "it isn't what `python3 bench/wrong_bodies_page.py` would write"
 
 
@@ -90,7 +90,7 @@ def main():
     words = argparse.ArgumentParser(description=__doc__, formatter_class=argparse.RawDescriptionHelpFormatter)
     words.add_argument("--check", action="store_true")
     if not words.parse_args().check:
-        PAGE.write_text(page())
+        PAGE.write_text(page(), encoding="utf-8")
         return 0
     found = list(faults())
     for file, line, what in found:
