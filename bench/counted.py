@@ -4,9 +4,9 @@ import functools
 import re
 
 import ways
-from tree import TOP, crates, text_of, wrong_bodies
+from tree import OPTION, TOP, commands, crates, text_of, wrong_bodies
 
-MAP, THEOREMS = "docs/MAP.md", "docs/THEOREMS.md"
+MAP, PROVED, THEOREMS = "docs/MAP.md", "docs/PROVED.md", "docs/THEOREMS.md"
 HALDEN, NEUSTADT = "examples/halden.toml", "examples/neustadt.toml"
 # what `station check` counts of a layout
 SIZED = ("signal", "point", "section", "route")
@@ -100,7 +100,7 @@ def conditions(path):
 
 def variants(path, name):
     """How many values an enum has."""
-    body = re.search(rf"(?ms)^pub enum {name}\b.*?^}}", read(path))[0]
+    body = re.search(rf"(?ms)^pub enum {name}\b.*?^}}", read(f"crates/{path}"))[0]
     return len(re.findall(r"(?m)^    [A-Z]\w*", body))
 
 
@@ -158,6 +158,10 @@ def restarts():
 # ---- what a page itself has
 
 
+def line_with(page, words):
+    return next(line for line in read(page).splitlines() if words in line)
+
+
 def behind(page, words):
     """The lines of the first list or table that comes behind some words of a page."""
     rest = read(page).split(words, 1)[1].split("\n", 1)[1].lstrip("\n")
@@ -200,7 +204,7 @@ def lines_of_heads(text):
     return count
 
 
-def lines_told(cell):
+def lines_of_files(cell):
     """How many lines there are of what a cell tells: whole files, or what stands before the bodies of functions."""
     count = lines_of_heads if "the clauses of " in cell else lambda text: len(text.splitlines())
     return sum(count(text_of(file)) for file in files_told(cell))
@@ -215,6 +219,19 @@ def column(page, head, at):
 def named(page, begin, end):
     """The names in backticks between two texts of a page."""
     return set(re.findall(r"`(\w+)`", read(page).split(begin, 1)[1].split(end, 1)[0]))
+
+
+def lines_of_commands():
+    """The commands of `station` with their options."""
+    return {" ".join([command, *sorted(options)]) for command, options in commands().items()}
+
+
+def commands_told(line):
+    """The same, by the lines in backticks of a line of a page."""
+    told = {}
+    for text in re.findall(r"`([a-z]+ [^`]+)`", line):
+        told.setdefault(text.split()[0], set()).update(OPTION.findall(text))
+    return {" ".join([command, *sorted(options)]) for command, options in told.items() if command in commands()}
 
 
 def drawn(pattern):
@@ -250,10 +267,10 @@ TOLD = {
         (r" (\d+) for wrong bodies: (\d+) min", lambda: [minutes(3), minutes(1, 2, 3)]),
     ],
     "docs/PROTOCOL.md": [
-        (r"Bytes that are no PDU have one of (\w+) faults", lambda: [variants("crates/rasta_pdu/src/fault.rt", "PduFault")]),
-        (r"Bytes that are no telegram have one of (\w+) faults", lambda: [variants("crates/sci_telegram/src/fault.rt", "SciFault")]),
+        (r"Bytes that are no PDU have one of (\w+) faults", lambda: [variants("rasta_pdu/src/fault.rt", "PduFault")]),
+        (r"Bytes that are no telegram have one of (\w+) faults", lambda: [variants("sci_telegram/src/fault.rt", "SciFault")]),
     ],
-    "docs/PROVED.md": [
+    PROVED: [
         (r"(\d+) stored runs of whole stations", lambda: [len(runs("sim", "replay", "restarts"))]),
         (r"(\d+) layouts, sound and faulty", lambda: [statuses("report", "commented") + cases("contents")]),
         (r"tells of (\d+) of these layouts", lambda: [statuses("explain") - cases("items")]),
@@ -272,10 +289,10 @@ TOLD = {
     THEOREMS: [
         (r"simulator/src/world.rt` \| (\w+) lines", lambda: [conditions("crates/simulator/src/world.rt")]),
         (r"`Threads`, `Wait` and `Net`. (\w+) files", lambda: [len(files_with_handles())]),
-        (r"the (\w+) kinds of `Event`", lambda: [variants("crates/simulator_event/src/event.rt", "Event")]),
+        (r"the (\w+) kinds of `Event`", lambda: [variants("simulator_event/src/event.rt", "Event")]),
         (r"It has (\w+) facts", lambda: [items(THEOREMS, "still in flight:", r"\| \*\w+\* \|")]),
         (r"(\w+) wrong bodies leave a station safe", lambda: [items(THEOREMS, "leave a station safe", "- ")]),
-        (r"(\w+) laws speak of any list of events", lambda: [laws(re.findall(".* laws speak of any list .*", read(THEOREMS)))]),
+        (r"(\w+) laws speak of any list of events", lambda: [laws([line_with(THEOREMS, "laws speak of any list")])]),
         (
             r"(\w+) laws are steps to the theorem",
             lambda: [laws(line.split(" | ")[0] for line in behind(THEOREMS, "laws are steps to the theorem")[2:])],
@@ -291,6 +308,9 @@ LISTED = {
         ("the table of doors", lambda: column(MAP, "| Door |", 0), doors),
         ("the drawing", lambda: drawn(r"\w+"), crates_but_of_tests),
         ("what has a star in the drawing", lambda: drawn(r"(\w+)\*"), doors),
+    ],
+    PROVED: [
+        ("what is told of command lines", lambda: commands_told(line_with(PROVED, "- These lines are `")), lines_of_commands),
     ],
     THEOREMS: [
         ("what uses handles", lambda: named(THEOREMS, "files use them", "None is of"), crates_with_handles),

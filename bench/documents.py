@@ -20,7 +20,7 @@ import sys
 
 import counted
 import wrong_bodies_page
-from tree import OPTION, TOP, clauses_of_functions, ends_of_paths, names, options, text_of, words_of_command_lines, wrong_bodies
+from tree import OPTION, TOP, clauses_of_functions, commands, ends_of_paths, names, options, text_of, wrong_bodies
 
 # What stands in backticks, looks like a name, and is none of the tree's.
 OTHER_NAMES = {
@@ -50,7 +50,8 @@ CALLED = re.compile(r"\(.*\)$|<.*>$")
 ENDINGS = "antt|c|edit|events|h|json|lua|md|pair|png|py|rt|script|session|sh|svg|toml|tsv|txt"
 PATH = re.compile(rf"[\w.-]*(?:/[\w.-]*)+|[\w-]+\.(?:{ENDINGS})")
 FULL_PATH = re.compile(r"(?<![\w./-])(?:bench|crates|docs|examples|wireshark)/[\w./-]*\w")
-COMMAND = re.compile(r"(?:`|out/)station ([a-z]+)\b")
+COMMAND = re.compile(r"(?:`|out/)station ([a-z]+)\b([^`#|]*)")
+FIELD = re.compile(r"\b(?:rasta|sci)\.[a-z_.]+\b")
 LISTED_NAMES = r"(?:`\w[\w:]*`(?:, | and )?)+"
 # `File.antt` (`Name`, `Name`); `name`, `name` of `crate`; `function`: *clause*, *clause*; `crate` `edit`*, `edit`
 IN_FILE = re.compile(rf"`([\w/]+\.(?:rt|antt)|[\w/]+/specs/\w+)` \(({LISTED_NAMES})\)")
@@ -184,9 +185,20 @@ def check_commands(page):
         for option in OPTION.findall(line):
             if option not in options() | OTHER_OPTIONS:
                 yield number, f"there is no option {option}"
-        for command in COMMAND.findall(line):
-            if command not in words_of_command_lines():
+        for command, rest in COMMAND.findall(line):
+            if command not in commands():
                 yield number, f"`station` has no command {command}"
+            for option in set(OPTION.findall(rest)) - commands().get(command, set()) - {"--help"}:
+                yield number, f"`station {command}` has no option {option}"
+
+
+def check_fields(page):
+    """Fields of the dissector, and its preferences."""
+    dissector = text_of(TOP / "wireshark/zendurai.lua")
+    for number, line in page.prose():
+        for field in [field for text, _ in BACKTICKED.findall(line) for field in FIELD.findall(text)]:
+            if f'"{field}"' not in dissector and f"prefs.{field.split('.')[1]}" not in dissector:
+                yield number, f"the dissector has no {field}"
 
 
 def stripped(text):
@@ -245,8 +257,8 @@ def check_lines(page):
     """A table that tells what to read tells the number of its lines."""
     for table in re.finditer(r"\| Read \| Lines \|(?:.*\n)+?\n", page.text):
         for row in re.finditer(r"(?m)^\| (`.*`.*?) \| (\d+) \| ", table[0]):
-            if int(row[2]) != counted.lines_told(row[1]):
-                yield page.line_of(table.start() + row.start()), f"{row[1]}: counted, it is {counted.lines_told(row[1])} lines"
+            if int(row[2]) != counted.lines_of_files(row[1]):
+                yield page.line_of(table.start() + row.start()), f"{row[1]}: counted, it is {counted.lines_of_files(row[1])} lines"
 
 
 def check_lists(page):
@@ -258,7 +270,8 @@ def check_lists(page):
 
 
 OF_NOW = [check_edits, check_numbers, check_lines, check_lists]
-OF_ALL = [check_names, check_whereabouts, check_clauses, check_commands, check_quotations, check_copies, check_links]
+OF_ALL = [check_names, check_whereabouts, check_clauses, check_commands, check_fields]
+OF_ALL += [check_quotations, check_copies, check_links]
 
 
 def findings(page):

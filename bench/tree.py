@@ -135,17 +135,22 @@ def ends_of_paths():
 
 
 @functools.lru_cache(None)
-def words_of_command_lines():
-    """The commands of `station`, and the names of its options."""
-    texts = [text_of(file) for file in sources("station_command", ["src"])]
-    return {it for text in texts for it in re.findall(r'const \w+: &str = "([a-z-]+)";', text)} | {"help", "version"}
+def commands():
+    """The commands of `station`, each with its options."""
+    table = text_of(TOP / "crates/station_command/src/command_table.rt")
+    words = {name: word for name, word in re.findall(r'const (\w+): &str = "([a-z]+)";', table)}
+    found = {}
+    for command, arguments in re.findall(r"(?s)word: (\w+),(.*?)\n    },", table):
+        options = re.findall(r"Argument\(\s*(\w+),\s*Kind::(?:Option|Number|Switch)", arguments)
+        found[words[command]] = {f"--{words[it]}" for it in options}
+    return found
 
 
 @functools.lru_cache(None)
 def options():
     """The options of `station` and of the scripts."""
     scripts = {it for file in TOP.glob("bench/*.*") for it in OPTION.findall(text_of(file))}
-    return scripts | {f"--{it}" for it in words_of_command_lines()}
+    return scripts.union({"--help", "--version"}, *commands().values())
 
 
 class WrongBody:
