@@ -170,37 +170,40 @@ class WrongBody:
                 self.pairs.append((path, old, rest))
 
     def steps(self):
-        """Its pairs, one after the other, each with the text that it changes."""
+        """Its pairs, one after the other: the file of each, its text before and after, and the old text."""
         texts = {}
         for path, old, new in self.pairs:
             file = TOP / "crates" / self.crate / path
-            text = texts.get(path) or (text_of(file) if file.is_file() else "")
-            yield path, text, old
-            texts[path] = text.replace(old, new)
+            before = texts.get(path) or (text_of(file) if file.is_file() else "")
+            texts[path] = before.replace(old, new)
+            yield path, before, texts[path], old
 
     def faults(self):
         """What keeps it from being applied."""
-        for path, text, old in self.steps():
-            if text.count(old) != 1:
-                yield f"`{old.strip()}` stands {text.count(old)} times in {path}, and not once"
+        for path, before, _, old in self.steps():
+            if before.count(old) != 1:
+                yield f"`{old.strip()}` stands {before.count(old)} times in {path}, and not once"
         if not self.pairs:
             yield "it has no pair of an old and a new text"
 
     def places(self):
-        """What it changes: functions, each with its file, and each once."""
-        return list(dict.fromkeys((place_in(text, text.find(old)), path) for path, text, old in self.steps()))
+        """The functions that it changes, by their files, in the order of the text. A pair changes one line into one."""
+        found = {}
+        for path, after in {path: after for path, before, after, _ in self.steps() if before}.items():
+            lines = text_of(TOP / "crates" / self.crate / path).split("\n")
+            changed = [at for at, (old, new) in enumerate(zip(lines, after.split("\n"))) if old != new]
+            found[path] = list(dict.fromkeys(place_of(lines, at) for at in changed))
+        return found
 
 
-def place_in(text, at):
-    """The function that has a place of a file, as `Type::function` where it has a type; or else the constant or the type there."""
-    above = text[: text.find("\n", at)].split("\n")
-    depth, name = len(above[-1]), ""
-    for line in reversed(above):
-        head = not name and (FUNCTION.match(line) or ITEM.match(line))
-        holder = HOLDER.match(line)
-        if head and len(head[1]) <= depth:
+def place_of(lines, at):
+    """The function that has a line of a file, as `Type::function` where it has a type; or else the constant or the type there."""
+    depth, name = len(lines[at]) - len(lines[at].lstrip()), ""
+    for line in reversed(lines[: at + 1]):
+        head, holder = FUNCTION.match(line) or ITEM.match(line), HOLDER.match(line)
+        if head and not name and len(head[1]) <= depth:
             depth, name = len(head[1]), head[2]
-        elif name and holder and len(holder[1]) < depth and holder[2] in ("impl", "trait"):
+        elif name and holder and holder[2] in ("impl", "trait") and len(holder[1]) < depth:
             return f"{holder_names(holder[3])[-1]}::{name}"
     return name
 

@@ -51,12 +51,16 @@ def named_rows(bodies):
             yield what, f"`{crate}`", f"`{edit}`", tried_by(bodies[crate, edit])
 
 
+def where(body):
+    """The functions that it changes, with their files."""
+    return "; ".join(f"`{'`, `'.join(names)}` in `{path[len('src/'):]}`" for path, names in body.places().items())
+
+
 def crate_rows(crate):
     """The rows of the table of a crate."""
     for body in wrong_bodies():
         if body.crate == crate:
-            places = ", ".join(f"`{place}` in `{path[len('src/'):]}`" for place, path in body.places())
-            yield body.name.replace("_", " "), places, tried_by(body)
+            yield body.name.replace("_", " "), where(body), tried_by(body)
 
 
 def page():
