@@ -53,7 +53,7 @@ def named_rows(bodies):
 
 def where(body):
     """The functions that it changes, with their files."""
-    return "; ".join(f"`{'`, `'.join(names)}` in `{path[len('src/'):]}`" for path, names in body.places().items())
+    return "; ".join(f"`{'`, `'.join(names)}` in `{path.partition('/')[2]}`" for path, names in body.places().items())
 
 
 def crate_rows(crate):
