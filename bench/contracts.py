@@ -9,7 +9,7 @@ import re
 import sys
 
 FUNCTION = re.compile(r"^\s*(pub(?:\(crate\))? )?(?:const )?fn (\w+)", re.M)
-CLAUSE = re.compile(r"\b(requires|ensures)\s*(\w*)\s*\*?\s*\{")
+CLAUSE = re.compile(r"\b(requires|ensures)\*?\s*(\w*)\s*\*?\s*\{")
 COMMENT = re.compile(r"^\s*//.*$", re.M)
 
 
