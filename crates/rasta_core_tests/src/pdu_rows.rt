@@ -237,6 +237,55 @@ fn bytes_that_are_no_pdu_are_refused(rt: HostRuntime) {
     }
 }
 
+/// The PDU with one aspect, cut behind so many bytes.
+fn cut_behind(length: usize) -> Bytes {
+    let mut bytes = bytes_of(ONE_ASPECT);
+    bytes.truncate(length);
+    bytes
+}
+
+#[test]
+fn beginnings_are_refused(rt: HostRuntime) {
+    for length in 0..99 {
+        let fault = if length < 36 {
+            PduFault::TooShort
+        } else {
+            PduFault::Length
+        };
+        assert!(rt;
+            fault_of(&cut_behind(length)) == Some(fault),
+            "{length} bytes"
+        );
+    }
+}
+
+/// How many bytes are given for an item, and whether they make one.
+const ITEM_LENGTHS: &[(usize, bool)] = &[(0, false), (1, true), (61, true), (62, false)];
+
+#[test]
+fn an_item_has_1_to_61_bytes(rt: HostRuntime) {
+    for row in ITEM_LENGTHS {
+        let (length, fits) = *row;
+        let item = Item::of(&cut_behind(length));
+        assert!(rt; item.is_some() == fits, "{length} bytes");
+    }
+}
+
+/// How many items are given for a PDU, and whether it can hold them.
+const ITEM_COUNTS: &[(usize, bool)] = &[(0, false), (1, true), (3, true), (4, false)];
+
+#[test]
+fn a_pdu_has_1_to_3_items(rt: HostRuntime) {
+    for row in ITEM_COUNTS {
+        let (count, fits) = *row;
+        let mut given: ArrayVec<Item, 4> = ArrayVec::new();
+        for _ in 0..count {
+            let _ = given.try_push(Item::default());
+        }
+        assert!(rt; Items::of(&given).is_some() == fits, "{count} items");
+    }
+}
+
 #[test]
 fn a_heartbeat_with_a_byte_more_or_less_is_refused(rt: HostRuntime) {
     let mut longer = bytes_of(HEARTBEAT);

@@ -260,3 +260,39 @@ fn faults_of_changed_bytes(rt: HostRuntime) {
         );
     }
 }
+
+#[test]
+fn beginnings_are_refused(rt: HostRuntime) {
+    for length in 0..61 {
+        let (beginning, _) = PROCEED.split_at(length);
+        let fault = if length < 43 {
+            SciFault::Short
+        } else {
+            SciFault::Length
+        };
+        assert!(rt; fault_of(beginning) == Some(fault), "{length} bytes");
+    }
+}
+
+/// Texts, and whether each is a name.
+const NAMES: &[(&str, bool)] = &[
+    ("", false),
+    ("a_b", false),
+    ("S 1", false),
+    ("\u{e4}", false),
+    ("abcdefghijklmnopqrstu", false),
+    ("S", true),
+    ("IXL1", true),
+    ("-", true),
+    ("abcdefghijklmnopqrst", true),
+    ("ABCXYZabcxyz0189-", true),
+];
+
+#[test]
+fn which_bytes_are_names(rt: HostRuntime) {
+    for row in NAMES {
+        let (text, is_name) = *row;
+        let name = Name::of(text.as_bytes());
+        assert!(rt; name.is_some() == is_name, "{text}");
+    }
+}
