@@ -1,10 +1,10 @@
 #!/usr/bin/env python3
 """Makes each node of a station anew after every event of every list of restarts of the program stored_runs:
-the gate takes each 3rd event of the small station's lists, each 20th of those in which stamps wrap, and each 60th of the
-junction's. The station is looked at after each single event from its beginning on. The lists are shared out to the
-processors, node by node.
+the gate does so in the small station's lists alone, takes every 5th place where stamps wrap, and every 8th at the junction.
+Behind an event that another node takes no run is made, for it would be the one before it. The station is looked at after each
+single event from its beginning on. The lists are shared out to the processors, node by node.
 
-usage: python3 bench/every_restart.py [EVERY]. After every EVERYth event, 1 where none is told. The program is the one that
+usage: python3 bench/every_restart.py [EVERY]. At every EVERYth place, 1 where none is told. The program is the one that
 `rt run` leaves in out/ of the crate."""
 import os, subprocess, sys, tempfile
 from concurrent.futures import ThreadPoolExecutor

@@ -23,7 +23,7 @@ pub(crate) struct List<'a> {
     pub(crate) events: &'a [Event],
     /// What follows behind the events.
     pub(crate) rounds: &'a [SimLine],
-    /// Nodes are made anew behind the first of so many events.
+    /// A node is made anew at the first of so many places at which another station comes of it.
     pub(crate) step: usize,
 }
 
@@ -69,17 +69,43 @@ fn first_request(events: &[Event]) -> Option<usize> {
     events.iter().position(|event| matches!(event, Event::Request(Command::Request(_))))
 }
 
+/// Whether an event calls another node, or brings it a datagram: so nothing of this node changes, and no time passes.
+fn is_of_another(event: &Event, node: NodeId) -> bool {
+    match event {
+        Event::Tick(called) => called.0 != node.0,
+        Event::Deliver { node: receiver, .. } => receiver.0 != node.0,
+        _ => false,
+    }
+}
+
 impl List<'_> {
-    /// Makes a node anew at each place from the first request on, and tells what happened.
+    /// Makes a node anew at the places from the first request on, and tells what happened.
     pub(crate) fn try_node(&self, rt: &HostRuntime, node: NodeId) -> Result<Tally, Fault> {
         let Some(first) = first_request(self.events) else {
             return Err(Fault::Request);
         };
         let mut tally = Tally::new();
-        for place in (first..=self.events.len()).step_by(self.step.max(1)) {
-            self.try_place(rt, node, place, &mut tally)?;
+        let mut left = 0;
+        for place in first..=self.events.len() {
+            if place > first && self.is_tried_before(node, place) {
+                continue;
+            }
+            if left == 0 {
+                self.try_place(rt, node, place, &mut tally)?;
+                left = self.step;
+            }
+            left = left.saturating_sub(1);
         }
         Ok(tally)
+    }
+
+    /// Whether the event before a place is one of another node. Then the station of the run that makes the node anew before
+    /// this event is the same behind it.
+    fn is_tried_before(&self, node: NodeId, place: usize) -> bool {
+        match self.events.get(place.saturating_sub(1)) {
+            Some(event) => is_of_another(event, node),
+            None => false,
+        }
     }
 
     /// Makes a node anew behind so many events, the interlocking also more often.
