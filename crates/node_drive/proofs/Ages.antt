@@ -1,5 +1,5 @@
 -- What a process saw is what its calls tell, so what it hears has waited briefly.
-use Rattle.std.proofs.Common.{◌≡◌, ◌≤◌, ◌+◌, ◌∙◌, ◌&&◌, ℕ, nat_le, Bool, true, false, cond, List, [], ◌∷◌, ◌++◌, map, Option, Some, None, refl, sym, ap, subst, append_assoc, append-nil, arith}
+use Rattle.std.proofs.Common.{◌≡◌, ◌∙◌, ◌&&◌, ℕ, nat_le, Bool, true, false, cond, List, [], ◌∷◌, ◌++◌, map, Option, Some, None, refl, sym, ap, subst, append_assoc, append-nil, arith}
 use Rattle.std.proofs.lemmas.Bool.Decides.{nat_tests}
 use Rattle.node_lines.specs.simulator_event.declared.event.NodeId.{NodeId}
 use Rattle.node_lines.specs.declared.order.Order.{Order}
@@ -8,7 +8,7 @@ use Rattle.node_drive.specs.Ages.{FindsEmpty, WaitedBriefly, WasEmptyBehind}
 use Rattle.node_drive.specs.Calls.{Call, Rests, Reads, AsksListener, AsksLine, AsksDatagram, ThrowsAway, Writes, BreaksOff, Sends, Complains, Came, Empty, Failed}
 use Rattle.node_drive.specs.Kinds.{Kind, Meaning, InForce, Comes, Faulty}
 use Rattle.node_drive.specs.Lives.{inputs_of}
-use Rattle.node_drive.specs.Rounds.{Coming, RoundBegins, Listened, Line, NoLine, LinesEnd, Datagram, NoDatagram, FailedDatagram, Tick, CourseState, Done, Standing, all_come, asked, comes, counted, datagram, having_called, heard_one, is_taken, later, line_of, not_heard, put_in_force, read_for, released, sent, step, steps, then_released, told}
+use Rattle.node_drive.specs.Rounds.{Coming, RoundBegins, Listened, Line, NoLine, LinesEnd, Datagram, NoDatagram, FailedDatagram, Tick, CourseState, Done, Standing, all_come, asked, comes, counted, datagram, having_called, heard_one, is_taken, later, line_of, not_heard, read_for, released, sent, step, steps, then_released, told}
 use Rattle.node_drive.specs.Seen.{all_seen, is_heard, is_recent, nothing_seen, seen_with}
 use Rattle.node_drive.specs.Waiting.{Waiting, leaving}
 use Rattle.node_drive.specs.declared.outside.ThrownAway.{ThrownAway}

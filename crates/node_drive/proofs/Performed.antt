@@ -1,5 +1,5 @@
 -- What a step has left, performed part by part.
-use Rattle.std.proofs.Common.{◌≡◌, ℕ, List, ◌++◌, Option, map, ap, ◌∙◌}
+use Rattle.std.proofs.Common.{◌≡◌, ℕ, List, Option, map, ap, ◌∙◌}
 use Rattle.node_lines.specs.declared.order.Order.{Order}
 use Rattle.node_drive.specs.Calls.{Call, Calls, CallsCut, Told, Writes}
 use Rattle.node_drive.specs.Rounds.{CourseState, count, line_of, new_order, performed, with_datagrams, with_order}

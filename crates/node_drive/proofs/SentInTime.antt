@@ -2,16 +2,15 @@
 use Rattle.std.proofs.Common.{◌≡◌, ◌<◌, ◌+◌, ◌∙◌, ◌&&◌, not, ℕ, nat_le, Bool, true, false, cond, List, [], ◌∷◌, ◌++◌, map, Option, Some, None, refl, sym, ap, subst, append_assoc, arith}
 use Rattle.std.specs.List.{AllByRecursion}
 use Rattle.std.proofs.lemmas.Bool.Decides.{nat_tests}
-use Rattle.node_lines.specs.simulator_event.declared.event.NodeId.{NodeId}
 use Rattle.node_lines.specs.declared.order.Order.{Order}
 use Rattle.node_lines.specs.replay_words.declared.fault.Fault.TheVariants.{Number}
 use Rattle.node_drive.specs.Ages.{IsIn, SendsBy, SentInTime, handed_by, to_leave}
-use Rattle.node_drive.specs.Calls.{Call, Rests, Reads, AsksListener, AsksLine, AsksDatagram, ThrowsAway, Writes, BreaksOff, Sends, Complains}
+use Rattle.node_drive.specs.Calls.{Call, Reads, Writes, Sends, Complains}
 use Rattle.node_drive.specs.Kinds.{Kind, Meaning, InForce, Comes, Faulty}
 use Rattle.node_drive.specs.Lives.{came, inputs_of, inputs_told, state_after}
-use Rattle.node_drive.specs.Rounds.{Coming, RoundBegins, Listened, Line, NoLine, LinesEnd, Datagram, NoDatagram, FailedDatagram, Tick, CourseState, Done, Standing, all_come, asked, comes, counted, datagram, having_called, heard_one, is_taken, later, line_of, not_heard, released, sent, step, steps, then_released, told}
+use Rattle.node_drive.specs.Rounds.{Coming, RoundBegins, Listened, Line, NoLine, LinesEnd, Datagram, NoDatagram, FailedDatagram, Tick, CourseState, Done, Standing, all_come, asked, comes, counted, having_called, heard_one, is_taken, later, line_of, not_heard, released, sent, step, steps, then_released, told}
 use Rattle.node_drive.specs.Seen.{all_seen, is_heard, seen_with}
-use Rattle.node_drive.specs.Waiting.{Addressed, Waiting, is_fresh, is_free, leaving, none_waits, waiting_of, waiting_on, waiting_one}
+use Rattle.node_drive.specs.Waiting.{Addressed, Waiting, is_fresh, is_free, leaving, none_waits, waiting_of, waiting_on}
 use Rattle.node_drive.specs.declared.outside.ThrownAway.{ThrownAway}
 use Rattle.node_drive.specs.declared.socket_seen.SocketSeen.{SocketSeen}
 use Rattle.node_drive.proofs.Lives.{comes-state}

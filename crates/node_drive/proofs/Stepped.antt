@@ -1,5 +1,5 @@
 -- A step of the node, and what is performed behind it.
-use Rattle.std.proofs.Common.{◌≡◌, ℕ, Bool, true, false, cond, List, [], ◌∷◌, Option, map, refl, sym, ap, ◌∙◌, append-nil}
+use Rattle.std.proofs.Common.{◌≡◌, ℕ, Bool, true, false, cond, List, [], ◌∷◌, Option, map, sym, ap, ◌∙◌, append-nil}
 use Rattle.node_lines.specs.simulator_event.declared.event.NodeId.{NodeId}
 use Rattle.node_drive.specs.Calls.{AsksListener, Call, Calls, CallsCut, Reads, Rests, Told, Writes}
 use Rattle.node_drive.specs.Drives.{Performs, Stops, opening}

@@ -1,5 +1,5 @@
 -- What contracts inside the crate and of its traits say of the steps of a line. No promise names any of it.
-use Rattle.std.specs.Prelude.{◌≡◌, ◌≤◌, ◌<◌, ◌-◌, ℕ, Bool, true, false, List, [], ◌∷◌, ◌++◌, length, map}
+use Rattle.std.specs.Prelude.{◌≡◌, ◌≤◌, ◌<◌, ℕ, Bool, true, false, List, [], ◌∷◌, ◌++◌, length, map}
 use Rattle.node_drive.specs.Calls.{Arrival, Told}
 use Rattle.node_drive.specs.Drives.{EndsDatagrams, Performs, Stops, Timed, datagram_in, line_in, most_in_a_round}
 use Rattle.node_drive.specs.Seen.{is_heard}

@@ -1,5 +1,4 @@
-use Rattle.std.proofs.Common.{◌∙◌, ◌∷◌, [], ap, arith}
-use Rattle.node_drive.specs.Calls.{Reads}
+use Rattle.std.proofs.Common.{◌∙◌, ap, arith}
 use Rattle.node_drive.specs.Inside.{standing_of}
 use Rattle.node_drive.specs.Rounds.{Tick, step, then_released}
 use Rattle.node_drive.proofs.Calls.{calls_same, calls_then, cuts_now, cuts_same, cuts_then, latest_rises, read_is, stopped}
