@@ -2,8 +2,9 @@
 
 use crate::node_stories::plant::{Plant, Played};
 use crate::node_stories::script::{
-    APPROACH_ROUNDS, APPROACH_UNKNOWN, DONE_NO_MORE, MADE_ANEW, MADE_ANEW_ROUNDS, NEVER_DONE,
-    PROCEED, PROCEED_ROUNDS, REST, Row, SILENT_ROUNDS, TWO_RESTARTS, TWO_RESTARTS_ROUNDS,
+    APPROACH_ROUNDS, APPROACH_UNKNOWN, DONE_NO_MORE, DROWNED, FLOODED, MADE_ANEW, MADE_ANEW_ROUNDS,
+    NEVER_DONE, PROCEED, PROCEED_ROUNDS, REST, Row, SILENT_ROUNDS, STOPPED_1_S, STOPPED_3_S,
+    STOPPED_30_S, STOPPED_30_S_ROUNDS, TWO_RESTARTS, TWO_RESTARTS_ROUNDS,
 };
 use crate::node_stories::station::{D1, INTERLOCKING, P1, S1, S3, S4, Station};
 
@@ -47,6 +48,35 @@ const RESTART: Story = Story {
     seen: "R1 free, R1 set, P1 none, P1 right, S1 proceed, IXL1 anew, R1 free, S1 stop, R1 set, S1 proceed, S1 stop, R1 free",
     ..TO_PROCEED
 };
+
+/// A signal that shows proceed is stopped, or flooded. It hears nothing that may be too old, and its link falls and comes back.
+const STOPPED: Story = Story {
+    script: STOPPED_3_S,
+    rounds: MADE_ANEW_ROUNDS,
+    seen: "R1 free, R1 set, P1 none, P1 right, S1 proceed, S1 stop, S1 late, R1 free, R1 set, S1 proceed, S1 stop, R1 free",
+    ..TO_PROCEED
+};
+
+const LATE_DATAGRAMS: &[Story] = &[
+    STOPPED,
+    Story {
+        script: STOPPED_1_S,
+        ..STOPPED
+    },
+    Story {
+        script: STOPPED_30_S,
+        rounds: STOPPED_30_S_ROUNDS,
+        ..STOPPED
+    },
+    Story {
+        script: FLOODED,
+        ..STOPPED
+    },
+    Story {
+        script: DROWNED,
+        ..STOPPED
+    },
+];
 
 /// Those that are played, each once.
 const STORIES: &[Story] = &[
@@ -105,7 +135,16 @@ const STORIES: &[Story] = &[
 
 /// Whether of each story is seen what it says.
 pub(crate) fn stories_are_seen(station: Station<'_>) -> bool {
-    for story in STORIES {
+    all_are_seen(station, STORIES)
+}
+
+/// The same of those in which datagrams wait for long.
+pub(crate) fn nothing_old_is_heard(station: Station<'_>) -> bool {
+    all_are_seen(station, LATE_DATAGRAMS)
+}
+
+fn all_are_seen(station: Station<'_>, stories: &[Story]) -> bool {
+    for story in stories {
         let played = Played {
             is_over_sockets: story.is_over_sockets,
             chosen: story.chosen,
