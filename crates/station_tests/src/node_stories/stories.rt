@@ -59,8 +59,10 @@ const STOPPED: Story = Story {
 
 const LATE_DATAGRAMS: &[Story] = &[
     STOPPED,
+    // Its lamp falls once the link has closed, which is later.
     Story {
         script: STOPPED_1_S,
+        seen: "R1 free, R1 set, P1 none, P1 right, S1 proceed, S1 late, S1 stop, R1 free, R1 set, S1 proceed, S1 stop, R1 free",
         ..STOPPED
     },
     Story {
@@ -144,17 +146,16 @@ pub(crate) fn nothing_old_is_heard(station: Station<'_>) -> bool {
 }
 
 fn all_are_seen(station: Station<'_>, stories: &[Story]) -> bool {
+    let mut well = true;
     for story in stories {
         let played = Played {
             is_over_sockets: story.is_over_sockets,
             chosen: story.chosen,
             ..Played::new(story.script)
         };
-        if !is_seen(station, played, story.rounds, story.seen) {
-            return false;
-        }
+        well = is_seen(station, played, story.rounds, story.seen) && well;
     }
-    true
+    well
 }
 
 /// Whether the same is seen of the first story where a call of the network fails, each in a run of its own.
