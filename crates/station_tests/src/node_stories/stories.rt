@@ -49,7 +49,8 @@ const RESTART: Story = Story {
     ..TO_PROCEED
 };
 
-/// A signal that shows proceed is stopped, or flooded. It hears nothing that may be too old, and its link falls and comes back.
+/// A signal that shows proceed is stopped for so long that its lamp falls. It hears nothing that may be too old, and its link comes
+/// back.
 const STOPPED: Story = Story {
     script: STOPPED_3_S,
     rounds: MADE_ANEW_ROUNDS,
@@ -57,26 +58,29 @@ const STOPPED: Story = Story {
     ..TO_PROCEED
 };
 
+/// It is stopped for less, or flooded: its lamp falls once it has heard nothing for long.
+const DEAFENED: Story = Story {
+    script: STOPPED_1_S,
+    seen: "R1 free, R1 set, P1 none, P1 right, S1 proceed, S1 late, S1 stop, R1 free, R1 set, S1 proceed, S1 stop, R1 free",
+    ..STOPPED
+};
+
+/// Those in which datagrams wait for long.
 const LATE_DATAGRAMS: &[Story] = &[
     STOPPED,
-    // Its lamp falls once the link has closed, which is later.
-    Story {
-        script: STOPPED_1_S,
-        seen: "R1 free, R1 set, P1 none, P1 right, S1 proceed, S1 late, S1 stop, R1 free, R1 set, S1 proceed, S1 stop, R1 free",
-        ..STOPPED
-    },
     Story {
         script: STOPPED_30_S,
         rounds: STOPPED_30_S_ROUNDS,
         ..STOPPED
     },
+    DEAFENED,
     Story {
         script: FLOODED,
-        ..STOPPED
+        ..DEAFENED
     },
     Story {
         script: DROWNED,
-        ..STOPPED
+        ..DEAFENED
     },
 ];
 
