@@ -35,6 +35,7 @@ pub use Rattle.rasta_core_run.specs.Safe
 pub use Rattle.rasta_core_run.specs.Given
 pub use Rattle.rasta_core_run.specs.Newest
 pub use Rattle.rasta_core_run.specs.Steps
+pub use Rattle.rasta_core_run.specs.TrueClocks
 pub use Rattle.rasta_core_run.specs.header
 pub use Rattle.rasta_core_run.specs.identity
 pub use Rattle.rasta_core_run.specs.reason

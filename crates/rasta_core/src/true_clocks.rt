@@ -1,0 +1,86 @@
+//! Time for clocks that are true to one part in a thousand, give or take ten microseconds, between any two moments: the clocks
+//! of real machines, however short the events are.
+
+ghost use Rattle.std.specs.Prelude.{ℕ, ◌<◌, List};
+ghost use Rattle.rasta_core_run.specs.Events.{Event, May, Start, happened, run, started};
+ghost use Rattle.rasta_core_run.specs.Names.{AreNames, Names};
+ghost use Rattle.rasta_core_run.specs.Run.{Ends, later};
+ghost use Rattle.rasta_core_run.specs.Safe.{AreSafe};
+ghost use Rattle.rasta_core_run.specs.TrueClocks.{GoesOff, GoesOffSince, IsAtOnce, IsOffSince, IsSteady, KeepTime, MayAllCome, Moment, Offset, moment_on, offsets_after, set};
+ghost use Rattle.rasta_core_run.specs.identity.Role.{Role};
+ghost use Rattle.rasta_core_run.specs.identity.Role.TheVariants as role;
+ghost use Rattle.rasta_core.specs.Invariant.{Timely, TimelyBy};
+ghost use Rattle.rasta_core.specs.EachLink.{AreTimely, AreTimelyBy};
+ghost use Rattle.rasta_core.specs.Links.{AreAtOnce, AreLinks, Links, LinksEvent, LinksStart, MayRunLinks, PassesFor, all_offsets_on, begun, happened_to, run_links};
+ghost use Rattle.rasta_core_run.specs.Given.{IsGiven};
+ghost use Rattle.rasta_core_run.specs.Newest.{IsNewest, IsUnused};
+ghost use Rattle.rasta_core.specs.Ordered.{Ordered};
+
+use crate::{every_event_keeps_order, order_is_safe, time_keeps_order};
+use rasta_core_run::{read_was_written, written_is_read};
+
+/// How far a clock is off between the moments behind it and now. Where it is steady since both, it is off no further than
+/// ten microseconds.
+pub fn steady_clocks_are_off_little()
+    ensures { (slow fast now : Moment) (old : Offset) (elapsed own : ℕ) → IsOffSince slow fast now old → IsSteady slow (moment_on elapsed own now)
+        → IsSteady fast (moment_on elapsed own now) → GoesOffSince slow fast now old elapsed own }
+{}
+
+/// Two ends keep time as long as their clocks are off by no more than ten microseconds: at the beginning (*starts*), while time
+/// passes (*passes*), and over every other event (*at_once*).
+pub fn ends_keep_time_by_their_offsets()
+    ensures starts { (names : Names) (start : Start) → AreNames names → TimelyBy names (λ who. set) (started names start) }
+    ensures passes { (names : Names) (old new : Role → Offset) (elapsed of_client of_server : ℕ) (ends : Ends) → TimelyBy names old ends
+        → GoesOff elapsed of_client (old role.Client) (new role.Client) → GoesOff elapsed of_server (old role.Server) (new role.Server)
+        → TimelyBy names new (later elapsed of_client of_server ends) }
+    ensures at_once { (names : Names) (offsets : Role → Offset) (event : Event) (ends : Ends) → AreNames names → TimelyBy names offsets ends → IsAtOnce event
+        → May names event ends → TimelyBy names (offsets_after event offsets) (happened event ends) }
+{
+    written_is_read();
+    read_was_written();
+}
+
+/// Time changes nothing of what was sent, given and entered, whatever the clocks do: an end's last connection (*newest*), what
+/// it gave there (*given*), and that it has given and taken nothing without one (*unused*) are read off as before.
+pub fn time_changes_no_connection()
+    ensures newest { (elapsed of_client of_server : ℕ) (ends : Ends) (who : Role) → IsNewest who ends → IsNewest who (later elapsed of_client of_server ends) }
+    ensures given { (names : Names) (elapsed of_client of_server : ℕ) (ends : Ends) (who : Role) → IsGiven names who ends
+        → IsGiven names who (later elapsed of_client of_server ends) }
+    ensures unused { (elapsed of_client of_server : ℕ) (ends : Ends) (who : Role) → IsUnused who ends → IsUnused who (later elapsed of_client of_server ends) }
+{}
+
+/// Each link of a world keeps time as long as its clocks are off by no more than ten microseconds: at the beginning
+/// (*starts*), while time passes (*passes*), and over every list of other events (*at_once*).
+pub fn links_keep_time_by_their_offsets()
+    ensures starts { (count : ℕ) (names : ℕ → Names) (start : LinksStart) → AreLinks count names
+        → AreTimelyBy count names (λ link who. set) (begun names start) }
+    ensures passes { (count : ℕ) (names : ℕ → Names) (old new : ℕ → Role → Offset) (elapsed : ℕ) (of_clients of_servers : ℕ → ℕ) (links : Links)
+        → AreTimelyBy count names old links
+        → ((link : ℕ) → link < count → GoesOff elapsed (of_clients link) (old link role.Client) (new link role.Client)
+            × GoesOff elapsed (of_servers link) (old link role.Server) (new link role.Server))
+        → AreTimelyBy count names new (happened_to (PassesFor elapsed of_clients of_servers) links) }
+    ensures at_once { (count : ℕ) (names : ℕ → Names) (offsets : ℕ → Role → Offset) (events : List LinksEvent) (links : Links) → AreLinks count names
+        → AreTimelyBy count names offsets links → AreAtOnce events → MayRunLinks count names events links
+        → AreTimelyBy count names (all_offsets_on events offsets) (run_links events links) }
+    ensures timely { (count : ℕ) (names : ℕ → Names) (offsets : ℕ → Role → Offset) (links : Links) → AreTimelyBy count names offsets links
+        → AreTimely count names links }
+{
+    ends_keep_time_by_their_offsets();
+}
+
+/// After every list of events over which both clocks keep time, the two ends keep time (*time*), are in order (*order*), and
+/// are safe (*safe*).
+pub fn true_clocks_keep_time()
+    ensures time { (names : Names) (start : Start) (events : List Event) → AreNames names → MayAllCome names events (started names start)
+        → KeepTime events (started names start) → Timely names (run events (started names start)) }
+    ensures order { (names : Names) (start : Start) (events : List Event) → AreNames names → MayAllCome names events (started names start)
+        → KeepTime events (started names start) → Ordered names (run events (started names start)) }
+    ensures safe { (names : Names) (start : Start) (events : List Event) → AreNames names → MayAllCome names events (started names start)
+        → KeepTime events (started names start) → AreSafe (run events (started names start)) }
+{
+    steady_clocks_are_off_little();
+    ends_keep_time_by_their_offsets();
+    every_event_keeps_order();
+    time_keeps_order();
+    order_is_safe();
+}
