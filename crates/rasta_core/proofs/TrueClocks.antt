@@ -187,19 +187,19 @@ as_before who ends new offset others slow fast same since slow_steady fast_stead
   fast_steady = fast_steady;
 }
 
-called_moment : (who caller : Role) (call : Call) (ends : Ends) → moment_of who (called caller call ends) ≡ moment_of who ends
+pub called_moment : (who caller : Role) (call : Call) (ends : Ends) → moment_of who (called caller call ends) ≡ moment_of who ends
 unfolding called end_after
 called_moment role.Client role.Client call ends = refl
 called_moment role.Client role.Server call ends = refl
 called_moment role.Server role.Client call ends = refl
 called_moment role.Server role.Server call ends = refl
 
-lost_moment : (who : Role) (bytes : List ℕ) (ends : Ends) → moment_of who (lost bytes ends) ≡ moment_of who ends
+pub lost_moment : (who : Role) (bytes : List ℕ) (ends : Ends) → moment_of who (lost bytes ends) ≡ moment_of who ends
 unfolding lost
 lost_moment role.Client bytes ends = refl
 lost_moment role.Server bytes ends = refl
 
-elsewhere_moment : (who : Role) (count : ℕ) (ends : Ends) → moment_of who (record ends { moment = ends.moment + count }) ≡ moment_of who ends
+pub elsewhere_moment : (who : Role) (count : ℕ) (ends : Ends) → moment_of who (record ends { moment = ends.moment + count }) ≡ moment_of who ends
 elsewhere_moment role.Client count ends = refl
 elsewhere_moment role.Server count ends = refl
 

@@ -1,17 +1,18 @@
 //! Time for clocks that are true to one part in a thousand, give or take ten microseconds, between any two moments: the clocks
 //! of real machines, however short the events are.
 
-ghost use Rattle.std.specs.Prelude.{ℕ, ◌<◌, List};
+ghost use Rattle.std.specs.Prelude.{◌≡◌, ◌⊎◌, ℕ, ◌<◌, true, List};
 ghost use Rattle.rasta_core_run.specs.Events.{Event, May, Start, happened, run, started};
 ghost use Rattle.rasta_core_run.specs.Names.{AreNames, Names};
 ghost use Rattle.rasta_core_run.specs.Run.{Ends, later};
 ghost use Rattle.rasta_core_run.specs.Safe.{AreSafe};
-ghost use Rattle.rasta_core_run.specs.TrueClocks.{GoesOff, GoesOffSince, IsAtOnce, IsOffSince, IsSteady, KeepTime, MayAllCome, Moment, Offset, moment_on, offsets_after, set};
+ghost use Rattle.rasta_core_run.specs.TrueClocks.{GoesOff, GoesOffSince, IsAtOnce, IsOffSince, IsSteady, KeepTime, MayAllCome, Moment, Offset, moment_of, moment_on, offsets_after, set};
 ghost use Rattle.rasta_core_run.specs.identity.Role.{Role};
 ghost use Rattle.rasta_core_run.specs.identity.Role.TheVariants as role;
 ghost use Rattle.rasta_core.specs.Invariant.{Timely, TimelyBy};
 ghost use Rattle.rasta_core.specs.EachLink.{AreTimely, AreTimelyBy};
-ghost use Rattle.rasta_core.specs.Links.{AreAtOnce, AreLinks, Links, LinksEvent, LinksStart, MayRunLinks, PassesFor, all_offsets_on, begun, happened_to, run_links};
+ghost use Rattle.rasta_core.specs.Links.{AreAtOnce, AreLinks, Links, LinksEvent, LinksStart, MayRunLinks, PassesFor, all_offsets_on, begun, happened_to, run_links, seen};
+ghost use Rattle.rasta_core.specs.Nodes.{is_among, restarts_of};
 ghost use Rattle.rasta_core_run.specs.Given.{IsGiven};
 ghost use Rattle.rasta_core_run.specs.Newest.{IsNewest, IsUnused};
 ghost use Rattle.rasta_core.specs.Ordered.{Ordered};
@@ -67,6 +68,17 @@ pub fn links_keep_time_by_their_offsets()
 {
     ends_keep_time_by_their_offsets();
 }
+
+/// In events of a world in which no time passes, the clock of an end is set, or it and its offset stay (*stays*). It is set
+/// where its node is made anew (*restarts*).
+pub fn offsets_stay_or_are_set()
+    ensures stays { (offsets : ℕ → Role → Offset) (events : List LinksEvent) (links : Links) (link : ℕ) (who : Role) → AreAtOnce events
+        → (all_offsets_on events offsets link who ≡ set)
+        ⊎ ((all_offsets_on events offsets link who ≡ offsets link who)
+            × (moment_of who (seen link (run_links events links)) ≡ moment_of who (seen link links))) }
+    ensures restarts { (who : Role) (clock : ℕ) (firsts : ℕ → ℕ) (numbers : List ℕ) (offsets : ℕ → Role → Offset) (link : ℕ)
+        → is_among link numbers ≡ true → all_offsets_on (restarts_of who clock firsts numbers) offsets link who ≡ set }
+{}
 
 /// After every list of events over which both clocks keep time, the two ends keep time (*time*), are in order (*order*), and
 /// are safe (*safe*).
