@@ -74,3 +74,4 @@ pub mod Projection
 pub mod Order
 pub mod Quiet
 pub mod Nodes
+pub mod FastClock

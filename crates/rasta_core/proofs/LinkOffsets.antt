@@ -137,12 +137,12 @@ pub restarts_set : (who : Role) (clock : ℕ) (firsts : ℕ → ℕ) (numbers : 
 restarts_set who clock firsts [] offsets link among = absurd (cc (among))
 restarts_set who clock firsts (number ∷ others) offsets link among =
     choose (link == number) refl among (λ rest. restarts_set who clock firsts others (offsets_on (RestartsOn number who clock (firsts number)) offsets) link rest) where
-  choose : (here : Bool) → (link == number) ≡ here → (if here then true else is_among link others) ≡ true
-      → (is_among link others ≡ true → all_offsets_on (restarts_of who clock firsts others) (offsets_on (RestartsOn number who clock (firsts number)) offsets) link who ≡ set)
-      → all_offsets_on (restarts_of who clock firsts others) (offsets_on (RestartsOn number who clock (firsts number)) offsets) link who ≡ set
-  choose true e rest more = stays_set (offsets_on (RestartsOn number who clock (firsts number)) offsets) (restarts_of who clock firsts others) link who
-      (one_set offsets (RestartsOn number who clock (firsts number)) link who (ap (λ (b : Bool). b && is_same who who) e ∙ same_role who))
-  choose false e rest more = more rest
+      choose : (here : Bool) → (link == number) ≡ here → (if here then true else is_among link others) ≡ true
+          → (is_among link others ≡ true → all_offsets_on (restarts_of who clock firsts others) (offsets_on (RestartsOn number who clock (firsts number)) offsets) link who ≡ set)
+          → all_offsets_on (restarts_of who clock firsts others) (offsets_on (RestartsOn number who clock (firsts number)) offsets) link who ≡ set
+      choose true e rest more = stays_set (offsets_on (RestartsOn number who clock (firsts number)) offsets) (restarts_of who clock firsts others) link who
+          (one_set offsets (RestartsOn number who clock (firsts number)) link who (ap (λ (b : Bool). b && is_same who who) e ∙ same_role who))
+      choose false e rest more = more rest
 
 -- an end that isn't made anew has its clock as before
 end_restart : (who other : Role) (clock first : ℕ) (ends : Ends) → is_same who other ≡ false → moment_of who (restarted other clock first ends) ≡ moment_of who ends
@@ -175,10 +175,10 @@ stays_or_is_set offsets [] links link who once = inr (refl, refl)
 stays_or_is_set offsets (first ∷ others) links link who once = choose (sets_on link who first) refl (stays_or_is_set (offsets_on first offsets) others (happened_to first links) link who once.1) where
   choose : (sets : Bool) → sets_on link who first ≡ sets → (all_offsets_on others (offsets_on first offsets) link who ≡ set)
       ⊎ ((all_offsets_on others (offsets_on first offsets) link who ≡ offsets_on first offsets link who)
-          × (moment_of who (seen link (run_links others (happened_to first links))) ≡ moment_of who (seen link (happened_to first links))))
+      × (moment_of who (seen link (run_links others (happened_to first links))) ≡ moment_of who (seen link (happened_to first links))))
       → (all_offsets_on others (offsets_on first offsets) link who ≡ set)
       ⊎ ((all_offsets_on others (offsets_on first offsets) link who ≡ offsets link who)
-          × (moment_of who (seen link (run_links others (happened_to first links))) ≡ moment_of who (seen link links)))
+      × (moment_of who (seen link (run_links others (happened_to first links))) ≡ moment_of who (seen link links)))
   choose sets e (inl is) = inl is
   choose true e (inr (same, still)) = inl (same ∙ one_set offsets first link who e)
   choose false e (inr (same, still)) = inr (

@@ -104,8 +104,8 @@ pub passes_by : (names : Names) (old new : Role → Offset) (elapsed of_client o
     → TimelyBy names new (later elapsed of_client of_server ends)
 passes_by names old new elapsed of_client of_server ends is goes goes_too =
     let after = later_off names elapsed of_client of_server (new role.Client) (new role.Server) ends is.timely
-      (subst (λ (o : Offset). GoesOff elapsed of_client o (new role.Client)) (sym is.client) goes)
-      (subst (λ (o : Offset). GoesOff elapsed of_server o (new role.Server)) (sym is.server) goes_too) in
+    (subst (λ (o : Offset). GoesOff elapsed of_client o (new role.Client)) (sym is.client) goes)
+    (subst (λ (o : Offset). GoesOff elapsed of_server o (new role.Server)) (sym is.server) goes_too) in
     record { timely = after.timely; client = after.client_off; server = after.server_off }
 
 module _ (law : WrittenIsRead) (intact : ReadIsIntact) (names : Names) (offsets : Role → Offset) (ends : Ends) (are : AreNames names) (is : TimelyBy names offsets ends) where

@@ -13,6 +13,8 @@ pub mod EachLink
 -- Many links over one network.
 pub mod Links
 pub mod Nodes
+-- A worked list of events.
+pub mod Worked
 -- What crates above need of two ends and their network.
 pub use Rattle.rasta_core_run.specs.Parameters
 pub use Rattle.rasta_core_run.specs.Sequence

@@ -1,8 +1,8 @@
 //! Time for clocks that are true to one part in a thousand, give or take ten microseconds, between any two moments: the clocks
 //! of real machines, however short the events are.
 
-ghost use Rattle.std.specs.Prelude.{◌≡◌, ◌⊎◌, ℕ, ◌<◌, true, List};
-ghost use Rattle.rasta_core_run.specs.Events.{Event, May, Start, happened, run, started};
+ghost use Rattle.std.specs.Prelude.{◌≡◌, ◌⊎◌, ℕ, ◌-◌, ◌<◌, true, List};
+ghost use Rattle.rasta_core_run.specs.Events.{Event, IsWithinDrift, May, Start, happened, run, started};
 ghost use Rattle.rasta_core_run.specs.Names.{AreNames, Names};
 ghost use Rattle.rasta_core_run.specs.Run.{Ends, later};
 ghost use Rattle.rasta_core_run.specs.Safe.{AreSafe};
@@ -16,6 +16,7 @@ ghost use Rattle.rasta_core.specs.Nodes.{is_among, restarts_of};
 ghost use Rattle.rasta_core_run.specs.Given.{IsGiven};
 ghost use Rattle.rasta_core_run.specs.Newest.{IsNewest, IsUnused};
 ghost use Rattle.rasta_core.specs.Ordered.{Ordered};
+ghost use Rattle.rasta_core.specs.Worked.{IsWithinDriftAnew, fast_clock, fast_from, runaway};
 
 use crate::{every_event_keeps_order, order_is_safe, time_keeps_order};
 use rasta_core_run::{read_was_written, written_is_read};
@@ -58,7 +59,7 @@ pub fn links_keep_time_by_their_offsets()
     ensures passes { (count : ℕ) (names : ℕ → Names) (old new : ℕ → Role → Offset) (elapsed : ℕ) (of_clients of_servers : ℕ → ℕ) (links : Links)
         → AreTimelyBy count names old links
         → ((link : ℕ) → link < count → GoesOff elapsed (of_clients link) (old link role.Client) (new link role.Client)
-            × GoesOff elapsed (of_servers link) (old link role.Server) (new link role.Server))
+        × GoesOff elapsed (of_servers link) (old link role.Server) (new link role.Server))
         → AreTimelyBy count names new (happened_to (PassesFor elapsed of_clients of_servers) links) }
     ensures at_once { (count : ℕ) (names : ℕ → Names) (offsets : ℕ → Role → Offset) (events : List LinksEvent) (links : Links) → AreLinks count names
         → AreTimelyBy count names offsets links → AreAtOnce events → MayRunLinks count names events links
@@ -75,7 +76,7 @@ pub fn offsets_stay_or_are_set()
     ensures stays { (offsets : ℕ → Role → Offset) (events : List LinksEvent) (links : Links) (link : ℕ) (who : Role) → AreAtOnce events
         → (all_offsets_on events offsets link who ≡ set)
         ⊎ ((all_offsets_on events offsets link who ≡ offsets link who)
-            × (moment_of who (seen link (run_links events links)) ≡ moment_of who (seen link links))) }
+        × (moment_of who (seen link (run_links events links)) ≡ moment_of who (seen link links))) }
     ensures restarts { (who : Role) (clock : ℕ) (firsts : ℕ → ℕ) (numbers : List ℕ) (offsets : ℕ → Role → Offset) (link : ℕ)
         → is_among link numbers ≡ true → all_offsets_on (restarts_of who clock firsts numbers) offsets link who ≡ set }
 {}
@@ -95,4 +96,18 @@ pub fn true_clocks_keep_time()
     every_event_keeps_order();
     time_keeps_order();
     order_is_safe();
+}
+
+/// A clock that runs 1 in 1000 fast over 20 ms, by events of 100 microseconds, keeps time (*keeps*), and so its link is safe
+/// (*safe*). Event by event it doesn't keep within its drift (*refused*). Were slack given anew in each event, a clock could
+/// run twice as fast as true time (*anew*): this keeps no time (*runs_away*).
+pub fn a_fast_clock_keeps_time()
+    ensures keeps { (names : Names) (start : Start) → KeepTime (fast_from 0 200) (started names start) }
+    ensures safe { (names : Names) (start : Start) → AreNames names → AreSafe (run (fast_from 0 200) (started names start)) }
+    ensures last { fast_clock 200 ≡ 20020 }
+    ensures refused { IsWithinDrift 100 (fast_clock 10 - fast_clock 9) → ⊥ }
+    ensures anew { IsWithinDriftAnew 1 2 }
+    ensures runs_away { (names : Names) (start : Start) → KeepTime (runaway 20) (started names start) → ⊥ }
+{
+    true_clocks_keep_time();
 }
