@@ -1,9 +1,9 @@
 -- A clock that runs fast by short events keeps time, and one that runs away doesn't.
-use Rattle.std.proofs.Common.{◌≡◌, ℕ, zero, suc, ◌+◌, ◌*◌, ◌-◌, ◌/◌, ◌≤◌, List, [], ◌∷◌, refl, sym, ap, subst, ◌∙◌, arith}
+use Rattle.std.proofs.Common.{◌≡◌, ℕ, zero, suc, ◌+◌, ◌*◌, ◌-◌, ◌≤◌, refl, arith}
 use Rattle.rasta_core_run.specs.Ends.{end_later}
-use Rattle.rasta_core_run.specs.Events.{Event, IsWithinDrift, Passes, Start, happened, started}
+use Rattle.rasta_core_run.specs.Events.{IsWithinDrift, Start, started}
 use Rattle.rasta_core_run.specs.Names.{Names}
-use Rattle.rasta_core_run.specs.Run.{Ends, end_of, later}
+use Rattle.rasta_core_run.specs.Run.{Ends, later}
 use Rattle.rasta_core_run.specs.TrueClocks.{IsSteady, KeepTime, MayAllCome, Moment, StaysSteady, moment_of}
 use Rattle.rasta_core_run.specs.identity.Role.{Role}
 use Rattle.rasta_core_run.specs.identity.Role.TheVariants as role

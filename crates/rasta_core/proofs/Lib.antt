@@ -75,3 +75,4 @@ pub mod Order
 pub mod Quiet
 pub mod Nodes
 pub mod FastClock
+pub mod DriftKept

@@ -15,7 +15,7 @@ use Rattle.rasta_core.specs.Invariant.{TimelyBy}
 use Rattle.rasta_core.specs.Links.{AreAtOnce, AreLinks, CallsOn, IsAtOnceFor, Links, LinksEvent, LinksStart, LosesAny, MayHappenTo, MayRunLinks, PassesFor, RestartsOn, all_offsets_on, begun, events_on, happened_to, is_oldest_on, offsets_on, run_links, seen, sent_by, sets_on, start_of}
 use Rattle.rasta_core.specs.Nodes.{is_among, restarts_of}
 use Rattle.rasta_core.proofs.TrueClocks.{called_moment, elsewhere_moment, lost_moment}
-use Rattle.rasta_core.proofs.Projection.{by_link, may_happen, numbered_after, sees}
+use Rattle.rasta_core.proofs.Projection.{may_happen, numbered_after, sees}
 use Rattle.rasta_core.proofs.Views.{all_later}
 
 -- ---- time

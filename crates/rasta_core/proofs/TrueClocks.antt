@@ -1,19 +1,19 @@
 -- Clocks that are steady between any two moments keep time, however short the events are.
-use Rattle.std.proofs.Common.{◌≡◌, ◌⊎◌, inl, inr, ℕ, ◌+◌, ◌*◌, ◌-◌, ◌≤◌, ◌<◌, Bool, true, false, List, [], ◌∷◌, refl, sym, ◌∙◌, subst, arith}
+use Rattle.std.proofs.Common.{◌≡◌, ◌⊎◌, inl, inr, ℕ, ◌+◌, ◌*◌, ◌-◌, ◌≤◌, List, [], ◌∷◌, refl, sym, ◌∙◌, subst, arith}
 use native.Mathlib.Decide.{dec_lt}
-use Rattle.rasta_core_run.specs.Run.{Ends, called, end_of, later, lost, restarted}
-use Rattle.rasta_core_run.specs.Ends.{Call, end_after, end_later, end_restarted}
+use Rattle.rasta_core_run.specs.Run.{Ends, called, later, lost, restarted}
+use Rattle.rasta_core_run.specs.Ends.{Call, end_after, end_later}
 use Rattle.rasta_core_run.specs.identity.Role.{Role}
 use Rattle.rasta_core_run.specs.identity.Role.TheVariants as role
 use Rattle.rasta_core_run.specs.Names.{Names, AreNames}
 use Rattle.rasta_core_run.specs.Events.{Event, Calls, Passes, Loses, Restarts, Elsewhere, May, happened, run, Start, started}
-use Rattle.rasta_core_run.specs.TrueClocks.{GoesOff, GoesOffSince, IsAtOnce, IsOffSince, IsSmall, IsSteady, KeepTime, MayAllCome, MayCome, Moment, Offset, StaysSteady, moment_of, moment_on, most_off, offsets_after, set, sets, unless}
+use Rattle.rasta_core_run.specs.TrueClocks.{GoesOff, GoesOffSince, IsAtOnce, IsOffSince, IsSteady, KeepTime, MayAllCome, MayCome, Moment, Offset, StaysSteady, moment_of, moment_on, most_off, offsets_after, set}
 use Rattle.rasta_core.specs.Invariant.{Timely, TimelyBy}
 use Rattle.rasta_core.specs.Ordered.{Ordered}
 use Rattle.rasta_core.proofs.Conversation.{WrittenIsRead}
 use Rattle.rasta_core.proofs.Called.{ReadIsIntact, called_kept}
-use Rattle.rasta_core.proofs.Clocks.{later_off, lost_kept, client_restarted, server_restarted, elsewhere_kept, Renewed, started_timely}
-use Rattle.rasta_core.proofs.BothEndsAfter.{Follows, FollowsOff}
+use Rattle.rasta_core.proofs.Clocks.{later_off, lost_kept, client_restarted, server_restarted, elsewhere_kept, started_timely}
+use Rattle.rasta_core.proofs.BothEndsAfter.{Follows}
 
 -- ---- one clock
 
@@ -221,11 +221,11 @@ kept_at_once who (Elsewhere count) others ends offsets once is time =
     as_before who ends _ (offsets who) others is.slow is.fast (elsewhere_moment who count ends) is.since is.slow_steady.1 is.fast_steady.1
 
 -- how far the clock of one end goes on
-abbrev own : Role → ℕ → ℕ → ℕ
+abbrev pub own : Role → ℕ → ℕ → ℕ
 own role.Client of_client of_server = of_client
 own role.Server of_client of_server = of_server
 
-later_moment : (who : Role) (elapsed of_client of_server : ℕ) (ends : Ends) → moment_of who (later elapsed of_client of_server ends) ≡ moment_on elapsed (own who of_client of_server) (moment_of who ends)
+pub later_moment : (who : Role) (elapsed of_client of_server : ℕ) (ends : Ends) → moment_of who (later elapsed of_client of_server ends) ≡ moment_on elapsed (own who of_client of_server) (moment_of who ends)
 unfolding later end_later
 later_moment role.Client elapsed of_client of_server ends = refl
 later_moment role.Server elapsed of_client of_server ends = refl

@@ -28,9 +28,9 @@ pub use rasta_core_run::{
     Identity, Inbox, Link, Millis, Outbox, Reason, Role, SendFault, Sent, State, Verdict,
 };
 pub use true_clocks::{
-    a_fast_clock_keeps_time, ends_keep_time_by_their_offsets, links_keep_time_by_their_offsets,
-    offsets_stay_or_are_set, steady_clocks_are_off_little, time_changes_no_connection,
-    true_clocks_keep_time,
+    a_fast_clock_keeps_time, drift_by_events_keeps_time, ends_keep_time_by_their_offsets,
+    links_keep_time_by_their_offsets, offsets_stay_or_are_set, steady_clocks_are_off_little,
+    time_changes_no_connection, true_clocks_keep_time,
 };
 pub use true_time::{
     alone_after_quiet, alone_after_waiting, calls_hand_out_pdus, copies_are_delivered,

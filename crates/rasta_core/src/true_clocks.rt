@@ -2,7 +2,7 @@
 //! of real machines, however short the events are.
 
 ghost use Rattle.std.specs.Prelude.{◌≡◌, ◌⊎◌, ℕ, ◌-◌, ◌<◌, true, List};
-ghost use Rattle.rasta_core_run.specs.Events.{Event, IsWithinDrift, May, Start, happened, run, started};
+ghost use Rattle.rasta_core_run.specs.Events.{Event, IsWithinDrift, May, MayRun, Start, happened, run, started};
 ghost use Rattle.rasta_core_run.specs.Names.{AreNames, Names};
 ghost use Rattle.rasta_core_run.specs.Run.{Ends, later};
 ghost use Rattle.rasta_core_run.specs.Safe.{AreSafe};
@@ -111,3 +111,9 @@ pub fn a_fast_clock_keeps_time()
 {
     true_clocks_keep_time();
 }
+
+/// Clocks that keep within one part in a thousand in each event keep time: so this is more general than what an event may be.
+pub fn drift_by_events_keeps_time()
+    ensures come { (names : Names) (events : List Event) (ends : Ends) → MayRun names events ends → MayAllCome names events ends }
+    ensures time { (names : Names) (events : List Event) (ends : Ends) → MayRun names events ends → KeepTime events ends }
+{}
