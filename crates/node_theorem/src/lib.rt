@@ -5,9 +5,12 @@ mod kinds;
 mod laws;
 mod processes;
 
-pub use kinds::{Interlockings, Points, Signals};
+pub use kinds::{Detectors, Interlockings, Points, Signals};
 pub use laws::{
     controllers_are_those_of_a_world, interlockings_are_those_of_a_world,
     orders_tell_all_until_the_next,
 };
-pub use processes::{what_processes_do_is_safe, what_processes_of_true_clocks_do_is_safe};
+pub use processes::{
+    processes_are_the_nodes_of_a_world, what_processes_do_is_safe,
+    what_processes_of_true_clocks_do_is_safe,
+};
