@@ -1,1 +1,2 @@
 pub mod Processes
+pub mod Records

@@ -4,6 +4,7 @@
 mod kinds;
 mod laws;
 mod processes;
+mod records;
 
 pub use kinds::{Detectors, Interlockings, Points, Signals};
 pub use laws::{
@@ -13,4 +14,8 @@ pub use laws::{
 pub use processes::{
     processes_are_the_nodes_of_a_world, what_processes_do_is_safe,
     what_processes_of_true_clocks_do_is_safe,
+};
+pub use records::{
+    a_process_records_its_node, a_process_that_is_cut_off_records_its_node,
+    controllers_write_their_orders,
 };

@@ -1,0 +1,78 @@
+-- What a process records of its node.
+use Rattle.std.proofs.Common.{◌≡◌, ◌∙◌, ℕ, Bool, true, false, List, [], ◌∷◌, ◌++◌, Option, Some, None, refl, sym, ap}
+use Rattle.node_kinds.specs.ixl_table.Table.{IsTableOf}
+use Rattle.node_kinds.specs.simulator_run.ixl_rules.Table.{Table}
+use Rattle.node_kinds.specs.simulator_run.layout.Entries.{Site}
+use Rattle.node_kinds.specs.node_drive.Beginning.{first_course}
+use Rattle.node_kinds.specs.node_drive.Calls.{Call, Calls, Reads, Told}
+use Rattle.node_kinds.specs.node_drive.Drives.{CutOff, Ran, broken_in, in_rounds}
+use Rattle.node_kinds.specs.node_drive.Kinds.{Kind}
+use Rattle.node_kinds.specs.node_drive.Rounds.{CourseState, Standing, all_come}
+use Rattle.node_kinds.specs.Interlockings.{InterlockingNode, interlocking_kind}
+use Rattle.node_kinds.specs.Openings.{Equipment, Opening, opening_kind, rest_order, untold}
+use Rattle.node_kinds.specs.Processes.{Controls, waited, lived, ControlsCut, waiting, opened, living, unmade, cut, Lives, Opens, ReadsAt, StationRuns, StationCut, not_made, cut_off, interlocking_made, left_of, standing}
+use Rattle.node_theorem.specs.Processes.{Process}
+use Rattle.node_theorem.specs.Records.{IsRecorded, Records, made_before, made_in, station_before}
+use Rattle.node_theorem.proofs.Calls.{calls_then}
+use Rattle.node_theorem.proofs.Opened.{run_rests}
+
+-- ---- a controller
+
+module _ {State Input Contacts : Type 0} (kind : Kind State Input) (site : Site) (equipment : Equipment) (told : Opening → Option Contacts) (made : Contacts → ℕ → State) (for_ms begins : ℕ) (old new : Told)
+    -- a new node's equipment has to rest
+    (new_rests : (contacts : Contacts) (now : ℕ) → kind.order (made contacts now) ≡ rest_order equipment) where
+  module _ (opening : Opening) (before : CourseState) (then : Told) (contacts : Contacts) (opens : Opens site equipment for_ms begins opening before old then) where
+    rests : (now : ℕ) → before.order ≡ kind.order (made contacts now)
+    rests now = run_rests site equipment opening before opens.ran ∙ sym (new_rests contacts now)
+
+    it_lived : (after : CourseState) (lives : Lives kind (made contacts) for_ms begins before after then new) → Records kind made true (Some (contacts, lives.now)) old new
+    it_lived after lives = (
+      record { first = standing (made contacts lives.now) before; comings = in_rounds (lives.ran.earlier ++ lives.ran.last ∷ []) },
+      record {
+        first_is = refl;
+        told = rests lives.now;
+        earlier = (all_come opening_kind (in_rounds (opens.ran.earlier ++ opens.ran.last ∷ [])) (standing (untold site equipment) first_course)).0;
+        read = lives.read;
+        reads = calls_then opens.ran.performs.called lives.reads;
+        called = lives.ran.performs.called;
+      },
+    )
+
+    it_was_cut : (now : ℕ) (read : Told) → ReadsAt now then read → CutOff kind (left_of for_ms begins now) now (standing (made contacts now) before) read new → Records kind made false (Some (contacts, now)) old new
+    it_was_cut now read reads stopped = (
+      record { first = standing (made contacts now) before; comings = in_rounds stopped.made ++ broken_in stopped.broken },
+      record {
+        first_is = refl;
+        told = rests now;
+        earlier = (all_come opening_kind (in_rounds (opens.ran.earlier ++ opens.ran.last ∷ [])) (standing (untold site equipment) first_course)).0;
+        read = read;
+        reads = calls_then opens.ran.performs.called reads;
+        called = stopped.stops.cut;
+      },
+    )
+
+  pub recorded : (after : CourseState) (ran : Controls kind site equipment told made for_ms begins after old new) → Records kind made true (made_in ran) old new
+  recorded after (waited opens none) = tt
+  recorded after (lived {opening = opening} {opened = before} {then = then} {contacts = contacts} opens all lives) = it_lived opening before then contacts opens after lives
+
+  pub recorded_before : (stopped : ControlsCut kind site equipment told made for_ms begins old new) → Records kind made false (made_before stopped) old new
+  recorded_before (waiting stopped) = tt
+  recorded_before (opened opens) = tt
+  recorded_before (living opens all (unmade reads)) = tt
+  recorded_before (living {opening = opening} {after = before} {then = then} {contacts = contacts} opens all (cut {now = now} {read = read} reads stopped)) = it_was_cut opening before then contacts opens now read reads stopped
+
+-- ---- the interlocking
+
+module _ (site : Site) (first for_ms begins : ℕ) (old new : Told) where
+  pub station_recorded : (after : CourseState) (ran : StationRuns site first for_ms begins after old new) → Records interlocking_kind (interlocking_made site first) true (Some (ran.table, ran.lives.now)) old new
+  station_recorded after ran = (
+    record { first = standing (interlocking_made site first ran.table ran.lives.now) first_course; comings = in_rounds (ran.lives.ran.earlier ++ ran.lives.ran.last ∷ []) },
+    record { first_is = refl; told = refl; earlier = []; read = ran.lives.read; reads = ran.lives.reads; called = ran.lives.ran.performs.called },
+  )
+
+  pub station_recorded_before : (stopped : StationCut site first for_ms begins old new) → Records interlocking_kind (interlocking_made site first) false (station_before stopped) old new
+  station_recorded_before (not_made reads) = tt
+  station_recorded_before (cut_off {table = table} {now = now} {read = read} is_table reads stopped) = (
+    record { first = standing (interlocking_made site first table now) first_course; comings = in_rounds stopped.made ++ broken_in stopped.broken },
+    record { first_is = refl; told = refl; earlier = []; read = read; reads = reads; called = stopped.stops.cut },
+  )
