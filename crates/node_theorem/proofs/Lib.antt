@@ -4,4 +4,8 @@ pub mod Seen
 pub mod Calls
 pub mod Opened
 pub mod Recorded
+pub mod Happens
+pub mod Rests
+pub mod OnLines
 pub mod Written
+pub mod WorkedRuns
