@@ -6,20 +6,20 @@ use Rattle.simulator_field.proofs.clocked_controller.ClockedController.step.Goal
 
 pub note-requires : goal.note-requires
 note-requires g c =
-    let capacity = capacity_posted _ _ _ c.step.follows.claims.value
+    let capacity = capacity_posted _ _ _ c.step.follows.claims.0
     in omega (arith, c.len-sends.ensures.within, c.len.ensures.fits, c.len.ensures.count, c.requires)
 
 pub send_all-requires : goal.send_all-requires
 send_all-requires g c =
-    let capacity = capacity_posted _ _ _ c.step.follows.claims.value
-    in let lent = ap (λ (o : OutboxState). length o.datagrams) (c.step.follows.claims.value ∙ sym c.step.follows.holds-at-none.posted)
+    let capacity = capacity_posted _ _ _ c.step.follows.claims.0
+    in let lent = ap (λ (o : OutboxState). length o.datagrams) (c.step.follows.claims.0 ∙ sym c.step.follows.holds-at-none.posted)
     in omega (arith, c.len-sends.ensures.within, c.len-sends.ensures.count, c.requires)
 
 pub returns-clause-server : goal.returns-clause-server
 returns-clause-server g c =
     let does = g.C.Controller.behaviour
     in let after = c.step.follows.lender-at-none
-    in let lent = ap (λ (o : OutboxState). length o.datagrams) (c.step.follows.claims.value ∙ sym c.step.follows.holds-at-none.posted)
+    in let lent = ap (λ (o : OutboxState). length o.datagrams) (c.step.follows.claims.0 ∙ sym c.step.follows.holds-at-none.posted)
     in step_performed does c.args.input c.self.inside.hosted.host after.host c.send_all.new.hosted.host c.self.inside.clock c.now-now.result c.args.connection (length c.args.network.now.sent)
     c.len-sends.result c.is_inside_at-was_inside.result c.is_open-is_open.result c.self.inside.stay c.note.new.self after.outbox c.args.self.now
     c.self.view_is c.is_inside_at-was_inside.ensures c.now-now.ensures c.step.follows.holds-at-none.host c.step.follows.holds-at-none.posted (search rules) (c.len-sends.ensures.count ∙ lent) (search rules) c.send_all.ensures.host
@@ -33,6 +33,6 @@ returns-clause-sent g c =
 
 pub returns-clause-room : goal.returns-clause-room
 returns-clause-room g c =
-    let capacity = capacity_posted _ _ _ c.step.follows.claims.value
-    in let lent = ap (λ (o : OutboxState). length o.datagrams) (c.step.follows.claims.value ∙ sym c.step.follows.holds-at-none.posted)
+    let capacity = capacity_posted _ _ _ c.step.follows.claims.0
+    in let lent = ap (λ (o : OutboxState). length o.datagrams) (c.step.follows.claims.0 ∙ sym c.step.follows.holds-at-none.posted)
     in omega (arith, c.send_all.ensures.room, c.len-sends.ensures.within, c.len-sends.ensures.count)
