@@ -7,12 +7,15 @@ use Rattle.node_kinds.specs.simulator_run.sci_telegram.declared.message.Side.The
 use Rattle.node_kinds.specs.node_drive.node_lines.declared.order.Order.{Order}
 use Rattle.node_kinds.specs.node_drive.node_lines.declared.order.Order.TheVariants.{ShowStop, ShowProceed, ShowSlow, DriveNone, Drive}
 use Rattle.node_kinds.specs.node_drive.replay_words.declared.fault.Fault.TheVariants.{Number}
+use Rattle.node_kinds.specs.node_drive.simulator_event.declared.event.NodeId.{NodeId}
 use Rattle.node_kinds.specs.node_drive.Beginning.{first_course}
-use Rattle.node_kinds.specs.node_drive.Calls.{Complains, Told}
+use Rattle.node_kinds.specs.node_drive.Calls.{Call, Complains, Told}
 use Rattle.node_kinds.specs.node_drive.Drives.{AreRounds, Ran, Round, behind_lines, datagrams_in, in_round, in_rounds, line_in, lines_end, opening}
 use Rattle.node_kinds.specs.node_drive.Kinds.{Kind, Meaning, InForce, Comes, Faulty}
-use Rattle.node_kinds.specs.node_drive.Rounds.{Coming, RoundBegins, Listened, Line, NoLine, LinesEnd, Datagram, Late, NoDatagram, Tick, CourseState, Standing, all_come, comes, counted, heard_one, is_taken, last_order, later, new_order, released, step, steps, told}
+use Rattle.node_kinds.specs.node_drive.Rounds.{Coming, RoundBegins, Listened, Line, NoLine, LinesEnd, Datagram, NoDatagram, FailedDatagram, Tick, CourseState, Done, Standing, all_come, asked, comes, datagram, having_called, heard_one, last_order, later, line, new_order, not_heard, put_in_force, step, steps, then_released, told}
 use Rattle.node_kinds.specs.node_drive.Same.{is_same_order, is_same_side}
+use Rattle.node_kinds.specs.node_drive.Seen.{is_heard}
+use Rattle.node_kinds.specs.node_drive.declared.outside.ThrownAway.{ThrownAway}
 use Rattle.node_kinds.specs.Openings.{Equipment, Opening, Opens, Lies, Nothing, Stands, opened_by, opening_kind, rest_order, untold}
 use Rattle.node_kinds.specs.Processes.{standing}
 
@@ -102,67 +105,100 @@ module _ (equipment : Equipment) where
   steps_wait now [] at waits = waits
   steps_wait now (input ∷ inputs) at waits = steps_wait now inputs (step opening_kind now input at).1 (step_waits now input at waits)
 
-  order_forced : (now number : ℕ) (course : CourseState) (known : Bool)
-      → (cond known (released now (record course { in_force = later course.in_force number })) (Complains course.heard Number ∷ [], course)).1.order ≡ course.order
-  order_forced now number course true = refl
-  order_forced now number course false = refl
+  order_forced : (number : ℕ) (course : CourseState) (known : Bool)
+      → let done : Done CourseState = cond known ([], record course { in_force = later course.in_force number }) (Complains course.heard Number ∷ [], course)
+      in done.1.order ≡ course.order
+  order_forced number course true = refl
+  order_forced number course false = refl
 
   told_waits : (now : ℕ) (meaning : Meaning Opens) (at : Standing Opening) → Waits equipment at → Waits equipment (told opening_kind now meaning at).1
   told_waits now (InForce number) at waits = record {
     equipment_is = waits.equipment_is;
-    order_is = subst (IsRest equipment) (sym (order_forced now number at.course (nat_le number at.course.written))) waits.order_is;
+    order_is = subst (IsRest equipment) (sym (order_forced number at.course (nat_le number at.course.written))) waits.order_is;
   }
   told_waits now (Comes answer inputs) at waits = steps_wait now inputs at waits
   told_waits now (Faulty fault) at waits = waits
 
+  -- what is called, what leaves, and what isn't heard changes nothing of it
+  called_waits : (calls : List Call) (at : Standing Opening) → Waits equipment at → Waits equipment (having_called calls at)
+  called_waits calls at waits = record { equipment_is = waits.equipment_is; order_is = waits.order_is }
+
+  released_waits : (leaves : ℕ) (done : Done (Standing Opening)) → Waits equipment done.1 → Waits equipment (then_released leaves done).1
+  released_waits leaves done waits = record { equipment_is = waits.equipment_is; order_is = waits.order_is }
+
+  -- and datagrams aren't for it
+  dropped_waits : (now : ℕ) (from : Option NodeId) (bytes : List ℕ) (at : Standing Opening) → Waits equipment at → Waits equipment (datagram opening_kind now from bytes at).1
+  dropped_waits now None bytes at waits = record { equipment_is = waits.equipment_is; order_is = waits.order_is }
+  dropped_waits now (Some from) bytes at waits = record { equipment_is = waits.equipment_is; order_is = waits.order_is }
+
+  datagram_waits : (now leaves : ℕ) (from : Option NodeId) (bytes : List ℕ) (thrown : ThrownAway) (at : Standing Opening) (heard : Bool) → Waits equipment at
+      → Waits equipment (cond heard (then_released leaves (datagram opening_kind now from bytes at)) (not_heard thrown at)).1
+  datagram_waits now leaves from bytes thrown at true waits = released_waits leaves (datagram opening_kind now from bytes at) (dropped_waits now from bytes at waits)
+  datagram_waits now leaves from bytes thrown at false waits = record { equipment_is = waits.equipment_is; order_is = waits.order_is }
+
   comes_waits : (now : ℕ) (coming : Coming) (at : Standing Opening) → Waits equipment at → Waits equipment (comes opening_kind now coming at).1
-  comes_waits now RoundBegins at waits = waits
-  comes_waits now (Listened true) at waits = waits
-  comes_waits now (Listened false) at waits = waits
-  comes_waits now (Line text) at waits = told_waits now (opening_kind.meaning now text at.state) (heard_one at) (record { equipment_is = waits.equipment_is; order_is = waits.order_is })
-  comes_waits now NoLine at waits = waits
-  comes_waits now LinesEnd at waits = waits
-  comes_waits now (Datagram None bytes) at waits = record { equipment_is = waits.equipment_is; order_is = waits.order_is }
-  comes_waits now (Datagram (Some from) bytes) at waits = record { equipment_is = waits.equipment_is; order_is = waits.order_is }
-  comes_waits now (Late from bytes) at waits = waits
-  comes_waits now NoDatagram at waits = waits
-  comes_waits now Tick at waits = step_waits now Nothing at waits
+  comes_waits now RoundBegins at waits = called_waits (asked now RoundBegins) at waits
+  comes_waits now (Listened true) at waits = called_waits (asked now (Listened true)) at waits
+  comes_waits now (Listened false) at waits = called_waits (asked now (Listened false)) at waits
+  comes_waits now (Line text leaves) at waits =
+      let here = having_called (asked now (Line text leaves)) at in
+      released_waits leaves (line opening_kind now text here)
+      (told_waits now (opening_kind.meaning now text at.state) (heard_one here) (record { equipment_is = waits.equipment_is; order_is = waits.order_is }))
+  comes_waits now NoLine at waits = called_waits (asked now NoLine) at waits
+  comes_waits now LinesEnd at waits = called_waits (asked now LinesEnd) at waits
+  comes_waits now (Datagram from bytes thrown leaves) at waits =
+      let calls = asked now (Datagram from bytes thrown leaves) in
+      datagram_waits now leaves from bytes thrown (having_called calls at) (is_heard now at.course.seen) (called_waits calls at waits)
+  comes_waits now NoDatagram at waits = called_waits (asked now NoDatagram) at waits
+  comes_waits now FailedDatagram at waits = called_waits (asked now FailedDatagram) at waits
+  comes_waits now (Tick leaves) at waits =
+      let here = having_called (asked now (Tick leaves)) at in
+      released_waits leaves (step opening_kind now Nothing here) (step_waits now Nothing here (called_waits (asked now (Tick leaves)) at waits))
 
   all_wait : (comings : List (ℕ × Coming)) (at : Standing Opening) → Waits equipment at → Waits equipment (all_come opening_kind comings at).1
   all_wait [] at waits = waits
   all_wait (one ∷ others) at waits = all_wait others (comes opening_kind one.0 one.1 at).1 (comes_waits one.0 one.1 at waits)
 
   -- where a tick comes last, it was told to rest
-  ticked : (comings : List (ℕ × Coming)) (now : ℕ) (at : Standing Opening) → Waits equipment at → (all_come opening_kind (comings ++ (now, Tick) ∷ []) at).1.course.order ≡ rest_order equipment
-  ticked [] now at waits = told_to_rest now Nothing at waits
-  ticked (one ∷ others) now at waits = ticked others now (comes opening_kind one.0 one.1 at).1 (comes_waits one.0 one.1 at waits)
+  ticked : (comings : List (ℕ × Coming)) (now leaves : ℕ) (at : Standing Opening) → Waits equipment at → (all_come opening_kind (comings ++ (now, Tick leaves) ∷ []) at).1.course.order ≡ rest_order equipment
+  ticked [] now leaves at waits = told_to_rest now Nothing (having_called (asked now (Tick leaves)) at) (called_waits (asked now (Tick leaves)) at waits)
+  ticked (one ∷ others) now leaves at waits = ticked others now leaves (comes opening_kind one.0 one.1 at).1 (comes_waits one.0 one.1 at waits)
 
 -- ---- a tick comes last in a run
 
-abbrev EndsWithTick : List (ℕ × Coming) → Type 0
-EndsWithTick comings = (front : List (ℕ × Coming)) × (now : ℕ) × (comings ≡ front ++ (now, Tick) ∷ [])
+record EndsWithTick (comings : List (ℕ × Coming)) : Type 0 where
+  front : List (ℕ × Coming)
+  now : ℕ
+  leaves : ℕ
+  comings_are : comings ≡ front ++ (now, Tick leaves) ∷ []
 
 behind : (before comings : List (ℕ × Coming)) → EndsWithTick comings → EndsWithTick (before ++ comings)
-behind before comings ends = (before ++ ends.0, ends.1, ap (λ l. before ++ l) ends.2 ∙ sym (append_assoc before ends.0 ((ends.1, Tick) ∷ [])))
+behind before comings ends = record {
+  front = before ++ ends.front;
+  now = ends.now;
+  leaves = ends.leaves;
+  comings_are = ap (λ l. before ++ l) ends.comings_are ∙ sym (append_assoc before ends.front ((ends.now, Tick ends.leaves) ∷ []));
+}
 
 round_ends : (round : Round) → round.closed ≡ false → EndsWithTick (in_round round)
 round_ends round goes_on =
-    let tick : EndsWithTick ((round.ticks, Tick) ∷ []) = ([], round.ticks, refl) in
-    let lines = behind (lines_end (length round.lines)) (datagrams_in round ++ (round.ticks, Tick) ∷ []) (behind (datagrams_in round) ((round.ticks, Tick) ∷ []) tick) in
+    let last : List (ℕ × Coming) = (round.ticks, Tick round.leaves) ∷ [] in
+    let tick : EndsWithTick last = record { front = []; now = round.ticks; leaves = round.leaves; comings_are = refl } in
+    let lines = behind (lines_end (length round.lines)) (datagrams_in round ++ last) (behind (datagrams_in round) last tick) in
     behind (opening round.begins round.listened) (map line_in round.lines ++ behind_lines round round.closed)
     (behind (map line_in round.lines) (behind_lines round round.closed) (subst (λ c. EndsWithTick (behind_lines round c)) (sym goes_on) lines))
 
-rounds_end : (before : ℕ) (earlier : List Round) (last : Round) → AreRounds before (earlier ++ last ∷ []) → EndsWithTick (in_rounds (earlier ++ last ∷ []))
-rounds_end before [] last are = subst EndsWithTick (sym (append-nil (in_round last))) (round_ends last are.1)
-rounds_end before (round ∷ rounds) last are = behind (in_round round) (in_rounds (rounds ++ last ∷ [])) (rounds_end round.ticks rounds last are.2)
+rounds_end : (earlier : List Round) (last : Round) (at : Standing Opening) → AreRounds opening_kind (earlier ++ last ∷ []) at → EndsWithTick (in_rounds (earlier ++ last ∷ []))
+rounds_end [] last at are = subst EndsWithTick (sym (append-nil (in_round last))) (round_ends last are.1)
+rounds_end (round ∷ rounds) last at are = behind (in_round round) (in_rounds (rounds ++ last ∷ [])) (rounds_end rounds last (all_come opening_kind (in_round round) at).1 are.2)
 
 -- ---- so the equipment rests when the node is made
 
 pub run_rests : {for_ms begins ticks : ℕ} {told_old told_new : Told} (site : Site) (equipment : Equipment) (opened : Opening) (after : CourseState)
     → Ran opening_kind for_ms begins ticks (standing (untold site equipment) first_course) (standing opened after) told_old told_new → after.order ≡ rest_order equipment
-run_rests {begins = begins} site equipment opened after ran =
+run_rests site equipment opened after ran =
     let first : Standing Opening = standing (untold site equipment) first_course in
-    let ends = rounds_end begins ran.earlier ran.last ran.are in
+    let ends = rounds_end ran.earlier ran.last first ran.are in
     ap (λ (s : Standing Opening). s.course.order) ran.performs.standing_is
-    ∙ ap (λ (c : List (ℕ × Coming)). (all_come opening_kind c first).1.course.order) ends.2
-    ∙ ticked equipment ends.0 ends.1 first (record { equipment_is = refl; order_is = inl refl })
+    ∙ ap (λ (c : List (ℕ × Coming)). (all_come opening_kind c first).1.course.order) ends.comings_are
+    ∙ ticked equipment ends.front ends.now ends.leaves first (record { equipment_is = refl; order_is = inl refl })

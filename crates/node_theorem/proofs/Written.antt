@@ -1,5 +1,5 @@
 -- What a controller writes are the orders of its life.
-use Rattle.std.proofs.Common.{◌≡◌, ◌∙◌, ℕ, nat_le, Bool, true, false, cond, List, [], ◌∷◌, ◌++◌, map, Option, Some, None, refl, sym, ap, append_assoc, append-nil}
+use Rattle.std.proofs.Common.{◌≡◌, ◌∙◌, ℕ, nat_le, Bool, true, false, ◌&&◌, cond, List, [], ◌∷◌, ◌++◌, map, Option, Some, None, refl, sym, ap, append_assoc, append-nil}
 use Rattle.node_kinds.specs.simulator_run.layout.Entries.{Site}
 use Rattle.node_kinds.specs.simulator_run.layout.declared.ids.SectionId.{SectionId}
 use Rattle.node_kinds.specs.simulator_run.object_host.Behaviour.{Behaviour}
@@ -11,11 +11,13 @@ use Rattle.node_kinds.specs.node_drive.node_lines.declared.report.FieldReport.{F
 use Rattle.node_kinds.specs.node_drive.node_lines.declared.report.FieldReport.TheVariants as reports
 use Rattle.node_kinds.specs.node_drive.replay_words.declared.fault.Fault.{Fault}
 use Rattle.node_kinds.specs.node_drive.replay_words.declared.fault.Fault.TheVariants.{Number}
-use Rattle.node_kinds.specs.node_drive.Calls.{Call, Complains, Writes}
+use Rattle.node_kinds.specs.node_drive.Calls.{Call, Complains, Reads, Writes}
 use Rattle.node_kinds.specs.node_drive.Kinds.{Kind, Meaning, InForce, Comes, Faulty}
 use Rattle.node_kinds.specs.node_drive.Lives.{came, inputs_of, inputs_told}
-use Rattle.node_kinds.specs.node_drive.Rounds.{Coming, RoundBegins, Listened, Line, NoLine, LinesEnd, Datagram, Late, NoDatagram, Tick, CourseState, Standing, all_come, asked, comes, count, counted, heard_one, is_taken, last_order, later, line_of, new_order, put_in_force, released, sent, step, steps, told, with_datagrams, with_order}
-use Rattle.node_kinds.specs.node_drive.Waiting.{Waiting, leaving}
+use Rattle.node_kinds.specs.node_drive.Rounds.{Coming, RoundBegins, Listened, Line, NoLine, LinesEnd, Datagram, NoDatagram, FailedDatagram, Tick, CourseState, Done, Standing, all_come, asked, comes, count, counted, having_called, heard_one, is_taken, last_order, later, line, line_of, new_order, not_heard, put_in_force, read_for, released, sent, step, steps, then_released, told}
+use Rattle.node_kinds.specs.node_drive.Seen.{is_heard}
+use Rattle.node_kinds.specs.node_drive.Waiting.{Waiting, leaving, none_waits}
+use Rattle.node_kinds.specs.node_drive.declared.outside.ThrownAway.{ThrownAway}
 use Rattle.node_kinds.specs.Controllers.{Controller, controller, is_same_occupancy, is_same_position, own_place, stands_so, told_of_section, told_to_detector, told_to_point, told_to_signal, unless_again}
 use Rattle.node_theorem.specs.Records.{order_lines, texts_in}
 use Rattle.std.specs.Prelude.{Result, Ok, Err, slice_get}
@@ -31,16 +33,30 @@ none_of_sent : (leaving : List Waiting) → texts_in (sent leaving) ≡ []
 none_of_sent [] = refl
 none_of_sent (one ∷ others) = none_of_sent others
 
+none_of_read : (now : ℕ) (none : Bool) → texts_in (cond none [] (Reads now ∷ [])) ≡ []
+none_of_read now true = refl
+none_of_read now false = refl
+
+-- what leaves at the end of a coming is no line
+none_released : {State : Type 0} (leaves : ℕ) (done : Done (Standing State)) → texts_in (then_released leaves done).0 ≡ texts_in done.0
+none_released leaves done =
+    let course = done.1.course in
+    let reads = read_for leaves course.waiting in
+    let gone = leaving leaves course.in_force course.waiting in
+    texts_then done.0 (reads ++ sent gone)
+    ∙ ap (λ l. texts_in done.0 ++ l) (texts_then reads (sent gone) ∙ ap (λ l. l ++ texts_in (sent gone)) (none_of_read leaves (none_waits course.waiting)) ∙ none_of_sent gone)
+    ∙ append-nil (texts_in done.0)
+
 none_asked : (now : ℕ) (coming : Coming) → texts_in (asked now coming) ≡ []
 none_asked now RoundBegins = refl
 none_asked now (Listened began) = refl
-none_asked now (Line text) = refl
+none_asked now (Line text leaves) = refl
 none_asked now NoLine = refl
 none_asked now LinesEnd = refl
-none_asked now (Datagram from bytes) = refl
-none_asked now (Late from bytes) = refl
+none_asked now (Datagram from bytes thrown leaves) = refl
 none_asked now NoDatagram = refl
-none_asked now Tick = refl
+none_asked now FailedDatagram = refl
+none_asked now (Tick leaves) = refl
 
 -- ---- a kind of controller, which answers no line
 
@@ -65,13 +81,7 @@ module _ {Object Contacts : Type 0} (does : Behaviour Object) (order : Object �
   Writes_ calls after inputs at = (others : List (ℕ × Input)) → texts_in calls ++ lines others after ≡ lines (inputs ++ others) at
 
   of_step : (now : ℕ) (input : Input) (at : At) → Writes_ (step kind now input at).0 (step kind now input at).1 ((now, input) ∷ []) at
-  of_step now input at others =
-      let state = kind.after now input at.state in
-      let new = new_order at.course.order (kind.order state) in
-      let course = with_datagrams now (kind.hands now input at.state) (with_order new at.course) in
-      let gone = sent (leaving now course.in_force course.waiting) in
-      let line = line_of (count new at.course.written) now new in
-      ap (λ l. l ++ lines others (step kind now input at).1) (texts_then line gone ∙ ap (λ l. texts_in line ++ l) (none_of_sent (leaving now course.in_force course.waiting)) ∙ append-nil (texts_in line))
+  of_step now input at others = refl
 
   of_steps : (now : ℕ) (inputs : List Input) (at : At) → Writes_ (steps kind now inputs at).0 (steps kind now inputs at).1 (map (λ input. (now, input)) inputs) at
   of_steps now [] at others = refl
@@ -83,34 +93,47 @@ module _ {Object Contacts : Type 0} (does : Behaviour Object) (order : Object �
       ∙ ap (λ l. texts_in first.0 ++ l) (of_steps now inputs first.1 others)
       ∙ of_step now input at (map (λ input. (now, input)) inputs ++ others)
 
-  of_force : (now number : ℕ) (at : At) (known : Bool) (others : List (ℕ × Input))
-      → let done = cond known (released now (record at.course { in_force = later at.course.in_force number })) (Complains at.course.heard Number ∷ [], at.course)
+  of_force : (number : ℕ) (at : At) (known : Bool) (others : List (ℕ × Input))
+      → let done : Done CourseState = cond known ([], record at.course { in_force = later at.course.in_force number }) (Complains at.course.heard Number ∷ [], at.course)
       in texts_in done.0 ++ lines others (record { state = at.state; course = done.1 }) ≡ lines others at
-  of_force now number at true others =
-      ap (λ l. l ++ lines others at) (none_of_sent (leaving now (later at.course.in_force number) at.course.waiting))
-  of_force now number at false others = refl
+  of_force number at true others = refl
+  of_force number at false others = refl
 
   of_told : (now : ℕ) (means : Meaning Input) (at : At) → IsSilent means → Writes_ (told kind now means at).0 (told kind now means at).1 (inputs_told now means) at
-  of_told now (InForce number) at silent_ others = of_force now number at (nat_le number at.course.written) others
+  of_told now (InForce number) at silent_ others = of_force number at (nat_le number at.course.written) others
   of_told now (Comes answer inputs) at none others =
       ap (λ (a : List (List ℕ)). texts_in (map Writes a ++ (steps kind now inputs at).0) ++ lines others (steps kind now inputs at).1) none ∙ of_steps now inputs at others
   of_told now (Faulty fault) at silent_ others = refl
+
+  -- and what leaves behind it
+  of_released : (leaves : ℕ) (done : Done At) (inputs : List (ℕ × Input)) (at : At) → Writes_ done.0 done.1 inputs at → Writes_ (then_released leaves done).0 (then_released leaves done).1 inputs at
+  of_released leaves done inputs at writes others = ap (λ l. l ++ lines others done.1) (none_released leaves done) ∙ writes others
+
+  of_datagram : (now leaves : ℕ) (bytes : List ℕ) (thrown : ThrownAway) (at : At) (heard taken : Bool)
+      → let heard_is : Done At = cond taken (step kind now (kind.datagram bytes) at) ([], counted at)
+      in let done : Done At = cond heard (then_released leaves heard_is) (not_heard thrown at)
+      in Writes_ done.0 done.1 (cond (heard && taken) ((now, kind.datagram bytes) ∷ []) []) at
+  of_datagram now leaves bytes thrown at true true others = of_released leaves (step kind now (kind.datagram bytes) at) ((now, kind.datagram bytes) ∷ []) at (of_step now (kind.datagram bytes) at) others
+  of_datagram now leaves bytes thrown at true false others = of_released leaves ([], counted at) [] at (λ more. refl) others
+  of_datagram now leaves bytes thrown at false taken others = refl
 
   of_coming : (now : ℕ) (coming : Coming) (at : At) → Writes_ (comes kind now coming at).0 (comes kind now coming at).1 (inputs_of kind now coming at) at
   of_coming now RoundBegins at others = refl
   of_coming now (Listened true) at others = refl
   of_coming now (Listened false) at others = refl
-  of_coming now (Line text) at others = of_told now (kind.meaning now text at.state) (heard_one at) (silent at.state.site text at.state.contacts) others
+  of_coming now (Line text leaves) at others =
+      let here = having_called (asked now (Line text leaves)) at in
+      let means = kind.meaning now text at.state in
+      of_released leaves (line kind now text here) (inputs_told now means) here (of_told now means (heard_one here) (silent at.state.site text at.state.contacts)) others
   of_coming now NoLine at others = refl
   of_coming now LinesEnd at others = refl
-  of_coming now (Datagram from bytes) at others = by_taken (is_taken kind from) where
-    by_taken : (taken : Bool) → let done = cond taken (step kind now (kind.datagram bytes) at) ([], counted at)
-        in texts_in done.0 ++ lines others done.1 ≡ lines (cond taken ((now, kind.datagram bytes) ∷ []) [] ++ others) at
-    by_taken true = of_step now (kind.datagram bytes) at others
-    by_taken false = refl
-  of_coming now (Late from bytes) at others = refl
+  of_coming now (Datagram from bytes thrown leaves) at others =
+      of_datagram now leaves bytes thrown (having_called (asked now (Datagram from bytes thrown leaves)) at) (is_heard now at.course.seen) (is_taken kind from) others
   of_coming now NoDatagram at others = refl
-  of_coming now Tick at others = of_step now kind.tick at others
+  of_coming now FailedDatagram at others = refl
+  of_coming now (Tick leaves) at others =
+      let here = having_called (asked now (Tick leaves)) at in
+      of_released leaves (step kind now kind.tick here) ((now, kind.tick) ∷ []) here (of_step now kind.tick here) others
 
   pub writes_its_orders : (comings : List (ℕ × Coming)) (at : At) → texts_in (all_come kind comings at).0 ≡ lines (came kind comings at) at
   writes_its_orders [] at = refl
