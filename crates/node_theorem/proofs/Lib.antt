@@ -3,6 +3,7 @@ pub mod Kept
 pub mod Seen
 pub mod Calls
 pub mod Opened
+pub mod Sent
 pub mod Recorded
 pub mod Happens
 pub mod Rests

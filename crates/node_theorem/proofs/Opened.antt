@@ -12,9 +12,10 @@ use Rattle.node_kinds.specs.node_drive.Beginning.{first_course}
 use Rattle.node_kinds.specs.node_drive.Calls.{Call, Complains, Told}
 use Rattle.node_kinds.specs.node_drive.Drives.{AreRounds, Ran, Round, behind_lines, datagrams_in, in_round, in_rounds, line_in, lines_end, opening}
 use Rattle.node_kinds.specs.node_drive.Kinds.{Kind, Meaning, InForce, Comes, Faulty}
-use Rattle.node_kinds.specs.node_drive.Rounds.{Coming, RoundBegins, Listened, Line, NoLine, LinesEnd, Datagram, NoDatagram, FailedDatagram, Tick, CourseState, Done, Standing, all_come, asked, comes, datagram, having_called, heard_one, last_order, later, line, new_order, not_heard, put_in_force, step, steps, then_released, told}
+use Rattle.node_kinds.specs.node_drive.Rounds.{Coming, RoundBegins, Listened, Line, NoLine, LinesEnd, Datagram, NoDatagram, FailedDatagram, Tick, CourseState, Done, Standing, all_come, asked, comes, datagram, having_called, heard_one, last_order, later, line, new_order, not_heard, step, steps, then_released, told}
 use Rattle.node_kinds.specs.node_drive.Same.{is_same_order, is_same_side}
 use Rattle.node_kinds.specs.node_drive.Seen.{is_heard}
+use Rattle.node_kinds.specs.node_drive.Waiting.{waiting_on}
 use Rattle.node_kinds.specs.node_drive.declared.outside.ThrownAway.{ThrownAway}
 use Rattle.node_kinds.specs.Openings.{Equipment, Opening, Opens, Lies, Nothing, Stands, opened_by, opening_kind, rest_order, untold}
 use Rattle.node_kinds.specs.Processes.{standing}
@@ -81,10 +82,11 @@ written_at last None (inl none) = none
 written_at last None (inr same) = same
 written_at last (Some order) either = order_kept last order
 
--- the equipment is the same, and was told nothing else than to rest
+-- the equipment is the same, and was told nothing else than to rest; and no datagram waits
 record Waits (equipment : Equipment) (standing : Standing Opening) : Type 0 where
   equipment_is : standing.state.equipment ≡ equipment
   order_is : IsRest equipment standing.course.order
+  none_waits : standing.course.waiting ≡ []
 
 same_equipment : (input : Opens) (opening : Opening) → (opened_by input opening).equipment ≡ opening.equipment
 same_equipment Nothing opening = refl
@@ -99,7 +101,7 @@ module _ (equipment : Equipment) where
       ∙ written_at at.course.order (rest_order equipment) waits.order_is
 
   step_waits : (now : ℕ) (input : Opens) (at : Standing Opening) → Waits equipment at → Waits equipment (step opening_kind now input at).1
-  step_waits now input at waits = record { equipment_is = same_equipment input at.state ∙ waits.equipment_is; order_is = inr (told_to_rest now input at waits) }
+  step_waits now input at waits = record { equipment_is = same_equipment input at.state ∙ waits.equipment_is; order_is = inr (told_to_rest now input at waits); none_waits = append-nil at.course.waiting ∙ waits.none_waits }
 
   steps_wait : (now : ℕ) (inputs : List Opens) (at : Standing Opening) → Waits equipment at → Waits equipment (steps opening_kind now inputs at).1
   steps_wait now [] at waits = waits
@@ -111,30 +113,37 @@ module _ (equipment : Equipment) where
   order_forced number course true = refl
   order_forced number course false = refl
 
+  waiting_forced : (number : ℕ) (course : CourseState) (known : Bool)
+      → let done : Done CourseState = cond known ([], record course { in_force = later course.in_force number }) (Complains course.heard Number ∷ [], course)
+      in done.1.waiting ≡ course.waiting
+  waiting_forced number course true = refl
+  waiting_forced number course false = refl
+
   told_waits : (now : ℕ) (meaning : Meaning Opens) (at : Standing Opening) → Waits equipment at → Waits equipment (told opening_kind now meaning at).1
   told_waits now (InForce number) at waits = record {
     equipment_is = waits.equipment_is;
     order_is = subst (IsRest equipment) (sym (order_forced number at.course (nat_le number at.course.written))) waits.order_is;
+    none_waits = waiting_forced number at.course (nat_le number at.course.written) ∙ waits.none_waits;
   }
   told_waits now (Comes answer inputs) at waits = steps_wait now inputs at waits
   told_waits now (Faulty fault) at waits = waits
 
   -- what is called, what leaves, and what isn't heard changes nothing of it
   called_waits : (calls : List Call) (at : Standing Opening) → Waits equipment at → Waits equipment (having_called calls at)
-  called_waits calls at waits = record { equipment_is = waits.equipment_is; order_is = waits.order_is }
+  called_waits calls at waits = record { equipment_is = waits.equipment_is; order_is = waits.order_is; none_waits = waits.none_waits }
 
   released_waits : (leaves : ℕ) (done : Done (Standing Opening)) → Waits equipment done.1 → Waits equipment (then_released leaves done).1
-  released_waits leaves done waits = record { equipment_is = waits.equipment_is; order_is = waits.order_is }
+  released_waits leaves done waits = record { equipment_is = waits.equipment_is; order_is = waits.order_is; none_waits = ap (waiting_on leaves done.1.course.in_force) waits.none_waits }
 
   -- and datagrams aren't for it
   dropped_waits : (now : ℕ) (from : Option NodeId) (bytes : List ℕ) (at : Standing Opening) → Waits equipment at → Waits equipment (datagram opening_kind now from bytes at).1
-  dropped_waits now None bytes at waits = record { equipment_is = waits.equipment_is; order_is = waits.order_is }
-  dropped_waits now (Some from) bytes at waits = record { equipment_is = waits.equipment_is; order_is = waits.order_is }
+  dropped_waits now None bytes at waits = record { equipment_is = waits.equipment_is; order_is = waits.order_is; none_waits = waits.none_waits }
+  dropped_waits now (Some from) bytes at waits = record { equipment_is = waits.equipment_is; order_is = waits.order_is; none_waits = waits.none_waits }
 
   datagram_waits : (now leaves : ℕ) (from : Option NodeId) (bytes : List ℕ) (thrown : ThrownAway) (at : Standing Opening) (heard : Bool) → Waits equipment at
       → Waits equipment (cond heard (then_released leaves (datagram opening_kind now from bytes at)) (not_heard thrown at)).1
   datagram_waits now leaves from bytes thrown at true waits = released_waits leaves (datagram opening_kind now from bytes at) (dropped_waits now from bytes at waits)
-  datagram_waits now leaves from bytes thrown at false waits = record { equipment_is = waits.equipment_is; order_is = waits.order_is }
+  datagram_waits now leaves from bytes thrown at false waits = record { equipment_is = waits.equipment_is; order_is = waits.order_is; none_waits = waits.none_waits }
 
   comes_waits : (now : ℕ) (coming : Coming) (at : Standing Opening) → Waits equipment at → Waits equipment (comes opening_kind now coming at).1
   comes_waits now RoundBegins at waits = called_waits (asked now RoundBegins) at waits
@@ -143,7 +152,7 @@ module _ (equipment : Equipment) where
   comes_waits now (Line text leaves) at waits =
       let here = having_called (asked now (Line text leaves)) at in
       released_waits leaves (line opening_kind now text here)
-      (told_waits now (opening_kind.meaning now text at.state) (heard_one here) (record { equipment_is = waits.equipment_is; order_is = waits.order_is }))
+      (told_waits now (opening_kind.meaning now text at.state) (heard_one here) (record { equipment_is = waits.equipment_is; order_is = waits.order_is; none_waits = waits.none_waits }))
   comes_waits now NoLine at waits = called_waits (asked now NoLine) at waits
   comes_waits now LinesEnd at waits = called_waits (asked now LinesEnd) at waits
   comes_waits now (Datagram from bytes thrown leaves) at waits =
@@ -201,4 +210,12 @@ run_rests site equipment opened after ran =
     let ends = rounds_end ran.earlier ran.last first ran.are in
     ap (λ (s : Standing Opening). s.course.order) ran.performs.standing_is
     ∙ ap (λ (c : List (ℕ × Coming)). (all_come opening_kind c first).1.course.order) ends.comings_are
-    ∙ ticked equipment ends.front ends.now ends.leaves first (record { equipment_is = refl; order_is = inl refl })
+    ∙ ticked equipment ends.front ends.now ends.leaves first (record { equipment_is = refl; order_is = inl refl; none_waits = refl })
+
+-- and no datagram waits then
+pub run_hands_none : {for_ms begins ticks : ℕ} {told_old told_new : Told} (site : Site) (equipment : Equipment) (opened : Opening) (after : CourseState)
+    → Ran opening_kind for_ms begins ticks (standing (untold site equipment) first_course) (standing opened after) told_old told_new → after.waiting ≡ []
+run_hands_none site equipment opened after ran =
+    let first : Standing Opening = standing (untold site equipment) first_course in
+    ap (λ (s : Standing Opening). s.course.waiting) ran.performs.standing_is
+    ∙ (all_wait equipment (in_rounds (ran.earlier ++ ran.last ∷ [])) first (record { equipment_is = refl; order_is = inl refl; none_waits = refl })).none_waits

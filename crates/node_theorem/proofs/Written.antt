@@ -14,7 +14,7 @@ use Rattle.node_kinds.specs.node_drive.replay_words.declared.fault.Fault.TheVari
 use Rattle.node_kinds.specs.node_drive.Calls.{Call, Complains, Reads, Writes}
 use Rattle.node_kinds.specs.node_drive.Kinds.{Kind, Meaning, InForce, Comes, Faulty}
 use Rattle.node_kinds.specs.node_drive.Lives.{came, inputs_of, inputs_told}
-use Rattle.node_kinds.specs.node_drive.Rounds.{Coming, RoundBegins, Listened, Line, NoLine, LinesEnd, Datagram, NoDatagram, FailedDatagram, Tick, CourseState, Done, Standing, all_come, asked, comes, count, counted, having_called, heard_one, is_taken, last_order, later, line, line_of, new_order, not_heard, put_in_force, read_for, released, sent, step, steps, then_released, told}
+use Rattle.node_kinds.specs.node_drive.Rounds.{Coming, RoundBegins, Listened, Line, NoLine, LinesEnd, Datagram, NoDatagram, FailedDatagram, Tick, CourseState, Done, Standing, all_come, asked, comes, counted, having_called, heard_one, is_taken, later, line, not_heard, read_for, sent, step, steps, then_released, told}
 use Rattle.node_kinds.specs.node_drive.Seen.{is_heard}
 use Rattle.node_kinds.specs.node_drive.Waiting.{Waiting, leaving, none_waits}
 use Rattle.node_kinds.specs.node_drive.declared.outside.ThrownAway.{ThrownAway}

@@ -1,12 +1,15 @@
 -- What the record of a process says of its node: whether and how it was made, and all that came to it.
-use Rattle.std.specs.Prelude.{◌≡◌, ℕ, Bool, true, false, List, [], ◌∷◌, ◌++◌, Option, Some, None}
+use Rattle.std.specs.Prelude.{◌≡◌, ◌<◌, ◌+◌, ℕ, Bool, true, false, List, [], ◌∷◌, ◌++◌, Option, Some, None}
 use Rattle.node_kinds.specs.ixl_table.Table.{IsTableOf}
 use Rattle.node_kinds.specs.simulator_run.ixl_rules.Table.{Table}
 use Rattle.node_kinds.specs.simulator_run.layout.Entries.{Site}
+use Rattle.node_kinds.specs.node_drive.Ages.{IsIn, SendsBy, handed_by}
 use Rattle.node_kinds.specs.node_drive.Calls.{Call, Calls, CallsCut, Reads, Told, Writes}
 use Rattle.node_kinds.specs.node_drive.Kinds.{Kind}
 use Rattle.node_kinds.specs.node_drive.Lives.{came}
 use Rattle.node_kinds.specs.node_drive.Rounds.{Coming, CourseState, Standing, all_come, count, last_order, line_of, new_order}
+use Rattle.node_kinds.specs.node_drive.Seen.{nothing_seen}
+use Rattle.node_kinds.specs.node_drive.Waiting.{Addressed}
 use Rattle.node_kinds.specs.node_drive.node_lines.declared.order.Order.{Order}
 use Rattle.node_kinds.specs.Openings.{Equipment, Opening}
 use Rattle.node_kinds.specs.Processes.{Controls, waited, lived, ControlsCut, waiting, opened, living, unmade, cut, StationRuns, StationCut, not_made, cut_off}
@@ -46,10 +49,30 @@ abbrev pub station_before : {site : Site} {first for_ms begins : ℕ} {old new :
 station_before (not_made reads) = None
 station_before (cut_off {table = table} {now = now} is_table reads stopped) = Some (table, now)
 
--- a node that was made is recorded
+-- ---- what it sent
+
+-- A step of this life handed it out, less than 500 ms before this reading.
+pub record WasHandedOut {State Input : Type 0} (kind : Kind State Input) (inputs : List (ℕ × Input)) (node : State) (now : ℕ) (datagram : Addressed) : Type 0 where
+  pub since : ℕ
+  pub in_time : now < since + 500
+  pub handed : IsIn (since, datagram) (handed_by kind inputs node)
+
+-- all of these calls, or the beginning of them that was called
+abbrev pub calls_in : (ended : Bool) (old new : Told) (whole : List Call) → WasCalled ended old new whole → List Call
+calls_in true old new whole called = whole
+calls_in false old new whole called = called.calls
+
+-- Each datagram that a process sent was handed out by its node, less than 500 ms before the last reading in front of it. None was
+-- sent before the node was made.
+abbrev pub SentInTime : {State Input : Type 0} (kind : Kind State Input) (ended : Bool) (node : State) (now : ℕ) (process : Process State) (old new : Told) → IsRecorded kind ended node now process old new → Type 0
+SentInTime kind ended node now process old new is =
+    SendsBy (WasHandedOut kind (came kind process.comings process.first) node) nothing_seen
+    ((is.earlier ++ Reads now ∷ []) ++ calls_in ended is.read new (all_come kind process.comings process.first).0 is.called)
+
+-- a node that was made is recorded, with what it sent
 abbrev pub Records : {State Input Contacts : Type 0} → Kind State Input → (Contacts → ℕ → State) → Bool → Option (Contacts × ℕ) → Told → Told → Type 0
 Records kind made ended None old new = Unit {0}
-Records {State} kind made ended (Some at) old new = (process : Process State) × IsRecorded kind ended (made at.0 at.1) at.1 process old new
+Records {State} kind made ended (Some at) old new = (process : Process State) × (is : IsRecorded kind ended (made at.0 at.1) at.1 process old new) × SentInTime kind ended (made at.0 at.1) at.1 process old new is
 
 -- ---- what a controller writes
 

@@ -62,3 +62,16 @@ impl Behaves for Interlockings {
 
     ghost does = { interlocking_kind };
 }
+
+/// A controller that isn't made yet.
+pub struct Openings;
+
+impl Behaves for Openings {
+    ghost use Rattle.node_kinds.specs.Openings.{Opening, Opens, opening_kind};
+
+    ghost State = { Opening };
+
+    ghost Input = { Opens };
+
+    ghost does = { opening_kind };
+}

@@ -8,7 +8,7 @@ mod processes;
 mod records;
 mod worked;
 
-pub use kinds::{Detectors, Interlockings, Points, Signals};
+pub use kinds::{Detectors, Interlockings, Openings, Points, Signals};
 pub use laws::{
     controllers_are_those_of_a_world, interlockings_are_those_of_a_world,
     orders_tell_all_until_the_next,

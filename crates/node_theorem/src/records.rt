@@ -12,8 +12,12 @@ ghost use Rattle.node_kinds.specs.simulator_run.layout.declared.entries.Point.{P
 ghost use Rattle.node_kinds.specs.simulator_run.layout.declared.entries.Signal.{Signal as SignalEntry};
 ghost use Rattle.node_theorem.specs.Records.{Records, WritesItsOrders, made_before, made_in, station_before};
 
+use crate::kinds::{Detectors, Interlockings, Openings, Points, Signals};
+use node_kinds::node_drive::what_is_sent_is_sent_in_time;
+
 /// What a process did by the contract of `station_node::run_node` is the record of a node: where it made one, and where it was
-/// made, all that came to it from then on is there, in whose rounds all was called.
+/// made, all that came to it from then on is there, in whose rounds all was called. Each datagram that was sent is one that a step
+/// of this node handed out less than 500 ms before the last reading in front of it.
 pub fn a_process_records_its_node()
     ensures station { (site : Site) (first for_ms begins : ℕ) (after : CourseState) (old new : Told) (runs : NodeRuns site first for_ms begins after old new (Some Interlocking))
         → Records interlocking_kind (interlocking_made site first) true (Some (runs.table, runs.lives.now)) old new }
@@ -23,7 +27,13 @@ pub fn a_process_records_its_node()
         → Records point_kind (point_made site first entry) true (made_in (runs entry there)) old new }
     ensures detectors { (site : Site) (first for_ms begins place : ℕ) (after : CourseState) (old new : Told) (runs : NodeRuns site first for_ms begins after old new (Some (Detector place))) (entry : DetectorEntry) (there : slice_get site.detectors place ≡ Some entry)
         → Records detector_kind (detector_made site first entry) true (made_in (runs entry there)) old new }
-{}
+{
+    what_is_sent_is_sent_in_time::<Openings>();
+    what_is_sent_is_sent_in_time::<Interlockings>();
+    what_is_sent_is_sent_in_time::<Signals>();
+    what_is_sent_is_sent_in_time::<Points>();
+    what_is_sent_is_sent_in_time::<Detectors>();
+}
 
 /// So it is where the process was cut off: what was called is a beginning of what the rounds call.
 pub fn a_process_that_is_cut_off_records_its_node()
@@ -35,7 +45,13 @@ pub fn a_process_that_is_cut_off_records_its_node()
         → Records point_kind (point_made site first entry) false (made_before (stopped entry there)) old new }
     ensures detectors { (site : Site) (first for_ms begins place : ℕ) (old new : Told) (stopped : NodeCut site first for_ms begins old new (Some (Detector place))) (entry : DetectorEntry) (there : slice_get site.detectors place ≡ Some entry)
         → Records detector_kind (detector_made site first entry) false (made_before (stopped entry there)) old new }
-{}
+{
+    what_is_sent_is_sent_in_time::<Openings>();
+    what_is_sent_is_sent_in_time::<Interlockings>();
+    what_is_sent_is_sent_in_time::<Signals>();
+    what_is_sent_is_sent_in_time::<Points>();
+    what_is_sent_is_sent_in_time::<Detectors>();
+}
 
 /// What a controller writes, whatever comes to its process, are the orders of its node behind each step, and nothing else.
 pub fn controllers_write_their_orders()
