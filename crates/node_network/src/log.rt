@@ -24,12 +24,10 @@ pub enum OutsideCall {
     HeardEnd,
     /// It asked for a datagram, and was given one.
     HeardDatagram(Option<NodeId>, Vec<u8>),
-    /// It asked for a datagram, and none waited.
+    /// It asked for a datagram, and there was none, or the call failed.
     HeardNoDatagram,
-    /// It asked for a datagram, and the call failed.
-    FailedToReceive,
-    /// It threw away so many datagrams that waited, and whether none waited any more.
-    ThrewAway(u64, bool),
+    /// It threw away all datagrams that waited.
+    ThrewAway,
     /// It wrote a line.
     Wrote(String),
     /// It didn't write a line whole.

@@ -1,4 +1,3 @@
 pub mod Lines
 pub mod Heard
 pub mod Turns
-pub mod Panels

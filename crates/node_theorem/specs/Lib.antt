@@ -1,4 +1,1 @@
 pub mod Processes
-pub mod Records
-pub mod Orders
-pub mod WorkedOrders

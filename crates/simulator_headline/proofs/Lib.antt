@@ -32,4 +32,3 @@ mod ControllersReached
 mod AtDetectors
 mod AtNodes
 mod AllEvents
-pub mod TrueEvents

@@ -1,4 +1,3 @@
 pub mod Cancels
-pub mod DisturbedCalls
 pub mod Readings
 pub mod Turn

@@ -127,18 +127,6 @@ impl<'a> Plant<'a> {
                     place.gear.answers = false;
                 }
             }
-            Act::Stop(number, rounds) => {
-                if let Some(place) = self.places.get_mut(number) {
-                    place.stopped = rounds;
-                    place.tells_late = true;
-                }
-            }
-            Act::Flood(number, count) => {
-                if let Some(place) = self.places.get_mut(number) {
-                    place.flooded = count;
-                    place.tells_late = count > 0;
-                }
-            }
         }
     }
 
