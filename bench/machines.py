@@ -3,7 +3,7 @@
 reorders datagrams, with the field equipment of examples/machines/field.py. A judge that knows the layout alone looks at the lamps and
 points after each change. It prints what was seen, and ends with status 1 where anything was unsafe or didn't come.
 
-    python3 bench/machines.py STATION [--layout FILE] [--route R] [quiet] [hostile] [strangers] [rest]
+    python3 bench/machines.py STATION [--layout FILE] [--route R] [quiet] [hostile] [strangers] [stopped] [flooded] [rest]
 
 quiet      one datagram in a hundred is lost, the others come up to 100 ms late, in order: a route comes to proceed, a train passes, and
            when the relay stops each lamp falls
@@ -11,6 +11,9 @@ hostile    in turn for each node: over a quiet network the links come up and rou
 strangers  random bytes and copies of true datagrams: 100,000 to the interlocking from another address, as fast as they go; then 20,000
            to the interlocking and the controllers from the addresses of their partners, but no copies of requests for connections. The
            links stay up, rounds are kept, memory doesn't grow, and the record of the interlocking is the same once more
+stopped    the signal of the route is stopped (SIGSTOP) at proceed for 1, 3 and 30 s, and the interlocking for 3 s. By the records of all
+           nodes nothing is heard that was sent more than 500 ms before; the lamp falls, and the links come back
+flooded    20,000 datagrams a second come to the signal of the route for 5 s, from the address of the interlocking. The same is judged
 rest       the processor share and the memory of each node at rest
 """
 import argparse
@@ -21,6 +24,7 @@ import os
 import pathlib
 import random
 import selectors
+import signal
 import socket
 import struct
 import subprocess
@@ -45,7 +49,7 @@ def ip(*words):
 class Machines:
     """A namespace for each node, each joined to the relay's, and an addresses file for each: partners are reached at the relay."""
 
-    def __init__(self, program, layout, folder):
+    def __init__(self, program, layout, folder, records):
         with open(layout, "rb") as file:
             self.told = tomllib.load(file)
         self.layout, self.folder = layout, folder
@@ -66,8 +70,10 @@ class Machines:
         # stands for the program: runs a node in its namespace, with its own addresses
         self.wrapper = pathlib.Path(folder, "station")
         cases = "".join(f"{name}) space={self.space(at)};;\n" for at, name in enumerate(self.names))
+        # each process has a record of its own
+        kept = f"--record {folder}/$name.$$.record " if records else ""
         self.wrapper.write_text(f'#!/bin/sh\nlayout=$2 name=$3\nshift 5\ncase $name in\n{cases}esac\n'
-                                f'exec ip netns exec $space {program} node $layout $name --addresses {folder}/$name.addresses "$@"\n')
+                                f'exec ip netns exec $space {program} node $layout $name --addresses {folder}/$name.addresses {kept}"$@"\n')
         self.wrapper.chmod(0o755)
 
     @staticmethod
@@ -359,6 +365,129 @@ for number in range(100000):
     return more == 0 and same and late * 100 <= readings and not any(grown.values())
 
 
+def lines_of(record):
+    """The whole lines of a record."""
+    text = record.read_text()
+    return text[: text.rfind("\n")].split("\n")
+
+
+def sendings(records):
+    """When which bytes were sent to which node, by the records of one."""
+    sent = collections.defaultdict(list)
+    for record in records:
+        latest = 0
+        for line in lines_of(record):
+            kind, *more = line.split(" ")
+            if kind == "at":
+                latest = int(more[0])
+            elif kind == "sends":
+                sent[more[0], more[1]].append(latest)
+    return sent
+
+
+def hearings(record):
+    """What a process heard, each with the node that sent it and the reading behind it. What was thrown away isn't heard."""
+    lines = lines_of(record)
+    for place, line in enumerate(lines):
+        kind, *more = line.split(" ")
+        behind = lines[place + 1 : place + 3]
+        if kind == "from" and len(behind) == 2 and not behind[1].startswith("throws away "):
+            yield more[0], more[1], int(behind[0].split(" ")[1])
+
+
+def oldest_heard(run, what):
+    """How old a datagram of a partner was at most when it was heard, in milliseconds by the one clock of this machine."""
+    records = {name: sorted(pathlib.Path(run.machines.folder).glob(f"{name}.*.record")) for name in run.machines.names}
+    sent = {name: sendings(all_of_it) for name, all_of_it in records.items()}
+    ages, thrown = [], 0
+    for name, all_of_it in records.items():
+        for record in all_of_it:
+            thrown += sum(it.startswith("throws away ") for it in lines_of(record))
+            for partner, bytes_, reading in hearings(record):
+                before = [it for it in sent.get(partner, {}).get((name, bytes_), []) if it <= reading]
+                if before:
+                    ages.append(reading - max(before))
+    print(f"{what}: {len(ages)} datagrams of partners were heard, the oldest {max(ages)} ms after its sending; {thrown} times what waited was thrown away", flush=True)
+    return max(ages), thrown
+
+
+def begin_anew(run):
+    """A new interlocking, since routes of the one before are held for long."""
+    run.station.process.kill()
+    run.station.process.wait()
+    run.begin()
+    run.ready()
+
+
+def is_back(run, behind):
+    """Whether each link that was lost is ready again in 40 s, where at least one was lost."""
+    until = time.monotonic() + 40
+    while time.monotonic() < until:
+        last = {it.split()[1]: it.split()[2] for it in run.station.lines[behind:] if it.startswith("link ")}
+        if last and all(it == "ready" for it in last.values()):
+            return True
+        time.sleep(0.1)
+    return False
+
+
+def hold(run, name, seconds):
+    """Stops the process of a node for some time. It tells how long a lamp shone behind that, or None where one still shines."""
+    pid = int(nodes_of(run)[name])
+    stopped, dark = time.monotonic(), None
+    os.kill(pid, signal.SIGSTOP)
+    while time.monotonic() < stopped + seconds:
+        if dark is None and not run.judge.lit():
+            dark = time.monotonic() - stopped
+        time.sleep(0.001)
+    os.kill(pid, signal.SIGCONT)
+    return dark
+
+
+def stopped(run, route):
+    run.treat(0, 0, 0, True)
+    well = True
+    for name, seconds in ((route["entry"], 1), (route["entry"], 3), (route["entry"], 30), (run.machines.station, 3)):
+        begin_anew(run)
+        run.proceed(route)
+        behind = len(run.station.lines)
+        dark = hold(run, name, seconds)
+        # a stop of 1 s is shorter than a link lives without a word
+        back = is_back(run, behind) if seconds > 1 else True
+        print(f"stopped: {name} for {seconds} s; every lamp was at stop after {dark} s; the links {'came' if back else 'did NOT come'} back", flush=True)
+        well &= back and (seconds == 1 or (dark is not None and dark <= 1.9))
+    time.sleep(2)
+    oldest, thrown = oldest_heard(run, "stopped")
+    return well and oldest <= 500 and thrown > 0
+
+
+def flooded(run, route):
+    run.treat(0, 0, 0, True)
+    begin_anew(run)
+    run.proceed(route)
+    at, behind = run.machines.names.index(route["entry"]), len(run.station.lines)
+    flood = f"""
+import os, socket, struct, time
+s = socket.socket(socket.AF_INET, socket.SOCK_RAW, socket.IPPROTO_RAW)
+one, other = "10.77.{at}.1", "10.77.{at}.2"
+begun, sent = time.monotonic(), 0
+while time.monotonic() < begun + 5:
+    while sent < (time.monotonic() - begun) * 20000:
+        udp = struct.pack(">HHHH", {PORT}, {PORT}, 48, 0) + os.urandom(40)
+        ip = struct.pack(">BBHHHBBH4s4s", 0x45, 0, 68, 0, 0, 64, 17, 0, socket.inet_aton(one), socket.inet_aton(other))
+        s.sendto(ip + udp, (other, 0))
+        sent += 1
+    time.sleep(0.0005)
+print(sent)
+"""
+    sent = subprocess.run(["ip", "netns", "exec", RELAY, sys.executable, "-c", flood], check=True, stdout=subprocess.PIPE, text=True).stdout
+    time.sleep(5)
+    lost = sum(it.endswith(" lost") for it in run.station.lines[behind:])
+    back = is_back(run, behind) if lost else True
+    print(f"flooded: by {int(sent)} datagrams in 5 s {lost} links were lost, and they {'came' if back else 'did NOT come'} back", flush=True)
+    oldest, thrown = oldest_heard(run, "flooded")
+    return back and oldest <= 500 and thrown > 0
+
+
 def gaps(record):
     """How many readings of a record came more than 20 ms behind the one before, how many there are, and the longest gap."""
     readings = [int(it.split()[1]) for it in pathlib.Path(record).read_text().splitlines() if it.startswith("at ")]
@@ -418,12 +547,12 @@ def main():
     words.add_argument("station")
     words.add_argument("--layout", default=str(TOP / "examples/halden.toml"))
     words.add_argument("--route", default="A-N1")
-    words.add_argument("kinds", nargs="*", default=["quiet", "hostile", "strangers", "rest"])
+    words.add_argument("kinds", nargs="*", default=["quiet", "hostile", "strangers", "stopped", "flooded", "rest"])
     given = words.parse_args()
     well = True
     for kind in given.kinds:
         with tempfile.TemporaryDirectory() as folder:
-            machines = Machines(os.path.abspath(given.station), os.path.abspath(given.layout), folder)
+            machines = Machines(os.path.abspath(given.station), os.path.abspath(given.layout), folder, kind in ("stopped", "flooded"))
             try:
                 run = Run(os.path.abspath(given.station), machines)
                 route = next(it for it in machines.told["route"] if it["name"] == given.route)

@@ -531,7 +531,7 @@ def passed(record, name, station_name):
             behind = lines[place + 1 : place + 3] + ["", ""]
             read = behind[0].startswith("at ")
             partner = more[0] != "-" and (more[0] == station_name) != (name == station_name)
-            why = "not read" if not read else "thrown away" if behind[1] == "throws away" else None if partner else "from no partner"
+            why = "not read" if not read else "thrown away" if behind[1].startswith("throws away ") else None if partner else "from no partner"
             reading = int(behind[0].split(" ")[1]) if read else latest
             found.append(Passed(reading, None if more[0] == "-" else more[0], name, why, bytes.fromhex(more[1].replace("-", ""))))
     return found

@@ -5,9 +5,12 @@ use Rattle.node_lines.specs.sci_telegram.declared.message.Side.{Side}
 use Rattle.node_lines.specs.sci_telegram.declared.message.Side.TheVariants as side
 use Rattle.node_lines.specs.declared.order.Order.{Order}
 use Rattle.node_lines.specs.declared.order.Order.TheVariants.{ShowStop, ShowProceed, ShowSlow, DriveNone, Drive}
-use Rattle.node_drive.specs.Calls.{Complains}
+use Rattle.node_drive.specs.Calls.{Complains, Reads}
 use Rattle.node_drive.specs.Kinds.{Kind, Meaning, InForce, Comes, Faulty}
-use Rattle.node_drive.specs.Rounds.{Coming, RoundBegins, Listened, Line, NoLine, LinesEnd, Datagram, Late, NoDatagram, Tick, CourseState, Standing, all_come, comes, counted, heard_one, is_taken, last_order, later, new_order, released, step, steps, told}
+use Rattle.node_drive.specs.Rounds.{Coming, RoundBegins, Listened, Line, NoLine, LinesEnd, Datagram, NoDatagram, FailedDatagram, Tick, CourseState, Done, Standing, all_come, comes, counted, datagram, having_called, heard_one, is_taken, last_order, later, new_order, not_heard, step, steps, then_released, told}
+use Rattle.node_drive.specs.Seen.{is_heard}
+use Rattle.node_drive.specs.declared.outside.ThrownAway.{ThrownAway}
+use Rattle.node_lines.specs.simulator_event.declared.event.NodeId.{NodeId}
 use Rattle.node_drive.specs.Same.{is_same_order, is_same_side}
 use Rattle.node_lines.specs.replay_words.declared.fault.Fault.TheVariants.{Number}
 
@@ -62,10 +65,9 @@ order_kept None (Some order) some = refl
 order_kept (Some last) (Some order) some = by_same last order (is_same_order last order) refl
 
 -- what is put in force changes no order
-order_forced : (now number : ℕ) (course : CourseState) (known : Bool)
-    → (cond known (released now (record course { in_force = later course.in_force number })) (Complains course.heard Number ∷ [], course)).1.order ≡ course.order
-order_forced now number course true = refl
-order_forced now number course false = refl
+order_forced : (number : ℕ) (course : CourseState) (known : Bool) → (cond {A = Done CourseState} known ([], record course { in_force = later course.in_force number }) (Complains course.heard Number ∷ [], course)).1.order ≡ course.order
+order_forced number course true = refl
+order_forced number course false = refl
 
 module _ {State In : Type 0} (kind : Kind State In) (some : (state : State) → IsSome (kind.order state)) where
   abbrev Stands : Standing State → Type 0
@@ -79,7 +81,7 @@ module _ {State In : Type 0} (kind : Kind State In) (some : (state : State) → 
   steps-stands now (input ∷ inputs) standing h = steps-stands now inputs (step kind now input standing).1 (step-stands now input standing)
 
   told-stands : (now : ℕ) (meaning : Meaning In) (standing : Standing State) → Stands standing → Stands (told kind now meaning standing).1
-  told-stands now (InForce number) standing h = order_forced now number standing.course (nat_le number standing.course.written) ∙ h
+  told-stands now (InForce number) standing h = order_forced number standing.course (nat_le number standing.course.written) ∙ h
   told-stands now (Comes answer inputs) standing h = steps-stands now inputs standing h
   told-stands now (Faulty fault) standing h = h
 
@@ -87,17 +89,23 @@ module _ {State In : Type 0} (kind : Kind State In) (some : (state : State) → 
   taken-stands now bytes standing true h = step-stands now (kind.datagram bytes) standing
   taken-stands now bytes standing false h = h
 
+  heard-stands : (now : ℕ) (from : Option NodeId) (bytes : List ℕ) (thrown : ThrownAway) (leaves : ℕ) (standing : Standing State) (heard : Bool) → Stands standing
+      → Stands (cond heard (then_released leaves (datagram kind now from bytes standing)) (not_heard thrown standing)).1
+  heard-stands now from bytes thrown leaves standing true h = taken-stands now bytes standing (is_taken kind from) h
+  heard-stands now from bytes thrown leaves standing false h = h
+
   comes-stands : (now : ℕ) (coming : Coming) (standing : Standing State) → Stands standing → Stands (comes kind now coming standing).1
   comes-stands now RoundBegins standing h = h
   comes-stands now (Listened true) standing h = h
   comes-stands now (Listened false) standing h = h
-  comes-stands now (Line text) standing h = told-stands now (kind.meaning now text standing.state) (heard_one standing) h
+  comes-stands now (Line text leaves) standing h = told-stands now (kind.meaning now text standing.state) (heard_one (having_called (Reads now ∷ []) standing)) h
   comes-stands now NoLine standing h = h
   comes-stands now LinesEnd standing h = h
-  comes-stands now (Datagram from bytes) standing h = taken-stands now bytes standing (is_taken kind from) h
-  comes-stands now (Late from bytes) standing h = h
+  comes-stands now (Datagram from bytes thrown leaves) standing h =
+      heard-stands now from bytes thrown leaves (having_called (Reads now ∷ []) standing) (is_heard now standing.course.seen) h
   comes-stands now NoDatagram standing h = h
-  comes-stands now Tick standing h = step-stands now kind.tick standing
+  comes-stands now FailedDatagram standing h = h
+  comes-stands now (Tick leaves) standing h = step-stands now kind.tick (having_called (Reads now ∷ []) standing)
 
   pub last_order_stands : (comings : List (ℕ × Coming)) (standing : Standing State) → standing.course.order ≡ kind.order standing.state
       → (all_come kind comings standing).1.course.order ≡ kind.order (all_come kind comings standing).1.state

@@ -16,6 +16,9 @@ pub mod LinesHeard
 pub mod DatagramsHeard
 pub mod Turns
 pub mod Lives
+pub mod Ages
+pub mod SentInTime
+pub mod Budgeted
 pub mod Leaving
 pub mod LastOrder
 pub mod WorkedRounds

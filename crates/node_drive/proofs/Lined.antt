@@ -22,11 +22,11 @@ module _ {State In : Type 0} (kind : Kind State In) (now : ℕ) (text : List ℕ
   faulty_standing fault after e same =
       ap (λ (s : State). record { state = s; course = record course { heard = suc course.heard } }) same ∙ ap (λ d. d.1) (line_is (Faulty fault) e)
 
-  pub force_calls : {ta tb : Told} (number : ℕ) → InForce number ≡ kind.meaning now text node.state → Calls ta tb (put_in_force now number (record course { heard = suc course.heard })).0 → Calls ta tb (line kind now text here).0
+  pub force_calls : {ta tb : Told} (number : ℕ) → InForce number ≡ kind.meaning now text node.state → Calls ta tb (put_in_force number (record course { heard = suc course.heard })).0 → Calls ta tb (line kind now text here).0
   force_calls number e p = calls_same (ap (λ d. d.0) (line_is (InForce number) e)) p
 
   pub force_standing : (number : ℕ) (after : NodeState State In) (last : CourseState) → InForce number ≡ kind.meaning now text node.state → after.state ≡ node.state
-      → last ≡ (put_in_force now number (record course { heard = suc course.heard })).1 → standing_of after last ≡ (line kind now text here).1
+      → last ≡ (put_in_force number (record course { heard = suc course.heard })).1 → standing_of after last ≡ (line kind now text here).1
   force_standing number after last e same f =
       ap (λ (s : State). record { state = s; course = last }) same
       ∙ (ap (λ (c : CourseState). record { state = node.state; course = c }) f ∙ ap (λ d. d.1) (line_is (InForce number) e))
@@ -68,13 +68,13 @@ module _ {State In : Type 0} (kind : Kind State In) (now : ℕ) (text : List ℕ
   pub faulty_left : (fault : Fault) → Faulty fault ≡ kind.meaning now text old.state → standing_of mid next ≡ (line kind now text (standing_of old course)).1
   faulty_left fault e = ap (standing_of mid) counted ∙ faulty_standing kind now text old course fault mid e same_state
 
-  pub forced_told : {ta tb : Told} (number : ℕ) → InForce number ≡ kind.meaning now text old.state → Calls ta tb (put_in_force now number next).0 → Calls ta tb (line kind now text (standing_of old course)).0
-  forced_told number e p = force_calls kind now text old course number e (calls_same (ap (λ (c : CourseState). (put_in_force now number c).0) counted) p)
+  pub forced_told : {ta tb : Told} (number : ℕ) → InForce number ≡ kind.meaning now text old.state → Calls ta tb (put_in_force number next).0 → Calls ta tb (line kind now text (standing_of old course)).0
+  forced_told number e p = force_calls kind now text old course number e (calls_same (ap (λ (c : CourseState). (put_in_force number c).0) counted) p)
 
-  pub forced_left : (number : ℕ) (last : CourseState) → InForce number ≡ kind.meaning now text old.state → last ≡ (put_in_force now number next).1
+  pub forced_left : (number : ℕ) (last : CourseState) → InForce number ≡ kind.meaning now text old.state → last ≡ (put_in_force number next).1
       → standing_of mid last ≡ (line kind now text (standing_of old course)).1
   forced_left number last e f =
-      force_standing kind now text old course number mid last e same_state (f ∙ ap (λ (c : CourseState). (put_in_force now number c).1) counted)
+      force_standing kind now text old course number mid last e same_state (f ∙ ap (λ (c : CourseState). (put_in_force number c).1) counted)
 
   pub answer_cut : {ta tb : Told} → Comes mid.said mid.left ≡ kind.meaning now text old.state → CallsCut ta tb (map Writes mid.said) → CallsCut ta tb (line kind now text (standing_of old course)).0
   answer_cut e p = comes_cut_in_answer kind now text old course mid.said mid.left e p

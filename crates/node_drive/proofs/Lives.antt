@@ -1,9 +1,12 @@
 -- A node by the inputs that came to it.
-use Rattle.std.proofs.Common.{◌≡◌, ◌∙◌, ℕ, List, [], ◌∷◌, ◌++◌, map, Option, Bool, true, false, cond, refl, sym, ap}
+use Rattle.std.proofs.Common.{◌≡◌, ◌∙◌, ◌&&◌, ℕ, List, [], ◌∷◌, ◌++◌, map, Option, Bool, true, false, cond, refl, sym, ap}
 use Rattle.node_lines.specs.simulator_event.declared.event.NodeId.{NodeId}
 use Rattle.node_drive.specs.Kinds.{Kind, Meaning, InForce, Comes, Faulty}
 use Rattle.node_drive.specs.Lives.{came, inputs_of, inputs_told, state_after}
-use Rattle.node_drive.specs.Rounds.{Coming, RoundBegins, Listened, Line, NoLine, LinesEnd, Datagram, Late, NoDatagram, Tick, Standing, all_come, comes, counted, datagram, is_taken, step, steps, told}
+use Rattle.node_drive.specs.Rounds.{Coming, RoundBegins, Listened, Line, NoLine, LinesEnd, Datagram, NoDatagram, FailedDatagram, Tick, Standing, all_come, comes, counted, having_called, is_taken, not_heard, step, steps, then_released, told}
+use Rattle.node_drive.specs.Calls.{Reads}
+use Rattle.node_drive.specs.Seen.{is_heard}
+use Rattle.node_drive.specs.declared.outside.ThrownAway.{ThrownAway}
 
 module _ {State In : Type 0} (kind : Kind State In) where
   after-append : (some more : List (ℕ × In)) (state : State) → state_after kind (some ++ more) state ≡ state_after kind more (state_after kind some state)
@@ -21,27 +24,29 @@ module _ {State In : Type 0} (kind : Kind State In) where
   told-state now (Comes answer inputs) standing = steps-state now inputs standing
   told-state now (Faulty fault) standing = refl
 
-  datagram-state : (now : ℕ) (from : Option NodeId) (bytes : List ℕ) (standing : Standing State)
-      → (datagram kind now from bytes standing).1.state ≡ state_after kind (inputs_of kind now (Datagram from bytes) standing) standing.state
-  datagram-state now from bytes standing = by (is_taken kind from)
+  datagram-state : (now : ℕ) (from : Option NodeId) (bytes : List ℕ) (thrown : ThrownAway) (leaves : ℕ) (standing : Standing State)
+      → (comes kind now (Datagram from bytes thrown leaves) standing).1.state ≡ state_after kind (inputs_of kind now (Datagram from bytes thrown leaves) standing) standing.state
+  datagram-state now from bytes thrown leaves standing = by (is_heard now standing.course.seen) (is_taken kind from)
     where
-      by : (taken : Bool) → (cond taken (step kind now (kind.datagram bytes) standing) ([], counted standing)).1.state
-          ≡ state_after kind (cond taken ((now, kind.datagram bytes) ∷ []) []) standing.state
-      by true = refl
-      by false = refl
+      by : (heard taken : Bool)
+          → (cond heard (then_released leaves (cond taken (step kind now (kind.datagram bytes) (having_called (Reads now ∷ []) standing)) ([], counted (having_called (Reads now ∷ []) standing)))) (not_heard thrown (having_called (Reads now ∷ []) standing))).1.state
+          ≡ state_after kind (cond (heard && taken) ((now, kind.datagram bytes) ∷ []) []) standing.state
+      by true true = refl
+      by true false = refl
+      by false taken = refl
 
-  comes-state : (now : ℕ) (coming : Coming) (standing : Standing State)
+  pub comes-state : (now : ℕ) (coming : Coming) (standing : Standing State)
       → (comes kind now coming standing).1.state ≡ state_after kind (inputs_of kind now coming standing) standing.state
   comes-state now RoundBegins standing = refl
   comes-state now (Listened true) standing = refl
   comes-state now (Listened false) standing = refl
-  comes-state now (Line text) standing = told-state now (kind.meaning now text standing.state) _
+  comes-state now (Line text leaves) standing = told-state now (kind.meaning now text standing.state) _
   comes-state now NoLine standing = refl
   comes-state now LinesEnd standing = refl
-  comes-state now (Datagram from bytes) standing = datagram-state now from bytes standing
-  comes-state now (Late from bytes) standing = refl
+  comes-state now (Datagram from bytes thrown leaves) standing = datagram-state now from bytes thrown leaves standing
   comes-state now NoDatagram standing = refl
-  comes-state now Tick standing = refl
+  comes-state now FailedDatagram standing = refl
+  comes-state now (Tick leaves) standing = refl
 
   pub node_is_what_came : (comings : List (ℕ × Coming)) (standing : Standing State)
       → (all_come kind comings standing).1.state ≡ state_after kind (came kind comings standing) standing.state

@@ -1,12 +1,12 @@
 -- A step of the node, and what is performed behind it.
-use Rattle.std.proofs.Common.{◌≡◌, ℕ, Bool, true, false, cond, List, [], ◌∷◌, Option, map, refl, sym, ap, ◌∙◌, append-nil}
+use Rattle.std.proofs.Common.{◌≡◌, ℕ, Bool, true, false, cond, List, [], ◌∷◌, Option, map, sym, ap, ◌∙◌, append-nil}
 use Rattle.node_lines.specs.simulator_event.declared.event.NodeId.{NodeId}
 use Rattle.node_drive.specs.Calls.{AsksListener, Call, Calls, CallsCut, Reads, Rests, Told, Writes}
 use Rattle.node_drive.specs.Drives.{Performs, Stops, opening}
 use Rattle.node_drive.specs.Inside.{standing_of}
 use Rattle.node_drive.specs.Kinds.{Kind, NodeState, node_after}
-use Rattle.node_drive.specs.Rounds.{CourseState, Standing, counted, datagram, is_taken, performed, step}
-use Rattle.node_drive.proofs.Calls.{calls_same, calls_then, cuts_same, cuts_then}
+use Rattle.node_drive.specs.Rounds.{CourseState, Standing, counted, datagram, is_taken, performed, released, step, then_released, with_calls}
+use Rattle.node_drive.proofs.Calls.{calls_same, calls_then, cuts_before, cuts_same, cuts_then}
 
 module _ {State In : Type 0} (kind : Kind State In) where
   abbrev behind : ℕ → CourseState → NodeState State In → List Call × CourseState
@@ -39,25 +39,41 @@ module _ {State In : Type 0} (kind : Kind State In) where
   pub dropped_is : (now : ℕ) (from : Option NodeId) (bytes : List ℕ) (standing : Standing State) → is_taken kind from ≡ false → ([], counted standing) ≡ datagram kind now from bytes standing
   dropped_is now from bytes standing e = ap (λ (v : Bool). cond v (step kind now (kind.datagram bytes) standing) ([], counted standing)) (sym e)
 
+  -- ---- the end of what a coming does
+
+  pub end_calls : {ta tb tc : Told} (leaves : ℕ) (done : List Call × Standing State) (last : NodeState State In) (course : CourseState) → standing_of last course ≡ done.1
+      → Calls ta tb done.0 → Calls tb tc (released leaves course).0 → Calls ta tc (then_released leaves done).0
+  end_calls leaves done last course e p q = calls_then p (calls_same (ap (λ (s : Standing State). (released leaves s.course).0) e) q)
+
+  pub end_standing : (leaves : ℕ) (done : List Call × Standing State) (last : NodeState State In) (course after : CourseState) → standing_of last course ≡ done.1 → after ≡ (released leaves course).1
+      → standing_of last after ≡ (then_released leaves done).1
+  end_standing leaves done last course after e f =
+      ap (λ (c : CourseState). standing_of last c) f ∙ ap (λ (s : Standing State). record s { course = (released leaves s.course).1 }) e
+
+  pub end_cut : {ta tb : Told} (leaves : ℕ) (done : List Call × Standing State) → CallsCut ta tb done.0 → CallsCut ta tb (then_released leaves done).0
+  end_cut leaves done p = cuts_before (released leaves done.1.course).0 p
+
   -- ---- the beginning of a round
 
-  pub opens_quiet : {ta tb tc td : Told} (begins : ℕ) (state : State) (course : CourseState) → Calls ta tb (Rests ∷ []) → Calls tb tc (Reads begins ∷ []) → Calls tc td (AsksListener false ∷ [])
-      → Performs kind (opening begins false) (record { state = state; course = course }) (record { state = state; course = course }) ta td
-  opens_quiet begins state course p q r = record { standing_is = refl; called = calls_then p (calls_then q r) }
+  pub opens_quiet : {ta tb tc td : Told} (begins : ℕ) (state : State) (course after : CourseState) → after ≡ with_calls (Reads begins ∷ []) course → Calls ta tb (Rests ∷ []) → Calls tb tc (Reads begins ∷ []) → Calls tc td (AsksListener false ∷ [])
+      → Performs kind (opening begins false) (record { state = state; course = course }) (record { state = state; course = after }) ta td
+  opens_quiet begins state course after noted p q r = record { standing_is = ap (λ (c : CourseState). record { state = state; course = c }) noted; called = calls_then p (calls_then q r) }
 
-  pub opens_told : {ta tb tc td te : Told} (begins : ℕ) (state after : State) (course : CourseState) → after ≡ state → Calls ta tb (Rests ∷ []) → Calls tb tc (Reads begins ∷ []) → Calls tc td (AsksListener true ∷ [])
-      → Calls td te (map Writes (kind.stands begins state)) → Performs kind (opening begins true) (record { state = state; course = course }) (record { state = after; course = course }) ta te
-  opens_told begins state after course same p q r w = record {
-    standing_is = ap (λ (s : State). record { state = s; course = course }) same;
+  pub opens_told : {ta tb tc td te : Told} (begins : ℕ) (state last : State) (course after : CourseState) → last ≡ state → after ≡ with_calls (Reads begins ∷ []) course → Calls ta tb (Rests ∷ []) → Calls tb tc (Reads begins ∷ [])
+      → Calls tc td (AsksListener true ∷ []) → Calls td te (map Writes (kind.stands begins state)) → Performs kind (opening begins true) (record { state = state; course = course }) (record { state = last; course = after }) ta te
+  opens_told begins state last course after same noted p q r w = record {
+    standing_is = ap (λ (s : State). record { state = s; course = after }) same ∙ ap (λ (c : CourseState). record { state = state; course = c }) noted;
     called = calls_same (ap (λ l. Rests ∷ Reads begins ∷ AsksListener true ∷ l) (sym (append-nil (map Writes (kind.stands begins state))))) (calls_then p (calls_then q (calls_then r w)));
   }
 
   -- all that stands was told
-  pub opens_listened : {ta tb tc td te : Told} (begins : ℕ) (old new last : NodeState State In) (course : CourseState) → new ≡ record old { said = kind.stands begins old.state } → last ≡ record new { said = [] }
-      → Calls ta tb (Rests ∷ []) → Calls tb tc (Reads begins ∷ []) → Calls tc td (AsksListener true ∷ []) → Calls td te (map Writes new.said) → Performs kind (opening begins true) (standing_of old course) (standing_of last course) ta te
-  opens_listened begins old new last course e h p q r w =
-      opens_told begins old.state last.state course
+  pub opens_listened : {ta tb tc td te : Told} (begins : ℕ) (old new last : NodeState State In) (course after : CourseState) → new ≡ record old { said = kind.stands begins old.state } → last ≡ record new { said = [] }
+      → after ≡ with_calls (Reads begins ∷ []) course → Calls ta tb (Rests ∷ []) → Calls tb tc (Reads begins ∷ []) → Calls tc td (AsksListener true ∷ []) → Calls td te (map Writes new.said)
+      → Performs kind (opening begins true) (standing_of old course) (standing_of last after) ta te
+  opens_listened begins old new last course after e h noted p q r w =
+      opens_told begins old.state last.state course after
       (ap (λ (n : NodeState State In). n.state) h ∙ ap (λ (n : NodeState State In). n.state) e)
+      noted
       p
       q
       r

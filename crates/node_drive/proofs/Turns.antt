@@ -1,7 +1,7 @@
 -- Rounds one behind another, and a round that is broken off.
 use Rattle.std.proofs.Common.{◌≡◌, ◌≤◌, ℕ, Bool, true, false, List, [], ◌∷◌, ◌++◌, length, map, refl, sym, ap, ◌∙◌, subst, append_assoc, append-nil, arith}
 use Rattle.node_drive.specs.Calls.{Arrival, Told}
-use Rattle.node_drive.specs.Drives.{AreRounds, GoesOn, is_over, silent, IsRound, Performs, Round, Stops, behind_lines, datagram_in, in_round, in_rounds, last_tick, line_in, lines_end, opening}
+use Rattle.node_drive.specs.Drives.{AreHeard, AreRounds, EndsDatagrams, GoesOn, is_over, silent, IsRound, Performs, Round, Stops, Timed, behind_lines, datagram_in, in_round, in_rounds, line_in, lines_end, opening}
 use Rattle.node_drive.specs.Inside.{closed_end}
 use Rattle.node_drive.specs.Kinds.{Kind}
 use Rattle.node_drive.specs.Rounds.{Coming, NoDatagram, Standing, Tick, all_come}
@@ -13,13 +13,18 @@ pub rounds-push : (made : List Round) (round : Round) → in_rounds (made ++ rou
 rounds-push [] round = append-nil (in_round round)
 rounds-push (one ∷ made) round = ap (λ l. in_round one ++ l) (rounds-push made round) ∙ sym (append_assoc (in_round one) (in_rounds made) (in_round round))
 
-pub are-push : (before : ℕ) (made : List Round) (round : Round) → AreRounds before made → IsRound (last_tick before made) round → round.closed ≡ false → AreRounds before (made ++ round ∷ [])
-are-push before [] round are is whole = (is, whole, tt)
-are-push before (one ∷ made) round are is whole = (are.0, are.1, are-push one.ticks made round are.2 is whole)
+are-push : {State In : Type 0} (kind : Kind State In) (made : List Round) (round : Round) (start : Standing State) → AreRounds kind made start → IsRound kind (all_come kind (in_rounds made) start).1 round → round.closed ≡ false → AreRounds kind (made ++ round ∷ []) start
+are-push kind [] round start are is whole = (is, whole, tt)
+are-push {State} kind (one ∷ made) round start are is whole = (
+  are.0,
+  are.1,
+  are-push kind made round (all_come kind (in_round one) start).1 are.2 (subst (λ (s : Standing State). IsRound kind s round) (come-standing kind (in_round one) (in_rounds made) start) is) whole,
+)
 
-pub last-push : (before : ℕ) (made : List Round) (round : Round) → last_tick before (made ++ round ∷ []) ≡ round.ticks
-last-push before [] round = refl
-last-push before (one ∷ made) round = last-push one.ticks made round
+-- the same of the standing that was reached
+pub are_more : {State In : Type 0} {kind : Kind State In} {start here : Standing State} {ta tb : Told} (made : List Round) (round : Round) → AreRounds kind made start → Performs kind (in_rounds made) start here ta tb → IsRound kind here round
+    → round.closed ≡ false → AreRounds kind (made ++ round ∷ []) start
+are_more {State} {In} {kind} {start} made round are performs is whole = are-push kind made round start are (subst (λ (s : Standing State). IsRound kind s round) performs.standing_is is) whole
 
 -- it goes on behind one more
 goes-push : {State In : Type 0} (kind : Kind State In) (for_ms first : ℕ) (made : List Round) (round : Round) (start : Standing State) → GoesOn kind for_ms first made start
@@ -49,7 +54,7 @@ module _ {State In : Type 0} {kind : Kind State In} where
 -- ---- a round that is broken off
 
 -- where nothing more came behind its lines
-abbrev pub cut_in_lines : ℕ → Bool → List (ℕ × List ℕ) → Bool → Round
+abbrev pub cut_in_lines : ℕ → Bool → List (Timed (List ℕ)) → Bool → Round
 cut_in_lines begins listened lines closed = record {
   begins = begins;
   listened = listened;
@@ -58,11 +63,12 @@ cut_in_lines begins listened lines closed = record {
   datagrams = [];
   datagrams_end = (0, NoDatagram) ∷ [];
   ticks = 0;
+  leaves = 0;
 }
 
 -- or behind its datagrams
-abbrev pub whole_round : ℕ → Bool → List (ℕ × List ℕ) → List (ℕ × Arrival) → List (ℕ × Coming) → ℕ → Round
-whole_round begins listened lines datagrams ends ticks = record {
+abbrev pub whole_round : ℕ → Bool → List (Timed (List ℕ)) → List (Timed Arrival) → List (ℕ × Coming) → ℕ → ℕ → Round
+whole_round begins listened lines datagrams ends ticks leaves = record {
   begins = begins;
   listened = listened;
   lines = lines;
@@ -70,15 +76,28 @@ whole_round begins listened lines datagrams ends ticks = record {
   datagrams = datagrams;
   datagrams_end = ends;
   ticks = ticks;
+  leaves = leaves;
 }
 
-pub cut_is_round : (before begins : ℕ) (listened : Bool) (lines : List (ℕ × List ℕ)) (closed : Bool) → length lines ≤ 64 → IsRound before (cut_in_lines begins listened lines closed)
-cut_is_round before begins listened lines closed few = record {
-  few_lines = few;
-  few_datagrams = omega arith;
-  fresh = tt;
-  ends = silent (omega arith);
-}
+module _ {State In : Type 0} (kind : Kind State In) where
+  pub cut_is_round : (start : Standing State) (begins : ℕ) (listened : Bool) (lines : List (Timed (List ℕ))) (closed : Bool) → length lines ≤ 64 → IsRound kind start (cut_in_lines begins listened lines closed)
+  cut_is_round start begins listened lines closed few = record {
+    few_lines = few;
+    few_datagrams = omega arith;
+    heard = tt;
+    ends = silent (omega arith);
+  }
+
+  -- by how the process stands before its datagrams
+  pub whole_is_round : {start here : Standing State} {ta tb : Told} (begins : ℕ) (listened : Bool) (lines : List (Timed (List ℕ))) (datagrams : List (Timed Arrival)) (ends : List (ℕ × Coming)) (ticks leaves : ℕ)
+      → Performs kind (opening begins listened ++ (map line_in lines ++ lines_end (length lines))) start here ta tb → length lines ≤ 64 → length datagrams ≤ 64 → AreHeard kind datagrams here
+      → EndsDatagrams (all_come kind (map datagram_in datagrams) here).1.course.seen (length datagrams) ends → IsRound kind start (whole_round begins listened lines datagrams ends ticks leaves)
+  whole_is_round begins listened lines datagrams ends ticks leaves performs few_lines few_datagrams heard end = record {
+    few_lines = few_lines;
+    few_datagrams = few_datagrams;
+    heard = subst (λ (s : Standing State). AreHeard kind datagrams s) performs.standing_is heard;
+    ends = subst (λ (s : Standing State). EndsDatagrams (all_come kind (map datagram_in datagrams) s).1.course.seen (length datagrams) ends) performs.standing_is end;
+  }
 
 -- the lines of a round and what stands behind them
 behind-lines : (round : Round) (closed : Bool) → (rest : List (ℕ × Coming)) × (behind_lines round closed ≡ closed_end closed ++ rest)
@@ -86,10 +105,10 @@ behind-lines round true = ([], refl)
 behind-lines round false = (behind_lines round false, refl)
 
 -- all of a round, in its parts
-regrouped : (lines : List (ℕ × List ℕ)) (datagrams : List (ℕ × Arrival)) (ends : List (ℕ × Coming)) (ticks : ℕ)
-    → (map line_in lines ++ lines_end (length lines)) ++ ((map datagram_in datagrams ++ ends) ++ (ticks, Tick) ∷ [])
-    ≡ map line_in lines ++ (lines_end (length lines) ++ ((map datagram_in datagrams ++ ends) ++ (ticks, Tick) ∷ []))
-regrouped lines datagrams ends ticks = append_assoc (map line_in lines) (lines_end (length lines)) _
+regrouped : (lines : List (Timed (List ℕ))) (datagrams : List (Timed Arrival)) (ends : List (ℕ × Coming)) (ticks leaves : ℕ)
+    → (map line_in lines ++ lines_end (length lines)) ++ ((map datagram_in datagrams ++ ends) ++ (ticks, Tick leaves) ∷ [])
+    ≡ map line_in lines ++ (lines_end (length lines) ++ ((map datagram_in datagrams ++ ends) ++ (ticks, Tick leaves) ∷ []))
+regrouped lines datagrams ends ticks leaves = append_assoc (map line_in lines) (lines_end (length lines)) _
 
 module _ {State In : Type 0} {kind : Kind State In} where
   pub stops_opening : {a : Standing State} {ta tb : Told} (begins : ℕ) (listened : Bool) (round : Round) → round.begins ≡ begins → round.listened ≡ listened
@@ -98,7 +117,7 @@ module _ {State In : Type 0} {kind : Kind State In} where
       stops_before (map line_in round.lines ++ behind_lines round round.closed)
       (subst (λ (b : ℕ). Stops kind (opening b round.listened) a ta tb) (sym e) (subst (λ (v : Bool). Stops kind (opening begins v) a ta tb) (sym f) s))
 
-  pub stops_lines : {a b : Standing State} {ta tb tc : Told} (begins : ℕ) (listened : Bool) (lines : List (ℕ × List ℕ)) (closed : Bool)
+  pub stops_lines : {a b : Standing State} {ta tb tc : Told} (begins : ℕ) (listened : Bool) (lines : List (Timed (List ℕ))) (closed : Bool)
       → Performs kind (opening begins listened) a b ta tb → Stops kind (map line_in lines ++ closed_end closed) b tb tc → Stops kind (in_round (cut_in_lines begins listened lines closed)) a ta tc
   stops_lines begins listened lines closed p s =
       let round : Round = cut_in_lines begins listened lines closed in
@@ -106,20 +125,20 @@ module _ {State In : Type 0} {kind : Kind State In} where
       stops_then p
       (stops_same (append_assoc (map line_in lines) (closed_end closed) behind.0 ∙ ap (λ l. map line_in lines ++ l) (sym behind.1)) (stops_before behind.0 s))
 
-  pub performs_all : {a b c d e : Standing State} {ta tb tc td te : Told} (begins : ℕ) (listened : Bool) (lines : List (ℕ × List ℕ)) (datagrams : List (ℕ × Arrival)) (ends : List (ℕ × Coming)) (ticks : ℕ)
+  pub performs_all : {a b c d e : Standing State} {ta tb tc td te : Told} (begins : ℕ) (listened : Bool) (lines : List (Timed (List ℕ))) (datagrams : List (Timed Arrival)) (ends : List (ℕ × Coming)) (ticks leaves : ℕ)
       → Performs kind (opening begins listened) a b ta tb → Performs kind (map line_in lines ++ lines_end (length lines)) b c tb tc → Performs kind (map datagram_in datagrams ++ ends) c d tc td
-      → Performs kind ((ticks, Tick) ∷ []) d e td te → Performs kind (in_round (whole_round begins listened lines datagrams ends ticks)) a e ta te
-  performs_all begins listened lines datagrams ends ticks p q r s =
-      performs_then p (performs_same (regrouped lines datagrams ends ticks) (performs_then q (performs_then r s)))
+      → Performs kind ((ticks, Tick leaves) ∷ []) d e td te → Performs kind (in_round (whole_round begins listened lines datagrams ends ticks leaves)) a e ta te
+  performs_all begins listened lines datagrams ends ticks leaves p q r s =
+      performs_then p (performs_same (regrouped lines datagrams ends ticks leaves) (performs_then q (performs_then r s)))
 
-  pub stops_tick : {a b c d : Standing State} {ta tb tc td te : Told} (begins : ℕ) (listened : Bool) (lines : List (ℕ × List ℕ)) (datagrams : List (ℕ × Arrival)) (ends : List (ℕ × Coming)) (ticks : ℕ)
+  pub stops_tick : {a b c d : Standing State} {ta tb tc td te : Told} (begins : ℕ) (listened : Bool) (lines : List (Timed (List ℕ))) (datagrams : List (Timed Arrival)) (ends : List (ℕ × Coming)) (ticks leaves : ℕ)
       → Performs kind (opening begins listened) a b ta tb → Performs kind (map line_in lines ++ lines_end (length lines)) b c tb tc → Performs kind (map datagram_in datagrams ++ ends) c d tc td
-      → Stops kind ((ticks, Tick) ∷ []) d td te → Stops kind (in_round (whole_round begins listened lines datagrams ends ticks)) a ta te
-  stops_tick begins listened lines datagrams ends ticks p q r s =
-      stops_then p (stops_same (regrouped lines datagrams ends ticks) (stops_then q (stops_then r s)))
+      → Stops kind ((ticks, Tick leaves) ∷ []) d td te → Stops kind (in_round (whole_round begins listened lines datagrams ends ticks leaves)) a ta te
+  stops_tick begins listened lines datagrams ends ticks leaves p q r s =
+      stops_then p (stops_same (regrouped lines datagrams ends ticks leaves) (stops_then q (stops_then r s)))
 
-  pub stops_datagrams : {a b c : Standing State} {ta tb tc td : Told} (begins : ℕ) (listened : Bool) (lines : List (ℕ × List ℕ)) (datagrams : List (ℕ × Arrival)) (ends : List (ℕ × Coming)) (ticks : ℕ)
+  pub stops_datagrams : {a b c : Standing State} {ta tb tc td : Told} (begins : ℕ) (listened : Bool) (lines : List (Timed (List ℕ))) (datagrams : List (Timed Arrival)) (ends : List (ℕ × Coming)) (ticks leaves : ℕ)
       → Performs kind (opening begins listened) a b ta tb → Performs kind (map line_in lines ++ lines_end (length lines)) b c tb tc → Stops kind (map datagram_in datagrams ++ ends) c tc td
-      → Stops kind (in_round (whole_round begins listened lines datagrams ends ticks)) a ta td
-  stops_datagrams begins listened lines datagrams ends ticks p q s =
-      stops_then p (stops_same (regrouped lines datagrams ends ticks) (stops_then q (stops_before ((ticks, Tick) ∷ []) s)))
+      → Stops kind (in_round (whole_round begins listened lines datagrams ends ticks leaves)) a ta td
+  stops_datagrams begins listened lines datagrams ends ticks leaves p q s =
+      stops_then p (stops_same (regrouped lines datagrams ends ticks leaves) (stops_then q (stops_before ((ticks, Tick leaves) ∷ []) s)))

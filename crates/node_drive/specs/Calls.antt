@@ -4,6 +4,8 @@ use Rattle.node_lines.specs.replay_words.declared.fault.Fault.{Fault}
 use Rattle.node_lines.specs.simulator_event.declared.event.NodeId.{NodeId}
 use Rattle.node_drive.specs.declared.outside.NextLine.{NextLine}
 use Rattle.node_drive.specs.declared.outside.NextLine.TheVariants as next
+use Rattle.node_drive.specs.declared.outside.NextDatagram.{NextDatagram}
+use Rattle.node_drive.specs.declared.outside.NextDatagram.TheVariants as next_datagram
 
 -- what was answered to the question for a line: its text without the line feed, none yet, or none any more
 pub data LineHeard : Type 0 where
@@ -20,6 +22,17 @@ line_heard next.Closed = Closed
 abbrev pub Arrival : Type 0
 Arrival = Option NodeId × List ℕ
 
+-- what was answered to the question for a datagram: one, that the socket is empty, or nothing, since the call failed
+pub data DatagramHeard : Type 0 where
+  Came : (arrival : Arrival) → DatagramHeard
+  Empty : DatagramHeard
+  Failed : DatagramHeard
+
+abbrev pub datagram_heard : NextDatagram → DatagramHeard
+datagram_heard (next_datagram.Came arrived) = Came (arrived.from, arrived.bytes.items)
+datagram_heard next_datagram.Empty = Empty
+datagram_heard next_datagram.Failed = Failed
+
 pub data Call : Type 0 where
   -- it waits until the next round is due
   Rests : Call
@@ -27,9 +40,9 @@ pub data Call : Type 0 where
   -- whether somebody began to listen since the last question
   AsksListener : (began : Bool) → Call
   AsksLine : (heard : LineHeard) → Call
-  AsksDatagram : (heard : Option Arrival) → Call
-  -- all datagrams that wait in the socket are thrown away
-  ThrowsAway : Call
+  AsksDatagram : (heard : DatagramHeard) → Call
+  -- so many datagrams that waited in the socket were thrown away, and then it was found empty or not
+  ThrowsAway : (count : ℕ) (empty : Bool) → Call
   -- a line is written and handed on; or a beginning of it at most was written
   Writes : (text : List ℕ) → Call
   BreaksOff : (text : List ℕ) → Call

@@ -1,10 +1,12 @@
 -- A node's process that ran for some time.
 use Rattle.std.specs.Prelude.{◌≡◌, ◌<◌, ◌≤◌, ◌-◌, ℕ, nat_le, nat_lt, ◌&&◌, ◌||◌, if◌then◌else◌, Bool, true, false, List, [], ◌∷◌, ◌++◌, length, map, Option, Some, None}
-use Rattle.std.specs.List.{AllByRecursion}
 use Rattle.node_lines.specs.simulator_event.declared.event.NodeId.{NodeId}
 use Rattle.node_drive.specs.Calls.{Arrival, Calls, CallsCut, Told}
 use Rattle.node_drive.specs.Kinds.{Kind}
-use Rattle.node_drive.specs.Rounds.{Coming, RoundBegins, Listened, Line, NoLine, LinesEnd, Datagram, Late, NoDatagram, Tick, CourseState, Standing, all_come}
+use Rattle.node_drive.specs.Rounds.{Coming, RoundBegins, Listened, Line, NoLine, LinesEnd, Datagram, NoDatagram, FailedDatagram, Tick, CourseState, Standing, all_come, comes}
+use Rattle.node_drive.specs.Seen.{is_heard}
+use Rattle.node_drive.specs.declared.outside.ThrownAway.{ThrownAway}
+use Rattle.node_drive.specs.declared.socket_seen.SocketSeen.{SocketSeen}
 
 -- ---- one round
 
@@ -12,42 +14,50 @@ use Rattle.node_drive.specs.Rounds.{Coming, RoundBegins, Listened, Line, NoLine,
 abbrev pub most_in_a_round : ℕ
 most_in_a_round = 64
 
--- after how many milliseconds without a round all that waits in the socket is thrown away
-abbrev pub longest_gap : ℕ
-longest_gap = 1500
+-- An input, the reading that was taken once it had come, and that at which what waits leaves behind it.
+pub record Timed (In : Type 0) : Type 0 where
+  pub now : ℕ
+  pub input : In
+  pub leaves : ℕ
 
--- What came in a round. Each reading was taken after the input beside it had come.
+-- What came in a round.
 pub record Round : Type 0 where
   -- the reading at its beginning
   pub begins : ℕ
   -- whether somebody began to listen
   pub listened : Bool
   -- the lines, and whether the round ended there, since none comes any more
-  pub lines : List (ℕ × List ℕ)
+  pub lines : List (Timed (List ℕ))
   pub closed : Bool
-  -- the datagrams, and how they ended
-  pub datagrams : List (ℕ × Arrival)
+  -- the datagrams that were heard, and how they ended
+  pub datagrams : List (Timed Arrival)
   pub datagrams_end : List (ℕ × Coming)
-  -- the reading of the tick, which comes last
+  -- the reading of the tick, which comes last, and that at which what waits leaves behind it
   pub ticks : ℕ
+  pub leaves : ℕ
 
-abbrev pub line_in : ℕ × List ℕ → ℕ × Coming
-line_in one = (one.0, Line one.1)
+abbrev pub line_in : Timed (List ℕ) → ℕ × Coming
+line_in one = (one.now, Line one.input one.leaves)
 
-abbrev pub datagram_in : ℕ × Arrival → ℕ × Coming
-datagram_in one = (one.0, Datagram one.1.0 one.1.1)
+-- nothing is thrown away behind one that is heard
+abbrev pub nothing_thrown : ThrownAway
+nothing_thrown = record { count = 0; found_empty = false }
+
+abbrev pub datagram_in : Timed Arrival → ℕ × Coming
+datagram_in one = (one.now, Datagram one.input.0 one.input.1 nothing_thrown one.leaves)
 
 -- fewer than the most, behind which there was none
 abbrev pub lines_end : ℕ → List (ℕ × Coming)
 lines_end taken = if nat_lt taken most_in_a_round then (0, NoLine) ∷ [] else []
 
--- The most datagrams that are taken; fewer, behind which there was none; or fewer, and one that came so long after the tick of the
--- round before that it may be too old. It is thrown away with all that wait.
-pub data EndsDatagrams (before taken : ℕ) : List (ℕ × Coming) → Type 0 where
-  full : taken ≡ most_in_a_round → EndsDatagrams before taken []
-  silent : taken < most_in_a_round → EndsDatagrams before taken ((0, NoDatagram) ∷ [])
-  late : {now : ℕ} {from : Option NodeId} {bytes : List ℕ} → taken < most_in_a_round → longest_gap ≤ now - before
-      → EndsDatagrams before taken ((now, Late from bytes) ∷ [])
+-- The most datagrams that are taken; fewer, behind which the socket was empty, or the call failed; or fewer, and one that isn't heard.
+-- What waits behind that one is thrown away.
+pub data EndsDatagrams (seen : SocketSeen) (taken : ℕ) : List (ℕ × Coming) → Type 0 where
+  full : taken ≡ most_in_a_round → EndsDatagrams seen taken []
+  silent : taken < most_in_a_round → EndsDatagrams seen taken ((0, NoDatagram) ∷ [])
+  failed : taken < most_in_a_round → EndsDatagrams seen taken ((0, FailedDatagram) ∷ [])
+  too_old : {now : ℕ} {from : Option NodeId} {bytes : List ℕ} {thrown : ThrownAway} → taken < most_in_a_round → is_heard now seen ≡ false
+      → EndsDatagrams seen taken ((now, Datagram from bytes thrown 0) ∷ [])
 
 abbrev pub opening : ℕ → Bool → List (ℕ × Coming)
 opening begins listened = (begins, RoundBegins) ∷ (begins, Listened listened) ∷ []
@@ -58,33 +68,39 @@ datagrams_in round = map datagram_in round.datagrams ++ round.datagrams_end
 
 abbrev pub behind_lines : Round → Bool → List (ℕ × Coming)
 behind_lines round true = (0, LinesEnd) ∷ []
-behind_lines round false = lines_end (length round.lines) ++ (datagrams_in round ++ (round.ticks, Tick) ∷ [])
+behind_lines round false = lines_end (length round.lines) ++ (datagrams_in round ++ (round.ticks, Tick round.leaves) ∷ [])
 
 -- all that comes in it, each with its reading: field lines first, then datagrams, a tick last
 abbrev pub in_round : Round → List (ℕ × Coming)
 in_round round = opening round.begins round.listened ++ (map line_in round.lines ++ behind_lines round round.closed)
 
--- A round behind one that ticked at this reading.
-pub record IsRound (before : ℕ) (round : Round) : Type 0 where
-  pub few_lines : length round.lines ≤ most_in_a_round
-  pub few_datagrams : length round.datagrams ≤ most_in_a_round
-  pub fresh : AllByRecursion (λ (one : ℕ × Arrival). one.0 - before < longest_gap) round.datagrams
-  pub ends : EndsDatagrams before (length round.datagrams) round.datagrams_end
+-- what comes before its datagrams
+abbrev pub before_datagrams : Round → List (ℕ × Coming)
+before_datagrams round = opening round.begins round.listened ++ (map line_in round.lines ++ lines_end (length round.lines))
 
--- ---- one behind another
+module _ {State Input : Type 0} (kind : Kind State Input) where
+  -- these datagrams are heard
+  abbrev pub AreHeard : List (Timed Arrival) → Standing State → Type 0
+  AreHeard [] standing = Unit {0}
+  AreHeard (one ∷ others) standing = (is_heard one.now standing.course.seen ≡ true) × AreHeard others (comes kind one.now (datagram_in one).1 standing).1
 
--- none of which is closed
-abbrev pub AreRounds : ℕ → List Round → Type 0
-AreRounds before [] = Unit {0}
-AreRounds before (round ∷ rounds) = IsRound before round × (round.closed ≡ false) × AreRounds round.ticks rounds
+  -- A round, by how the process stands before it.
+  pub record IsRound (standing : Standing State) (round : Round) : Type 0 where
+    pub few_lines : length round.lines ≤ most_in_a_round
+    pub few_datagrams : length round.datagrams ≤ most_in_a_round
+    pub heard : AreHeard round.datagrams (all_come kind (before_datagrams round) standing).1
+    pub ends : EndsDatagrams (all_come kind (map datagram_in round.datagrams) (all_come kind (before_datagrams round) standing).1).1.course.seen (length round.datagrams) round.datagrams_end
+
+  -- ---- one behind another
+
+  -- none of which is closed
+  abbrev pub AreRounds : List Round → Standing State → Type 0
+  AreRounds [] standing = Unit {0}
+  AreRounds (round ∷ rounds) standing = IsRound standing round × (round.closed ≡ false) × AreRounds rounds (all_come kind (in_round round) standing).1
 
 abbrev pub in_rounds : List Round → List (ℕ × Coming)
 in_rounds [] = []
 in_rounds (round ∷ rounds) = in_round round ++ in_rounds rounds
-
-abbrev pub last_tick : ℕ → List Round → ℕ
-last_tick before [] = before
-last_tick before (round ∷ rounds) = last_tick round.ticks rounds
 
 -- ---- runs
 
@@ -118,7 +134,7 @@ module _ {State Input : Type 0} (kind : Kind State Input) (for_ms first : ℕ) w
 pub record Ran {State Input : Type 0} (kind : Kind State Input) (for_ms first ticks : ℕ) (old new : Standing State) (told_old told_new : Told) : Type 0 where
   pub earlier : List Round
   pub last : Round
-  pub are : AreRounds first (earlier ++ last ∷ [])
+  pub are : AreRounds kind (earlier ++ last ∷ []) old
   pub goes_on : GoesOn kind for_ms first earlier old
   pub ticks_is : last.ticks ≡ ticks
   pub over : is_over kind for_ms first ticks new ≡ true
@@ -129,16 +145,16 @@ abbrev pub broken_in : Option Round → List (ℕ × Coming)
 broken_in None = []
 broken_in (Some round) = in_round round
 
-abbrev pub IsBrokenRound : ℕ → Option Round → Type 0
-IsBrokenRound before None = Unit {0}
-IsBrokenRound before (Some round) = IsRound before round
+abbrev pub IsBrokenRound : {State Input : Type 0} → Kind State Input → Standing State → Option Round → Type 0
+IsBrokenRound kind standing None = Unit {0}
+IsBrokenRound kind standing (Some round) = IsRound kind standing round
 
 -- The same process, cut off by a closed input, a failed write or want of memory: what was called is a beginning of what its rounds
 -- do. Of the last line perhaps only a beginning was written; then nothing behind it was called.
 pub record CutOff {State Input : Type 0} (kind : Kind State Input) (for_ms first : ℕ) (old : Standing State) (told_old told_new : Told) : Type 0 where
   pub made : List Round
   pub broken : Option Round
-  pub are : AreRounds first made
+  pub are : AreRounds kind made old
   pub goes_on : GoesOn kind for_ms first made old
-  pub is_round : IsBrokenRound (last_tick first made) broken
+  pub is_round : IsBrokenRound kind (all_come kind (in_rounds made) old).1 broken
   pub stops : Stops kind (in_rounds made ++ broken_in broken) old told_old told_new

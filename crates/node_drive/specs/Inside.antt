@@ -1,7 +1,8 @@
 -- What contracts inside the crate and of its traits say of the steps of a line. No promise names any of it.
-use Rattle.std.specs.Prelude.{◌≡◌, ◌≤◌, ◌<◌, ◌-◌, ℕ, Bool, true, false, List, [], ◌∷◌, ◌++◌, length, map}
+use Rattle.std.specs.Prelude.{◌≡◌, ◌≤◌, ◌<◌, ℕ, Bool, true, false, List, [], ◌∷◌, ◌++◌, length, map}
 use Rattle.node_drive.specs.Calls.{Arrival, Told}
-use Rattle.node_drive.specs.Drives.{EndsDatagrams, Performs, Stops, datagram_in, line_in, longest_gap, most_in_a_round}
+use Rattle.node_drive.specs.Drives.{EndsDatagrams, Performs, Stops, Timed, datagram_in, line_in, most_in_a_round}
+use Rattle.node_drive.specs.Seen.{is_heard}
 use Rattle.node_drive.specs.Kinds.{Kind, NodeState, node_after}
 use Rattle.node_drive.specs.Rounds.{Coming, CourseState, LinesEnd, NoLine, Standing}
 use Rattle.node_drive.specs.Waiting.{Waiting, waiting_one}
@@ -27,19 +28,20 @@ closed_end false = []
 
 -- One line came, or there was none.
 abbrev pub OneLine : {State Input : Type 0} → Kind State Input → Bool → Standing State → Standing State → Told → Told → Type 0
-OneLine kind true old new told_old told_new = (one : ℕ × List ℕ) × Performs kind (line_in one ∷ []) old new told_old told_new
+OneLine kind true old new told_old told_new = (one : Timed (List ℕ)) × Performs kind (line_in one ∷ []) old new told_old told_new
 OneLine kind false old new told_old told_new = Performs kind ((0, NoLine) ∷ []) old new told_old told_new
 
 -- It was cut off before a line, within one, or behind the last.
 abbrev pub OneLineCut : {State Input : Type 0} → Kind State Input → Standing State → Told → Told → Type 0
-OneLineCut kind old told_old told_new = (lines : List (ℕ × List ℕ)) × (closed : Bool) × (length lines ≤ 1) × Stops kind (map line_in lines ++ closed_end closed) old told_old told_new
+OneLineCut kind old told_old told_new = (lines : List (Timed (List ℕ))) × (closed : Bool) × (length lines ≤ 1) × Stops kind (map line_in lines ++ closed_end closed) old told_old told_new
 
--- One datagram came, or there was none that isn't thrown away.
-abbrev pub OneDatagram : {State Input : Type 0} → Kind State Input → ℕ → Bool → Standing State → Standing State → Told → Told → Type 0
-OneDatagram kind before true old new told_old told_new = (one : ℕ × Arrival) × (one.0 - before < longest_gap) × Performs kind (datagram_in one ∷ []) old new told_old told_new
-OneDatagram kind before false old new told_old told_new =
-    (ends : List (ℕ × Coming)) × ((taken : ℕ) → taken < most_in_a_round → EndsDatagrams before taken ends) × Performs kind ends old new told_old told_new
+-- One datagram was heard, or there was none that is.
+abbrev pub OneDatagram : {State Input : Type 0} → Kind State Input → Bool → Standing State → Standing State → Told → Told → Type 0
+OneDatagram kind true old new told_old told_new =
+    (one : Timed Arrival) × (is_heard one.now old.course.seen ≡ true) × Performs kind (datagram_in one ∷ []) old new told_old told_new
+OneDatagram kind false old new told_old told_new =
+    (ends : List (ℕ × Coming)) × ((taken : ℕ) → taken < most_in_a_round → EndsDatagrams old.course.seen taken ends) × Performs kind ends old new told_old told_new
 
--- It was cut off within a datagram.
-abbrev pub OneDatagramCut : {State Input : Type 0} → Kind State Input → ℕ → Standing State → Told → Told → Type 0
-OneDatagramCut kind before old told_old told_new = (one : ℕ × Arrival) × (one.0 - before < longest_gap) × Stops kind (datagram_in one ∷ []) old told_old told_new
+-- It was cut off within a datagram that is heard.
+abbrev pub OneDatagramCut : {State Input : Type 0} → Kind State Input → Standing State → Told → Told → Type 0
+OneDatagramCut kind old told_old told_new = (one : Timed Arrival) × (is_heard one.now old.course.seen ≡ true) × Stops kind (datagram_in one ∷ []) old told_old told_new

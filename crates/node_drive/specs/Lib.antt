@@ -1,5 +1,7 @@
+pub mod Budget
 pub mod Waiting
 pub mod Calls
+pub mod Seen
 pub mod Kinds
 pub mod Same
 pub mod Rounds
@@ -7,6 +9,7 @@ pub mod Drives
 pub mod Inside
 pub mod Beginning
 pub mod Lives
+pub mod Ages
 pub mod Worked
 -- what crates above need of the crates below
 pub use Rattle.node_lines.specs as node_lines

@@ -1,7 +1,8 @@
 -- What came to a node in the rounds of its process, and what came of it.
-use Rattle.std.specs.Prelude.{ℕ, if◌then◌else◌, List, [], ◌∷◌, ◌++◌, map}
+use Rattle.std.specs.Prelude.{ℕ, if◌then◌else◌, ◌&&◌, List, [], ◌∷◌, ◌++◌, map}
 use Rattle.node_drive.specs.Kinds.{Kind, Meaning, InForce, Comes, Faulty}
 use Rattle.node_drive.specs.Rounds.{Coming, Line, Datagram, Tick, Standing, comes, is_taken}
+use Rattle.node_drive.specs.Seen.{is_heard}
 
 -- the inputs of a line, at its reading
 abbrev pub inputs_told : {Input : Type 0} → ℕ → Meaning Input → List (ℕ × Input)
@@ -11,9 +12,9 @@ inputs_told now (Faulty fault) = []
 
 module _ {State Input : Type 0} (kind : Kind State Input) where
   abbrev pub inputs_of : ℕ → Coming → Standing State → List (ℕ × Input)
-  inputs_of now (Line text) standing = inputs_told now (kind.meaning now text standing.state)
-  inputs_of now (Datagram from bytes) standing = if is_taken kind from then (now, kind.datagram bytes) ∷ [] else []
-  inputs_of now Tick standing = (now, kind.tick) ∷ []
+  inputs_of now (Line text leaves) standing = inputs_told now (kind.meaning now text standing.state)
+  inputs_of now (Datagram from bytes thrown leaves) standing = if is_heard now standing.course.seen && is_taken kind from then (now, kind.datagram bytes) ∷ [] else []
+  inputs_of now (Tick leaves) standing = (now, kind.tick) ∷ []
   inputs_of now coming standing = []
 
   -- all that came to the node, oldest first, each with its reading

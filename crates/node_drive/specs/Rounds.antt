@@ -1,13 +1,16 @@
 -- What the process of a node does with what comes, one after another.
-use Rattle.std.specs.Prelude.{ℕ, suc, nat_le, nat_lt, if◌then◌else◌, Bool, true, false, List, [], ◌∷◌, ◌++◌, map, Option, Some, None}
+use Rattle.std.specs.Prelude.{ℕ, suc, nat_le, nat_lt, if◌then◌else◌, Bool, true, false, List, [], ◌∷◌, ◌++◌, map, min, ◌+◌, Option, Some, None}
 use Rattle.node_lines.specs.replay_words.declared.fault.Fault.TheVariants.{Number}
 use Rattle.node_lines.specs.simulator_event.declared.event.NodeId.{NodeId}
 use Rattle.node_lines.specs.Orders.{order_text}
 use Rattle.node_lines.specs.declared.order.Order.{Order}
 use Rattle.node_drive.specs.Same.{is_same_order}
-use Rattle.node_drive.specs.Waiting.{Addressed, Waiting, leaving, waiting_of, waiting_on}
-use Rattle.node_drive.specs.Calls.{Call, Rests, Reads, AsksListener, AsksLine, AsksDatagram, ThrowsAway, Writes, Sends, Complains, Text, Nothing, Closed as ClosedLine}
+use Rattle.node_drive.specs.Waiting.{Addressed, Waiting, leaving, none_waits, waiting_of, waiting_on}
+use Rattle.node_drive.specs.Calls.{Call, Rests, Reads, AsksListener, AsksLine, AsksDatagram, ThrowsAway, Writes, Sends, Complains, Text, Nothing, Closed as ClosedLine, Came, Empty, Failed}
 use Rattle.node_drive.specs.Kinds.{Kind, Meaning, InForce, Comes, Faulty}
+use Rattle.node_drive.specs.Seen.{all_seen, is_heard}
+use Rattle.node_drive.specs.declared.outside.ThrownAway.{ThrownAway}
+use Rattle.node_drive.specs.declared.socket_seen.SocketSeen.{SocketSeen}
 
 -- ---- how far a process has come
 
@@ -20,8 +23,11 @@ pub record CourseState : Type 0 where
   pub order : Option Order
   pub in_force : ℕ
   pub waiting : List Waiting
-  -- how many datagrams came from elsewhere than from a partner
+  -- how many datagrams came from elsewhere than from a partner, and how many weren't heard, since they may have been too old
   pub strangers : ℕ
+  pub too_old : ℕ
+  -- what was seen of the clock and the socket
+  pub seen : SocketSeen
 
 -- and its node
 pub record Standing (State : Type 0) : Type 0 where
@@ -58,19 +64,28 @@ last_order old (Some order) = Some order
 abbrev pub sent : List Waiting → List Call
 sent leaving = map (λ (one : Waiting). Sends one.datagram.0 one.datagram.1) leaving
 
--- those whose line is in force leave, and those that waited too long are dropped
+-- these were called
+abbrev pub with_calls : List Call → CourseState → CourseState
+with_calls calls course = record course { seen = all_seen calls course.seen }
+
+-- the clock is read once more where a datagram waits, and only there
+abbrev pub read_for : ℕ → List Waiting → List Call
+read_for now waiting = if none_waits waiting then [] else Reads now ∷ []
+
+-- At this reading those whose line is in force leave, and those that waited too long are dropped.
 abbrev pub released : ℕ → CourseState → Done CourseState
 released now course =
-    (sent (leaving now course.in_force course.waiting), record course { waiting = waiting_on now course.in_force course.waiting })
+    let reads = read_for now course.waiting
+    in (reads ++ sent (leaving now course.in_force course.waiting), record (with_calls reads course) { waiting = waiting_on now course.in_force course.waiting })
 
 abbrev pub later : ℕ → ℕ → ℕ
 later one other = if nat_lt one other then other else one
 
 -- An order that was written is in force, and so is each before it. A number that no line has is a fault.
-abbrev pub put_in_force : ℕ → ℕ → CourseState → Done CourseState
-put_in_force now number course =
+abbrev pub put_in_force : ℕ → CourseState → Done CourseState
+put_in_force number course =
     if nat_le number course.written
-    then released now (record course { in_force = later course.in_force number })
+    then ([], record course { in_force = later course.in_force number })
     else (Complains course.heard Number ∷ [], course)
 
 -- ---- a step
@@ -82,16 +97,18 @@ with_order new course = record course { written = count new course.written; orde
 abbrev pub with_datagrams : ℕ → List Addressed → CourseState → CourseState
 with_datagrams now handed course = record course { waiting = course.waiting ++ waiting_of course.written now handed }
 
--- The lines of a step are written first. Then its datagrams leave, where no order has to come into force before.
+-- The lines of a step are written, and its datagrams wait.
 abbrev pub performed : ℕ → List (List ℕ) → Option Order → List Addressed → CourseState → Done CourseState
 performed now said order handed course =
     let new = new_order course.order order
-    in let left = released now (with_datagrams now handed (with_order new course))
-    in (map Writes said ++ (line_of (count new course.written) now new ++ left.0), left.1)
+    in (map Writes said ++ line_of (count new course.written) now new, with_datagrams now handed (with_order new course))
 
 -- what counts up to the largest number of 64 bits, and stays there
 abbrev pub one_more : ℕ → ℕ
 one_more number = if nat_lt number 18446744073709551615 then suc number else number
+
+abbrev pub many_more : ℕ → ℕ → ℕ
+many_more count number = min (number + count) 18446744073709551615
 
 -- ---- what comes
 
@@ -99,27 +116,28 @@ pub data Coming : Type 0 where
   RoundBegins : Coming
   -- it was asked whether an operator began to listen
   Listened : (began : Bool) → Coming
-  -- a line, without its line feed; that there was none; or that none comes any more
-  Line : (text : List ℕ) → Coming
+  -- A line, without its line feed; that there was none; or that none comes any more. At the reading `leaves` leaves what waits and
+  -- may, once all is done that a coming does.
+  Line : (text : List ℕ) (leaves : ℕ) → Coming
   NoLine : Coming
   LinesEnd : Coming
-  -- a datagram; one that may have waited too long; or that there was none
-  Datagram : (from : Option NodeId) (bytes : List ℕ) → Coming
-  Late : (from : Option NodeId) (bytes : List ℕ) → Coming
+  -- A datagram, and what was thrown away behind it where it isn't heard; that the socket was found empty; or that the call failed.
+  Datagram : (from : Option NodeId) (bytes : List ℕ) (thrown : ThrownAway) (leaves : ℕ) → Coming
   NoDatagram : Coming
-  Tick : Coming
+  FailedDatagram : Coming
+  Tick : (leaves : ℕ) → Coming
 
 -- Behind which calls it comes. The clock is read once an input has come.
 abbrev pub asked : ℕ → Coming → List Call
 asked now RoundBegins = Rests ∷ Reads now ∷ []
 asked now (Listened began) = AsksListener began ∷ []
-asked now (Line text) = AsksLine (Text text) ∷ Reads now ∷ []
+asked now (Line text leaves) = AsksLine (Text text) ∷ Reads now ∷ []
 asked now NoLine = AsksLine Nothing ∷ []
 asked now LinesEnd = AsksLine ClosedLine ∷ []
-asked now (Datagram from bytes) = AsksDatagram (Some (from, bytes)) ∷ Reads now ∷ []
-asked now (Late from bytes) = AsksDatagram (Some (from, bytes)) ∷ Reads now ∷ ThrowsAway ∷ []
-asked now NoDatagram = AsksDatagram None ∷ []
-asked now Tick = Reads now ∷ []
+asked now (Datagram from bytes thrown leaves) = AsksDatagram (Came (from, bytes)) ∷ Reads now ∷ []
+asked now NoDatagram = AsksDatagram Empty ∷ []
+asked now FailedDatagram = AsksDatagram Failed ∷ []
+asked now (Tick leaves) = Reads now ∷ []
 
 module _ {State : Type 0} where
   -- the course goes on, and the node stays as it is
@@ -133,6 +151,23 @@ module _ {State : Type 0} where
   -- one more datagram came from elsewhere than from a partner
   abbrev pub counted : Standing State → Standing State
   counted standing = record standing { course = record standing.course { strangers = one_more standing.course.strangers } }
+
+  -- these were called
+  abbrev pub having_called : List Call → Standing State → Standing State
+  having_called calls standing = record standing { course = with_calls calls standing.course }
+
+  -- A datagram that may be too old isn't heard. It is counted, with those that wait behind it, which are thrown away.
+  abbrev pub not_heard : ThrownAway → Standing State → Done (Standing State)
+  not_heard thrown standing =
+      let throws = ThrowsAway thrown.count thrown.found_empty ∷ []
+      in let course = with_calls throws standing.course
+      in (throws, record standing { course = record course { too_old = many_more thrown.count (one_more course.too_old) } })
+
+  -- at the end of what a coming does those leave that may
+  abbrev pub then_released : ℕ → Done (Standing State) → Done (Standing State)
+  then_released leaves done =
+      let left = released leaves done.1.course
+      in (done.0 ++ left.0, record done.1 { course = left.1 })
 
 module _ {State Input : Type 0} (kind : Kind State Input) where
   abbrev pub step : ℕ → Input → Standing State → Done (Standing State)
@@ -151,7 +186,7 @@ module _ {State Input : Type 0} (kind : Kind State Input) where
   -- ---- lines
 
   abbrev pub told : ℕ → Meaning Input → Standing State → Done (Standing State)
-  told now (InForce number) standing = of_course standing.state (put_in_force now number standing.course)
+  told now (InForce number) standing = of_course standing.state (put_in_force number standing.course)
   told now (Comes answer inputs) standing =
       let done = steps now inputs standing
       in (map Writes answer ++ done.0, done.1)
@@ -174,12 +209,17 @@ module _ {State Input : Type 0} (kind : Kind State Input) where
 
   -- ---- all of it
 
+  -- what is done once it was asked for
+  abbrev pub acts : ℕ → Coming → Standing State → Done (Standing State)
+  acts now (Line text leaves) standing = then_released leaves (line now text standing)
+  acts now (Datagram from bytes thrown leaves) standing =
+      if is_heard now standing.course.seen then then_released leaves (datagram now from bytes standing) else not_heard thrown standing
+  acts now (Listened true) standing = (map Writes (kind.stands now standing.state), standing)
+  acts now (Tick leaves) standing = then_released leaves (step now kind.tick standing)
+  acts now coming standing = ([], standing)
+
   abbrev pub comes : ℕ → Coming → Standing State → Done (Standing State)
-  comes now (Line text) standing = line now text standing
-  comes now (Datagram from bytes) standing = datagram now from bytes standing
-  comes now (Listened true) standing = (map Writes (kind.stands now standing.state), standing)
-  comes now Tick standing = step now kind.tick standing
-  comes now coming standing = ([], standing)
+  comes now coming standing = acts now coming (having_called (asked now coming) standing)
 
   -- one after another
   abbrev pub all_come : List (ℕ × Coming) → Standing State → Done (Standing State)

@@ -1,6 +1,7 @@
 -- Datagrams that wait until the line of their step is in force.
-use Rattle.std.specs.Prelude.{ℕ, ◌+◌, ◌&&◌, nat_le, nat_lt, not, if◌then◌else◌, Bool, List, [], ◌∷◌, ◌++◌, map}
+use Rattle.std.specs.Prelude.{ℕ, ◌+◌, ◌&&◌, nat_le, nat_lt, not, if◌then◌else◌, Bool, true, false, List, [], ◌∷◌, ◌++◌, map}
 use Rattle.node_lines.specs.simulator_event.declared.event.NodeId.{NodeId}
+use Rattle.node_drive.specs.Budget.{at_sender}
 
 -- a datagram, and the node to which it goes
 abbrev pub Addressed : Type 0
@@ -13,10 +14,6 @@ pub record Waiting : Type 0 where
   pub since : ℕ
   pub datagram : Addressed
 
--- how long a datagram waits at most, in milliseconds
-abbrev pub longest_wait : ℕ
-longest_wait = 500
-
 abbrev pub waiting_one : ℕ → ℕ → Addressed → Waiting
 waiting_one behind since datagram = record { behind = behind; since = since; datagram = datagram }
 
@@ -24,9 +21,13 @@ waiting_one behind since datagram = record { behind = behind; since = since; dat
 abbrev pub waiting_of : ℕ → ℕ → List Addressed → List Waiting
 waiting_of behind since datagrams = map (waiting_one behind since) datagrams
 
+abbrev pub none_waits : List Waiting → Bool
+none_waits [] = true
+none_waits (one ∷ others) = false
+
 -- at a reading of the clock it may still leave
 abbrev pub is_fresh : ℕ → Waiting → Bool
-is_fresh now one = nat_lt now (one.since + longest_wait)
+is_fresh now one = nat_lt now (one.since + at_sender)
 
 -- the line of its step is in force, or one behind that
 abbrev pub is_free : ℕ → Waiting → Bool

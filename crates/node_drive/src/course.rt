@@ -1,11 +1,16 @@
 //! How far a process has come with its lines and datagrams.
 
-ghost use Rattle.std.specs.Prelude.{◌≡◌, suc, IfSome, Some};
+ghost use Rattle.std.specs.Prelude.{◌≡◌, [], ◌∷◌, suc, IfSome, Some};
 ghost use Rattle.node_drive.specs.Beginning.{first_course};
 ghost use Rattle.node_drive.specs.Drives.{is_settled};
-ghost use Rattle.node_drive.specs.Rounds.{later, new_order, one_more};
+ghost use Rattle.node_drive.specs.Calls.{AsksDatagram, Empty, Reads, ThrowsAway};
+ghost use Rattle.node_drive.specs.Rounds.{later, many_more, new_order, one_more, with_calls};
+ghost use Rattle.node_drive.specs.Seen.{is_heard};
+ghost use Rattle.node_drive.specs.Waiting.{none_waits};
 
 use crate::order_changes::new_order;
+use crate::outside::ThrownAway;
+use crate::socket_seen::SocketSeen;
 use node_lines::Order;
 use node_lines::ixl_rules::rasta_pdu::Datagram;
 use node_lines::simulator_event::NodeId;
@@ -37,6 +42,10 @@ pub struct Course {
     pub(crate) waiting: VecDeque<Delayed>,
     /// How many datagrams came from elsewhere than from a partner.
     pub(crate) strangers: u64,
+    /// How many datagrams weren't heard, since they may have been too old.
+    pub(crate) too_old: u64,
+    /// What was seen of the clock and the socket.
+    pub(crate) seen: SocketSeen,
 }
 
 // Written by hand, so that it is proved and compiled here alone.
@@ -49,6 +58,8 @@ impl Drop for Course {
             in_force: _,
             waiting: _,
             strangers: _,
+            too_old: _,
+            seen: _,
         } = self;
     }
 }
@@ -60,7 +71,7 @@ impl Model for Course {
 
     ghost Value = { CourseState };
 
-    ghost view = { λ c. record { heard = c.heard; written = c.written; order = c.order; in_force = c.in_force; waiting = map waiting_of_code c.waiting.items; strangers = c.strangers } };
+    ghost view = { λ c. record { heard = c.heard; written = c.written; order = c.order; in_force = c.in_force; waiting = map waiting_of_code c.waiting.items; strangers = c.strangers; too_old = c.too_old; seen = c.seen } };
 }
 
 impl Course {
@@ -75,6 +86,8 @@ impl Course {
             in_force: 0,
             waiting: VecDeque::new(alloc),
             strangers: 0,
+            too_old: 0,
+            seen: SocketSeen::nothing(),
         }
     }
 
@@ -83,6 +96,13 @@ impl Course {
         ensures { result ≡ self.now.strangers }
     {
         self.strangers
+    }
+
+    /// How many datagrams weren't heard, since they may have been too old.
+    pub fn too_old(&self) -> u64
+        ensures { result ≡ self.now.too_old }
+    {
+        self.too_old
     }
 
     /// How many lines came.
@@ -144,6 +164,44 @@ impl Course {
         ensures { self.new ≡ record self.old { strangers = one_more self.old.strangers } }
     {
         self.strangers = one_more(self.strangers);
+    }
+
+    /// Whether no datagram waits.
+    pub(crate) fn has_none_waiting(&self) -> bool
+        ensures { result ≡ none_waits self.now.waiting }
+    {
+        self.waiting.is_empty()
+    }
+
+    /// The clock was read.
+    pub(crate) fn note_reading(&mut self, reading: u64)
+        ensures { self.new ≡ with_calls (Reads reading ∷ []) self.old }
+    {
+        self.seen.note_reading(reading);
+    }
+
+    /// The socket was found empty.
+    pub(crate) fn note_empty(&mut self)
+        ensures { self.new ≡ with_calls (AsksDatagram Empty ∷ []) self.old }
+    {
+        self.seen.note_empty();
+    }
+
+    /// Whether a datagram is heard, where the clock was read once it had come.
+    pub(crate) fn is_heard(&self, reading: u64) -> bool
+        ensures { result ≡ is_heard reading self.now.seen }
+    {
+        self.seen.is_heard(reading)
+    }
+
+    /// A datagram wasn't heard, and these were thrown away behind it.
+    pub(crate) fn note_thrown_away(&mut self, thrown: ThrownAway)
+        ensures { self.new ≡ record (with_calls (ThrowsAway thrown.count thrown.found_empty ∷ []) self.old) { too_old = many_more thrown.count (one_more self.old.too_old) } }
+    {
+        self.too_old = one_more(self.too_old).saturating_add(thrown.count);
+        if thrown.found_empty {
+            self.seen.note_empty();
+        }
     }
 }
 

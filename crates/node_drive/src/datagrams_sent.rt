@@ -6,14 +6,12 @@ ghost use Rattle.node_drive.specs.Inside.{waiting_of_code};
 ghost use Rattle.node_drive.specs.Rounds.{released, sent, with_datagrams};
 ghost use Rattle.node_drive.specs.Waiting.{is_free, is_fresh, leaving, unless_stale, waiting_of, waiting_on, waits_on};
 
+use crate::budget::LONGEST_WAIT;
 use crate::course::{Course, Delayed};
 use crate::fault::NodeFault;
 use crate::node::Node;
 use crate::outside::Outside;
 use std::collections::VecDeque;
-
-/// How long a datagram waits at most, in milliseconds.
-const LONGEST_WAIT: u64 = 500;
 
 /// The datagrams that a node hands out wait behind the last line.
 pub(crate) fn take_datagrams<N: Node>(
@@ -49,13 +47,20 @@ fn add_datagrams<N: Node>(
     Ok(())
 }
 
-/// Those that needn't wait any more are sent, in their order, and those that waited too long are dropped.
-pub(crate) fn release<O: Outside>(course: &mut Course, outside: &mut O, reading: u64)
-    ensures done { Calls (O.told outside.old) (O.told outside.new) (released reading course.old).0 }
-    ensures course { course.new ≡ (released reading course.old).1 }
+/// Those that needn't wait any more are sent, in their order, and those that waited too long are dropped. The clock is read just
+/// before, where any waits. It answers the reading.
+pub(crate) fn release<O: Outside>(course: &mut Course, outside: &mut O) -> u64
+    ensures done { Calls (O.told outside.old) (O.told outside.new) (released result course.old).0 }
+    ensures course { course.new ≡ (released result course.old).1 }
 {
+    if course.has_none_waiting() {
+        return 0;
+    }
+    let reading = outside.read_clock();
+    course.note_reading(reading);
     let in_force = course.in_force;
     send_free(&mut course.waiting, in_force, outside, reading);
+    reading
 }
 
 /// The same of those that wait, where this line is in force.

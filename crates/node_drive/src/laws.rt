@@ -1,11 +1,18 @@
 //! What the rounds of a node's process come to.
 
-ghost use Rattle.std.specs.Prelude.{◌≡◌, ◌≤◌, ◌<◌, ◌+◌, ℕ, IsSome, List};
+ghost use Rattle.std.specs.Prelude.{◌≡◌, ◌≤◌, ◌<◌, ◌+◌, ◌*◌, ◌∷◌, [], ◌++◌, ℕ, IsSome, List, Option};
 ghost use Rattle.std.specs.List.{AllByRecursion};
-ghost use Rattle.node_drive.specs.Lives.{came, state_after};
-ghost use Rattle.node_drive.specs.Rounds.{Coming, Standing, all_come};
+ghost use Rattle.node_drive.specs.Ages.{SendsBy, SentInTime, WaitedBriefly};
+ghost use Rattle.node_drive.specs.Budget.{at_receiver, at_sender, in_network, in_socket, oldest};
+ghost use Rattle.node_drive.specs.Calls.{Call};
+ghost use Rattle.node_drive.specs.Lives.{came, inputs_of, state_after};
+ghost use Rattle.node_drive.specs.Rounds.{Coming, Datagram, Standing, all_come};
+ghost use Rattle.node_drive.specs.Seen.{all_seen, nothing_seen};
 ghost use Rattle.node_drive.specs.Waiting.{Waiting, leaving};
 ghost use Rattle.node_drive.specs.Worked.{Worked};
+ghost use Rattle.node_drive.specs.declared.outside.ThrownAway.{ThrownAway};
+ghost use Rattle.node_lines.specs.ixl_rules.rasta_core.Bag.{lifetime};
+ghost use Rattle.node_lines.specs.simulator_event.declared.event.NodeId.{NodeId};
 
 /// How a kind of node behaves, for the laws. It has no code.
 pub trait Behaves {
@@ -40,6 +47,36 @@ pub fn the_last_order_stands<B: Behaves>()
 #[tactic(auto, using(crate::proofs::Leaving::all_free))]
 pub fn datagrams_wait_for_their_line()
     ensures { (now in_force : ℕ) (waiting : List Waiting) → AllByRecursion (λ (one : Waiting). (one.behind ≤ in_force) × (now < one.since + 500)) (leaving now in_force waiting) }
+{}
+
+/// What a process keeps of its clock and its socket is what its calls tell.
+#[tactic(auto, using(crate::proofs::Ages::all_keep))]
+pub fn what_was_seen_was_called<B: Behaves>()
+    ensures { (comings : List (ℕ × Coming)) (standing : Standing B.State) → (all_come B.does comings standing).1.course.seen ≡ all_seen (all_come B.does comings standing).0 standing.course.seen }
+{}
+
+/// Each datagram that comes to a node has waited in its socket for at most 400 ms: the reading that was taken once it had come is at
+/// most so much later than one behind which the socket was found empty, by the calls that the process made before.
+pub fn what_is_heard_waited_briefly<B: Behaves>()
+    ensures { (earlier : List Call) (comings : List (ℕ × Coming)) (standing : Standing B.State) → standing.course.seen ≡ all_seen earlier nothing_seen
+        → (now : ℕ) (from : Option NodeId) (bytes : List ℕ) (thrown : ThrownAway) (leaves : ℕ) → inputs_of B.does now (Datagram from bytes thrown leaves) (all_come B.does comings standing).1 ≡ (now, B.does.datagram bytes) ∷ []
+        → WaitedBriefly now (earlier ++ (all_come B.does comings standing).0) }
+{}
+
+/// Each datagram that is sent was handed out by a step less than 500 ms before the last reading in front of it, which is taken once
+/// all lines are written.
+#[tactic(auto, using(crate::proofs::SentInTime::all_in_time))]
+pub fn what_is_sent_is_sent_in_time<B: Behaves>()
+    ensures { (comings : List (ℕ × Coming)) (standing : Standing B.State) → SendsBy (SentInTime B.does comings standing) standing.course.seen (all_come B.does comings standing).0 }
+{}
+
+/// What a datagram may take from its step to its being heard is 2000 ms in all, for which a link has a datagram live, and what the
+/// program takes of it is no more than its share.
+#[tactic(auto, using(crate::proofs::Budgeted::sum_is, crate::proofs::Budgeted::lives_as_long))]
+pub fn the_ages_add_up()
+    ensures sum { at_sender + in_network + at_receiver ≡ 2000 }
+    ensures lifetime { 1000 * oldest ≡ lifetime }
+    ensures socket { in_socket ≤ at_receiver }
 {}
 
 /// Rounds worked by hand.

@@ -16,6 +16,26 @@ pub struct Arrived {
     pub bytes: Received,
 }
 
+/// What the question for a datagram is answered.
+#[derive(Drop)]
+pub enum NextDatagram {
+    /// One that waited.
+    Came(Arrived),
+    /// None waits.
+    Empty,
+    /// The call failed: whether one waits isn't known.
+    Failed,
+}
+
+/// What was thrown away.
+#[derive(Clone, Copy)]
+pub struct ThrownAway {
+    /// How many datagrams.
+    pub count: u64,
+    /// Whether none waited any more.
+    pub found_empty: bool,
+}
+
 /// What the question for a line is answered.
 #[derive(Drop)]
 pub enum NextLine {
@@ -34,9 +54,8 @@ pub struct BrokenOff;
 /// What a node's process has outside. One list tells of all of it, so that the order of its calls is seen. Nothing of it blocks
 /// but `rest`.
 pub trait Outside {
-    ghost use Rattle.std.specs.Prelude.{◌≡◌, [], ◌∷◌, IfOk, OnErr, OnOk, Some};
-    ghost use Rattle.std.specs.Option.{option_map};
-    ghost use Rattle.node_drive.specs.Calls.{AsksDatagram, AsksLine, AsksListener, BreaksOff, Calls, Complains, Reads, Rests, Sends, ThrowsAway, Told, Writes, line_heard};
+    ghost use Rattle.std.specs.Prelude.{◌≡◌, [], ◌∷◌, IfOk, OnErr, OnOk};
+    ghost use Rattle.node_drive.specs.Calls.{AsksDatagram, AsksLine, AsksListener, BreaksOff, Calls, Complains, Reads, Rests, Sends, ThrowsAway, Told, Writes, datagram_heard, line_heard};
 
     /// What it tells.
     ghost told: { Self → Told };
@@ -58,13 +77,13 @@ pub trait Outside {
         ensures heard { IfOk result (λ line. Calls (told self.old) (told self.new) (AsksLine (line_heard line) ∷ [])) }
         ensures none { OnErr result (Calls (told self.old) (told self.new) []) };
 
-    /// The next datagram, if there is one. A call that fails is silence.
-    fn next_datagram(&mut self) -> Option<Arrived>
-        ensures { Calls (told self.old) (told self.new) (AsksDatagram (option_map (λ d. (d.from, d.bytes.items)) result) ∷ []) };
+    /// The next datagram, if there is one.
+    fn next_datagram(&mut self) -> NextDatagram
+        ensures { Calls (told self.old) (told self.new) (AsksDatagram (datagram_heard result) ∷ []) };
 
-    /// Throws away all datagrams that wait.
-    fn throw_away(&mut self)
-        ensures { Calls (told self.old) (told self.new) (ThrowsAway ∷ []) };
+    /// Throws away datagrams that wait, until none waits, or as many as are thrown away in one go.
+    fn throw_away(&mut self) -> ThrownAway
+        ensures { Calls (told self.old) (told self.new) (ThrowsAway result.count result.found_empty ∷ []) };
 
     /// Writes a line with its line feed, and hands it on; or at most a beginning of it was written.
     fn write_line(&mut self, text: &str) -> Result<(), BrokenOff>

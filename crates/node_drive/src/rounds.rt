@@ -3,10 +3,11 @@
 ghost use Rattle.std.specs.Prelude.{◌≡◌, ◌≤◌, ◌-◌, ◌∷◌, [], ℕ, Bool, false, IfOk, OnErr, OnOk};
 ghost use Rattle.node_drive.specs.Drives.{CutOff, IsRound, Performs, Ran, Round, Stops, in_round, is_over, opening};
 ghost use Rattle.node_drive.specs.Inside.{standing_of};
-ghost use Rattle.node_drive.specs.Rounds.{CourseState, Tick};
+ghost use Rattle.node_drive.specs.Rounds.{Tick};
 
 use crate::course::Course;
 use crate::datagrams_heard::hear_datagrams;
+use crate::datagrams_sent::release;
 use crate::fault::NodeFault;
 use crate::lines_heard::hear_lines;
 use crate::node::Node;
@@ -34,11 +35,10 @@ pub fn drive<N: Node, O: Outside>(
     // It ends with a fault exactly as it would have gone on without, but cut off.
     ensures stopped { OnErr result (CutOff N.does for_ms first (standing_of (N.node node.old) course.old) (O.told outside.old) (O.told outside.new)) }
 {
-    let mut before = first;
     for _ in 0..u64::MAX {
-        before = round(alloc, node, course, outside, before)?;
-        if is_over(node, course, before.saturating_sub(first), for_ms) {
-            return Ok(before);
+        let ticks = round(alloc, node, course, outside)?;
+        if is_over(node, course, ticks.saturating_sub(first), for_ms) {
+            return Ok(ticks);
         }
     }
     Err(NodeFault::OutOfNumbers)
@@ -51,24 +51,22 @@ fn is_over<N: Node>(node: &N, course: &Course, passed: u64, for_ms: u64) -> bool
     passed >= for_ms || (node.is_done() && course.is_settled())
 }
 
-/// A round: field lines first, then datagrams, a tick last. It answers the reading of its tick; `before` is that of the round
-/// before.
+/// A round: field lines first, then datagrams, a tick last. It answers the reading of its tick.
 fn round<N: Node, O: Outside>(
     alloc: Global,
     node: &mut N,
     course: &mut Course,
     outside: &mut O,
-    before: u64,
 ) -> Result<u64, NodeFault>
     requires { (N.node node.old).reached ≤ (O.told outside.old).latest }
     ensures ticks { IfOk result (λ ticks. ticks ≤ (O.told outside.new).latest) }
-    ensures done { IfOk result (λ ticks. (round : Round) × IsRound before round × (round.closed ≡ false) × (round.ticks ≡ ticks) × Performs N.does (in_round round) (standing_of (N.node node.old) course.old) (standing_of (N.node node.new) course.new) (O.told outside.old) (O.told outside.new)) }
+    ensures done { IfOk result (λ ticks. (round : Round) × IsRound N.does (standing_of (N.node node.old) course.old) round × (round.closed ≡ false) × (round.ticks ≡ ticks) × Performs N.does (in_round round) (standing_of (N.node node.old) course.old) (standing_of (N.node node.new) course.new) (O.told outside.old) (O.told outside.new)) }
     ensures reached { OnOk result ((N.node node.new).reached ≤ (O.told outside.new).latest) }
-    ensures stopped { OnErr result ((round : Round) × IsRound before round × Stops N.does (in_round round) (standing_of (N.node node.old) course.old) (O.told outside.old) (O.told outside.new)) }
+    ensures stopped { OnErr result ((round : Round) × IsRound N.does (standing_of (N.node node.old) course.old) round × Stops N.does (in_round round) (standing_of (N.node node.old) course.old) (O.told outside.old) (O.told outside.new)) }
 {
-    begin_round(alloc, node, outside)?;
+    begin_round(alloc, node, course, outside)?;
     hear_lines(alloc, node, course, outside)?;
-    hear_datagrams(alloc, node, course, outside, before)?;
+    hear_datagrams(alloc, node, course, outside)?;
     tick(alloc, node, course, outside)
 }
 
@@ -76,15 +74,17 @@ fn round<N: Node, O: Outside>(
 fn begin_round<N: Node, O: Outside>(
     alloc: Global,
     node: &mut N,
+    course: &mut Course,
     outside: &mut O,
 ) -> Result<(), NodeFault>
     requires { (N.node node.old).reached ≤ (O.told outside.old).latest }
-    ensures done { OnOk result ((begins : ℕ) × (listened : Bool) × ((course : CourseState) → Performs N.does (opening begins listened) (standing_of (N.node node.old) course) (standing_of (N.node node.new) course) (O.told outside.old) (O.told outside.new))) }
+    ensures done { OnOk result ((begins : ℕ) × (listened : Bool) × Performs N.does (opening begins listened) (standing_of (N.node node.old) course.old) (standing_of (N.node node.new) course.new) (O.told outside.old) (O.told outside.new)) }
     ensures reached { OnOk result ((N.node node.new).reached ≤ (O.told outside.new).latest) }
-    ensures stopped { OnErr result ((begins : ℕ) × (listened : Bool) × ((course : CourseState) → Stops N.does (opening begins listened) (standing_of (N.node node.old) course) (O.told outside.old) (O.told outside.new))) }
+    ensures stopped { OnErr result ((begins : ℕ) × (listened : Bool) × Stops N.does (opening begins listened) (standing_of (N.node node.old) course.old) (O.told outside.old) (O.told outside.new)) }
 {
     outside.rest();
     let begins = outside.read_clock();
+    course.note_reading(begins);
     if !outside.has_listener() {
         return Ok(());
     }
@@ -102,12 +102,14 @@ fn tick<N: Node, O: Outside>(
 ) -> Result<u64, NodeFault>
     requires { (N.node node.old).reached ≤ (O.told outside.old).latest }
     ensures ticks { IfOk result (λ ticks. ticks ≤ (O.told outside.new).latest) }
-    ensures done { IfOk result (λ ticks. Performs N.does ((ticks, Tick) ∷ []) (standing_of (N.node node.old) course.old) (standing_of (N.node node.new) course.new) (O.told outside.old) (O.told outside.new)) }
+    ensures done { IfOk result (λ ticks. (leaves : ℕ) × Performs N.does ((ticks, Tick leaves) ∷ []) (standing_of (N.node node.old) course.old) (standing_of (N.node node.new) course.new) (O.told outside.old) (O.told outside.new)) }
     ensures reached { OnOk result ((N.node node.new).reached ≤ (O.told outside.new).latest) }
-    ensures stopped { OnErr result ((ticks : ℕ) × Stops N.does ((ticks, Tick) ∷ []) (standing_of (N.node node.old) course.old) (O.told outside.old) (O.told outside.new)) }
+    ensures stopped { OnErr result ((ticks : ℕ) × Stops N.does ((ticks, Tick 0) ∷ []) (standing_of (N.node node.old) course.old) (O.told outside.old) (O.told outside.new)) }
 {
     let ticks = outside.read_clock();
+    course.note_reading(ticks);
     node.tick(alloc, ticks)?;
     perform(alloc, node, course, outside, ticks)?;
+    release(course, outside);
     Ok(ticks)
 }

@@ -6,7 +6,7 @@ ghost use Rattle.node_drive.specs.Rounds.{line, performed, put_in_force, steps};
 ghost use Rattle.node_drive.specs.Inside.{standing_of};
 
 use crate::course::Course;
-use crate::datagrams_sent::{release, take_datagrams};
+use crate::datagrams_sent::take_datagrams;
 use crate::fault::NodeFault;
 use crate::node::{LineMeaning, Node};
 use crate::orders_written::{say_all, write_order};
@@ -14,7 +14,7 @@ use crate::outside::Outside;
 use node_lines::replay_words::Fault;
 use std::alloc::Global;
 
-/// What a step has left is performed: its lines are written, its datagrams wait, and those leave that may.
+/// What a step has left is performed: its lines are written, and its datagrams wait.
 pub(crate) fn perform<N: Node, O: Outside>(
     alloc: Global,
     node: &mut N,
@@ -30,21 +30,19 @@ pub(crate) fn perform<N: Node, O: Outside>(
     say_all(node, outside)?;
     write_order(alloc, course, outside, reading, node.order())?;
     take_datagrams(node, course, reading)?;
-    release(course, outside, reading);
     Ok(())
 }
 
 /// An order that was written is in force, and so is each before it. A number that no line has is a fault.
-fn put_in_force<O: Outside>(course: &mut Course, outside: &mut O, reading: u64, number: u64)
-    ensures done { Calls (O.told outside.old) (O.told outside.new) (put_in_force reading number course.old).0 }
-    ensures course { course.new ≡ (put_in_force reading number course.old).1 }
+fn put_in_force<O: Outside>(course: &mut Course, outside: &mut O, number: u64)
+    ensures done { Calls (O.told outside.old) (O.told outside.new) (put_in_force number course.old).0 }
+    ensures course { course.new ≡ (put_in_force number course.old).1 }
 {
     if number > course.written() {
         outside.complain(course.heard(), Fault::Number);
         return;
     }
     course.note_in_force(number);
-    release(course, outside, reading);
 }
 
 /// The inputs of a line come to the node one after another, each as a step of its own.
@@ -88,7 +86,7 @@ pub(crate) fn hear_line<N: Node, O: Outside>(
     let told = node.take_line(alloc, reading, text)?;
     match told {
         LineMeaning::InForce(number) => {
-            put_in_force(course, outside, reading, number);
+            put_in_force(course, outside, number);
             Ok(())
         }
         LineMeaning::Comes => {

@@ -4,6 +4,7 @@ pub mod Interlockings
 pub mod Made
 pub mod MadeInterlocking
 pub mod Same
+pub mod Processes
 pub mod inside
 -- what crates above need of the crates below
 pub use Rattle.node_drive.specs as node_drive

@@ -6,18 +6,20 @@
 --     hears set R1                  a line came
 --     closed                        no line came any more
 --     from IXL1 3200..              a datagram came from a node's address, or from another: `-`
---     throws away                   all that waited in the socket was thrown away
+--     fails to receive              a datagram was asked for, and the call failed
+--     throws away all 12            all that waited in the socket, so many datagrams, were thrown away
+--     throws away 4096              the same, where more may wait
 --     writes 7 at 12000 show stop   a line was written
 --     breaks off 7 at 12000 show st a line wasn't written whole
 --     sends IXL1 3200..             a datagram was sent to a node
 --     complains 3 1                 a line was faulty, by its number and that of its fault
-use Rattle.std.specs.Prelude.{true, false, List, ◌∷◌, ◌++◌, ℕ, codes, Option, Some, None}
+use Rattle.std.specs.Prelude.{Bool, true, false, List, ◌∷◌, ◌++◌, ℕ, codes, Option, Some, None}
 use Rattle.std.specs.Fmt.{decimal as written}
 use Rattle.node_drive.specs.replay_words.Fault.{number_of}
 use Rattle.node_drive.specs.replay_words.Read.{hex_word}
 use Rattle.node_drive.specs.layout.Entries.{Site}
 use Rattle.node_drive.specs.simulator_event.declared.event.NodeId.{NodeId}
-use Rattle.node_drive.specs.Calls.{Call, Rests, Reads, AsksListener, AsksLine, AsksDatagram, ThrowsAway, Writes, BreaksOff, Sends, Complains, Text, Nothing, Closed}
+use Rattle.node_drive.specs.Calls.{Call, Rests, Reads, AsksListener, AsksLine, AsksDatagram, ThrowsAway, Writes, BreaksOff, Sends, Complains, Text, Nothing, Closed, Came, Empty, Failed}
 use Rattle.node_drive.specs.node_lines.Known.{node_word}
 use Rattle.node_network.specs.declared.entry.Entry.{Entry}
 use Rattle.node_network.specs.declared.entry.Entry.TheVariants as entry
@@ -30,6 +32,10 @@ sender_word site (Some node) = node_word site node
 abbrev pub bytes_word : Site → List ℕ → List ℕ → List ℕ
 bytes_word site word bytes = word ++ 32 ∷ hex_word bytes
 
+abbrev pub thrown_words : ℕ → Bool → List ℕ
+thrown_words count true = codes "throws away all " ++ written count
+thrown_words count false = codes "throws away " ++ written count
+
 -- the line of a call; one that was answered by nothing has none
 abbrev pub call_line : Site → Call → Option (List ℕ)
 call_line site Rests = None
@@ -39,9 +45,10 @@ call_line site (AsksListener false) = None
 call_line site (AsksLine (Text text)) = Some (codes "hears " ++ text)
 call_line site (AsksLine Nothing) = None
 call_line site (AsksLine Closed) = Some (codes "closed")
-call_line site (AsksDatagram None) = None
-call_line site (AsksDatagram (Some arrival)) = Some (codes "from " ++ bytes_word site (sender_word site arrival.0) arrival.1)
-call_line site ThrowsAway = Some (codes "throws away")
+call_line site (AsksDatagram Empty) = None
+call_line site (AsksDatagram Failed) = Some (codes "fails to receive")
+call_line site (AsksDatagram (Came arrival)) = Some (codes "from " ++ bytes_word site (sender_word site arrival.0) arrival.1)
+call_line site (ThrowsAway count empty) = Some (thrown_words count empty)
 call_line site (Writes text) = Some (codes "writes " ++ text)
 call_line site (BreaksOff text) = Some (codes "breaks off " ++ text)
 call_line site (Sends to bytes) = Some (codes "sends " ++ bytes_word site (node_word site to) bytes)
@@ -53,8 +60,9 @@ call_with (entry.Reads reading) = Reads reading
 call_with entry.Listens = AsksListener true
 call_with (entry.Hears text) = AsksLine (Text text.now)
 call_with entry.Closed = AsksLine Closed
-call_with (entry.Comes from bytes) = AsksDatagram (Some (from, bytes.now))
-call_with entry.ThrowsAway = ThrowsAway
+call_with (entry.Comes from bytes) = AsksDatagram (Came (from, bytes.now))
+call_with entry.FailsToReceive = AsksDatagram Failed
+call_with (entry.ThrowsAway thrown) = ThrowsAway thrown.count thrown.found_empty
 call_with (entry.Writes text) = Writes text.now
 call_with (entry.BreaksOff text) = BreaksOff text.now
 call_with (entry.Sends to bytes) = Sends to bytes.now

@@ -7,7 +7,7 @@ use crate::node_clock::NodeClock;
 use crate::other_end::{next_line, write_line_to};
 use node_drive::node_lines::replay_words::Fault;
 use node_drive::node_lines::simulator_event::NodeId;
-use node_drive::{Arrived, BrokenOff, NextLine, Outside};
+use node_drive::{BrokenOff, NextDatagram, NextLine, Outside, ThrownAway};
 use std::alloc::{AllocError, Global};
 use std::net::{Net, SocketAddr};
 use std::time::Clock as Timer;
@@ -66,11 +66,16 @@ impl<'a, R: Net + Timer> Outside for Caller<'a, R> {
         next_line(&mut self.lines.node, alloc)
     }
 
-    fn next_datagram(&mut self) -> Option<Arrived> {
-        None
+    fn next_datagram(&mut self) -> NextDatagram {
+        NextDatagram::Empty
     }
 
-    fn throw_away(&mut self) {}
+    fn throw_away(&mut self) -> ThrownAway {
+        ThrownAway {
+            count: 0,
+            found_empty: true,
+        }
+    }
 
     fn write_line(&mut self, text: &str) -> Result<(), BrokenOff> {
         write_line_to(&mut self.lines.node, self.alloc, text)

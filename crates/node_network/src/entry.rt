@@ -2,8 +2,9 @@
 
 ghost use Rattle.std.specs.Prelude.{◌≡◌, ◌++◌, ◌∷◌, IfOk, Some, string_bytes};
 ghost use Rattle.node_drive.specs.replay_words.Read.{hex_word};
-ghost use Rattle.node_network.specs.Records.{bytes_word, call_line, call_with, sender_word};
+ghost use Rattle.node_network.specs.Records.{bytes_word, call_line, call_with, sender_word, thrown_words};
 
+use node_drive::ThrownAway;
 use node_drive::node_lines::ixl_rules::control_table::layout::Layout;
 use node_drive::node_lines::replay_lines::node_name;
 use node_drive::node_lines::replay_words::{Fault, hex_word};
@@ -23,8 +24,10 @@ pub enum Entry<'a> {
     Closed,
     /// A datagram came from the address of a node, or from another.
     Comes(Option<NodeId>, &'a [u8]),
-    /// All that waited in the socket was thrown away.
-    ThrowsAway,
+    /// A datagram was asked for, and the call failed.
+    FailsToReceive,
+    /// What waited in the socket was thrown away.
+    ThrowsAway(ThrownAway),
     /// A line was written.
     Writes(&'a str),
     /// A line wasn't written whole.
@@ -45,7 +48,8 @@ pub fn entry_line(alloc: Global, layout: &Layout, entry: Entry<'_>) -> Result<St
         Entry::Hears(text) => text_line(alloc, "hears", text),
         Entry::Closed => String::from_str(alloc, "closed"),
         Entry::Comes(from, bytes) => datagram_line(alloc, layout, "from", from, bytes),
-        Entry::ThrowsAway => String::from_str(alloc, "throws away"),
+        Entry::FailsToReceive => String::from_str(alloc, "fails to receive"),
+        Entry::ThrowsAway(thrown) => thrown_line(alloc, thrown),
         Entry::Writes(text) => text_line(alloc, "writes", text),
         Entry::BreaksOff(text) => text_line(alloc, "breaks off", text),
         Entry::Sends(to, bytes) => datagram_line(alloc, layout, "sends", Some(to), bytes),
@@ -53,6 +57,18 @@ pub fn entry_line(alloc: Global, layout: &Layout, entry: Entry<'_>) -> Result<St
             let number = fault.number();
             format!(in alloc; "complains {line} {number}")
         }
+    }
+}
+
+/// The line of what was thrown away.
+fn thrown_line(alloc: Global, thrown: ThrownAway) -> Result<String, AllocError>
+    ensures { IfOk result (λ line. string_bytes line ≡ thrown_words thrown.count thrown.found_empty) }
+{
+    let count = thrown.count;
+    if thrown.found_empty {
+        format!(in alloc; "throws away all {count}")
+    } else {
+        format!(in alloc; "throws away {count}")
     }
 }
 

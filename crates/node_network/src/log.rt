@@ -24,10 +24,12 @@ pub enum OutsideCall {
     HeardEnd,
     /// It asked for a datagram, and was given one.
     HeardDatagram(Option<NodeId>, Vec<u8>),
-    /// It asked for a datagram, and there was none, or the call failed.
+    /// It asked for a datagram, and none waited.
     HeardNoDatagram,
-    /// It threw away all datagrams that waited.
-    ThrewAway,
+    /// It asked for a datagram, and the call failed.
+    FailedToReceive,
+    /// It threw away so many datagrams that waited, and whether none waited any more.
+    ThrewAway(u64, bool),
     /// It wrote a line.
     Wrote(String),
     /// It didn't write a line whole.

@@ -10,7 +10,7 @@ use crate::node_clock::NodeClock;
 use crate::node_socket::NodeSocket;
 use node_drive::node_lines::replay_words::Fault;
 use node_drive::node_lines::simulator_event::NodeId;
-use node_drive::{Arrived, BrokenOff, NextLine, Outside};
+use node_drive::{BrokenOff, NextDatagram, NextLine, Outside, ThrownAway};
 use std::alloc::{AllocError, Global};
 use std::io::{Read, Write};
 use std::net::Net;
@@ -83,12 +83,12 @@ impl<'a, R: Net + Timer, I: Read, O: Write, E: Write> Outside for Machine<'a, R,
         self.lines.next_line(alloc)
     }
 
-    fn next_datagram(&mut self) -> Option<Arrived> {
+    fn next_datagram(&mut self) -> NextDatagram {
         self.socket.next_datagram()
     }
 
-    fn throw_away(&mut self) {
-        self.socket.throw_away();
+    fn throw_away(&mut self) -> ThrownAway {
+        self.socket.throw_away()
     }
 
     fn write_line(&mut self, text: &str) -> Result<(), BrokenOff> {

@@ -1,16 +1,16 @@
 //! What a node's process has outside, over memory.
 
-ghost use Rattle.std.specs.Prelude.{◌≡◌, ◌+◌, ◌-◌, [], ◌∷◌, ◌++◌, ℕ, List, None, OnOk, Some, map, min, string_bytes, true};
+ghost use Rattle.std.specs.Prelude.{◌≡◌, ◌+◌, ◌-◌, ◌≤◌, [], ◌∷◌, ◌++◌, ℕ, List, None, OnOk, Some, map, min, string_bytes, true};
 ghost use Rattle.std.specs.Bool.{Decides};
 ghost use Rattle.std.specs.Option.{option_to_list};
-ghost use Rattle.node_drive.specs.Calls.{Arrival};
+ghost use Rattle.node_drive.specs.Calls.{Arrival, Empty, Failed, datagram_heard};
 ghost use Rattle.node_network.specs.Log.{told_calls};
 
 use crate::log::{Log, OutsideCall};
-use crate::node_socket::{LONGEST, arrived};
+use crate::node_socket::{LONGEST, MOST_THROWN_AWAY, arrived};
 use node_drive::node_lines::replay_words::Fault;
 use node_drive::node_lines::simulator_event::NodeId;
-use node_drive::{Arrived, BrokenOff, NextLine, Outside};
+use node_drive::{BrokenOff, NextDatagram, NextLine, Outside, ThrownAway};
 use std::alloc::{AllocError, Global};
 use std::collections::VecDeque;
 
@@ -207,23 +207,26 @@ impl Outside for MemoryOutside {
         Ok(line)
     }
 
-    fn next_datagram(&mut self) -> Option<Arrived> {
-        let arrived = take_datagram(&mut self.failing, &mut self.datagrams);
-        match &arrived {
-            Some(arrived) => match Vec::from_slice(self.alloc, &arrived.bytes) {
+    fn next_datagram(&mut self) -> NextDatagram {
+        let next = take_datagram(&mut self.failing, &mut self.datagrams);
+        match &next {
+            NextDatagram::Came(arrived) => match Vec::from_slice(self.alloc, &arrived.bytes) {
                 Ok(bytes) => self
                     .log
                     .add(OutsideCall::HeardDatagram(arrived.from, bytes)),
                 Err(_) => self.log.tells = false,
             },
-            None => self.log.add(OutsideCall::HeardNoDatagram),
+            NextDatagram::Empty => self.log.add(OutsideCall::HeardNoDatagram),
+            NextDatagram::Failed => self.log.add(OutsideCall::FailedToReceive),
         }
-        arrived
+        next
     }
 
-    fn throw_away(&mut self) {
-        self.datagrams.clear();
-        self.log.add(OutsideCall::ThrewAway);
+    fn throw_away(&mut self) -> ThrownAway {
+        let thrown = throw_away(&mut self.datagrams);
+        self.log
+            .add(OutsideCall::ThrewAway(thrown.count, thrown.found_empty));
+        thrown
     }
 
     fn write_line(&mut self, text: &str) -> Result<(), BrokenOff> {
@@ -287,13 +290,35 @@ fn fails(failing: &mut u64) -> bool
 fn take_datagram(
     failing: &mut u64,
     datagrams: &mut VecDeque<(Option<NodeId>, Vec<u8>)>,
-) -> Option<Arrived> {
+) -> NextDatagram
+    ensures failed { failing.old ≡ 1 → datagram_heard result ≡ Failed }
+    ensures empty { datagrams.old.items ≡ [] → failing.old ≡ 0 → datagram_heard result ≡ Empty }
+{
     if fails(failing) {
-        return None;
+        return NextDatagram::Failed;
     }
     let Some((from, bytes)) = datagrams.pop_front() else {
-        return None;
+        return NextDatagram::Empty;
     };
     let (front, _) = bytes.split_at(bytes.len().min(LONGEST));
     arrived(from, front)
+}
+
+/// Throws away datagrams that wait, the oldest first, as a socket does.
+fn throw_away(datagrams: &mut VecDeque<(Option<NodeId>, Vec<u8>)>) -> ThrownAway
+    ensures { result.count ≤ 4096 }
+{
+    for count in 0..MOST_THROWN_AWAY {
+        let Some(one) = datagrams.pop_front() else {
+            return ThrownAway {
+                count,
+                found_empty: true,
+            };
+        };
+        drop(one);
+    }
+    ThrownAway {
+        count: MOST_THROWN_AWAY,
+        found_empty: false,
+    }
 }

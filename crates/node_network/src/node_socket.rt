@@ -1,13 +1,14 @@
 //! The socket of a node.
 
-ghost use Rattle.std.specs.Prelude.{◌≡◌, ◌≤◌, Err, IfOk, IfSome, IsSomeAnd, length};
+ghost use Rattle.std.specs.Prelude.{◌≡◌, ◌≤◌, Err, IfOk, length};
 ghost use Rattle.std.specs.Bool.{Decides};
-ghost use Rattle.node_network.specs.Places.{IsNodeOf};
+ghost use Rattle.node_drive.specs.Calls.{Came, datagram_heard};
+ghost use Rattle.node_network.specs.Places.{IsFromNode, IsNodeOf};
 ghost use Rattle.node_network.specs.declared.fault.OpenFault.TheVariants.{NoAddress};
 
 use crate::fault::OpenFault;
 use node_drive::node_lines::simulator_event::NodeId;
-use node_drive::{Arrived, Received};
+use node_drive::{Arrived, NextDatagram, Received, ThrownAway};
 use std::alloc::Global;
 use std::io::ErrorKind;
 use std::net::{Net, SocketAddr, UdpSocket};
@@ -15,8 +16,8 @@ use std::net::{Net, SocketAddr, UdpSocket};
 /// The longest datagram that is received whole.
 pub(crate) const LONGEST: usize = 512;
 
-/// How many datagrams are thrown away at most: more than a socket keeps.
-const MOST_THROWN_AWAY: u32 = 4096;
+/// How many datagrams are thrown away at most in one go.
+pub(crate) const MOST_THROWN_AWAY: u64 = 4096;
 
 /// The socket of a node, at the node's own address alone, with the addresses of all nodes in their order.
 #[derive(Drop)]
@@ -50,25 +51,38 @@ impl NodeSocket {
         Ok(NodeSocket { socket, addresses })
     }
 
-    /// The next datagram, if there is one. A longer one is cut. A call that fails is silence.
-    pub(crate) fn next_datagram(&self) -> Option<Arrived>
-        ensures { IfSome result (λ arrived. (sender : SocketAddr) × IsNodeOf self.now.addresses.items sender arrived.from) }
+    /// The next datagram, if there is one. A longer one is cut. Only a call that would have to wait has found none.
+    #[tactic(auto, using(crate::proofs::Senders::from_node))]
+    pub(crate) fn next_datagram(&self) -> NextDatagram
+        ensures { IsFromNode self.now.addresses.items (datagram_heard result) }
     {
         let mut buffer = [0u8; LONGEST];
-        let Ok((count, sender)) = self.socket.recv_from(&mut buffer) else {
-            return None;
-        };
-        let (bytes, _) = buffer.as_slice().split_at(count);
-        arrived(node_of(&self.addresses, &sender), bytes)
+        match self.socket.recv_from(&mut buffer) {
+            Ok((count, sender)) => {
+                let (bytes, _) = buffer.as_slice().split_at(count);
+                arrived(node_of(&self.addresses, &sender), bytes)
+            }
+            Err(error) if error.kind() == ErrorKind::WouldBlock => NextDatagram::Empty,
+            Err(_) => NextDatagram::Failed,
+        }
     }
 
-    /// Throws away all datagrams that wait.
-    pub(crate) fn throw_away(&self) {
-        for _ in 0..MOST_THROWN_AWAY {
+    /// Throws away datagrams that wait, until none waits, or as many as are thrown away in one go. It gives up where a call fails.
+    pub(crate) fn throw_away(&self) -> ThrownAway
+        ensures { result.count ≤ 4096 }
+    {
+        for count in 0..MOST_THROWN_AWAY {
             match self.socket.recv_from(&mut [0u8; 1]) {
-                Err(error) if error.kind() == ErrorKind::WouldBlock => return,
-                _ => (),
+                Ok(_) => (),
+                Err(error) => {
+                    let found_empty = error.kind() == ErrorKind::WouldBlock;
+                    return ThrownAway { count, found_empty };
+                }
             }
+        }
+        ThrownAway {
+            count: MOST_THROWN_AWAY,
+            found_empty: false,
         }
     }
 
@@ -82,15 +96,14 @@ impl NodeSocket {
 }
 
 /// A datagram that came from the address of a node, or from another.
-pub(crate) fn arrived(from: Option<NodeId>, bytes: &[u8]) -> Option<Arrived>
+pub(crate) fn arrived(from: Option<NodeId>, bytes: &[u8]) -> NextDatagram
     requires { length bytes.now ≤ 512 }
-    ensures from { IsSomeAnd result (λ arrived. arrived.from ≡ from) }
-    ensures bytes { IsSomeAnd result (λ arrived. arrived.bytes.items ≡ bytes.now) }
+    ensures { datagram_heard result ≡ Came (from, bytes.now) }
 {
     let Ok(bytes) = Received::try_from(bytes) else {
-        return None;
+        return NextDatagram::Failed;
     };
-    Some(Arrived { from, bytes })
+    NextDatagram::Came(Arrived { from, bytes })
 }
 
 /// The node that has an address, if one has.

@@ -6,7 +6,7 @@ use crate::entry::{Entry, entry_line};
 use node_drive::node_lines::ixl_rules::control_table::layout::Layout;
 use node_drive::node_lines::replay_words::Fault;
 use node_drive::node_lines::simulator_event::NodeId;
-use node_drive::{Arrived, BrokenOff, NextLine, Outside};
+use node_drive::{BrokenOff, NextDatagram, NextLine, Outside, ThrownAway};
 use std::alloc::{AllocError, Global};
 use std::io::{Eprint, Write};
 
@@ -108,17 +108,22 @@ impl<'a, O: Outside, W: Write + Drop, E: Eprint> Outside for Recorded<'a, O, W, 
         next
     }
 
-    fn next_datagram(&mut self) -> Option<Arrived> {
+    fn next_datagram(&mut self) -> NextDatagram {
         let next = self.outside.next_datagram();
-        if let Some(arrived) = &next {
-            self.note(Entry::Comes(arrived.from, arrived.bytes.as_slice()));
+        match &next {
+            NextDatagram::Came(arrived) => {
+                self.note(Entry::Comes(arrived.from, arrived.bytes.as_slice()));
+            }
+            NextDatagram::Empty => (),
+            NextDatagram::Failed => self.note(Entry::FailsToReceive),
         }
         next
     }
 
-    fn throw_away(&mut self) {
-        self.outside.throw_away();
-        self.note(Entry::ThrowsAway);
+    fn throw_away(&mut self) -> ThrownAway {
+        let thrown = self.outside.throw_away();
+        self.note(Entry::ThrowsAway(thrown));
+        thrown
     }
 
     fn write_line(&mut self, text: &str) -> Result<(), BrokenOff> {

@@ -8,7 +8,7 @@ use node_drive::node_lines::ixl_rules::control_table::layout::Layout;
 use node_drive::node_lines::replay_lines::node_named;
 use node_drive::node_lines::replay_words::{Fault, Lines, decimal, hexadecimal_or_none};
 use node_drive::node_lines::simulator_event::NodeId;
-use node_drive::{Arrived, BrokenOff, NextLine, Outside};
+use node_drive::{Arrived, BrokenOff, NextDatagram, NextLine, Outside, ThrownAway};
 use std::alloc::{AllocError, Global};
 
 /// A record that is gone through once more: what came to the node is taken from it, and what the node does is compared with it.
@@ -101,6 +101,22 @@ fn arrived(layout: &Layout, rest: &str) -> Option<Arrived> {
     Some(Arrived { from, bytes })
 }
 
+/// What was thrown away, as a line has it behind its first words.
+fn thrown_said(rest: &str) -> Result<ThrownAway, Fault> {
+    let Some(all) = rest.strip_prefix("all ") else {
+        let count = decimal(rest)?;
+        return Ok(ThrownAway {
+            count,
+            found_empty: false,
+        });
+    };
+    let count = decimal(all)?;
+    Ok(ThrownAway {
+        count,
+        found_empty: true,
+    })
+}
+
 impl<'a> Outside for Replayed<'a> {
     ghost use Rattle.std.specs.Prelude.{None};
 
@@ -138,15 +154,33 @@ impl<'a> Outside for Replayed<'a> {
         }
     }
 
-    fn next_datagram(&mut self) -> Option<Arrived> {
-        match self.lines.behind("from ") {
-            Some(rest) => arrived(self.layout, rest),
-            None => None,
+    fn next_datagram(&mut self) -> NextDatagram {
+        if let Some(rest) = self.lines.behind("from ") {
+            return match arrived(self.layout, rest) {
+                Some(arrived) => NextDatagram::Came(arrived),
+                None => NextDatagram::Failed,
+            };
         }
+        if self.is_next(Entry::FailsToReceive) {
+            return NextDatagram::Failed;
+        }
+        NextDatagram::Empty
     }
 
-    fn throw_away(&mut self) {
-        self.does(Entry::ThrowsAway);
+    fn throw_away(&mut self) -> ThrownAway {
+        let thrown = match self.lines.rest("throws away ") {
+            Some(rest) => thrown_said(rest).ok(),
+            None => None,
+        };
+        let Some(thrown) = thrown else {
+            self.lines.next = None;
+            return ThrownAway {
+                count: 0,
+                found_empty: false,
+            };
+        };
+        self.lines.pass();
+        thrown
     }
 
     fn write_line(&mut self, text: &str) -> Result<(), BrokenOff> {

@@ -7,6 +7,9 @@ pub worked : (site : Site) → Worked site
 worked site = record {
   read = refl;
   away = refl;
+  away_in_part = refl;
+  away_uncounted = refl;
+  failed = refl;
   heard = refl;
   heard_nothing = refl;
   written = refl;

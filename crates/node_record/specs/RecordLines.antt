@@ -2,11 +2,12 @@
 --
 --     at 12000                      the clock was read
 --     from IXL1 3200..              a datagram came from a node's address, or from another: `-`
---     throws away                   all that waited was thrown away
+--     throws away all 12            all that waited in the socket, so many datagrams, were thrown away
+--     throws away 4096              the same, where more may wait
 --     sends IXL1 3200..             a datagram was sent to a node
 --
--- The other lines tell of none: `listens`, `closed`, `hears ..`, `writes ..`, `breaks off ..` and `complains N N`.
-use Rattle.std.specs.Prelude.{ℕ, if◌then◌else◌, List, [], ◌∷◌, codes, Option, Some, None, Result, Ok, Err}
+-- The other lines tell of none: `fails to receive`, `listens`, `closed`, `hears ..`, `writes ..`, `breaks off ..` and `complains N N`.
+use Rattle.std.specs.Prelude.{ℕ, if◌then◌else◌, ◌&&◌, List, [], ◌∷◌, codes, Option, Some, None, Result, Ok, Err}
 use Rattle.std.specs.Str.{bytes_eq}
 use Rattle.control_table.specs.layout.Entries.{Site}
 use Rattle.replay_lines.specs.Names.{node_named}
@@ -68,9 +69,19 @@ sends site (word ∷ digits ∷ []) = do
   Ok (Sends to bytes)
 sends site more = Err Words
 
+abbrev pub thrown : List ℕ → Result Line Fault
+thrown number = do
+  count ← decimal number
+  Ok ThrowsAway
+
 abbrev pub throws_away : List (List ℕ) → Result Line Fault
-throws_away (word ∷ []) = if bytes_eq word (codes "away") then Ok ThrowsAway else Err Words
+throws_away (word ∷ number ∷ []) = if bytes_eq word (codes "away") then thrown number else Err Words
+throws_away (word ∷ all ∷ number ∷ []) = if bytes_eq word (codes "away") && bytes_eq all (codes "all") then thrown number else Err Words
 throws_away more = Err Words
+
+abbrev pub fails : List (List ℕ) → Result Line Fault
+fails (word ∷ next ∷ []) = if bytes_eq word (codes "to") && bytes_eq next (codes "receive") then Ok Other else Err Words
+fails more = Err Words
 
 -- nothing stands behind
 abbrev pub alone : List (List ℕ) → Result Line Fault
@@ -101,6 +112,7 @@ abbrev pub other : List ℕ → List (List ℕ) → Result Line Fault
 other first rest =
     if bytes_eq first (codes "listens") then alone rest
     else if bytes_eq first (codes "closed") then alone rest
+    else if bytes_eq first (codes "fails") then fails rest
     else if bytes_eq first (codes "hears") then followed rest
     else if bytes_eq first (codes "writes") then followed rest
     else if bytes_eq first (codes "breaks") then breaks_off rest

@@ -39,7 +39,10 @@ said number time words = record { line = number; time = time; node = None; words
 pub record Worked (site : Site) : Type 0 where
   -- lines
   pub read : line_said site (words (codes "at 12000")) ≡ Ok (Reads 12000)
-  pub away : line_said site (words (codes "throws away")) ≡ Ok ThrowsAway
+  pub away : line_said site (words (codes "throws away all 12")) ≡ Ok ThrowsAway
+  pub away_in_part : line_said site (words (codes "throws away 4096")) ≡ Ok ThrowsAway
+  pub away_uncounted : line_said site (words (codes "throws away")) ≡ Err Words
+  pub failed : line_said site (words (codes "fails to receive")) ≡ Ok Other
   pub heard : line_said site (words (codes "hears set R1")) ≡ Ok Other
   pub heard_nothing : line_said site (words (codes "hears ")) ≡ Ok Other
   pub written : line_said site (words (codes "writes 7 at 12000 show stop")) ≡ Ok Other

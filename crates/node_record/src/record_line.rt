@@ -3,7 +3,7 @@
 ghost use Rattle.std.specs.Prelude.{◌∷◌, []};
 ghost use Rattle.replay_lines.specs.Given.{Gives};
 ghost use Rattle.replay_words.specs.Cut.{words};
-ghost use Rattle.node_record.specs.RecordLines.{complains, line_said, told};
+ghost use Rattle.node_record.specs.RecordLines.{complains, line_said, throws_away, told};
 ghost use Rattle.node_record.specs.inside.FormsSaid.{datagram, other_said};
 
 use crate::word_table::told_by;
@@ -19,7 +19,7 @@ pub(crate) enum RecordLine {
     Reads(u64),
     /// A datagram came from the address of a node, or from another.
     Comes { from: Option<usize>, bytes: Vec<u8> },
-    /// All that waited was thrown away.
+    /// What waited was thrown away.
     ThrowsAway,
     /// A datagram was sent to a node.
     Sends { to: usize, bytes: Vec<u8> },
@@ -34,6 +34,7 @@ enum Form {
     Comes,
     ThrowsAway,
     Sends,
+    Fails,
     /// Nothing stands behind its first word.
     Alone,
     /// A text stands behind it.
@@ -49,6 +50,7 @@ const FORMS: &[(&str, Form)] = &[
     ("throws", Form::ThrowsAway),
     ("listens", Form::Alone),
     ("closed", Form::Alone),
+    ("fails", Form::Fails),
     ("hears", Form::Followed),
     ("writes", Form::Followed),
     ("breaks", Form::BreaksOff),
@@ -66,6 +68,7 @@ pub(crate) fn read_line(alloc: Global, layout: &Layout, line: &str) -> Result<Re
     match told_by(FORMS, first) {
         Some(Form::Comes) => datagram(alloc, layout, true, words),
         Some(Form::Sends) => datagram(alloc, layout, false, words),
+        Some(Form::ThrowsAway) => throws_away(words),
         Some(form) => other(form, words),
         None => Err(Fault::Words),
     }
@@ -81,8 +84,8 @@ fn other(form: Form, mut words: Words<'_>) -> Result<RecordLine, Fault>
             (Some(reading), None) => Ok(RecordLine::Reads(decimal(reading)?)),
             _ => Err(Fault::Words),
         },
-        Form::ThrowsAway => match (word, next) {
-            (Some("away"), None) => Ok(RecordLine::ThrowsAway),
+        Form::Fails => match (word, next, words.next()) {
+            (Some("to"), Some("receive"), None) => Ok(RecordLine::Other),
             _ => Err(Fault::Words),
         },
         Form::Alone => match word {
@@ -103,6 +106,22 @@ fn other(form: Form, mut words: Words<'_>) -> Result<RecordLine, Fault>
         },
         _ => Err(Fault::Words),
     }
+}
+
+/// What a line tells of what was thrown away, behind its first word.
+fn throws_away(mut words: Words<'_>) -> Result<RecordLine, Fault>
+    ensures { Gives told (throws_away words.entry) result }
+{
+    let (Some("away"), Some(word)) = (words.next(), words.next()) else {
+        return Err(Fault::Words);
+    };
+    let count = match (word, words.next(), words.next()) {
+        ("all", Some(count), None) => count,
+        (count, None, _) => count,
+        _ => return Err(Fault::Words),
+    };
+    decimal(count)?;
+    Ok(RecordLine::ThrowsAway)
 }
 
 /// What a line tells of a datagram that came, or of one that was sent, behind its first word. Of one that came a hyphen that is

@@ -1,3 +1,12 @@
 pub mod Lives
 pub mod Kept
 pub mod Seen
+pub mod Calls
+pub mod Opened
+pub mod Sent
+pub mod Recorded
+pub mod Happens
+pub mod Rests
+pub mod OnLines
+pub mod Written
+pub mod WorkedRuns

@@ -33,7 +33,7 @@ use Rattle.node_kinds.specs.Interlockings.{InterlockingNode, interlocking_kind}
 use Rattle.node_theorem.specs.Processes.{AreOf, IsOfProcesses, Lived, Process, Processes, driven_by, now_stands, shown_by}
 
 -- the laws of the engine, for a kind
-abbrev IsWhatCame : {State Input : Type 0} → Kind State Input → Type 0
+abbrev pub IsWhatCame : {State Input : Type 0} → Kind State Input → Type 0
 IsWhatCame {State} kind = (comings : List (ℕ × Coming)) (standing : Standing State) → (all_come kind comings standing).1.state ≡ state_after kind (came kind comings standing) standing.state
 
 abbrev OrderStands : {State Input : Type 0} → Kind State Input → Type 0
@@ -41,19 +41,19 @@ OrderStands {State} kind = ((state : State) → IsSome (kind.order state)) → (
     → (all_come kind comings standing).1.course.order ≡ kind.order (all_come kind comings standing).1.state
 
 -- and those of the kinds
-abbrev HostLives : {Object Contacts : Type 0} → Kind (Controller Object Contacts) Input → (List (ℕ × Input) → HostState Object → HostState Object) → Type 0
+abbrev pub HostLives : {Object Contacts : Type 0} → Kind (Controller Object Contacts) Input → (List (ℕ × Input) → HostState Object → HostState Object) → Type 0
 HostLives {Object} {Contacts} kind after = (inputs : List (ℕ × Input)) (c : Controller Object Contacts) → (state_after kind inputs c).host ≡ after inputs c.host
 
 -- a point drives by its last line, and so at first by the line of its state
-abbrev LinesDrive : Type 0
+abbrev pub LinesDrive : Type 0
 LinesDrive = (came : List (ℕ × Input)) (host : HostState PointState) (now : ℕ)
     → drives now (host_after point_behaviour came host).object ≡ drive_at (last_line (drive_of host.object) (lines_after point_behaviour drive_of came host)) now
 
-drive_line : LinesDrive → (host : HostState PointState) (now : ℕ) → drives now host.object ≡ drive_at (drive_of host.object) now
+pub drive_line : LinesDrive → (host : HostState PointState) (now : ℕ) → drives now host.object ≡ drive_at (drive_of host.object) now
 unfolding host_after
 drive_line lines host now = lines [] host now
 
-abbrev StationLives : Type 0
+abbrev pub StationLives : Type 0
 StationLives = (inputs : List (ℕ × ixl.Input)) (node : InterlockingNode) → (state_after interlocking_kind inputs node).ixl ≡ ixl_after node.site node.table inputs node.ixl
 
 -- the state of a process is what came of a new node by what came to it
@@ -65,10 +65,20 @@ lived_order : {State Input : Type 0} (kind : Kind State Input) (inputs : List (�
     → (now_stands kind process).course.order ≡ kind.order (now_stands kind process).state
 lived_order kind inputs process some stands lived = stands some process.comings process.first lived.told
 
-host_lived : {Object Contacts : Type 0} (kind : Kind (Controller Object Contacts) Input) (after : List (ℕ × Input) → HostState Object → HostState Object) (inputs : List (ℕ × Input)) (process : Process (Controller Object Contacts)) (made : HostState Object)
+pub host_lived : {Object Contacts : Type 0} (kind : Kind (Controller Object Contacts) Input) (after : List (ℕ × Input) → HostState Object → HostState Object) (inputs : List (ℕ × Input)) (process : Process (Controller Object Contacts)) (made : HostState Object)
     → IsWhatCame kind → HostLives kind after → Lived kind inputs process → process.first.state.host ≡ made → (now_stands kind process).state.host ≡ after inputs made
 host_lived kind after inputs process made what lives lived new =
     ap (λ (c : Controller _ _). c.host) (lived_state kind inputs process what lived) ∙ lives inputs process.first.state ∙ ap (after inputs) new
+
+-- the interlocking
+pub ixl_is : IsWhatCame interlocking_kind → StationLives → (site : Site) (table : Table) (outset : Outset) (events : List Event) (processes : Processes) → AreOf site table outset events processes
+    → (now_stands interlocking_kind processes.station).state.ixl ≡ ixl_after site table (interlocking_life site table events).came (new_ixl site table (interlocking_life site table events).begins)
+ixl_is station_what station_lives site table outset events processes are =
+    let life = interlocking_life site table events in
+    let node = processes.station.first.state in
+    ap (λ (n : InterlockingNode). n.ixl) (lived_state interlocking_kind life.came processes.station station_what are.station_lived)
+    ∙ station_lives life.came node
+    ∙ (λ i. ixl_after (are.station_site i) (are.station_table i) life.came (are.station_made i))
 
 -- what is seen of each is the same
 all_alike : {Entry Seen : Type 0} (entries : List Entry) (seen : List Seen) (one other : ℕ → Entry → Seen)
@@ -107,19 +117,10 @@ module _ (signal_what : IsWhatCame signal_kind) (signal_stands : OrderStands sig
       ∙ sym (drive_line lines (now_stands point_kind process).state.host now)
       ∙ ap (λ (h : HostState PointState). drives now h.object) host
 
-  -- the interlocking
-  ixl_is : (now_stands interlocking_kind processes.station).state.ixl ≡ ixl_after site table (interlocking_life site table events).came (new_ixl site table (interlocking_life site table events).begins)
-  ixl_is =
-      let life = interlocking_life site table events in
-      let node = processes.station.first.state in
-      ap (λ (n : InterlockingNode). n.ixl) (lived_state interlocking_kind life.came processes.station station_what are.station_lived)
-      ∙ station_lives life.came node
-      ∙ (λ i. ixl_after (are.station_site i) (are.station_table i) life.came (are.station_made i))
-
   pub seen_by_orders : (seen : Snapshot) → IsOfProcesses site table outset events processes seen → IsOfNodes site table outset events seen
   seen_by_orders seen is = record {
     shows = all_alike site.signals seen.shows.items _ _ (λ place entry there. ap (λ aspect. record { 0 = aspect }) (aspect_is place entry (reading_of (signal_life site table events place).clock) there)) is.shows;
-    held = is.held ∙ ap (λ ixl. held_of table (record { ixl = ixl; clock = (interlocking_life site table events).clock; connections = [] }) (frozen_in site table events (first_life tt) [])) ixl_is;
+    held = is.held ∙ ap (λ ixl. held_of table (record { ixl = ixl; clock = (interlocking_life site table events).clock; connections = [] }) (frozen_in site table events (first_life tt) [])) (ixl_is station_what station_lives site table outset events processes are);
     position = is.position;
     driven = all_alike site.points seen.driven.items _ _ (λ place entry there. side_is place entry (reading_of (point_life site table outset events place).clock) there) is.driven;
   }

@@ -1,1 +1,4 @@
 pub mod Processes
+pub mod Records
+pub mod Orders
+pub mod WorkedOrders

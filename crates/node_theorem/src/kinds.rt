@@ -33,6 +33,22 @@ impl Behaves for Points {
     ghost does = { point_kind };
 }
 
+/// The controller of a detector.
+pub struct Detectors;
+
+impl Behaves for Detectors {
+    ghost use Rattle.std.specs.Prelude.{List};
+    ghost use Rattle.node_kinds.specs.simulator_run.object_host.declared.input.Input.{Input as HostInput};
+    ghost use Rattle.node_kinds.specs.simulator_run.tds_ctl.declared.section.Section.{Section as SectionState};
+    ghost use Rattle.node_kinds.specs.Controllers.{Controller, OwnSections, detector_kind};
+
+    ghost State = { Controller (List SectionState) OwnSections };
+
+    ghost Input = { HostInput };
+
+    ghost does = { detector_kind };
+}
+
 /// The interlocking.
 pub struct Interlockings;
 
@@ -45,4 +61,17 @@ impl Behaves for Interlockings {
     ghost Input = { ixl.Input };
 
     ghost does = { interlocking_kind };
+}
+
+/// A controller that isn't made yet.
+pub struct Openings;
+
+impl Behaves for Openings {
+    ghost use Rattle.node_kinds.specs.Openings.{Opening, Opens, opening_kind};
+
+    ghost State = { Opening };
+
+    ghost Input = { Opens };
+
+    ghost does = { opening_kind };
 }

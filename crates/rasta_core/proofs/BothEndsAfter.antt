@@ -9,6 +9,7 @@ use Rattle.rasta_core_run.specs.Ends.{EndState, Outcome, reading_of, end_after, 
 use Rattle.rasta_core_run.specs.Run.{Ends, end_of, with_end}
 use Rattle.rasta_core_run.specs.key.Key.{Key}
 use Rattle.rasta_core_run.specs.Each.{Each}
+use Rattle.rasta_core_run.specs.TrueClocks.{Offset}
 use Rattle.rasta_core.specs.TimedEnds.{Standing, Inside, Outside, Past, Times, IsInside, IsOutside, closed_at, standing, timed, times_of}
 use Rattle.rasta_core.specs.Timely.{AreTimed}
 use Rattle.rasta_core_run.specs.Names.{Names}
@@ -59,33 +60,47 @@ leaving old new enters moment left moved = record {
 }
 
 -- the client called, and when it left if it did; and the server called, which leaves the client's past
-pub record Finished (names : Names) (ends : Ends) : Type 0 where
+pub record Finished (names : Names) (client server : Offset) (ends : Ends) : Type 0 where
   pub timely : Timely names ends
+  pub client_off : timely.of_client.offset ≡ client
+  pub server_off : timely.of_server.offset ≡ server
   pub left_then : is_open ends.client.link.phase ≡ false → timely.of_client.left_clock ≡ ends.client.link.closed_at
 
-pub record FinishedBy (names : Names) (past : Past) (ends : Ends) : Type 0 where
+pub record FinishedBy (names : Names) (past : Past) (server : Offset) (ends : Ends) : Type 0 where
   pub timely : Timely names ends
   pub same : timely.of_client.left_clock ≡ past.left_clock
+  pub client_off : timely.of_client.offset ≡ past.offset
+  pub server_off : timely.of_server.offset ≡ server
 
--- the invariant after an event, with what became of the client's past
-pub record Follows (names : Names) (before : Ends) (is : Timely names before) (ends : Ends) : Type 0 where
+-- the invariant after an event, with what became of the client's past, and of how far the clocks are off
+pub record FollowsOff (names : Names) (before : Ends) (is : Timely names before) (client server : Offset) (ends : Ends) : Type 0 where
   pub timely : Timely names ends
+  pub client_off : timely.of_client.offset ≡ client
+  pub server_off : timely.of_server.offset ≡ server
   pub stays : is_open before.client.link.phase ≡ false → is_open ends.client.link.phase ≡ false → timely.of_client.left_clock ≡ is.of_client.left_clock
   pub leaves : is_open before.client.link.phase ≡ true → is_open ends.client.link.phase ≡ false → timely.of_client.left_clock ≡ ends.client.link.closed_at
+
+-- clocks are off no further
+abbrev pub Follows : (names : Names) (before : Ends) (is : Timely names before) (ends : Ends) → Type 0
+Follows names before is ends = FollowsOff names before is is.of_client.offset is.of_server.offset ends
 
 pub not_shut : {A : Type 0} (b : Bool) → b ≡ true → b ≡ false → A
 not_shut b e f = cc
 
-pub client_follows : (names : Names) (ends : Ends) (is : Timely names ends) (later : Ends) → is_open ends.client.link.phase ≡ true → Finished names later → Follows names ends is later
+pub client_follows : (names : Names) (ends : Ends) (is : Timely names ends) (later : Ends) → is_open ends.client.link.phase ≡ true → Finished names is.of_client.offset is.of_server.offset later → Follows names ends is later
 client_follows names ends is later opened done = record {
   timely = done.timely;
+  client_off = done.client_off;
+  server_off = done.server_off;
   stays = λ shut o. not_shut (is_open ends.client.link.phase) opened shut;
   leaves = λ i o. done.left_then o;
 }
 
-pub server_follows : (names : Names) (ends : Ends) (is : Timely names ends) (later : Ends) → later.client ≡ ends.client → FinishedBy names is.of_client later → Follows names ends is later
+pub server_follows : (names : Names) (ends : Ends) (is : Timely names ends) (later : Ends) → later.client ≡ ends.client → FinishedBy names is.of_client is.of_server.offset later → Follows names ends is later
 server_follows names ends is later same done = record {
   timely = done.timely;
+  client_off = done.client_off;
+  server_off = done.server_off;
   stays = λ shut o. done.same;
   leaves = λ opened o. not_shut (is_open ends.client.link.phase) opened (ap (λ (e : EndState). is_open e.link.phase) (sym same) ∙ o);
 }
@@ -109,7 +124,7 @@ pub record client_done (names : Names) (ends : Ends) (of_client of_server : Past
 
 pub client_finished : WrittenIsRead → (names : Names) (ends : Ends) (of_client of_server : Past) (newest : ℕ) (made : Outcome) (stands : Standing) (past : Past)
     → IsEnd names role.Client ends.client → IsEnd names role.Server ends.server
-    → client_done names ends of_client of_server newest made stands past → Finished names (made_at role.Client made ends)
+    → client_done names ends of_client of_server newest made stands past → Finished names past.offset of_server.offset (made_at role.Client made ends)
 unfolding end_after
 client_finished law names ends of_client of_server newest made stands past client server done = record {
   timely = record {
@@ -123,6 +138,8 @@ client_finished law names ends of_client of_server newest made stands past clien
         (subst (λ (key : Key). Each (InFlight names final) (ends.sent ++ handed_out ends.time role.Client (Some newest) (spellings key made.pdus))) (sym (ap (λ (i : Identity). i.key) client.identity)) told.datagrams);
   };
   left_then = λ o. told.left_then (subst IsOutside (sym (standing_closed made.link o)) tt) ∙ ap closed_at (standing_closed made.link o);
+  client_off = told.off;
+  server_off = refl;
 }
   where
     left : ℕ
@@ -153,7 +170,7 @@ pub record server_done (names : Names) (ends : Ends) (of_client of_server : Past
 
 pub server_finished : WrittenIsRead → (names : Names) (ends : Ends) (of_client of_server : Past) (newest : ℕ) (made : Outcome) (stands : Standing) (past : Past)
     → IsEnd names role.Client ends.client → IsEnd names role.Server ends.server
-    → server_done names ends of_client of_server newest made stands past → FinishedBy names of_client (made_at role.Server made ends)
+    → server_done names ends of_client of_server newest made stands past → FinishedBy names of_client past.offset (made_at role.Server made ends)
 unfolding end_after
 server_finished law names ends of_client of_server newest made stands past client server done = record {
   timely = record {
@@ -167,6 +184,8 @@ server_finished law names ends of_client of_server newest made stands past clien
         (subst (λ (key : Key). Each (InFlight names final) (ends.sent ++ handed_out ends.time role.Server (Some newest) (spellings key made.pdus))) (sym (ap (λ (i : Identity). i.key) server.identity)) told.datagrams);
   };
   same = refl;
+  client_off = refl;
+  server_off = told.off;
 }
   where
     left : ℕ

@@ -249,7 +249,7 @@ all_dead names ends is down = each_turned (InFlight names times) (λ (sent : Sen
       | no other ↦ known.dead other
     ]
       where
-        away : is.of_client.left_at + 5993007 ≤ ends.time
+        away : is.of_client.left_at + 5992998 ≤ ends.time
         away = long_away times times.moment times.newest ends.client.link.clock times.client is.ends_timed.client is_down
 
         last : (r : Role) → IsKnown times r at connection pdu back → connection ≡ times.newest → at + lifetime < ends.time
@@ -284,8 +284,8 @@ links_settled names ends who is = subst (λ (now : ℕ). settled now l ≡ l) (e
 shut_standing : (l : LinkState) → is_open l.phase ≡ false → IsOutside (standing l)
 shut_standing l shut = subst IsOutside (sym (standing_closed l shut)) tt
 
-long_out : (names : Names) (since : ℕ) (ends : Ends) (has : HasBeenOut names since ends) → since + quiet_time ≤ reading_of ends.client.clock → has.timely.of_client.left_at + 5993007 ≤ ends.time
-long_out names since ends has over = omega (arith, has.timely.ends_timed.client.apart (shut_standing ends.client.link has.is_out), has.left_then, over)
+long_out : (names : Names) (since : ℕ) (ends : Ends) (has : HasBeenOut names since ends) → since + quiet_time ≤ reading_of ends.client.clock → has.timely.of_client.left_at + 5992998 ≤ ends.time
+long_out names since ends has over = omega (arith, has.timely.ends_timed.client.apart (shut_standing ends.client.link has.is_out), has.timely.ends_timed.client.small.ahead, has.left_then, over)
 
 pub server_is_out_since : (names : Names) (since : ℕ) (ends : Ends) → HasBeenOut names since ends → since + quiet_time ≤ reading_of ends.client.clock → IsOut role.Server ends
 server_is_out_since names since ends has over = shut_from ends.server.link gone
@@ -308,7 +308,7 @@ all_dead_since names since ends has over = each_turned (InFlight names times) (�
     is_out : IsOutside (standing ends.client.link)
     is_out = shut_standing ends.client.link has.is_out
 
-    away : has.timely.of_client.left_at + 5993007 ≤ ends.time
+    away : has.timely.of_client.left_at + 5992998 ≤ ends.time
     away = long_out names since ends has over
 
     dead : (who : Role) (at connection : ℕ) (pdu : Pdu) (back : ℕ) → IsKnown times who at connection pdu back → at + lifetime < ends.time

@@ -64,6 +64,7 @@ after who standing left past count times = with_timed who (record (at_role who t
 pub record HasTold (names : Names) (who : Role) (standing : Standing) (left count : ℕ) (times : Times) (sent : List Sent) : Type 0 where
   pub past : Past
   pub left_then : IsOutside standing → past.left_clock ≡ closed_at standing
+  pub off : past.offset ≡ (at_role who times).past.offset
   pub are : AreTimed (after who standing left past count times)
   pub datagrams : Each (InFlight names (after who standing left past count times)) sent
 
@@ -78,12 +79,14 @@ stay : (names : Names) (who : Role) (times : Times) (count : ℕ) (sent : List S
 stay names role.Client times count sent are inside flies = record {
   past = times.client.past;
   left_then = λ o. absurd (not_both _ inside o);
+  off = refl;
   are = sent_on_kept count times are;
   datagrams = each_turned (InFlight names times) (InFlight names (sent_on count times)) (in_flight_turned names times (sent_on count times) (known_sent_on count times)) sent flies;
 }
 stay names role.Server times count sent are inside flies = record {
   past = times.server.past;
   left_then = λ o. absurd (not_both _ inside o);
+  off = refl;
   are = sent_on_kept count times are;
   datagrams = each_turned (InFlight names times) (InFlight names (sent_on count times)) (in_flight_turned names times (sent_on count times) (known_sent_on count times)) sent flies;
 }
@@ -95,15 +98,17 @@ go names now role.Client times count sent are reads flies =
     record {
       past = record times.client.past { left_at = times.time; left_clock = now };
       left_then = λ o. refl;
-      are = client_out_kept times.client.clock now now (sent_on count times) (omega (arith, reads.passed)) refl (sent_on_kept count times are);
-      datagrams = each_turned (InFlight names (sent_on count times)) _ (in_flight_turned names (sent_on count times) _ (known_client_out times.client.clock now now (sent_on count times))) sent
+      off = refl;
+      are = client_out_kept times.client.clock times.client.past.offset now now (sent_on count times) are.client.small (omega (arith, reads.passed)) refl (sent_on_kept count times are);
+      datagrams = each_turned (InFlight names (sent_on count times)) _ (in_flight_turned names (sent_on count times) _ (known_client_out times.client.clock times.client.past.offset now now (sent_on count times))) sent
           (each_turned (InFlight names times) (InFlight names (sent_on count times)) (in_flight_turned names times (sent_on count times) (known_sent_on count times)) sent flies);
     }
 go names now role.Server times count sent are reads flies = record {
   past = record times.server.past { left_at = times.time; left_clock = now };
   left_then = λ o. refl;
-  are = server_out_kept times.server.clock now now (sent_on count times) (omega (arith, reads.passed)) refl (sent_on_kept count times are);
-  datagrams = each_turned (InFlight names (sent_on count times)) _ (in_flight_turned names (sent_on count times) _ (known_server_out times.server.clock now now (sent_on count times))) sent
+  off = refl;
+  are = server_out_kept times.server.clock times.server.past.offset now now (sent_on count times) are.server.small (omega (arith, reads.passed)) refl (sent_on_kept count times are);
+  datagrams = each_turned (InFlight names (sent_on count times)) _ (in_flight_turned names (sent_on count times) _ (known_server_out times.server.clock times.server.past.offset now now (sent_on count times))) sent
       (each_turned (InFlight names times) (InFlight names (sent_on count times)) (in_flight_turned names times (sent_on count times) (known_sent_on count times)) sent flies);
 }
 

@@ -7,9 +7,10 @@ use Rattle.rasta_core_run.specs.identity.Role.TheVariants as role
 use Rattle.rasta_core_run.specs.pdu.Pdu.{Pdu}
 use Rattle.rasta_core.specs.TimedEnds.{Standing, Inside, Outside, Times, IsInside, IsOutside, HasHeard, heard_stamp, at_role}
 use Rattle.rasta_core.specs.Moves.{time_on, sent_on, outside, asking, granting, hearing}
-use Rattle.rasta_core.specs.Timely.{WasReadThen, AreTimed, IsAnswering, IsKnown}
+use Rattle.rasta_core_run.specs.TrueClocks.{GoesOff, IsSmall, Offset}
+use Rattle.rasta_core.specs.Timely.{WasReadThenBy, AreTimed, IsAnswering, IsKnown}
 use Rattle.rasta_core_run.specs.Sentences.{IsRequest}
-use Rattle.rasta_core.proofs.MovesOfEnds.{Keeps, read_on}
+use Rattle.rasta_core.proofs.MovesOfEnds.{read_on}
 use Rattle.rasta_core.proofs.Reception.{Reads, IsDown, long_away, not_long}
 
 -- more datagrams are sent
@@ -53,9 +54,10 @@ known_sent_on count times role.Server at connection pdu back known = record {
 }
 
 -- time goes on
-pub known_time_on : (elapsed of_client of_server : ℕ) (times : Times) → Keeps elapsed of_client → Keeps elapsed of_server → (who : Role) (at connection : ℕ) (pdu : Pdu) (back : ℕ)
-    → IsKnown times who at connection pdu back → IsKnown (time_on elapsed of_client of_server times) who at connection pdu back
-known_time_on elapsed of_client of_server times keeps_client keeps_server role.Client at connection pdu back known = record {
+pub known_time_on : (elapsed of_client of_server : ℕ) (client_off server_off : Offset) (times : Times) → GoesOff elapsed of_client times.client.past.offset client_off
+    → GoesOff elapsed of_server times.server.past.offset server_off → (who : Role) (at connection : ℕ) (pdu : Pdu) (back : ℕ)
+    → IsKnown times who at connection pdu back → IsKnown (time_on elapsed of_client of_server client_off server_off times) who at connection pdu back
+known_time_on elapsed of_client of_server client_off server_off times keeps_client keeps_server role.Client at connection pdu back known = record {
   sent_before = omega (arith, known.sent_before);
   heard_before = known.heard_before;
   read_as = known.read_as;
@@ -67,13 +69,13 @@ known_time_on elapsed of_client of_server times keeps_client keeps_server role.C
   begun = known.begun;
   dead = λ n. omega (arith, known.dead n);
   entered = known.entered;
-  was_read = λ s i. read_on _ _ _ _ _ _ keeps_client (known.was_read s i);
-  returns = λ s a i. read_on _ _ _ _ _ _ keeps_server (known.returns s a i);
+  was_read = λ s i. read_on _ _ _ _ _ _ _ _ keeps_client (known.was_read s i);
+  returns = λ s a i. read_on _ _ _ _ _ _ _ _ keeps_server (known.returns s a i);
   last_word = known.last_word;
   lonely = known.lonely;
   request_old = known.request_old;
 }
-known_time_on elapsed of_client of_server times keeps_client keeps_server role.Server at connection pdu back known = record {
+known_time_on elapsed of_client of_server client_off server_off times keeps_client keeps_server role.Server at connection pdu back known = record {
   sent_before = omega (arith, known.sent_before);
   heard_before = known.heard_before;
   read_as = known.read_as;
@@ -85,17 +87,17 @@ known_time_on elapsed of_client of_server times keeps_client keeps_server role.S
   begun = known.begun;
   dead = λ n. omega (arith, known.dead n);
   entered = known.entered;
-  was_read = λ s i. read_on _ _ _ _ _ _ keeps_server (known.was_read s i);
-  returns = λ s a i. read_on _ _ _ _ _ _ keeps_client (known.returns s a i);
+  was_read = λ s i. read_on _ _ _ _ _ _ _ _ keeps_server (known.was_read s i);
+  returns = λ s a i. read_on _ _ _ _ _ _ _ _ keeps_client (known.returns s a i);
   last_word = known.last_word;
   lonely = known.lonely;
   request_old = known.request_old;
 }
 
 -- the client leaves, or is made anew
-pub known_client_out : (clock since closed : ℕ) (times : Times) (who : Role) (at connection : ℕ) (pdu : Pdu) (back : ℕ)
-    → IsKnown times who at connection pdu back → IsKnown (record times { client = outside times.time times.moment clock since closed times.client }) who at connection pdu back
-known_client_out clock since closed times role.Client at connection pdu back known = record {
+pub known_client_out : (clock : ℕ) (offset : Offset) (since closed : ℕ) (times : Times) (who : Role) (at connection : ℕ) (pdu : Pdu) (back : ℕ)
+    → IsKnown times who at connection pdu back → IsKnown (record times { client = outside times.time times.moment clock offset since closed times.client }) who at connection pdu back
+known_client_out clock offset since closed times role.Client at connection pdu back known = record {
   sent_before = known.sent_before;
   heard_before = known.heard_before;
   read_as = known.read_as;
@@ -113,7 +115,7 @@ known_client_out clock since closed times role.Client at connection pdu back kno
   lonely = λ s v o. absurd v;
   request_old = known.request_old;
 }
-known_client_out clock since closed times role.Server at connection pdu back known = record {
+known_client_out clock offset since closed times role.Server at connection pdu back known = record {
   sent_before = known.sent_before;
   heard_before = known.heard_before;
   read_as = known.read_as;
@@ -133,9 +135,9 @@ known_client_out clock since closed times role.Server at connection pdu back kno
 }
 
 -- the server leaves, or is made anew
-pub known_server_out : (clock since closed : ℕ) (times : Times) (who : Role) (at connection : ℕ) (pdu : Pdu) (back : ℕ)
-    → IsKnown times who at connection pdu back → IsKnown (record times { server = outside times.time times.moment clock since closed times.server }) who at connection pdu back
-known_server_out clock since closed times role.Client at connection pdu back known = record {
+pub known_server_out : (clock : ℕ) (offset : Offset) (since closed : ℕ) (times : Times) (who : Role) (at connection : ℕ) (pdu : Pdu) (back : ℕ)
+    → IsKnown times who at connection pdu back → IsKnown (record times { server = outside times.time times.moment clock offset since closed times.server }) who at connection pdu back
+known_server_out clock offset since closed times role.Client at connection pdu back known = record {
   sent_before = known.sent_before;
   heard_before = known.heard_before;
   read_as = known.read_as;
@@ -153,7 +155,7 @@ known_server_out clock since closed times role.Client at connection pdu back kno
   lonely = known.lonely;
   request_old = λ r b. known.sent_before;
 }
-known_server_out clock since closed times role.Server at connection pdu back known = record {
+known_server_out clock offset since closed times role.Server at connection pdu back known = record {
   sent_before = known.sent_before;
   heard_before = known.heard_before;
   read_as = known.read_as;
@@ -346,8 +348,8 @@ not_both (Inside asks own heard) i o = o
 not_both (Outside closed) i o = i
 
 -- a clock reads what it reads
-pub just_read : (time now clock : ℕ) → Reads now clock → WasReadThen time clock now time
-just_read time now clock reads = record { least = omega (arith, reads.reached); most = omega (arith, reads.passed) }
+pub just_read : (time now clock : ℕ) (offset : Offset) → IsSmall offset → Reads now clock → WasReadThenBy time clock offset now time
+just_read time now clock offset small reads = record { small = small; before = reads.reached; least = omega (arith, reads.reached); most = omega (arith, reads.passed) }
 
 pub spoken_known : (now : ℕ) (times : Times) (who : Role) (pdu : Pdu) → AreTimed times → IsInside (at_role who times).standing
     → Reads now (at_role who times).clock → IsSpoken who now (at_role who times).standing pdu
@@ -364,7 +366,7 @@ spoken_known now times role.Client pdu are inside reads spoken = record {
   begun = are.client.in_newest inside;
   dead = λ n. absurd (n refl);
   entered = λ s a. are.joined (spoken.answers a);
-  was_read = λ s i. just_read _ _ _ reads;
+  was_read = λ s i. just_read _ _ _ _ are.client.small reads;
   returns = λ s a i. are.client_heard (spoken.answers a) i;
   last_word = λ s o. absurd (not_both _ inside o);
   lonely = λ s v o. absurd v;
@@ -382,7 +384,7 @@ spoken_known now times role.Server pdu are inside reads spoken = record {
   begun = are.begun inside;
   dead = λ n. absurd (n refl);
   entered = λ s a. are.server.in_newest inside;
-  was_read = λ s i. just_read _ _ _ reads;
+  was_read = λ s i. just_read _ _ _ _ are.server.small reads;
   returns = λ s a i. are.server_heard (spoken.answers tt) i;
   last_word = λ s o. absurd (not_both _ inside o);
   lonely = λ s v o. omega (arith, not_long _ _ _ _ are.server inside, are.server_alone inside o);
@@ -404,7 +406,7 @@ request_known now times pdu are reads request answers stamped = record {
   begun = refl;
   dead = λ n. absurd (n refl);
   entered = λ s a. absurd (answers a);
-  was_read = λ s i. just_read _ _ _ reads;
+  was_read = λ s i. just_read _ _ _ _ are.client.small reads;
   returns = λ s a. absurd (answers a);
   last_word = λ s o. absurd o;
   lonely = λ s v. absurd v;

@@ -119,6 +119,8 @@ client_rests names ends made is keeps same nothing outside = record {
     datagrams = subst (λ (t : Times). Each (InFlight names t) later.sent) (sym times_same)
         (subst (λ (list : List Sent). Each (InFlight names times) list) (sym sent_same) is.datagrams);
   };
+  client_off = refl;
+  server_off = refl;
   stays = λ shut o. refl;
   leaves = λ was o. not_shut (is_open ends.client.link.phase) was (opens_same ∙ o);
 }
@@ -213,6 +215,8 @@ server_rests names ends made is keeps same nothing outside = record {
     datagrams = subst (λ (t : Times). Each (InFlight names t) later.sent) (sym times_same)
         (subst (λ (list : List Sent). Each (InFlight names times) list) (sym sent_same) is.datagrams);
   };
+  client_off = refl;
+  server_off = refl;
   stays = λ shut o. refl;
   leaves = λ was o. not_shut (is_open ends.client.link.phase) was (o);
 }

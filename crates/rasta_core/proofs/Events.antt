@@ -3,7 +3,8 @@ use Rattle.std.proofs.Common.{◌≡◌, ℕ, ◌+◌, ◌≤◌, ◌<◌, ◌^�
 use Rattle.std.proofs.lemmas.List.{length-append}
 use Rattle.std.proofs.lemmas.Option.{same_Some}
 use Rattle.rasta_core_run.specs.Parameters.{stops_at_greatest}
-use Rattle.rasta_core_run.specs.State.{confirmed_items}
+use Rattle.rasta_core_run.specs.State.{LinkState, confirmed_items}
+use Rattle.rasta_core_run.specs.Clock.{settled}
 use Rattle.rasta_core_run.specs.Calls.{created}
 use Rattle.rasta_core_run.specs.identity.Identity.{Identity}
 use Rattle.rasta_core_run.specs.identity.Role.{Role}
@@ -30,7 +31,13 @@ use Rattle.rasta_core_run.specs.pdu.Pdu.{Pdu}
 
 -- ---- time goes on
 
-passed : Laws → (names : Names) (elapsed of_client of_server : ℕ) (ends : Ends) → Ordered names ends → Ordered names (later elapsed of_client of_server ends)
+-- the laws that this stands on
+pub record PassingLaws : Type 0 where
+  pub settled_plays : (now : ℕ) (link : LinkState) (own other : EndFlow) → InOrder own other → Plays link own other → Plays (settled now link) own other
+  pub swapped : (own other : EndFlow) → InOrder own other → InOrder other own
+  pub early_settled : (now : ℕ) (link : LinkState) (client : EndFlow) → IsEarly client → PlaysEarly link client → PlaysEarly (settled now link) client
+
+pub passed : PassingLaws → (names : Names) (elapsed of_client of_server : ℕ) (ends : Ends) → Ordered names ends → Ordered names (later elapsed of_client of_server ends)
 unfolding later end_later
 passed law names elapsed of_client of_server ends (unbegun is) = unbegun is
 passed law names elapsed of_client of_server ends (alone is) = alone (record {
@@ -226,7 +233,8 @@ called_kept law intact names are role.Server (Receives bytes connection) ends ti
 pub event_kept : Laws → ReadIsIntact → (names : Names) (event : Event) (ends : Ends) → AreNames names → Timely names ends → Ordered names ends → May names event ends
     → Ordered names (happened event ends)
 event_kept law intact names (Calls who call) ends are timely ordered may = called_kept law intact names are who call ends timely may ordered
-event_kept law intact names (Passes elapsed of_client of_server) ends are timely ordered may = passed law names elapsed of_client of_server ends ordered
+event_kept law intact names (Passes elapsed of_client of_server) ends are timely ordered may =
+    passed (record { settled_plays = law.settled_plays; swapped = law.swapped; early_settled = law.early_settled }) names elapsed of_client of_server ends ordered
 event_kept law intact names (Loses bytes) ends are timely ordered may = lost_kept names bytes ends ordered
 event_kept law intact names (Restarts who clock first) ends are timely ordered may = restarted_kept law names who clock first ends ordered
 event_kept law intact names (Elsewhere count) ends are timely ordered may = elsewhere_kept names count ends ordered

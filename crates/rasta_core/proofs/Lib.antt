@@ -67,8 +67,12 @@ pub mod GivenKept
 pub mod HandedOut
 pub mod Outside
 pub mod LinkRuns
+pub mod TrueClocks
+pub mod LinkOffsets
 pub mod Views
 pub mod Projection
 pub mod Order
 pub mod Quiet
 pub mod Nodes
+pub mod FastClock
+pub mod DriftKept

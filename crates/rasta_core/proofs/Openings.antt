@@ -115,6 +115,8 @@ client_asks law names ends made pdu is keeps is_down stands one asked entry = re
           tt,
         )));
   };
+  client_off = refl;
+  server_off = refl;
   stays = λ shut o. not_shut (is_open made.link.phase) opened o;
   leaves = λ was o. not_shut (is_open made.link.phase) opened o;
 }

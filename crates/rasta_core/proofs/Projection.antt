@@ -148,7 +148,7 @@ numbered_lost count bytes (first ∷ others) numbered = by_copy (is_copy bytes f
   by_copy true e inner = rw e (numbered.0, numbered.1)
   by_copy false e inner = rw e (numbered.0, inner)
 
-numbered_after : (count : ℕ) (names : ℕ → Names) (event : LinksEvent) (links : Links) → MayHappenTo count names event links → Each (λ o. o.link < count) links.sent
+pub numbered_after : (count : ℕ) (names : ℕ → Names) (event : LinksEvent) (links : Links) → MayHappenTo count names event links → Each (λ o. o.link < count) links.sent
     → Each (λ o. o.link < count) (happened_to event links).sent
 numbered_after count names (CallsOn at who call) links may numbered =
     numbered_append count links.sent _ numbered (numbered_sent count at (sent_by who call (seen at links)) may.0)

@@ -33,13 +33,13 @@ alive_newest times who at connection pdu back known alive = elim (ℕ_discrete c
 
 -- a time that is long enough for all of the last connection to be over
 pub long_away : (times : Times) (moment newest now : ℕ) (end : Timed) → IsTimed times.time moment newest end → IsDown now end
-    → end.past.left_at + 5993007 ≤ times.time
-long_away times moment newest now end is down = omega (arith, is.apart down.is_outside, is.closed down.is_outside, down.quiet, down.reads.reached, down.reads.passed)
+    → end.past.left_at + 5992998 ≤ times.time
+long_away times moment newest now end is down = omega (arith, is.apart down.is_outside, is.small.ahead, is.closed down.is_outside, down.quiet, down.reads.reached, down.reads.passed)
 
 -- an end inside heard something that its partner sent not long ago
 pub not_long : (time moment newest : ℕ) (end : Timed) → IsTimed time moment newest end → IsInside end.standing
-    → time < end.past.returned_at + 1801802
-not_long time moment newest end is inside = omega (arith, is.was_read inside, is.young inside)
+    → time < end.past.returned_at + 1801811
+not_long time moment newest end is inside = omega (arith, is.was_read inside, is.small.behind, is.young inside)
 
 -- where a client is down, its server is outside
 pub server_gone : (now : ℕ) (times : Times) → AreTimed times → IsDown now times.client → IsInside times.server.standing → ⊥
@@ -51,6 +51,7 @@ server_gone now times are down inside =
 pub asking_kept : (now : ℕ) (times : Times) → AreTimed times → IsDown now times.client → AreTimed (asking now times)
 asking_kept now times are down = record {
   client = record {
+    small = are.client.small;
     left_before = are.client.left_before;
     returned_before = omega arith;
     heard_before = are.client.heard_before;
@@ -58,6 +59,7 @@ asking_kept now times are down = record {
     began = λ c e. omega (arith, same_Some _ _ e);
     in_newest = λ i. refl;
     was_read = λ i. omega (arith, down.reads.reached);
+    reached = λ i. down.reads.reached;
     young = λ i. omega (arith, down.reads.passed);
     apart = λ o. absurd o;
     closed = λ o. absurd o;
@@ -66,6 +68,7 @@ asking_kept now times are down = record {
     over = λ o. absurd o;
   };
   server = record {
+    small = are.server.small;
     left_before = are.server.left_before;
     returned_before = are.server.returned_before;
     heard_before = are.server.heard_before;
@@ -73,6 +76,7 @@ asking_kept now times are down = record {
     began = λ c e. omega (arith, are.server.began c e);
     in_newest = λ i. absurd (gone i);
     was_read = are.server.was_read;
+    reached = are.server.reached;
     young = are.server.young;
     apart = are.server.apart;
     closed = are.server.closed;

@@ -9,16 +9,18 @@ use Rattle.rasta_core_run.specs.Events.{Event, Calls, Passes, Loses, Restarts, E
 use Rattle.rasta_core.proofs.Conversation.{WrittenIsRead}
 use Rattle.rasta_core.proofs.Called.{ReadIsIntact, called_kept}
 use Rattle.rasta_core.proofs.Clocks.{later_kept, lost_kept, client_restarted, server_restarted, elsewhere_kept, Renewed, started_timely}
-use Rattle.rasta_core.proofs.BothEndsAfter.{Follows}
+use Rattle.rasta_core.proofs.BothEndsAfter.{FollowsOff}
+use Rattle.rasta_core_run.specs.TrueClocks.{Offset, set}
 
 -- an event that doesn't make the client anew
-pub event_follows : WrittenIsRead → ReadIsIntact → (names : Names) (event : Event) (ends : Ends) → AreNames names → (is : Timely names ends) → May names event ends → LeavesClient event → Follows names ends is (happened event ends)
-event_follows law intact names (Calls who call) ends are is may leaves = called_kept law intact names are who call ends is may
-event_follows law intact names (Passes elapsed of_client of_server) ends are is may leaves = later_kept names elapsed of_client of_server ends is may.0 may.1
-event_follows law intact names (Loses bytes) ends are is may leaves = lost_kept names bytes ends is
+pub event_follows : WrittenIsRead → ReadIsIntact → (names : Names) (event : Event) (ends : Ends) → AreNames names → (is : Timely names ends) → May names event ends → LeavesClient event
+    → (server : Offset) × FollowsOff names ends is is.of_client.offset server (happened event ends)
+event_follows law intact names (Calls who call) ends are is may leaves = (is.of_server.offset, called_kept law intact names are who call ends is may)
+event_follows law intact names (Passes elapsed of_client of_server) ends are is may leaves = (is.of_server.offset, later_kept names elapsed of_client of_server ends is may.0 may.1)
+event_follows law intact names (Loses bytes) ends are is may leaves = (is.of_server.offset, lost_kept names bytes ends is)
 event_follows law intact names (Restarts role.Client clock first) ends are is may leaves = absurd leaves
-event_follows law intact names (Restarts role.Server clock first) ends are is may leaves = server_restarted names clock first ends is
-event_follows law intact names (Elsewhere count) ends are is may leaves = elsewhere_kept names count ends is
+event_follows law intact names (Restarts role.Server clock first) ends are is may leaves = (set, server_restarted names clock first ends is)
+event_follows law intact names (Elsewhere count) ends are is may leaves = (is.of_server.offset, elsewhere_kept names count ends is)
 
 pub event_kept : WrittenIsRead → ReadIsIntact → (names : Names) (event : Event) (ends : Ends) → AreNames names → Timely names ends → May names event ends → Timely names (happened event ends)
 event_kept law intact names (Calls who call) ends are is may = (called_kept law intact names are who call ends is may).timely
@@ -39,19 +41,19 @@ run_kept law names (first ∷ others) ends are is may = run_kept law names other
 -- ---- how long the client has been outside
 
 pub started_out : (names : Names) (start : Start) → AreNames names → HasBeenOut names start.client_clock (started names start)
-started_out names start are = let new : Renewed names start.client_clock (started names start) = started_timely names start are in record { timely = new.timely; is_out = new.is_out; left_then = new.left_then }
+started_out names start are = let new : Renewed names start.client_clock set (started names start) = started_timely names start are in record { timely = new.timely; is_out = new.is_out; left_then = new.left_then }
 
 pub restarted_out : (names : Names) (clock first : ℕ) (ends : Ends) → Timely names ends → HasBeenOut names clock (happened (Restarts role.Client clock first) ends)
-restarted_out names clock first ends is = let new : Renewed names clock (restarted role.Client clock first ends) = client_restarted names clock first ends is in record { timely = new.timely; is_out = new.is_out; left_then = new.left_then }
+restarted_out names clock first ends is = let new : Renewed names clock is.of_server.offset (restarted role.Client clock first ends) = client_restarted names clock first ends is in record { timely = new.timely; is_out = new.is_out; left_then = new.left_then }
 
 pub left_out : WrittenIsRead → ReadIsIntact → (names : Names) (event : Event) (ends : Ends) → AreNames names → Timely names ends → May names event ends → LeavesClient event
     → IsIn role.Client ends → IsOut role.Client (happened event ends) → HasBeenOut names (happened event ends).client.link.closed_at (happened event ends)
 left_out law intact names event ends are is may leaves was shut =
-    let after : Follows names ends is (happened event ends) = event_follows law intact names event ends are is may leaves in
+    let after = (event_follows law intact names event ends are is may leaves).1 in
     record { timely = after.timely; is_out = shut; left_then = after.leaves was shut }
 
 pub kept_out : WrittenIsRead → ReadIsIntact → (names : Names) (since : ℕ) (event : Event) (ends : Ends) → AreNames names → HasBeenOut names since ends → May names event ends → LeavesClient event
     → IsOut role.Client (happened event ends) → HasBeenOut names since (happened event ends)
 kept_out law intact names since event ends are has may leaves shut =
-    let after : Follows names ends has.timely (happened event ends) = event_follows law intact names event ends are has.timely may leaves in
+    let after = (event_follows law intact names event ends are has.timely may leaves).1 in
     record { timely = after.timely; is_out = shut; left_then = after.stays has.is_out shut ∙ has.left_then }

@@ -1,12 +1,13 @@
 -- Taking a datagram keeps what is true of the two ends.
-use Rattle.std.proofs.Common.{◌≡◌, ℕ, ◌+◌, ◌-◌, ◌^◌, ◌<◌, ◌≤◌, Some, sym, ap, subst, arith}
+use Rattle.std.proofs.Common.{◌≡◌, ℕ, ◌+◌, ◌*◌, ◌-◌, ◌^◌, ◌<◌, ◌≤◌, Some, sym, ap, subst, arith}
 use Rattle.std.proofs.lemmas.Option.{same_Some}
 use Rattle.rasta_core_run.specs.Sequence.{distance, stamp}
 use Rattle.rasta_core_run.specs.identity.Role.TheVariants as role
 use Rattle.rasta_core_run.specs.pdu.Pdu.{Pdu}
 use Rattle.rasta_core.specs.TimedEnds.{Standing, Inside, Outside, Timed, Times, IsInside, HasHeard, own_stamp}
 use Rattle.rasta_core.specs.Moves.{asking, granting, hearing}
-use Rattle.rasta_core.specs.Timely.{WasRead, WasReadThen, IsTimed, AreTimed, IsAnswering, IsKnown}
+use Rattle.rasta_core_run.specs.TrueClocks.{Offset}
+use Rattle.rasta_core.specs.Timely.{WasReadBy, WasReadThenBy, IsTimed, AreTimed, IsAnswering, IsKnown}
 use Rattle.rasta_core_run.specs.Sentences.{IsRequest}
 use Rattle.rasta_core.proofs.Reception.{Reads, IsDown, IsAlive, alive_newest, connection_fresh}
 
@@ -20,6 +21,7 @@ pub granting_kept : (now : ℕ) (times : Times) (at connection : ℕ) (pdu : Pdu
 granting_kept now times at connection pdu back are down known request alive = record {
   client = are.client;
   server = record {
+    small = are.server.small;
     left_before = are.server.left_before;
     returned_before = omega arith;
     heard_before = known.sent_before;
@@ -27,6 +29,7 @@ granting_kept now times at connection pdu back are down known request alive = re
     began = λ c e. omega (arith, same_Some _ _ e, known.counted);
     in_newest = λ i. ap (λ (c : ℕ). Some c) new;
     was_read = λ i. omega (arith, down.reads.reached);
+    reached = λ i. down.reads.reached;
     young = λ i. omega (arith, down.reads.passed);
     apart = λ o. absurd o;
     closed = λ o. absurd o;
@@ -54,6 +57,7 @@ pub joining_kept : (times : Times) (at connection : ℕ) (pdu : Pdu) (back : ℕ
     → AreTimed (record times { client = hearing pdu.time_stamp known.read_as at (own_stamp times.client.standing) times.client.past.returned_at times.client })
 joining_kept times at connection pdu back are inside known alive = record {
   client = record {
+    small = are.client.small;
     left_before = are.client.left_before;
     returned_before = are.client.returned_before;
     heard_before = known.sent_before;
@@ -61,6 +65,7 @@ joining_kept times at connection pdu back are inside known alive = record {
     began = are.client.began;
     in_newest = λ i. are.client.in_newest inside;
     was_read = λ i. are.client.was_read inside;
+    reached = λ i. are.client.reached inside;
     young = λ i. are.client.young inside;
     apart = λ o. absurd o;
     closed = λ o. absurd o;
@@ -97,18 +102,19 @@ not_before now own old fresh reached = omega (arith, fresh, reached)
 
 -- an end reads no less than the stamp that was returned to it
 reached : (time moment newest now : ℕ) (end : Timed) → IsTimed time moment newest end → IsInside end.standing → Reads now end.clock → own_stamp end.standing ≤ now
-reached time moment newest now end is inside reads = omega (arith, is.was_read inside, is.returned_before, reads.passed)
+reached time moment newest now end is inside reads = omega (arith, is.reached inside, reads.passed)
 
 -- what an end finds returned is what was: it was read not long ago
-pub exact : (time clock now returned at back confirmed : ℕ) → Reads now clock → confirmed ≡ stamp returned → WasReadThen time clock returned back → back ≤ at → at ≤ time
+pub exact : (time clock : ℕ) (offset : Offset) (now returned at back confirmed : ℕ) → Reads now clock → confirmed ≡ stamp returned → WasReadThenBy time clock offset returned back → back ≤ at → at ≤ time
     → at < back + 3802000 → IsAlive time at → now - distance confirmed (stamp now) ≡ returned
-exact time clock now returned at back confirmed reads is read before sent promptly alive =
-    whole now returned confirmed is (omega (arith, read.least, before, sent, reads.passed)) (omega (arith, read.most, promptly, alive, reads.reached))
+exact time clock offset now returned at back confirmed reads is read before sent promptly alive =
+    whole now returned confirmed is (omega (arith, read.before, reads.passed)) (omega (arith, read.most, read.small.ahead, promptly, alive, reads.reached))
 
-one_end : (times : Times) (end : Timed) (at own back heard reading : ℕ) → IsTimed times.time times.moment times.newest end → IsInside end.standing
-    → at ≤ times.time → back ≤ at → own_stamp end.standing ≤ own → WasRead times.time end.clock own back → heard ≡ stamp reading
+one_end : (times : Times) (end : Timed) (at own back heard reading : ℕ) → 1000 * own ≤ end.clock → IsTimed times.time times.moment times.newest end → IsInside end.standing
+    → at ≤ times.time → back ≤ at → own_stamp end.standing ≤ own → WasReadBy times.time end.clock end.past.offset own back → heard ≡ stamp reading
     → IsTimed times.time times.moment times.newest (hearing heard reading at own back end)
-one_end times end at own back heard reading is inside sent_before heard_before later was_read heard_is = record {
+one_end times end at own back heard reading before is inside sent_before heard_before later was_read heard_is = record {
+  small = is.small;
   left_before = is.left_before;
   returned_before = omega (arith, sent_before, heard_before);
   heard_before = sent_before;
@@ -116,6 +122,7 @@ one_end times end at own back heard reading is inside sent_before heard_before l
   began = is.began;
   in_newest = λ i. is.in_newest inside;
   was_read = λ i. was_read;
+  reached = λ i. before;
   young = λ i. omega (arith, is.young inside, later);
   apart = λ o. absurd o;
   closed = λ o. absurd o;
@@ -129,9 +136,9 @@ pub client_taking_kept : (now : ℕ) (times : Times) (at connection : ℕ) (pdu 
     → (known : IsKnown times role.Server at connection pdu back) → IsAlive times.time at → IsFresh now (own_stamp times.client.standing) pdu
     → AreTimed (record times { client = hearing pdu.time_stamp known.read_as at (returned_by now pdu) back times.client })
 client_taking_kept now times at connection pdu back are inside reads known alive fresh = record {
-  client = one_end times times.client at (returned_by now pdu) back pdu.time_stamp known.read_as are.client inside known.sent_before known.heard_before
+  client = one_end times times.client at (returned_by now pdu) back pdu.time_stamp known.read_as (subst (λ (own : ℕ). 1000 * own ≤ times.client.clock) (sym returned) (known.returns new tt inside).before) are.client inside known.sent_before known.heard_before
       (not_before now (own_stamp times.client.standing) (distance pdu.confirmed_time_stamp (stamp now)) fresh.fresh (reached _ _ _ now times.client are.client inside reads))
-      (subst (λ (own : ℕ). WasRead times.time times.client.clock own back) (sym returned) (known.returns new tt inside).least) known.stamp_is;
+      (subst (λ (own : ℕ). WasReadBy times.time times.client.clock times.client.past.offset own back) (sym returned) (known.returns new tt inside).least) known.stamp_is;
   server = are.server;
   begun = are.begun;
   joined = λ h. known.entered new tt;
@@ -145,16 +152,16 @@ client_taking_kept now times at connection pdu back are inside reads known alive
     new = alive_newest times role.Server at connection pdu back known alive
 
     returned : returned_by now pdu ≡ known.returned
-    returned = exact times.time times.client.clock now known.returned at back pdu.confirmed_time_stamp reads (known.returned_is tt) (known.returns new tt inside) known.heard_before known.sent_before (known.promptly tt) alive
+    returned = exact times.time times.client.clock times.client.past.offset now known.returned at back pdu.confirmed_time_stamp reads (known.returned_is tt) (known.returns new tt inside) known.heard_before known.sent_before (known.promptly tt) alive
 
 pub server_taking_kept : (now : ℕ) (times : Times) (at connection : ℕ) (pdu : Pdu) (back : ℕ) → AreTimed times → IsInside times.server.standing → Reads now times.server.clock
     → (known : IsKnown times role.Client at connection pdu back) → IsAnswering role.Client pdu.body → IsAlive times.time at → IsFresh now (own_stamp times.server.standing) pdu
     → AreTimed (record times { server = hearing pdu.time_stamp known.read_as at (returned_by now pdu) back times.server })
 server_taking_kept now times at connection pdu back are inside reads known answering alive fresh = record {
   client = are.client;
-  server = one_end times times.server at (returned_by now pdu) back pdu.time_stamp known.read_as are.server inside known.sent_before known.heard_before
+  server = one_end times times.server at (returned_by now pdu) back pdu.time_stamp known.read_as (subst (λ (own : ℕ). 1000 * own ≤ times.server.clock) (sym returned) (known.returns new answering inside).before) are.server inside known.sent_before known.heard_before
       (not_before now (own_stamp times.server.standing) (distance pdu.confirmed_time_stamp (stamp now)) fresh.fresh (reached _ _ _ now times.server are.server inside reads))
-      (subst (λ (own : ℕ). WasRead times.time times.server.clock own back) (sym returned) (known.returns new answering inside).least) known.stamp_is;
+      (subst (λ (own : ℕ). WasReadBy times.time times.server.clock times.server.past.offset own back) (sym returned) (known.returns new answering inside).least) known.stamp_is;
   begun = λ i. are.begun inside;
   joined = are.joined;
   client_heard = λ h i. are.client_heard h inside;
@@ -167,4 +174,4 @@ server_taking_kept now times at connection pdu back are inside reads known answe
     new = alive_newest times role.Client at connection pdu back known alive
 
     returned : returned_by now pdu ≡ known.returned
-    returned = exact times.time times.server.clock now known.returned at back pdu.confirmed_time_stamp reads (known.returned_is answering) (known.returns new answering inside) known.heard_before known.sent_before (known.promptly answering) alive
+    returned = exact times.time times.server.clock times.server.past.offset now known.returned at back pdu.confirmed_time_stamp reads (known.returned_is answering) (known.returns new answering inside) known.heard_before known.sent_before (known.promptly answering) alive

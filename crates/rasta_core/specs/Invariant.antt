@@ -10,6 +10,7 @@ use Rattle.rasta_core_run.specs.Values.{IsPdu}
 use Rattle.rasta_core_run.specs.Items.{IsItem}
 use Rattle.rasta_core_run.specs.PduRead.{reading}
 use Rattle.rasta_core_run.specs.Each.{Each}
+use Rattle.rasta_core_run.specs.TrueClocks.{Offset}
 use Rattle.rasta_core.specs.TimedEnds.{Past, Times, times_of}
 use Rattle.rasta_core_run.specs.Names.{Names, identity_of, name_of, partner_of}
 use Rattle.rasta_core_run.specs.Sentences.{IsOut}
@@ -55,3 +56,9 @@ pub record HasBeenOut (names : Names) (since : ℕ) (ends : Ends) : Type 0 where
   pub timely : Timely names ends
   pub is_out : IsOut role.Client ends
   pub left_then : timely.of_client.left_clock ≡ since
+
+-- two ends over time, whose clocks are off so far
+pub record TimelyBy (names : Names) (offsets : Role → Offset) (ends : Ends) : Type 0 where
+  pub timely : Timely names ends
+  pub client : timely.of_client.offset ≡ offsets role.Client
+  pub server : timely.of_server.offset ≡ offsets role.Server

@@ -13,6 +13,8 @@ pub mod EachLink
 -- Many links over one network.
 pub mod Links
 pub mod Nodes
+-- A worked list of events.
+pub mod Worked
 -- What crates above need of two ends and their network.
 pub use Rattle.rasta_core_run.specs.Parameters
 pub use Rattle.rasta_core_run.specs.Sequence
@@ -35,6 +37,7 @@ pub use Rattle.rasta_core_run.specs.Safe
 pub use Rattle.rasta_core_run.specs.Given
 pub use Rattle.rasta_core_run.specs.Newest
 pub use Rattle.rasta_core_run.specs.Steps
+pub use Rattle.rasta_core_run.specs.TrueClocks
 pub use Rattle.rasta_core_run.specs.header
 pub use Rattle.rasta_core_run.specs.identity
 pub use Rattle.rasta_core_run.specs.reason

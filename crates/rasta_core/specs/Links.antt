@@ -1,5 +1,5 @@
 -- Many links over one list of datagrams. The links of a world have the numbers below their count.
-use Rattle.std.specs.Prelude.{◌≡◌, ◌≢◌, Bool, true, false, ℕ, ◌+◌, ◌<◌, ◌≤◌, ◌==◌, List, [], ◌∷◌, ◌++◌, length, map, ◌⊎◌, if◌then◌else◌}
+use Rattle.std.specs.Prelude.{◌≡◌, ◌≢◌, Bool, true, false, ℕ, ◌+◌, ◌<◌, ◌≤◌, ◌==◌, ◌&&◌, List, [], ◌∷◌, ◌++◌, length, map, ◌⊎◌, if◌then◌else◌}
 use Rattle.rasta_core_run.specs.Outbox.{spellings}
 use Rattle.rasta_core_run.specs.identity.Role.{Role}
 use Rattle.rasta_core_run.specs.identity.Role.TheVariants as role
@@ -8,6 +8,7 @@ use Rattle.rasta_core_run.specs.Ends.{Sent, EndState, Call, Ticks, Opens, Closes
 use Rattle.rasta_core_run.specs.Run.{Ends, called, end_of, restarted}
 use Rattle.rasta_core_run.specs.Events.{Calls, Elsewhere, Event, IsWithinDrift, Loses, Passes, Restarts, Start, new_end}
 use Rattle.rasta_core_run.specs.Names.{AreNames, Names}
+use Rattle.rasta_core_run.specs.TrueClocks.{Offset, is_same, set}
 use Rattle.rasta_core_run.specs.key.Key.{Key}
 use Rattle.rasta_core_run.specs.Items.{IsItem}
 use Rattle.rasta_core_run.specs.SafetyCode.{IsIntact}
@@ -152,6 +153,32 @@ run_links (first ∷ others) links = run_links others (happened_to first links)
 abbrev pub MayRunLinks : ℕ → (ℕ → Names) → List LinksEvent → Links → Type 0
 MayRunLinks count names [] links = Unit {0}
 MayRunLinks count names (first ∷ others) links = MayHappenTo count names first links × MayRunLinks count names others (happened_to first links)
+
+-- an event of a world in which no time passes
+abbrev pub IsAtOnceFor : LinksEvent → Type 0
+IsAtOnceFor (PassesFor elapsed of_clients of_servers) = ⊥
+IsAtOnceFor (CallsOn link who call) = Unit {0}
+IsAtOnceFor (LosesAny bytes) = Unit {0}
+IsAtOnceFor (RestartsOn link who clock first_sequence_number) = Unit {0}
+
+abbrev pub AreAtOnce : List LinksEvent → Type 0
+AreAtOnce [] = Unit {0}
+AreAtOnce (first ∷ others) = IsAtOnceFor first × AreAtOnce others
+
+-- the event makes this end of a link anew, and so sets its clock
+abbrev pub sets_on : ℕ → Role → LinksEvent → Bool
+sets_on link who (RestartsOn at other clock first_sequence_number) = (link == at) && is_same who other
+sets_on link who (CallsOn at other call) = false
+sets_on link who (PassesFor elapsed of_clients of_servers) = false
+sets_on link who (LosesAny bytes) = false
+
+-- how far the clocks are off after it, and after a list of such
+abbrev pub offsets_on : LinksEvent → (ℕ → Role → Offset) → ℕ → Role → Offset
+offsets_on event offsets link who = if sets_on link who event then set else offsets link who
+
+abbrev pub all_offsets_on : List LinksEvent → (ℕ → Role → Offset) → ℕ → Role → Offset
+all_offsets_on [] offsets = offsets
+all_offsets_on (first ∷ others) offsets = all_offsets_on others (offsets_on first offsets)
 
 -- what a list of events of a world is to one of its links
 abbrev pub run_on : ℕ → List LinksEvent → Links → List Event

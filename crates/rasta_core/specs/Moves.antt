@@ -2,34 +2,36 @@
 use Rattle.std.specs.Prelude.{ℕ, ◌+◌, true, false, Some}
 use Rattle.rasta_core_run.specs.identity.Role.{Role}
 use Rattle.rasta_core_run.specs.identity.Role.TheVariants as role
+use Rattle.rasta_core_run.specs.TrueClocks.{Offset}
 use Rattle.rasta_core.specs.TimedEnds.{Inside, Outside, Timed, Times}
 
 abbrev pub with_timed : Role → Timed → Times → Times
 with_timed role.Client end times = record times { client = end }
 with_timed role.Server end times = record times { server = end }
 
-abbrev pub clock_on : ℕ → Timed → Timed
-clock_on elapsed end = record end { clock = end.clock + elapsed }
+-- a clock goes on, and is off so far then
+abbrev pub clock_on : ℕ → Offset → Timed → Timed
+clock_on elapsed offset end = record end { clock = end.clock + elapsed; past = record end.past { offset = offset } }
 
 -- time goes on, and the clock of each end
-abbrev pub time_on : ℕ → ℕ → ℕ → Times → Times
-time_on elapsed of_client of_server times = record times {
+abbrev pub time_on : ℕ → ℕ → ℕ → Offset → Offset → Times → Times
+time_on elapsed of_client of_server client_off server_off times = record times {
   time = times.time + elapsed;
-  client = clock_on of_client times.client;
-  server = clock_on of_server times.server;
+  client = clock_on of_client client_off times.client;
+  server = clock_on of_server server_off times.server;
 }
 
 -- so many datagrams are sent
 abbrev pub sent_on : ℕ → Times → Times
 sent_on count times = record times { moment = times.moment + count }
 
--- an end is outside since now, with this clock; it read so much then, and knows of this reading
-abbrev pub outside : ℕ → ℕ → ℕ → ℕ → ℕ → Timed → Timed
-outside time moment clock since closed end = record end {
+-- an end is outside since now, with this clock, which is off so far; it read so much then, and knows of this reading
+abbrev pub outside : ℕ → ℕ → ℕ → Offset → ℕ → ℕ → Timed → Timed
+outside time moment clock offset since closed end = record end {
   standing = Outside closed;
   clock = clock;
   left = moment;
-  past = record end.past { left_at = time; left_clock = since };
+  past = record end.past { left_at = time; left_clock = since; offset = offset };
 }
 
 -- a client asks for a connection

@@ -6,6 +6,7 @@ use Rattle.rasta_core_run.specs.identity.Role.{Role}
 use Rattle.rasta_core_run.specs.identity.Role.TheVariants as role
 use Rattle.rasta_core_run.specs.Ends.{EndState}
 use Rattle.rasta_core_run.specs.Run.{Ends}
+use Rattle.rasta_core_run.specs.TrueClocks.{Offset}
 
 -- Where an end stands. Inside a connection: whether it still asks for it, the own stamp that the partner returned
 -- last, and the partner's stamp that it took last. Outside: when it left or was created, on its clock.
@@ -53,6 +54,8 @@ pub record Past : Type 0 where
   -- when the partner sent the datagram that it took last, and what the partner's clock read then
   pub heard_at : ℕ
   pub heard_clock : ℕ
+  -- how far its own clock is off
+  pub offset : Offset
 
 -- one end, as far as time goes
 pub record Timed : Type 0 where

@@ -8,21 +8,36 @@ use Rattle.rasta_core_run.specs.Bag.{lifetime}
 use Rattle.rasta_core_run.specs.pdu.Pdu.{Pdu}
 use Rattle.rasta_core_run.specs.body.Body.{Body}
 use Rattle.rasta_core_run.specs.body.Body.TheVariants.{ConnectionRequest, DisconnectionRequest}
+use Rattle.rasta_core_run.specs.TrueClocks.{IsSmall, Offset, most_off}
 use Rattle.rasta_core.specs.TimedEnds.{Timed, Times, IsInside, IsOutside, HasHeard, own_stamp, heard_stamp, closed_at, at_role}
 use Rattle.rasta_core_run.specs.Names.{partner_of}
 use Rattle.rasta_core_run.specs.Sentences.{IsRequest}
 
--- A clock that runs at least at 999 in 1000 of true time read this stamp, in milliseconds, at this true time.
-abbrev pub WasRead : ℕ → ℕ → ℕ → ℕ → Type 0
-WasRead time clock stamp at = 999 * time + 1000000 * stamp ≤ 1000 * clock + 999 * at
+-- A clock that runs at least at 999 in 1000 of true time, and is off so far, read this stamp, in milliseconds, at this true
+-- time.
+abbrev pub WasReadBy : ℕ → ℕ → Offset → ℕ → ℕ → Type 0
+WasReadBy time clock offset stamp at = 999 * time + 1000000 * stamp ≤ 1000 * clock + offset.behind + 999 * at
 
 -- It also ran at most at 1001 in 1000 since: so a stamp of this reading tells it, within a turn of the stamps.
+pub record WasReadThenBy (time clock : ℕ) (offset : Offset) (reading at : ℕ) : Type 0 where
+  pub small : IsSmall offset
+  pub before : 1000 * reading ≤ clock
+  pub least : WasReadBy time clock offset reading at
+  pub most : 1000 * clock + 1001 * at ≤ 1000000 * reading + 1001 * time + 999000 + offset.ahead
+
+-- the same of a clock that is off by ten microseconds at most
+abbrev pub WasRead : ℕ → ℕ → ℕ → ℕ → Type 0
+WasRead time clock stamp at = 999 * time + 1000000 * stamp ≤ 1000 * clock + 999 * at + most_off
+
 pub record WasReadThen (time clock reading at : ℕ) : Type 0 where
+  pub before : 1000 * reading ≤ clock
   pub least : WasRead time clock reading at
-  pub most : 1000 * clock + 1001 * at ≤ 1000000 * reading + 1001 * time + 999000
+  pub most : 1000 * clock + 1001 * at ≤ 1000000 * reading + 1001 * time + 999000 + most_off
 
 -- what is true of each end
 pub record IsTimed (time moment newest : ℕ) (end : Timed) : Type 0 where
+  -- its clock is off by ten microseconds at most
+  pub small : IsSmall end.past.offset
   -- it left, sent what was returned, and heard what it took, at some time before now
   pub left_before : end.past.left_at ≤ time
   pub returned_before : end.past.returned_at ≤ time
@@ -32,10 +47,11 @@ pub record IsTimed (time moment newest : ℕ) (end : Timed) : Type 0 where
   pub began : (connection : ℕ) → end.connection ≡ Some connection → connection < moment
   -- inside, it is in the newest connection, its returned stamp was read when that datagram was sent, and it is young
   pub in_newest : IsInside end.standing → end.connection ≡ Some newest
-  pub was_read : IsInside end.standing → WasRead time end.clock (own_stamp end.standing) end.past.returned_at
+  pub was_read : IsInside end.standing → WasReadBy time end.clock end.past.offset (own_stamp end.standing) end.past.returned_at
+  pub reached : IsInside end.standing → 1000 * own_stamp end.standing ≤ end.clock
   pub young : IsInside end.standing → end.clock < 1000 * (own_stamp end.standing + time_limit)
   -- outside, its clock hasn't gone on by more than 1001 in 1000 of the true time since it left
-  pub apart : IsOutside end.standing → 1000 * end.clock + 1001 * end.past.left_at ≤ 1000000 * end.past.left_clock + 1001 * time + 999000
+  pub apart : IsOutside end.standing → 1000 * end.clock + 1001 * end.past.left_at ≤ 1000000 * end.past.left_clock + 1001 * time + 999000 + end.past.offset.ahead
   -- outside, what it knows of that reading is right
   pub closed : IsOutside end.standing → end.past.left_clock ≡ closed_at end.standing
   -- inside, the stamp that it heard last is of its partner's reading then, and what was returned isn't much younger
@@ -54,9 +70,9 @@ pub record AreTimed (times : Times) : Type 0 where
   pub joined : HasHeard times.client.standing → times.server.connection ≡ Some times.newest
   -- the reading of the stamp that an end heard last was read on its partner's clock when that datagram was sent
   pub client_heard : HasHeard times.client.standing → IsInside times.server.standing
-      → WasReadThen times.time times.server.clock times.client.past.heard_clock times.client.past.heard_at
+      → WasReadThenBy times.time times.server.clock times.server.past.offset times.client.past.heard_clock times.client.past.heard_at
   pub server_heard : HasHeard times.server.standing → IsInside times.client.standing
-      → WasReadThen times.time times.client.clock times.server.past.heard_clock times.server.past.heard_at
+      → WasReadThenBy times.time times.client.clock times.client.past.offset times.server.past.heard_clock times.server.past.heard_at
   -- an end whose partner has left hears nothing that was sent later
   pub server_alone : IsInside times.server.standing → IsOutside times.client.standing
       → times.server.past.returned_at ≤ times.client.past.left_at + lifetime
@@ -94,9 +110,9 @@ pub record IsKnown (times : Times) (who : Role) (at connection : ℕ) (pdu : Pdu
   pub entered : connection ≡ times.newest → IsAnswering who pdu.body → times.server.connection ≡ Some times.newest
   -- its stamp was read when it was sent, and the stamp that it returns when what it answers was sent
   pub was_read : connection ≡ times.newest → IsInside (at_role who times).standing
-      → WasReadThen times.time (at_role who times).clock read_as at
+      → WasReadThenBy times.time (at_role who times).clock (at_role who times).past.offset read_as at
   pub returns : connection ≡ times.newest → IsAnswering who pdu.body → IsInside (at_role (partner_of who) times).standing
-      → WasReadThen times.time (at_role (partner_of who) times).clock returned back
+      → WasReadThenBy times.time (at_role (partner_of who) times).clock (at_role (partner_of who) times).past.offset returned back
   -- an end that left sends nothing more in its connection, and its partner not for long
   pub last_word : connection ≡ times.newest → IsOutside (at_role who times).standing → at ≤ (at_role who times).past.left_at
   pub lonely : connection ≡ times.newest → IsServer who → IsOutside times.client.standing → at < times.client.past.left_at + 3802000

@@ -6,6 +6,7 @@
 mod connection_order;
 mod many_links;
 mod one_link;
+mod true_clocks;
 mod true_time;
 
 pub use connection_order::{
@@ -20,10 +21,16 @@ pub use many_links::{
 pub use one_link::{
     calls_at_one_clock, calls_follow_calls, every_event_keeps_order, every_run_keeps_order,
     given_was_sent, items_are_counted, link_is_safe, newest_tells_the_connection,
-    nothing_before_a_connection, order_is_safe, outside_until_it_enters, what_is_taken,
+    nothing_before_a_connection, order_is_safe, outside_until_it_enters, time_keeps_order,
+    what_is_taken,
 };
 pub use rasta_core_run::{
     Identity, Inbox, Link, Millis, Outbox, Reason, Role, SendFault, Sent, State, Verdict,
+};
+pub use true_clocks::{
+    a_fast_clock_keeps_time, drift_by_events_keeps_time, ends_keep_time_by_their_offsets,
+    links_keep_time_by_their_offsets, offsets_stay_or_are_set, steady_clocks_are_off_little,
+    time_changes_no_connection, true_clocks_keep_time,
 };
 pub use true_time::{
     alone_after_quiet, alone_after_waiting, calls_hand_out_pdus, copies_are_delivered,

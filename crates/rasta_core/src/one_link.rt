@@ -6,7 +6,7 @@ ghost use Rattle.rasta_core_run.specs.identity.Role.TheVariants as role;
 ghost use Rattle.rasta_core_run.specs.State.{is_open};
 ghost use Rattle.rasta_core_run.specs.Ends.{Sent, Call, EndState, Receives, is_taken, outcome, reading_of};
 ghost use Rattle.rasta_core_run.specs.Steps.{EnterNone, IsAfter, StaysIn, calls_at};
-ghost use Rattle.rasta_core_run.specs.Run.{Ends, end_of, called};
+ghost use Rattle.rasta_core_run.specs.Run.{Ends, end_of, called, later};
 ghost use Rattle.rasta_core_run.specs.Events.{AreForeign, Event, IsDelivered, May, MayRun, Start, happened, run, started};
 ghost use Rattle.rasta_core_run.specs.Names.{AreNames, Names, partner_of};
 ghost use Rattle.rasta_core.specs.Invariant.{Timely};
@@ -39,6 +39,15 @@ pub fn every_event_keeps_order()
     client_alone();
     connection_begins();
     calls_carry_what_they_accept();
+}
+
+/// Time keeps it, whatever the clocks do.
+pub fn time_keeps_order()
+    ensures { (names : Names) (elapsed of_client of_server : ℕ) (ends : Ends) → Ordered names ends → Ordered names (later elapsed of_client of_server ends) }
+{
+    calls_keep_order();
+    partner_stays();
+    client_alone();
 }
 
 /// Every list of events keeps it.

@@ -194,21 +194,23 @@ module _ (names : Names) (f : Flow) (p : Pair) (m : Mirrors names f p) (ordered 
   s = f.ends.server.link
 
   -- how long ago what was returned last was sent, of an end inside
-  client_time : is_open c.phase ≡ true → (1000 * c.own_stamp ≤ f.ends.client.clock) × (f.ends.client.clock < 1000 * (c.own_stamp + 1800)) × (f.ends.time ≤ timely.of_client.returned_at + 1801802)
+  client_time : is_open c.phase ≡ true → (1000 * c.own_stamp ≤ f.ends.client.clock) × (f.ends.client.clock < 1000 * (c.own_stamp + 1800)) × (f.ends.time ≤ timely.of_client.returned_at + 1801811)
   client_time is_in =
       let own : own_stamp (standing c) ≡ c.own_stamp = ap own_stamp (standing_in c is_in) in
       let read = timely.ends_timed.client.was_read (is_inside c is_in) in
-      let before = timely.ends_timed.client.returned_before in
+      let reached = timely.ends_timed.client.reached (is_inside c is_in) in
+      let behind = timely.ends_timed.client.small.behind in
       let young = timely.ends_timed.client.young (is_inside c is_in) in
-      (omega (arith, own, read, before), omega (arith, own, young), omega (arith, own, read, young))
+      (omega (arith, own, reached), omega (arith, own, young), omega (arith, own, read, behind, young))
 
-  server_time : is_open s.phase ≡ true → (1000 * s.own_stamp ≤ f.ends.server.clock) × (f.ends.server.clock < 1000 * (s.own_stamp + 1800)) × (f.ends.time ≤ timely.of_server.returned_at + 1801802)
+  server_time : is_open s.phase ≡ true → (1000 * s.own_stamp ≤ f.ends.server.clock) × (f.ends.server.clock < 1000 * (s.own_stamp + 1800)) × (f.ends.time ≤ timely.of_server.returned_at + 1801811)
   server_time is_in =
       let own : own_stamp (standing s) ≡ s.own_stamp = ap own_stamp (standing_in s is_in) in
       let read = timely.ends_timed.server.was_read (is_inside s is_in) in
-      let before = timely.ends_timed.server.returned_before in
+      let reached = timely.ends_timed.server.reached (is_inside s is_in) in
+      let behind = timely.ends_timed.server.small.behind in
       let young = timely.ends_timed.server.young (is_inside s is_in) in
-      (omega (arith, own, read, before), omega (arith, own, young), omega (arith, own, read, young))
+      (omega (arith, own, reached), omega (arith, own, young), omega (arith, own, read, behind, young))
 
   pub young_client : is_open c.phase ≡ true → Young c
   young_client is_in = let t = client_time is_in in let at = timely.client.clock in record { own = omega (arith, t.0, at); young = omega (arith, t.1, at) }
@@ -222,14 +224,13 @@ module _ (names : Names) (f : Flow) (p : Pair) (m : Mirrors names f p) (ordered 
       let read = timely.ends_timed.client_heard heard (is_inside s server_in) in
       let t = client_time is_in in
       let prompt = timely.ends_timed.client.prompt heard in
-      let before = timely.ends_timed.client.heard_before in
       let at = timely.server.clock in
-      let least = read.least in let most = read.most in
+      let reached = read.before in let most = read.most in let ahead = read.small.ahead in
       record {
         reading = timely.of_client.heard_clock;
         kept_is = sym (ap heard_stamp (standing_in c is_in)) ∙ timely.ends_timed.client.heard_is heard;
-        before = omega (arith, least, before, at);
-        recent = omega (arith, most, prompt, t.2, at);
+        before = omega (arith, reached, at);
+        recent = omega (arith, most, ahead, prompt, t.2, at);
       }
 
   server_keeps : is_open s.phase ≡ true → is_asking s ≡ false → is_open c.phase ≡ true → Kept s c
@@ -238,14 +239,13 @@ module _ (names : Names) (f : Flow) (p : Pair) (m : Mirrors names f p) (ordered 
       let read = timely.ends_timed.server_heard heard (is_inside c client_in) in
       let t = server_time is_in in
       let prompt = timely.ends_timed.server.prompt heard in
-      let before = timely.ends_timed.server.heard_before in
       let at = timely.client.clock in
-      let least = read.least in let most = read.most in
+      let reached = read.before in let most = read.most in let ahead = read.small.ahead in
       record {
         reading = timely.of_server.heard_clock;
         kept_is = sym (ap heard_stamp (standing_in s is_in)) ∙ timely.ends_timed.server.heard_is heard;
-        before = omega (arith, least, before, at);
-        recent = omega (arith, most, prompt, t.2, at);
+        before = omega (arith, reached, at);
+        recent = omega (arith, most, ahead, prompt, t.2, at);
       }
 
   server_joined : is_open s.phase ≡ true → is_asking s ≡ false
@@ -288,9 +288,10 @@ module _ (names : Names) (f : Flow) (p : Pair) (m : Mirrors names f p) (ordered 
       let t = client_time client_in in
       let lone = timely.ends_timed.client_alone (is_inside c client_in) (is_outside s server_out) entered in
       let apart = timely.ends_timed.server.apart (is_outside s server_out) in
+      let ahead = timely.ends_timed.server.small.ahead in
       let closed = timely.ends_timed.server.closed (is_outside s server_out) ∙ ap closed_at (standing_out s server_out) in
       let at = timely.server.clock in
-      omega (arith, t.2, lone, apart, closed, at)
+      omega (arith, t.2, lone, apart, ahead, closed, at)
 
   left_alone : is_open c.phase ≡ true → is_asking c ≡ false → is_open s.phase ≡ false → s.clock ≤ s.closed_at + 1804
   left_alone client_in client_joined server_out = left_in_newest client_in server_out (timely.ends_timed.joined (has_heard c client_in client_joined))
@@ -299,9 +300,10 @@ module _ (names : Names) (f : Flow) (p : Pair) (m : Mirrors names f p) (ordered 
   long_ago : is_open c.phase ≡ false → c.closed_at + 5990 ≤ c.clock → timely.of_client.left_at + 5983000 ≤ f.ends.time
   long_ago client_out long =
       let apart = timely.ends_timed.client.apart (is_outside c client_out) in
+      let ahead = timely.ends_timed.client.small.ahead in
       let closed = timely.ends_timed.client.closed (is_outside c client_out) ∙ ap closed_at (standing_out c client_out) in
       let at = timely.client.clock in
-      omega (arith, apart, closed, at, long)
+      omega (arith, apart, ahead, closed, at, long)
 
   server_gone : is_open c.phase ≡ false → c.closed_at + 5990 ≤ c.clock → is_open s.phase ≡ false
   server_gone client_out long = choose (is_open s.phase) refl
@@ -439,12 +441,12 @@ module _ (names : Names) (f : Flow) (p : Pair) (m : Mirrors names f p) (ordered 
                   of_sender role.Client e known = absurd (cc e)
                   of_sender role.Server e known =
                       let then_read = known.was_read newest.0 (is_inside s server_in) in
-                      let least = then_read.least in let most = then_read.most in let before = known.sent_before in let soon = newest.1 in let at = timely.server.clock in record {
+                      let reached = then_read.before in let most = then_read.most in let ahead = then_read.small.ahead in let soon = newest.1 in let at = timely.server.clock in record {
                         number = numbered ∙ ap (λ (n : ℕ). wire n 0) (sym y.inside.own_first);
                         read_as = known.read_as;
                         stamped = sym (ap (λ (x : Pdu). x.time_stamp) same) ∙ known.stamp_is;
-                        before = omega (arith, least, before, at);
-                        recent = omega (arith, most, soon, at);
+                        before = omega (arith, reached, at);
+                        recent = omega (arith, most, ahead, soon, at);
                       }
 
           by_plays : Plays c t.client t.server → Plays s t.server t.client → Calls c s p.to_client
@@ -465,8 +467,8 @@ module _ (names : Names) (f : Flow) (p : Pair) (m : Mirrors names f p) (ordered 
           let newest = in_newest d flies can in
           let answers : IsAnswering role.Client flies.pdu.body = answering flies.pdu.body (subst (λ (x : Pdu). IsSpeech x.body) (sym same) speech) in
           let then_read = known.returns newest.0 answers (is_inside s server_in) in
-          let least = then_read.least in let most = then_read.most in let prompt = known.promptly answers in let back = known.heard_before in let before = known.sent_before in let soon = newest.1 in
-          (known.returned, sym (ap (λ (x : Pdu). x.confirmed_time_stamp) same) ∙ known.returned_is answers, omega (arith, least, back, before, server_clock), omega (arith, most, prompt, soon, server_clock))
+          let reached = then_read.before in let most = then_read.most in let ahead = then_read.small.ahead in let prompt = known.promptly answers in let soon = newest.1 in
+          (known.returned, sym (ap (λ (x : Pdu). x.confirmed_time_stamp) same) ∙ known.returned_is answers, omega (arith, reached, server_clock), omega (arith, most, ahead, prompt, soon, server_clock))
 
   returns_to_server : is_open s.phase ≡ true → Each (IsReturned p.server.clock) p.to_server
   returns_to_server server_in = each_read names.key (IsReturned p.server.clock) role.Client (f.ends.time + 10000) (drop f.passed f.ends.sent) p.to_server

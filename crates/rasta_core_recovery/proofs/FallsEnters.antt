@@ -212,7 +212,8 @@ module _ (laws : Laws) (names : Names) (are : AreNames names) (ends : Ends) (tim
   asked d flies sender there pdu read = record {
     read_as = known.read_as;
     stamped = ap (λ (q : Pdu). q.time_stamp) (same_read d.bytes pdu flies.pdu read flies.read) ∙ known.stamp_is;
-    was_read = known.was_read there inside;
+    was_read = let w = known.was_read there inside in let behind = w.small.behind in let ahead = w.small.ahead in let least = w.least in let most = w.most in
+        record { before = w.before; least = omega (arith, least, behind); most = omega (arith, most, ahead) };
     sent_before = known.sent_before;
   }
     where
@@ -242,7 +243,7 @@ module _ (laws : Laws) (names : Names) (are : AreNames names) (ends : Ends) (tim
       (there_is delivered.0 (sym one ∙ then_connection)) request request_read
 
   clock_now : kept ≤ reading_of ends.client.clock
-  clock_now = let w = first_asked.was_read.least in let b = first_asked.sent_before in omega (arith, w, b)
+  clock_now = let w = first_asked.was_read.before in omega (arith, w)
 
   -- all that the client has sent in it is the request that came
   its_place : (d : Sent) → InFlight names times d × IsSpelledIn names role.Client both.together.connection both.together.client.flow d → IsOf names (the_client new kept) d (the_stand 1 kept 0 0)
@@ -276,9 +277,9 @@ module _ (laws : Laws) (names : Names) (are : AreNames names) (ends : Ends) (tim
 
       alike : this.read_as ≡ kept
       alike =
-          let a = this.was_read.least in let b = this.was_read.most in let e = this.sent_before
-          in let f = first_asked.was_read.least in let g = first_asked.was_read.most in let h = first_asked.sent_before in let i = delivered.1.in_time
-          in same_reading this.read_as kept (reading_of ends.client.clock) (omega (arith, a, e)) (omega (arith, b, in_time)) (omega (arith, f, h)) (omega (arith, g, i))
+          let a = this.was_read.before in let b = this.was_read.most
+          in let f = first_asked.was_read.before in let g = first_asked.was_read.most in let i = delivered.1.in_time
+          in same_reading this.read_as kept (reading_of ends.client.clock) (omega (arith, a)) (omega (arith, b, in_time)) (omega (arith, f)) (omega (arith, g, i))
           (sym this.stamped ∙ ap (λ (q : Pdu). q.time_stamp) same_pdu ∙ first_asked.stamped)
 
   -- and the server has sent nothing in it before
@@ -319,7 +320,7 @@ module _ (laws : Laws) (names : Names) (are : AreNames names) (ends : Ends) (tim
     some = omega arith;
     number = entered.granted.number;
     stamped = entered.granted.stamped;
-    was_read = record { least = omega arith; most = omega arith };
+    was_read = record { before = omega arith; least = omega arith; most = omega arith };
     confirms = λ more_sent. absurd (omega (arith, more_sent));
     returns = λ more_sent. absurd (omega (arith, more_sent));
     recent = λ more_sent. absurd (omega (arith, more_sent));

@@ -41,16 +41,14 @@ use Rattle.rasta_core_recovery.proofs.StaysIn.{Asks, IsSettledAt, joins as joins
 pub client_past : (names : Names) (ends : Ends) → Timely names ends → is_open ends.client.link.phase ≡ true → ends.client.link.own_stamp ≤ reading_of ends.client.clock
 client_past names ends timely is_in =
     let own : own_stamp (standing ends.client.link) ≡ ends.client.link.own_stamp = ap own_stamp (standing_in ends.client.link is_in)
-    in let read = timely.ends_timed.client.was_read (subst StandsInside (sym (standing_in ends.client.link is_in)) tt)
-    in let before = timely.ends_timed.client.returned_before
-    in omega (arith, own, read, before)
+    in let reached = timely.ends_timed.client.reached (subst StandsInside (sym (standing_in ends.client.link is_in)) tt)
+    in omega (arith, own, reached)
 
 pub server_past : (names : Names) (ends : Ends) → Timely names ends → is_open ends.server.link.phase ≡ true → ends.server.link.own_stamp ≤ reading_of ends.server.clock
 server_past names ends timely is_in =
     let own : own_stamp (standing ends.server.link) ≡ ends.server.link.own_stamp = ap own_stamp (standing_in ends.server.link is_in)
-    in let read = timely.ends_timed.server.was_read (subst StandsInside (sym (standing_in ends.server.link is_in)) tt)
-    in let before = timely.ends_timed.server.returned_before
-    in omega (arith, own, read, before)
+    in let reached = timely.ends_timed.server.reached (subst StandsInside (sym (standing_in ends.server.link is_in)) tt)
+    in omega (arith, own, reached)
 
 abbrev speaker_of : Role → Option ℕ → ℕ → ℕ → ℕ → ℕ → ℕ → ℕ → ℕ → Mark → Mark → Speaker
 speaker_of who connection first partner_first time clock partner_clock expected kept mark partner_mark = record {
@@ -560,7 +558,7 @@ module _ (names : Names) (marks : Marks) (elapsed of_client of_server : ℕ) (en
   }
 
   reads_later : (clock own reading at : ℕ) → IsWithinDrift elapsed own → WasReadThen ends.time clock reading at → WasReadThen (ends.time + elapsed) (clock + own) reading at
-  reads_later clock own reading at d w = record { least = let l = w.least in let x = d.least in omega (arith, l, x); most = let m = w.most in let x = d.most in omega (arith, m, x) }
+  reads_later clock own reading at d w = record { before = let b = w.before in omega (arith, b); least = let l = w.least in let x = d.least in omega (arith, l, x); most = let m = w.most in let x = d.most in omega (arith, m, x) }
 
   recent_later : (clock own returned at : ℕ) → IsWithinDrift elapsed own → 1000 * clock + 1001 * at ≤ 1000000 * returned + 1001 * ends.time + 3820000000
       → 1000 * (clock + own) + 1001 * at ≤ 1000000 * returned + 1001 * (ends.time + elapsed) + 3820000000

@@ -199,7 +199,7 @@ module _ (law : WrittenIsRead) (names : Names) (own other : Speaker) (l k m : Li
         };
         keeps = record {
           kept_is = t.partner_stamp ∙ told_then.stamped;
-          before = let w = told_then.was_read.least in let y = takes_from.sent_before in omega (arith, w, y);
+          before = let w = told_then.was_read.before in omega (arith, w);
           lately = let w = told_then.was_read.most in let y = takes_from.in_time in let z = t.own_stamp in omega (arith, w, y, z, now);
         };
         own_rises = subst (Rises (IsOf names own) nothing_sent (sent ++ more)) (sym (same_stand refl t.stays.clock (confirms_joined k t.stays.joined ∙ ap (λ (n : ℕ). n - 1) stands_then) refl))
@@ -299,7 +299,7 @@ module _ (law : WrittenIsRead) (names : Names) (own other : Speaker) (l k m : Li
         };
         keeps = record {
           kept_is = kept_is;
-          before = let w = told.was_read.least in let y = brought.sent_before in omega (arith, w, y);
+          before = let w = told.was_read.before in omega (arith, w);
           lately = let w = told.was_read.most in let y = brought.in_time in omega (arith, w, y, own_is, own_past, now);
         };
         own_rises = rises_append (IsOf names joined_own) nothing_sent (the_stand l.sent l.clock 0 0) (stands k at.now) sent more

@@ -104,7 +104,7 @@ module _ (law : WrittenIsRead) (names : Names) (speaker : Speaker) (v : Voice) (
     some = omega arith;
     number = w.numbered.number ∙ ap (λ (f : ℕ). wire f n) first ∙ ap (wire speaker.first) (omega arith);
     stamped = w.numbered.stamped ∙ stamped;
-    was_read = record { least = omega (arith, read_now); most = omega (arith, read_now) };
+    was_read = record { before = omega (arith, read_now); least = omega (arith, read_now); most = omega (arith, read_now) };
     confirms = λ more. w.confirms ∙ ap (λ (f : ℕ). wire f d) partner_first;
     returns = λ more. w.returns;
     recent = λ more. omega (arith, recent);

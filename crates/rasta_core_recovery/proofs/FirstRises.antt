@@ -53,7 +53,7 @@ module _ (names : Names) (w : Speaker) (l m : LinkState) (first : m.own_first �
     some = t.some;
     number = t.number ∙ ap (λ (f : ℕ). wire f (at.sent - 1)) (sym first);
     stamped = t.stamped;
-    before = let r = t.was_read.least in omega (arith, r, past, clock);
+    before = let r = t.was_read.before in omega (arith, r, clock);
     recent = let r = t.was_read.most in omega (arith, r, in_time, clock);
     confirms = λ more. t.confirms more ∙ ap (λ (f : ℕ). wire f at.confirms) (sym partner_first);
     returns = t.returns;

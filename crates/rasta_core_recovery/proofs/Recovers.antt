@@ -55,9 +55,9 @@ pub record Holds (names : Names) (ends : Ends) : Type 0 where
 own_before : (names : Names) (ends : Ends) → Timely names ends → OwnBefore ends.client.link × OwnBefore ends.server.link
 own_before names ends is = (
   λ is_in. let own : own_stamp (standing ends.client.link) ≡ ends.client.link.own_stamp = ap own_stamp (standing_in ends.client.link is_in) in
-      omega (arith, own, is.ends_timed.client.was_read (subst IsInside (sym (standing_in ends.client.link is_in)) tt), is.ends_timed.client.returned_before, is.client.clock),
+      omega (arith, own, is.ends_timed.client.reached (subst IsInside (sym (standing_in ends.client.link is_in)) tt), is.client.clock),
   λ is_in. let own : own_stamp (standing ends.server.link) ≡ ends.server.link.own_stamp = ap own_stamp (standing_in ends.server.link is_in) in
-      omega (arith, own, is.ends_timed.server.was_read (subst IsInside (sym (standing_in ends.server.link is_in)) tt), is.ends_timed.server.returned_before, is.server.clock),
+      omega (arith, own, is.ends_timed.server.reached (subst IsInside (sym (standing_in ends.server.link is_in)) tt), is.server.clock),
 )
   where
     standing_in : (l : LinkState) → is_open l.phase ≡ true → standing l ≡ Inside (is_asking l) l.own_stamp l.partner_stamp

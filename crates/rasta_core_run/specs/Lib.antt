@@ -9,6 +9,7 @@ pub mod Safe
 pub mod Given
 pub mod Newest
 pub mod Steps
+pub mod TrueClocks
 -- What stands below a run: one end of a link, and a PDU.
 pub use Rattle.rasta_core_link.specs.Parameters
 pub use Rattle.rasta_core_link.specs.Sequence

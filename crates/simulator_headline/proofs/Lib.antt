@@ -32,3 +32,4 @@ mod ControllersReached
 mod AtDetectors
 mod AtNodes
 mod AllEvents
+pub mod TrueEvents

@@ -42,6 +42,7 @@ use Rattle.simulator_run_links.specs.simulator_run.Happens.{all_later, passed}
 use Rattle.simulator_run_links.specs.simulator_run.Links.{AreLinksOf, names_at}
 use Rattle.simulator_run_links.specs.simulator_run.Nodes.{links, nodes, point_link}
 use Rattle.simulator_run_links.specs.simulator_run.Refusals.{all_within, interlocking_within, keeps_time, refusal_of_time, refused_where}
+use Rattle.simulator_run_links.specs.simulator_run.TrueClocks.{refusal_but_drift}
 use Rattle.simulator_run_links.specs.simulator_run.Controllers as servers_of
 use Rattle.simulator_run_links.specs.simulator_run.State.{ClockedControllerState, WorldState}
 use Rattle.simulator_headline.specs.Represents.{AreFrozen, ArePointsSeen, AreSignalsSeen, IsHostOf, IsNetworkOf, Represents, RepresentsAfter, IsInterlockingSeen, given_in}
@@ -84,6 +85,15 @@ clock_within site elapsed steps world none =
     let first = not_refused (not (length steps == nodes site)) refused.NoSuchNode _ none
     in let second = not_refused (not (list_all (keeps_time elapsed) steps)) refused.Drift _ first.1
     in let third = not_refused (not (nat_le (world.time + elapsed) 9000000000000000 && all_within world steps)) refused.ClockLimit None second.1
+    in station_kept world.station.clock steps _ (links site) (same_count (length steps) (nodes site) (not_false (length steps == nodes site) first.0))
+    (second_true (nat_le (world.time + elapsed) 9000000000000000) (all_within world steps) (not_false (nat_le (world.time + elapsed) 9000000000000000 && all_within world steps) third.0))
+
+-- so it does where nothing but its drift refuses a time
+pub clock_within_but : (site : Site) (elapsed : ℕ) (steps : List ℕ) (world : WorldState) → refusal_but_drift site elapsed steps world ≡ None → world.station.clock + slice_index_or steps 0 0 ≤ 9000000000000000
+unfolding refusal_but_drift
+clock_within_but site elapsed steps world none =
+    let first = not_refused (not (length steps == nodes site)) refused.NoSuchNode _ none
+    in let third = not_refused (not (nat_le (world.time + elapsed) 9000000000000000 && all_within world steps)) refused.ClockLimit None first.1
     in station_kept world.station.clock steps _ (links site) (same_count (length steps) (nodes site) (not_false (length steps == nodes site) first.0))
     (second_true (nat_le (world.time + elapsed) 9000000000000000) (all_within world steps) (not_false (nat_le (world.time + elapsed) 9000000000000000 && all_within world steps) third.0))
 

@@ -13,11 +13,15 @@ ghost use Rattle.simulator_run_links.specs.simulator_run.Happens.{happens};
 ghost use Rattle.simulator_run_links.specs.simulator_run.Nodes.{Interlocking, node_at};
 ghost use Rattle.simulator_run_links.specs.simulator_run.Refusals.{refusal};
 ghost use Rattle.simulator_run_links.specs.simulator_run.State.{WorldState};
+ghost use Rattle.simulator_run_links.specs.simulator_run.TrueClocks.{MayCome};
+ghost use Rattle.simulator_run_links.specs.TrueLinks.{AreTrueLinks};
+ghost use Rattle.simulator_run_links.specs.rasta_core.Links.{Links};
 ghost use Rattle.simulator_headline.specs.Represents.{Represents, RepresentsAfter};
 
 use crate::{
     calls_give_and_take_at_the_ends, clients_are_alone_after_quiet, clients_are_seen_at_their_ends,
-    networks_follow_their_worlds, new_interlockings_are_just_made, represented_worlds_are_seen,
+    networks_follow_their_worlds, networks_pass_time, new_interlockings_are_just_made,
+    represented_worlds_are_seen,
 };
 use simulator_machine::{invariant_is_kept, lists_of_moves_compose, moves_of_each_are_moves};
 use simulator_machine_controllers::{
@@ -52,6 +56,32 @@ pub fn time_keeps_representations()
     lists_of_moves_compose();
     moves_of_each_are_moves();
     networks_follow_their_worlds();
+    passing_time_is_moves();
+    representations_tell_the_connection();
+    points_pass_time_and_restart();
+    points_stay_elsewhere();
+    signals_pass_time_and_restart();
+    signals_stay_elsewhere();
+    tables_are_sound();
+}
+
+/// So does time whose clocks are true, if some links of the world keep time then.
+pub fn time_of_true_clocks_keeps_representations()
+    ensures { (site : Site) (table : Table) (elapsed : ℕ) (clocks : List ℕ) (world : WorldState) (machine : Machine) (other : Links)
+        → Represents site table world machine → MayCome site (Time elapsed clocks) world → AreTrueLinks site (happens site table (Time elapsed clocks) world) other
+        → RepresentsAfter site table machine (happens site table (Time elapsed clocks) world) }
+{
+    calls_give_and_take_at_the_ends();
+    clients_are_alone_after_quiet();
+    clients_are_seen_at_their_ends();
+    controllers_change_nothing_seen();
+    ends_are_those_of_the_nodes();
+    invariant_is_kept();
+    lawful_ends_are_fit();
+    lawful_worlds_stay_lawful();
+    lists_of_moves_compose();
+    moves_of_each_are_moves();
+    networks_pass_time();
     passing_time_is_moves();
     representations_tell_the_connection();
     points_pass_time_and_restart();

@@ -15,6 +15,9 @@ ghost use Rattle.simulator_run_links.specs.simulator_run.Happens.{happens};
 ghost use Rattle.simulator_run_links.specs.simulator_run.Refusals.{refusal};
 ghost use Rattle.simulator_run_links.specs.simulator_run.Seen.{IsSnapshotOf};
 ghost use Rattle.simulator_run_links.specs.simulator_run.State.{WorldState};
+ghost use Rattle.simulator_run_links.specs.simulator_run.TrueClocks.{KeepTime, MayAllCome, MayCome};
+ghost use Rattle.simulator_run_links.specs.TrueLinks.{KeepLinks};
+ghost use Rattle.simulator_run_links.specs.rasta_core.Links.{Links};
 ghost use Rattle.simulator_run_links.specs.simulator_snapshot.Safe.{Safe};
 ghost use Rattle.simulator_run_links.specs.simulator_snapshot.declared.snapshot.Snapshot.{Snapshot};
 ghost use Rattle.simulator_headline.specs.Represents.{Represents, RepresentsAfter};
@@ -24,8 +27,10 @@ use crate::{
     controllers_events_are_represented, represented_worlds_are_safe,
     restarts_of_interlockings_are_represented, stations_begin_represented,
     steps_of_interlockings_are_represented, time_keeps_representations,
+    time_of_true_clocks_keeps_representations,
 };
 use simulator_machine::lists_of_moves_compose;
+use simulator_run_links::true_clocks_keep_links;
 
 /// Where the machine sees a world, each event that can happen is a list of moves of the machine: they lead it to a state in
 /// which it sees the world behind the event.
@@ -72,3 +77,25 @@ pub fn lists_of_events_go_on()
     ensures after { (site : Site) (table : Table) (events : List Event) (event : Event) (world : WorldState)
         → after_all site table (events ++ event ∷ []) world ≡ happens site table event (after_all site table events world) }
 {}
+
+/// The same of real machines, whose clocks are true to one part in a thousand between any two moments, give or take ten
+/// microseconds, however short the events are. Each event of such a list keeps the machine's sight of the world (*event*). After
+/// every list of them the machine sees the station (*reached*), and every snapshot of it is safe (*safe*).
+pub fn every_world_of_true_clocks_is_safe()
+    ensures event { (site : Site) (table : Table) (event : Event) (others : List Event) (world : WorldState) (machine : Machine) (network : Links) → Once site → IsStation site
+        → IsTableOf site table → Represents site table world machine → KeepLinks site table (event ∷ others) world network → MayCome site event world
+        → RepresentsAfter site table machine (happens site table event world) }
+    ensures reached { (site : Site) (table : Table) (outset : Outset) (events : List Event) → Once site → IsStation site → IsTableOf site table → IsOutsetOf site outset
+        → MayAllCome site table events (world_at site table outset) → KeepTime site table events (world_at site table outset)
+        → RepresentsAfter site table (first (positions_at outset)) (after_all site table events (world_at site table outset)) }
+    ensures safe { (site : Site) (table : Table) (outset : Outset) (events : List Event) (seen : Snapshot) → Once site → IsStation site → IsTableOf site table → IsOutsetOf site outset
+        → MayAllCome site table events (world_at site table outset) → KeepTime site table events (world_at site table outset)
+        → IsSnapshotOf table (after_all site table events (world_at site table outset)) seen → Safe site seen }
+{
+    every_event_is_represented();
+    lists_of_moves_compose();
+    represented_worlds_are_safe();
+    stations_begin_represented();
+    time_of_true_clocks_keeps_representations();
+    true_clocks_keep_links();
+}

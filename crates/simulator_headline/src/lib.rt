@@ -20,7 +20,10 @@ mod steps;
 mod worlds;
 
 pub use changes::changes_are_represented;
-pub use clocks::{restarts_of_interlockings_are_represented, time_keeps_representations};
+pub use clocks::{
+    restarts_of_interlockings_are_represented, time_keeps_representations,
+    time_of_true_clocks_keeps_representations,
+};
 pub use detectors::{events_at_detectors_are_represented, losses_are_represented};
 pub use ends::{
     calls_give_and_take_at_the_ends, clients_are_seen_at_their_ends, peers_with_names_are_read,
@@ -34,9 +37,9 @@ pub use flight::{
 };
 pub use headline::{
     every_event_is_represented, every_world_is_reached_by_moves, every_world_is_safe,
-    lists_of_events_go_on,
+    every_world_of_true_clocks_is_safe, lists_of_events_go_on,
 };
-pub use networks::networks_follow_their_worlds;
+pub use networks::{networks_follow_their_worlds, networks_pass_time};
 pub use points::events_at_points_are_represented;
 pub use reached::reached_worlds_are_safe;
 pub use representations::{represented_worlds_are_safe, represented_worlds_are_seen};

@@ -1,16 +1,17 @@
 //! What everything that can happen to a link keeps.
 
 ghost use Rattle.std.specs.Prelude.{ℕ, ◌<◌, List};
+ghost use Rattle.rasta_core.specs.EachLink.{AreTimely};
 ghost use Rattle.rasta_core.specs.Events.{Event, May, MayRun, Start, happened, run, started};
-ghost use Rattle.rasta_core.specs.Links.{AreLinks, Links, LinksEvent, LinksStart, MayHappenTo, MayRunLinks, begun, happened_to, run_links, seen};
+ghost use Rattle.rasta_core.specs.Links.{AreLinks, Links, LinksEvent, LinksStart, MayHappenTo, MayRunLinks, PassesFor, begun, happened_to, run_links, seen};
 ghost use Rattle.rasta_core.specs.Names.{AreNames, Names};
 ghost use Rattle.rasta_core.specs.Run.{Ends};
 ghost use Rattle.simulator_machine_links.specs.Lawful.{AreLawful, IsLawful};
 
 use rasta_core::{
-    every_event_keeps_order, every_event_keeps_time, given_was_sent, links_can_be_read_off,
-    links_keep_order, links_keep_time, newest_tells_the_connection, nothing_before_a_connection,
-    starts_in_time,
+    each_link_sees_its_events, every_event_keeps_order, every_event_keeps_time, given_was_sent,
+    links_can_be_read_off, links_keep_order, links_keep_time, newest_tells_the_connection,
+    nothing_before_a_connection, starts_in_time, time_changes_no_connection, time_keeps_order,
 };
 
 /// Two ends that were just created are a lawful link, and every event that may happen, and every list of them, keeps it.
@@ -42,4 +43,15 @@ pub fn lawful_worlds_stay_lawful()
     links_keep_time();
     links_keep_order();
     links_can_be_read_off();
+}
+
+/// They stay lawful while time passes, whatever their clocks do in it, as long as they keep time then.
+pub fn lawful_worlds_pass_time()
+    ensures { (count : ℕ) (names : ℕ → Names) (elapsed : ℕ) (of_clients of_servers : ℕ → ℕ) (links : Links) → AreLawful count names links
+        → AreTimely count names (happened_to (PassesFor elapsed of_clients of_servers) links)
+        → AreLawful count names (happened_to (PassesFor elapsed of_clients of_servers) links) }
+{
+    each_link_sees_its_events();
+    time_changes_no_connection();
+    time_keeps_order();
 }

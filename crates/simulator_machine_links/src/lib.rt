@@ -11,7 +11,7 @@ mod steps;
 mod what_stays;
 
 pub use client_knowledge::clients_know_throughout;
-pub use lawful::{lawful_links_stay_lawful, lawful_worlds_stay_lawful};
+pub use lawful::{lawful_links_stay_lawful, lawful_worlds_pass_time, lawful_worlds_stay_lawful};
 pub use laws::{items_join, written_items_are_read};
 pub use lists_of_calls::{
     calls_may_follow_calls, calls_of_a_client_are_told, calls_of_a_server_are_moves,

@@ -30,6 +30,7 @@ ghost use Rattle.simulator_run.specs.layout.Once.{Once};
 ghost use Rattle.simulator_run.specs.layout.Station.{IsStation};
 ghost use Rattle.simulator_run.specs.simulator_snapshot.Safe.{Safe};
 ghost use Rattle.simulator_run.specs.Run.{CanHappen, after_all};
+ghost use Rattle.simulator_run.specs.TrueClocks.{KeepTime, MayAllCome};
 ghost use Rattle.simulator_nodes.specs.Lives.{LivesAsDetector, LivesAsInterlocking, LivesAsPoint, LivesAsSignal, detector_at, first_life, host_after, life_in, point_at, position_in, sections_in, signal_at, the_interlocking};
 ghost use Rattle.simulator_nodes.specs.Readings.{Rises};
 ghost use Rattle.simulator_nodes.specs.Said.{Departure, LeftInTime, NoneLost, departures_in, lamp_line, last_line, lines_after, said_in, said_to};
@@ -37,7 +38,7 @@ ghost use Rattle.simulator_nodes.specs.Shown.{IsOfNodes};
 ghost use Rattle.simulator_nodes.specs.Split.{around, bytes_of, connection_in, handed_out_by, sent_at, stepped};
 ghost use Rattle.simulator_nodes.specs.Told.{Told, told};
 
-use simulator_headline::every_world_is_safe;
+use simulator_headline::{every_world_is_safe, every_world_of_true_clocks_is_safe};
 
 /// An event changes what is around the nodes, and then at most one node makes a step, with what it is told (*split*). The
 /// bytes that were sent grow by those that this step hands out, and by no others (*network*).
@@ -76,6 +77,17 @@ pub fn what_the_nodes_show_is_safe()
         → CanHappen site table events (world_at site table outset) → IsOfNodes site table outset events seen → Safe site seen }
 {
     every_world_is_safe();
+    what_the_nodes_show_is_seen();
+}
+
+/// It is safe with the clocks of real machines, too: true to one part in a thousand between any two moments, give or take ten
+/// microseconds, however short the events are.
+pub fn what_nodes_of_true_clocks_show_is_safe()
+    ensures { (site : Site) (table : Table) (outset : Outset) → IsOutsetOf site outset → (events : List Event) (seen : Snapshot) → Once site → IsStation site → IsTableOf site table
+        → MayAllCome site table events (world_at site table outset) → KeepTime site table events (world_at site table outset)
+        → IsOfNodes site table outset events seen → Safe site seen }
+{
+    every_world_of_true_clocks_is_safe();
     what_the_nodes_show_is_seen();
 }
 

@@ -13,7 +13,8 @@ pub use contacts::{
 pub use laws::{
     a_point_drives_as_its_last_line, a_signal_shows_its_last_line, a_station_is_its_nodes,
     drift_turns_every_reading, every_event_is_one_nodes, the_readings_of_a_life_rise,
-    what_is_delivered_left_a_node, what_is_sent_is_what_nodes_say, what_the_nodes_show_is_safe,
+    what_is_delivered_left_a_node, what_is_sent_is_what_nodes_say,
+    what_nodes_of_true_clocks_show_is_safe, what_the_nodes_show_is_safe,
     what_the_nodes_show_is_seen,
 };
 pub use worked::wrong_lives_are_refuted;

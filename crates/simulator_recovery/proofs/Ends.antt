@@ -15,7 +15,7 @@ use Rattle.simulator_recovery.proofs.Stamps.{Leaves, Received, began, closing_by
 
 -- The own stamp of a link that is in a connection, and has taken an item there, was read at this true time or before.
 abbrev pub IsOfThen : (made time clock : ℕ) → LinkState → Type 0
-IsOfThen made time clock link = is_open link.phase ≡ true → 1 ≤ link.taken → 999 * time + 1000000 * link.own_stamp ≤ 1000 * clock + 999 * made
+IsOfThen made time clock link = is_open link.phase ≡ true → 1 ≤ link.taken → 999 * time + 1000000 * link.own_stamp ≤ 1000 * clock + 999 * made + 10000
 
 abbrev pub ServerIsOfThen : ℕ → Ends → Type 0
 ServerIsOfThen made ends = IsOfThen made ends.time ends.server.clock ends.server.link

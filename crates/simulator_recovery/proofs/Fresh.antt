@@ -12,7 +12,8 @@ use Rattle.simulator_run.specs.rasta_core.Sentences.{IsIn}
 use Rattle.simulator_run.specs.rasta_core.Sequence.{distance, stamp}
 use Rattle.simulator_run.specs.rasta_core.TimedEnds.{Inside, IsInside, Outside, Times, own_stamp, standing, times_of}
 use Rattle.simulator_run.specs.rasta_core.State.{LinkState, is_asking, is_open}
-use Rattle.simulator_run.specs.rasta_core.Timely.{IsAnswering, IsKnown, WasReadThen}
+use Rattle.simulator_run.specs.rasta_core.Timely.{IsAnswering, IsKnown, WasReadThenBy}
+use Rattle.simulator_run.specs.rasta_core.TrueClocks.{Offset}
 use Rattle.simulator_run.specs.rasta_core.identity.Identity.{Identity}
 use Rattle.simulator_run.specs.rasta_core.identity.Role.{Role}
 use Rattle.simulator_run.specs.rasta_core.identity.Role.TheVariants as role
@@ -28,12 +29,13 @@ OwnConnection = (names : Names) (ends : Ends) (who : Role) (bytes : List ℕ) (c
 whole : (now reading returned : ℕ) → returned ≡ stamp reading → reading ≤ now → now < reading + 2 ^ 32 → now - distance returned (stamp now) ≡ reading
 whole now reading returned is before turn = omega (arith, is, before, turn)
 
-exact : (time clock now returned at back confirmed : ℕ) → now ≡ clock / 1000 → confirmed ≡ stamp returned → WasReadThen time clock returned back → back ≤ at → at ≤ time
+exact : (time clock : ℕ) (offset : Offset) (now returned at back confirmed : ℕ) → now ≡ clock / 1000 → confirmed ≡ stamp returned → WasReadThenBy time clock offset returned back
     → at < back + 3802000 → time ≤ at + lifetime → now - distance confirmed (stamp now) ≡ returned
-exact time clock now returned at back confirmed reads is read before sent promptly alive =
-    let least = read.least
+exact time clock offset now returned at back confirmed reads is read promptly alive =
+    let reached = read.before
     in let most = read.most
-    in whole now returned confirmed is (omega (arith, least, before, sent, reads)) (omega (arith, most, promptly, alive, reads))
+    in let ahead = read.small.ahead
+    in whole now returned confirmed is (omega (arith, reached, reads)) (omega (arith, most, ahead, promptly, alive, reads))
 
 among_each : (P : Sent → Type 0) (datagram : Sent) (sent : List Sent) → Each P sent → IsAmong datagram sent → P datagram
 among_each P datagram [] each among = absurd among
@@ -74,11 +76,12 @@ module _ (own : OwnConnection) (names : Names) (ends : Ends) (are : AreNames nam
     in_newest = same_Some _ _ (sym (own names ends role.Server bytes connection datagram timely delivered opened) ∙ timely.ends_timed.server.in_newest (is_inside ends.server.link opened))
 
     -- the stamp was read, by a clock that keeps time, when the PDU was made or before
-    pub taken_stamp : 999 * ends.time + 1000000 * (reading_of ends.server.clock - distance pdu.confirmed_time_stamp (stamp (reading_of ends.server.clock))) ≤ 1000 * ends.server.clock + 999 * datagram.at
+    pub taken_stamp : 999 * ends.time + 1000000 * (reading_of ends.server.clock - distance pdu.confirmed_time_stamp (stamp (reading_of ends.server.clock))) ≤ 1000 * ends.server.clock + 999 * datagram.at + 10000
     taken_stamp =
         let then_read = known.returns in_newest answers (is_inside ends.server.link opened)
-        in let is = exact ends.time ends.server.clock (reading_of ends.server.clock) known.returned datagram.at flight.back pdu.confirmed_time_stamp refl (known.returned_is answers) then_read
-        known.heard_before known.sent_before (known.promptly answers) delivered.in_time
+        in let is = exact ends.time ends.server.clock timely.of_server.offset (reading_of ends.server.clock) known.returned datagram.at flight.back pdu.confirmed_time_stamp refl (known.returned_is answers) then_read
+        (known.promptly answers) delivered.in_time
         in let least = then_read.least
+        in let behind = then_read.small.behind
         in let before = known.heard_before
-        in omega (arith, is, least, before)
+        in omega (arith, is, least, behind, before)

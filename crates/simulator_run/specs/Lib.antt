@@ -7,6 +7,7 @@ pub mod Network
 pub mod Refusals
 pub mod Happens
 pub mod Run
+pub mod TrueClocks
 pub mod Seen
 pub mod Picture
 pub mod Links

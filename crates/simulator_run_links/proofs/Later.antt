@@ -8,7 +8,7 @@ use Rattle.simulator_run.specs.layout.Entries.{Site}
 use Rattle.simulator_run.specs.rasta_core.Clock.{settled}
 use Rattle.simulator_run.specs.rasta_core.Ends.{EndState, end_later, leaves, reading_of}
 use Rattle.simulator_run.specs.rasta_core.Events.{IsWithinDrift}
-use Rattle.simulator_run.specs.rasta_core.Links.{Links, PassesFor, happened_to}
+use Rattle.simulator_run.specs.rasta_core.Links.{Links, PassesFor, happened_to, run_links}
 use Rattle.simulator_run.specs.rasta_core.State.{is_open}
 use Rattle.simulator_run.specs.simulator_event.refused.Refused.{Refused}
 use Rattle.simulator_run.specs.simulator_event.refused.Refused.TheVariants as refused
@@ -16,6 +16,7 @@ use Rattle.simulator_run.specs.Happens.{all_later, passed}
 use Rattle.simulator_run.specs.Links.{AreLinksOf, IsClientAt, IsServerAt, ServerEnd, end_of_server, server_ends}
 use Rattle.simulator_run.specs.Nodes.{links, nodes, partners}
 use Rattle.simulator_run.specs.Refusals.{keeps_time, refusal_of_time, refused_where}
+use Rattle.simulator_run.specs.TrueClocks.{refusal_but_drift}
 use Rattle.simulator_run.specs.Controllers.{controller_later, is_inside_at}
 use Rattle.simulator_run.specs.State.{ClockedControllerState, WorldState}
 use Rattle.simulator_run_links.proofs.Lists.{both_true, length_map, within_some}
@@ -47,6 +48,15 @@ time_kept site elapsed steps world none =
       all = same (length steps) (nodes site) (not_false (length steps == nodes site) first.0);
       each = not_false (list_all (keeps_time elapsed) steps) second.0;
     }
+  where
+    same : (a b : ℕ) → (a == b) ≡ true → a ≡ b
+    same a b e = grind (arith, nat_tests)
+
+-- the count of steps of a time that nothing refuses but drift
+pub steps_count : (site : Site) (elapsed : ℕ) (steps : List ℕ) (world : WorldState) → refusal_but_drift site elapsed steps world ≡ None → length steps ≡ nodes site
+unfolding refusal_but_drift
+steps_count site elapsed steps world none =
+    same (length steps) (nodes site) (not_false (length steps == nodes site) (not_refused (not (length steps == nodes site)) refused.NoSuchNode _ none).0)
   where
     same : (a b : ℕ) → (a == b) ≡ true → a ≡ b
     same a b e = grind (arith, nat_tests)
@@ -169,7 +179,7 @@ kept_later moment elapsed kept end is = record {
 
 -- ---- the event
 
-module _ (site : Site) (elapsed : ℕ) (steps : List ℕ) (world : WorldState) (before : Links) (kept : KeepsTime site elapsed steps) (are : AreLinksOf site world before) where
+module _ (site : Site) (elapsed : ℕ) (steps : List ℕ) (world : WorldState) (before : Links) (all : length steps ≡ nodes site) (are : AreLinksOf site world before) where
   abbrev of_clients : ℕ → ℕ
   of_clients link = slice_index_or steps 0 0
 
@@ -177,16 +187,10 @@ module _ (site : Site) (elapsed : ℕ) (steps : List ℕ) (world : WorldState) (
   of_servers link = slice_index_or (drop 1 steps) link 0
 
   there : (link : ℕ) → link < links site → link < length (drop 1 steps)
-  there link below = cases steps kept.all where
+  there link below = cases steps all where
     cases : (list : List ℕ) → length list ≡ nodes site → link < length (drop 1 list)
     cases [] e = absurd (omega arith)
     cases (first ∷ others) e = omega arith
-
-  may_pass : (link : ℕ) → link < links site → IsWithinDrift elapsed (of_clients link) × IsWithinDrift elapsed (of_servers link)
-  may_pass link below = (drift_kept elapsed _ (all_at (keeps_time elapsed) steps 0 kept.each (omega (arith, kept.all))), drift_kept elapsed _ (server steps kept.each kept.all)) where
-    server : (list : List ℕ) → list_all (keeps_time elapsed) list ≡ true → length list ≡ nodes site → keeps_time elapsed (slice_index_or (drop 1 list) link 0) ≡ true
-    server [] all e = absurd (omega arith)
-    server (first ∷ others) all e = all_at (keeps_time elapsed) others link (both_true (keeps_time elapsed first) (list_all (keeps_time elapsed) others) all).1 (omega arith)
 
   abbrev new : WorldState
   new = passed elapsed steps world
@@ -214,14 +218,24 @@ module _ (site : Site) (elapsed : ℕ) (steps : List ℕ) (world : WorldState) (
       (subst (λ n. IsKept (end_passed (length world.sent) (slice_index_or (drop 1 steps) link 0) is.kept) (end_later (slice_index_or (drop 1 steps) link 0) n (before.ends link).server)) (sym (ap length are.sent_is))
       (kept_later (length world.sent) (slice_index_or (drop 1 steps) link 0) is.kept (before.ends link).server (kept_at world link (before.ends link).server is.kept is is.there)))
 
-  pub time_follows : (partners_count : length (partners site) ≡ links site) → FollowsBy site (time_events elapsed steps) (passed elapsed steps world) before
+  pub time_links : length (partners site) ≡ links site → AreLinksOf site (passed elapsed steps world) (run_links (time_events elapsed steps) before)
   unfolding passed
-  time_follows partners_count = record {
-    may = (may_pass, tt);
-    are = record {
-      time_is = ap (λ t. t + elapsed) are.time_is;
-      sent_is = are.sent_is;
-      clients = λ link id at. client_later link (are.clients link id at);
-      servers = λ link id at. server_passes link (subst (λ n. link < n) partners_count (within_some (partners site) link id at)) (are.servers link id at);
-    };
+  time_links partners_count = record {
+    time_is = ap (λ t. t + elapsed) are.time_is;
+    sent_is = are.sent_is;
+    clients = λ link id at. client_later link (are.clients link id at);
+    servers = λ link id at. server_passes link (subst (λ n. link < n) partners_count (within_some (partners site) link id at)) (are.servers link id at);
   }
+
+  may_pass : (kept : KeepsTime site elapsed steps) (link : ℕ) → link < links site → IsWithinDrift elapsed (of_clients link) × IsWithinDrift elapsed (of_servers link)
+  may_pass kept link below = (drift_kept elapsed _ (all_at (keeps_time elapsed) steps 0 kept.each (omega (arith, kept.all))), drift_kept elapsed _ (server steps kept.each kept.all)) where
+    server : (list : List ℕ) → list_all (keeps_time elapsed) list ≡ true → length list ≡ nodes site → keeps_time elapsed (slice_index_or (drop 1 list) link 0) ≡ true
+    server [] all e = absurd (omega arith)
+    server (first ∷ others) all e = all_at (keeps_time elapsed) others link (both_true (keeps_time elapsed first) (list_all (keeps_time elapsed) others) all).1 (omega arith)
+
+pub time_follows : (site : Site) (elapsed : ℕ) (steps : List ℕ) (world : WorldState) (before : Links) (kept : KeepsTime site elapsed steps) (are : AreLinksOf site world before)
+    (partners_count : length (partners site) ≡ links site) → FollowsBy site (time_events elapsed steps) (passed elapsed steps world) before
+time_follows site elapsed steps world before kept are partners_count = record {
+  may = (may_pass site elapsed steps world before kept.all are kept, tt);
+  are = time_links site elapsed steps world before kept.all are partners_count;
+}

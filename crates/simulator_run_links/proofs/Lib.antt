@@ -30,3 +30,6 @@ pub mod Runs
 pub mod KeptWhole
 pub mod StationWhole
 pub mod AllKept
+pub mod AtOnce
+pub mod Alike
+pub mod TrueLinks

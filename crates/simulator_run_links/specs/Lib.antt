@@ -4,6 +4,7 @@ pub mod Calls
 pub mod HasLinks
 pub mod Events
 pub mod Nodes
+pub mod TrueLinks
 -- what crates above need of the crates below
 pub use Rattle.object_host_theorem.specs as object_host_theorem
 pub use Rattle.simulator_machine_links.specs as simulator_machine_links

@@ -7,6 +7,7 @@ mod nodes;
 mod restarts;
 mod stations;
 mod time_and_losses;
+mod true_clocks;
 
 pub use events::events_are_those_of_the_links;
 pub use nodes::{
@@ -16,6 +17,7 @@ pub use nodes::{
 pub use restarts::restarts_are_those_of_the_links;
 pub use stations::{each_link_of_a_station_is_safe, layouts_name_their_links, stations_have_links};
 pub use time_and_losses::{a_loss_is_one_of_the_links, time_passes_for_the_links};
+pub use true_clocks::true_clocks_keep_links;
 
 // What crates above need of the crates below.
 pub use object_host_theorem;

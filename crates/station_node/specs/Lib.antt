@@ -1,1 +1,2 @@
-pub mod Processes
+-- what its process does, call by call
+pub use Rattle.node_kinds.specs.Processes as Processes

@@ -15,7 +15,9 @@ mod stories;
 
 use crate::node_stories::records::records_are_same;
 use crate::node_stories::station::{Station, free_addresses};
-use crate::node_stories::stories::{calls_that_fail_change_nothing, rests, stories_are_seen};
+use crate::node_stories::stories::{
+    calls_that_fail_change_nothing, nothing_old_is_heard, rests, stories_are_seen,
+};
 use crate::run_bench::SMALL;
 use station_run::station_record::replay::station_check::table_of;
 
@@ -23,6 +25,7 @@ use station_run::station_record::replay::station_check::table_of;
 #[derive(Clone, Copy)]
 enum Trial {
     Stories,
+    LateDatagrams,
     FailingCalls,
     Records,
     /// It rests for so many rounds.
@@ -43,6 +46,7 @@ fn comes_out(rt: &HostRuntime, trial: Trial) -> bool {
     };
     match trial {
         Trial::Stories => stories_are_seen(station),
+        Trial::LateDatagrams => nothing_old_is_heard(station),
         Trial::FailingCalls => calls_that_fail_change_nothing(station),
         Trial::Records => records_are_same(station),
         Trial::Rest(rounds) => rests(station, rounds),
@@ -52,6 +56,11 @@ fn comes_out(rt: &HostRuntime, trial: Trial) -> bool {
 #[test]
 fn each_story_is_seen_as_it_is_told(rt: HostRuntime) {
     assert!(rt; comes_out(&rt, Trial::Stories));
+}
+
+#[test]
+fn a_node_that_is_stopped_or_flooded_hears_nothing_old(rt: HostRuntime) {
+    assert!(rt; comes_out(&rt, Trial::LateDatagrams));
 }
 
 #[test]

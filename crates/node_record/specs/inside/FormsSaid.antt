@@ -3,7 +3,7 @@ use Rattle.std.specs.Prelude.{ℕ, Bool, true, false, List, Result, Err}
 use Rattle.control_table.specs.layout.Entries.{Site}
 use Rattle.replay_words.specs.declared.fault.Fault.{Fault}
 use Rattle.replay_words.specs.declared.fault.Fault.TheVariants.{Words}
-use Rattle.node_record.specs.RecordLines.{Line, alone, breaks_off, comes, complains, followed, reads, sends, throws_away}
+use Rattle.node_record.specs.RecordLines.{Line, alone, breaks_off, comes, complains, fails, followed, reads, sends}
 use Rattle.node_record.specs.declared.record_line.Form.{Form}
 use Rattle.node_record.specs.declared.record_line.Form.TheVariants as form
 
@@ -14,7 +14,7 @@ datagram site false words = sends site words
 
 abbrev pub other_said : Form → List (List ℕ) → Result Line Fault
 other_said form.Reads words = reads words
-other_said form.ThrowsAway words = throws_away words
+other_said form.Fails words = fails words
 other_said form.Alone words = alone words
 other_said form.Followed words = followed words
 other_said form.BreaksOff words = breaks_off words

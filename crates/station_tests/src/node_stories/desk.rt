@@ -5,7 +5,7 @@ ghost use Rattle.std.specs.Prelude.{◌≡◌};
 use crate::node_stories::station::Station;
 use node_kinds::node_drive::node_lines::replay_words::Fault;
 use node_kinds::node_drive::node_lines::simulator_event::NodeId;
-use node_kinds::node_drive::{Arrived, BrokenOff, NextLine, Outside};
+use node_kinds::node_drive::{BrokenOff, NextDatagram, NextLine, Outside, ThrownAway};
 use node_network::{Lines, Machine, MemoryOutside, NodeClock, NodeSocket};
 use std::alloc::{AllocError, Global};
 
@@ -70,12 +70,12 @@ impl<'d, 'a, O: Others> Outside for Desk<'d, 'a, O> {
         self.memory.next_line(alloc)
     }
 
-    fn next_datagram(&mut self) -> Option<Arrived> {
+    fn next_datagram(&mut self) -> NextDatagram {
         next_datagram(self.wire, self.memory)
     }
 
-    fn throw_away(&mut self) {
-        throw_away(self.wire, self.memory);
+    fn throw_away(&mut self) -> ThrownAway {
+        throw_away(self.wire, self.memory)
     }
 
     fn write_line(&mut self, text: &str) -> Result<(), BrokenOff> {
@@ -92,14 +92,14 @@ impl<'d, 'a, O: Others> Outside for Desk<'d, 'a, O> {
 }
 
 /// The next datagram on a socket, or over memory where there is none.
-fn next_datagram(wire: &mut Option<Wire<'_>>, memory: &mut MemoryOutside) -> Option<Arrived> {
+fn next_datagram(wire: &mut Option<Wire<'_>>, memory: &mut MemoryOutside) -> NextDatagram {
     match wire {
         Some(wire) => wire.next_datagram(),
         None => memory.next_datagram(),
     }
 }
 
-fn throw_away(wire: &mut Option<Wire<'_>>, memory: &mut MemoryOutside) {
+fn throw_away(wire: &mut Option<Wire<'_>>, memory: &mut MemoryOutside) -> ThrownAway {
     match wire {
         Some(wire) => wire.throw_away(),
         None => memory.throw_away(),

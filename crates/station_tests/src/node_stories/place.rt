@@ -5,10 +5,11 @@ use crate::node_stories::changes::Seen;
 use crate::node_stories::desk::{Wire, opened};
 use crate::node_stories::driven::put;
 use crate::node_stories::gear::Gear;
-use crate::node_stories::station::{D1, P1, Station, name};
+use crate::node_stories::station::{D1, INTERLOCKING, P1, Station, name};
 use control_table::sci_telegram::Position;
 use node_kinds::node_drive::Course;
 use node_kinds::node_drive::node_lines::read_order;
+use node_kinds::node_drive::node_lines::simulator_event::NodeId;
 use node_network::MemoryOutside;
 use std::alloc::Global;
 
@@ -22,6 +23,14 @@ pub(crate) struct Place<'a> {
     /// Its socket, if it has one.
     wire: Option<Wire<'a>>,
     pub(crate) gear: Gear,
+    /// For how many rounds it isn't called.
+    pub(crate) stopped: u64,
+    /// How many datagrams come to it in each round beside those of its partners.
+    pub(crate) flooded: usize,
+    /// How many milliseconds two rounds are apart.
+    step: u64,
+    /// Whether it is still to be told that it didn't hear a datagram which may have been too old.
+    pub(crate) tells_late: bool,
 }
 
 impl<'a> Place<'a> {
@@ -45,6 +54,10 @@ impl<'a> Place<'a> {
             memory: fresh_memory(alloc, begins.now, begins.step),
             wire,
             gear: begins.gear,
+            stopped: 0,
+            flooded: 0,
+            step: begins.step,
+            tells_late: false,
         };
         place.tell_contacts(seen);
         Some(place)
@@ -77,6 +90,12 @@ impl<'a> Place<'a> {
     /// Lets the node run for a round. Of the next calls of its network the one of the number `failing` fails; it answers the number
     /// behind the round.
     pub(crate) fn run(&mut self, alloc: Global, failing: u64, seen: &mut Seen) -> u64 {
+        self.flood(seen);
+        if self.stopped > 0 {
+            self.stopped -= 1;
+            self.memory.pass(self.step);
+            return failing;
+        }
         self.memory.fail_after(failing);
         let ran = self
             .node
@@ -84,7 +103,18 @@ impl<'a> Place<'a> {
         if ran.is_err() {
             seen.note(name(self.number), "ended");
         }
+        if self.tells_late && self.course.too_old() > 0 {
+            self.tells_late = false;
+            seen.note(name(self.number), "late");
+        }
         self.memory.fail_after(0)
+    }
+
+    /// Datagrams come that are no PDUs.
+    fn flood(&mut self, seen: &mut Seen) {
+        for _ in 0..self.flooded {
+            seen.expect(self.memory.bring(Some(NodeId(INTERLOCKING)), &[7]));
+        }
     }
 
     /// The equipment hears what the node wrote, and goes on.

@@ -127,6 +127,18 @@ impl<'a> Plant<'a> {
                     place.gear.answers = false;
                 }
             }
+            Act::Stop(number, rounds) => {
+                if let Some(place) = self.places.get_mut(number) {
+                    place.stopped = rounds;
+                    place.tells_late = true;
+                }
+            }
+            Act::Flood(number, count) => {
+                if let Some(place) = self.places.get_mut(number) {
+                    place.flooded = count;
+                    place.tells_late = count > 0;
+                }
+            }
         }
     }
 

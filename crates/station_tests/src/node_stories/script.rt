@@ -13,6 +13,10 @@ pub(crate) enum Act {
     MakeChosenAnew,
     /// The equipment of a node doesn't say any more that an order is in force.
     Silence(usize),
+    /// A node isn't called for so many rounds.
+    Stop(usize, u64),
+    /// From now on so many datagrams come to a node in each round, from the address of the interlocking.
+    Flood(usize, usize),
 }
 
 /// Before which round what happens. Rounds are 40 ms apart.
@@ -95,3 +99,55 @@ pub(crate) const LATE_ROUNDS: u64 = 680;
 
 /// Nothing happens but that the hold ends.
 pub(crate) const REST: &[Row] = &[(1000, Act::Say("resume"))];
+
+/// The signal that shows proceed isn't called for so many rounds. Later the route is set once more.
+pub(crate) const STOPPED_1_S: &[Row] = &[
+    (170, Act::Say("resume")),
+    (180, Act::Say("set R1")),
+    (230, Act::Stop(S1, 25)),
+    (800, Act::Say("cancel all")),
+    (810, Act::Say("set R1")),
+    (860, Act::Say("cancel all")),
+];
+
+pub(crate) const STOPPED_3_S: &[Row] = &[
+    (170, Act::Say("resume")),
+    (180, Act::Say("set R1")),
+    (230, Act::Stop(S1, 75)),
+    (800, Act::Say("cancel all")),
+    (810, Act::Say("set R1")),
+    (860, Act::Say("cancel all")),
+];
+
+pub(crate) const STOPPED_30_S: &[Row] = &[
+    (170, Act::Say("resume")),
+    (180, Act::Say("set R1")),
+    (230, Act::Stop(S1, 750)),
+    (1500, Act::Say("cancel all")),
+    (1510, Act::Say("set R1")),
+    (1560, Act::Say("cancel all")),
+];
+
+pub(crate) const STOPPED_30_S_ROUNDS: u64 = 1580;
+
+/// Datagrams come to the signal from a partner's address: more than a round takes.
+pub(crate) const FLOODED: &[Row] = &[
+    (170, Act::Say("resume")),
+    (180, Act::Say("set R1")),
+    (230, Act::Flood(S1, 100)),
+    (330, Act::Flood(S1, 0)),
+    (800, Act::Say("cancel all")),
+    (810, Act::Say("set R1")),
+    (860, Act::Say("cancel all")),
+];
+
+/// The same, so many that a round can't throw them away.
+pub(crate) const DROWNED: &[Row] = &[
+    (170, Act::Say("resume")),
+    (180, Act::Say("set R1")),
+    (230, Act::Flood(S1, 4200)),
+    (300, Act::Flood(S1, 0)),
+    (800, Act::Say("cancel all")),
+    (810, Act::Say("set R1")),
+    (860, Act::Say("cancel all")),
+];

@@ -2,8 +2,9 @@
 
 use crate::node_stories::plant::{Plant, Played};
 use crate::node_stories::script::{
-    APPROACH_ROUNDS, APPROACH_UNKNOWN, DONE_NO_MORE, MADE_ANEW, MADE_ANEW_ROUNDS, NEVER_DONE,
-    PROCEED, PROCEED_ROUNDS, REST, Row, SILENT_ROUNDS, TWO_RESTARTS, TWO_RESTARTS_ROUNDS,
+    APPROACH_ROUNDS, APPROACH_UNKNOWN, DONE_NO_MORE, DROWNED, FLOODED, MADE_ANEW, MADE_ANEW_ROUNDS,
+    NEVER_DONE, PROCEED, PROCEED_ROUNDS, REST, Row, SILENT_ROUNDS, STOPPED_1_S, STOPPED_3_S,
+    STOPPED_30_S, STOPPED_30_S_ROUNDS, TWO_RESTARTS, TWO_RESTARTS_ROUNDS,
 };
 use crate::node_stories::station::{D1, INTERLOCKING, P1, S1, S3, S4, Station};
 
@@ -47,6 +48,41 @@ const RESTART: Story = Story {
     seen: "R1 free, R1 set, P1 none, P1 right, S1 proceed, IXL1 anew, R1 free, S1 stop, R1 set, S1 proceed, S1 stop, R1 free",
     ..TO_PROCEED
 };
+
+/// A signal that shows proceed is stopped for so long that its lamp falls. It hears nothing that may be too old, and its link comes
+/// back.
+const STOPPED: Story = Story {
+    script: STOPPED_3_S,
+    rounds: MADE_ANEW_ROUNDS,
+    seen: "R1 free, R1 set, P1 none, P1 right, S1 proceed, S1 stop, S1 late, R1 free, R1 set, S1 proceed, S1 stop, R1 free",
+    ..TO_PROCEED
+};
+
+/// It is stopped for less, or flooded: its lamp falls once it has heard nothing for long.
+const DEAFENED: Story = Story {
+    script: STOPPED_1_S,
+    seen: "R1 free, R1 set, P1 none, P1 right, S1 proceed, S1 late, S1 stop, R1 free, R1 set, S1 proceed, S1 stop, R1 free",
+    ..STOPPED
+};
+
+/// Those in which datagrams wait for long.
+const LATE_DATAGRAMS: &[Story] = &[
+    STOPPED,
+    Story {
+        script: STOPPED_30_S,
+        rounds: STOPPED_30_S_ROUNDS,
+        ..STOPPED
+    },
+    DEAFENED,
+    Story {
+        script: FLOODED,
+        ..DEAFENED
+    },
+    Story {
+        script: DROWNED,
+        ..DEAFENED
+    },
+];
 
 /// Those that are played, each once.
 const STORIES: &[Story] = &[
@@ -105,17 +141,25 @@ const STORIES: &[Story] = &[
 
 /// Whether of each story is seen what it says.
 pub(crate) fn stories_are_seen(station: Station<'_>) -> bool {
-    for story in STORIES {
+    all_are_seen(station, STORIES)
+}
+
+/// The same of those in which datagrams wait for long.
+pub(crate) fn nothing_old_is_heard(station: Station<'_>) -> bool {
+    all_are_seen(station, LATE_DATAGRAMS)
+}
+
+fn all_are_seen(station: Station<'_>, stories: &[Story]) -> bool {
+    let mut well = true;
+    for story in stories {
         let played = Played {
             is_over_sockets: story.is_over_sockets,
             chosen: story.chosen,
             ..Played::new(story.script)
         };
-        if !is_seen(station, played, story.rounds, story.seen) {
-            return false;
-        }
+        well = is_seen(station, played, story.rounds, story.seen) && well;
     }
-    true
+    well
 }
 
 /// Whether the same is seen of the first story where a call of the network fails, each in a run of its own.

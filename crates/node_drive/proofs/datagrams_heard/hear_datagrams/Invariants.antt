@@ -1,7 +1,6 @@
-use Rattle.std.proofs.Common.{◌≡◌, ◌≤◌, ◌<◌, ◌-◌, ℕ, List, length, map}
-use Rattle.std.specs.List.{AllByRecursion}
+use Rattle.std.proofs.Common.{◌≡◌, ◌≤◌, List, length, map}
 use Rattle.node_drive.specs.Calls.{Arrival}
-use Rattle.node_drive.specs.Drives.{Performs, datagram_in}
+use Rattle.node_drive.specs.Drives.{AreHeard, Performs, Timed, datagram_in}
 use Rattle.node_drive.specs.Inside.{standing_of}
 use Rattle.node_drive.proofs.datagrams_heard.hear_datagrams.Given as goal
 
@@ -10,8 +9,8 @@ abbrev pub invariant-loop-taken : goal.invariant-loop-taken
 invariant-loop-taken g l =
     let n = g.N.Node.node in
     let told = g.O.Outside.told in
-    (datagrams : List (ℕ × Arrival))
+    (datagrams : List (Timed Arrival))
     × (length datagrams ≡ l.taken)
-    × AllByRecursion (λ (one : ℕ × Arrival). one.0 - l.before < 1500) datagrams
+    × AreHeard g.N.Node.does datagrams (standing_of (n l.fn.node) l.fn.course)
     × Performs g.N.Node.does (map datagram_in datagrams) (standing_of (n l.fn.node) l.fn.course) (standing_of (n l.node) l.course) (told l.fn.outside) (told l.outside)
     × ((n l.node).reached ≤ (told l.outside).latest)

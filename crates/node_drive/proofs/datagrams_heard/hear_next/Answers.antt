@@ -1,63 +1,98 @@
-use Rattle.std.proofs.Common.{◌∷◌, [], arith}
-use Rattle.node_drive.specs.Drives.{late, silent}
-use Rattle.node_drive.specs.Rounds.{Late, NoDatagram}
+use Rattle.std.proofs.Common.{◌∷◌, [], ◌∙◌, ap, sym, true, false, arith}
+use Rattle.node_drive.specs.Calls.{Arrival, datagram_heard}
+use Rattle.node_drive.specs.Drives.{Timed, failed, silent, too_old}
+use Rattle.node_drive.specs.Inside.{standing_of}
+use Rattle.node_drive.specs.Rounds.{Datagram, FailedDatagram, NoDatagram, datagram}
 use Rattle.node_drive.proofs.Calls.{latest_rises, read_is, stopped}
-use Rattle.node_drive.proofs.DatagramsHeard.{late_came, none_came, one_cut, one_datagram}
+use Rattle.node_drive.proofs.DatagramsHeard.{asked_as, heard_before, none_came, none_known, old_came, one_cut, one_datagram}
+use Rattle.node_drive.proofs.Stepped.{end_calls, end_standing}
 use Rattle.node_drive.proofs.datagrams_heard.hear_next.Goals as goal
 
--- there was none
-pub returns-in_default-clause-done : goal.returns-in_default-clause-done
-returns-in_default-clause-done g c = ((0, NoDatagram) ∷ [], λ taken few. silent few, none_came c.in_default.ensures)
-
-pub returns-in_default-clause-reached : goal.returns-in_default-clause-reached
-returns-in_default-clause-reached g c =
-    let asked = latest_rises c.in_default.ensures in
-    let reached = c.requires in
-    omega (arith, asked, reached)
-
 -- it may be too old
-pub returns-then-saturating_sub-ge-LONGEST_GAP-clause-done : goal.returns-then-saturating_sub-ge-LONGEST_GAP-clause-done
-returns-then-saturating_sub-ge-LONGEST_GAP-clause-done g c =
+pub returns-then-not-is_heard-clause-done : goal.returns-then-not-is_heard-clause-done
+returns-then-not-is_heard-clause-done g c =
     let reading = c.read_clock-reading.result in
-    let since = c.saturating_sub.ensures in
-    let gap = c.if-saturating_sub-ge-LONGEST_GAP.true in (
-      (reading, Late c.in-Some.arrived.from c.in-Some.arrived.bytes.items) ∷ [],
-      λ taken few. late few (omega (arith, since, gap)),
-      late_came reading c.in-Some.arrived.from c.in-Some.arrived.bytes.items c.in-Some.ensures c.read_clock-reading.ensures c.throw_away.ensures,
+    let arrived = c.in-Came.arrived in
+    let here = standing_of (g.N.Node.node c.args.node.now) in
+    let noted = ap here c.note_reading.ensures in
+    let late = heard_before (here c.args.course.now) _ reading false noted (sym c.is_heard.ensures ∙ c.if-not-is_heard.true) in
+    let asked = asked_as (ap datagram_heard c.in-Came.is) c.next_datagram.ensures in (
+      (reading, Datagram arrived.from arrived.bytes.items c.throw_away-thrown.result 0) ∷ [],
+      λ taken few. too_old few late,
+      old_came reading arrived.from arrived.bytes.items c.throw_away-thrown.result c.note_reading.ensures late c.note_thrown_away.ensures asked c.read_clock-reading.ensures c.throw_away-thrown.ensures,
     )
+
+pub returns-then-not-is_heard-clause-reached : goal.returns-then-not-is_heard-clause-reached
+returns-then-not-is_heard-clause-reached g c =
+    let asked = latest_rises c.next_datagram.ensures in
+    let read = latest_rises c.read_clock-reading.ensures in
+    let thrown = latest_rises c.throw_away-thrown.ensures in
+    let reached = c.requires in
+    omega (arith, asked, read, thrown, reached)
 
 pub hear_datagram-requires : goal.hear_datagram-requires
 hear_datagram-requires g c =
-    let asked = latest_rises c.in-Some.ensures in
+    let asked = latest_rises c.next_datagram.ensures in
     let read = (read_is c.read_clock-reading.ensures).0 in
     let reached = c.requires in
     omega (arith, asked, read, reached)
 
-pub returns-in_err-hear_datagram-clause-stopped : goal.returns-in_err-hear_datagram-clause-stopped
-returns-in_err-hear_datagram-clause-stopped g c =
+pub returns-in_err-hear_datagram-in-Came-clause-stopped : goal.returns-in_err-hear_datagram-in-Came-clause-stopped
+returns-in_err-hear_datagram-in-Came-clause-stopped g c =
     let reading = c.read_clock-reading.result in
-    let since = c.saturating_sub.ensures in
-    let gap = c.if-saturating_sub-ge-LONGEST_GAP.false in
-    stopped c.from_residual.result (
-      (reading, (c.in-Some.arrived.from, c.in-Some.arrived.bytes.items)),
-      omega (arith, since, gap),
-      one_cut reading c.in-Some.arrived.from c.in-Some.arrived.bytes.items c.in-Some.ensures c.read_clock-reading.ensures c.in_err-hear_datagram.ensures.stopped,
+    let arrived = c.in-Came.arrived in
+    let here = standing_of (g.N.Node.node c.args.node.now) in
+    let noted = ap here c.note_reading.ensures in
+    let heard = heard_before (here c.args.course.now) _ reading true noted (sym c.is_heard.ensures ∙ c.if-not-is_heard.false) in
+    let asked = asked_as (ap datagram_heard c.in-Came.is) c.next_datagram.ensures in
+    let one : Timed Arrival = record { now = reading; input = (arrived.from, arrived.bytes.items); leaves = 0 } in
+    stopped c.from_residual.result (one, heard, one_cut one noted heard asked c.read_clock-reading.ensures c.in_err-hear_datagram-in-Came.ensures.stopped)
+
+pub returns-in_ok-hear_datagram-in-Came-clause-done : goal.returns-in_ok-hear_datagram-in-Came-clause-done
+returns-in_ok-hear_datagram-in-Came-clause-done g c =
+    let n = g.N.Node.node in
+    let does = g.N.Node.does in
+    let reading = c.read_clock-reading.result in
+    let arrived = c.in-Came.arrived in
+    let here = standing_of (n c.args.node.now) in
+    let noted = ap here c.note_reading.ensures in
+    let is_heard = heard_before (here c.args.course.now) _ reading true noted (sym c.is_heard.ensures ∙ c.if-not-is_heard.false) in
+    let asked = asked_as (ap datagram_heard c.in-Came.is) c.next_datagram.ensures in
+    let leaves = c.release.result in
+    let one : Timed Arrival = record { now = reading; input = (arrived.from, arrived.bytes.items); leaves = leaves } in
+    let heard = c.in_ok-hear_datagram-in-Came.ensures in
+    let done = datagram does reading arrived.from arrived.bytes.items (here c.note_reading.new.self) in (
+      one,
+      is_heard,
+      one_datagram one noted is_heard asked c.read_clock-reading.ensures
+          (end_standing does leaves done (n c.hear_datagram.new.node) c.hear_datagram.new.course c.release.new.course heard.standing c.release.ensures.course)
+          (end_calls does leaves done (n c.hear_datagram.new.node) c.hear_datagram.new.course heard.standing heard.done c.release.ensures.done),
     )
 
-pub returns-clause-done : goal.returns-clause-done
-returns-clause-done g c =
-    let reading = c.read_clock-reading.result in
-    let since = c.saturating_sub.ensures in
-    let gap = c.if-saturating_sub-ge-LONGEST_GAP.false in
-    let heard = c.in_ok-hear_datagram.ensures in (
-      (reading, (c.in-Some.arrived.from, c.in-Some.arrived.bytes.items)),
-      omega (arith, since, gap),
-      one_datagram reading c.in-Some.arrived.from c.in-Some.arrived.bytes.items c.in-Some.ensures c.read_clock-reading.ensures heard.standing heard.done,
-    )
-
-pub returns-clause-reached : goal.returns-clause-reached
-returns-clause-reached g c =
+pub returns-in_ok-hear_datagram-in-Came-clause-reached : goal.returns-in_ok-hear_datagram-in-Came-clause-reached
+returns-in_ok-hear_datagram-in-Came-clause-reached g c =
     let read = (read_is c.read_clock-reading.ensures).1 in
-    let done = latest_rises c.in_ok-hear_datagram.ensures.done in
-    let reached = c.in_ok-hear_datagram.ensures.reached in
-    omega (arith, read, done, reached)
+    let done = latest_rises c.in_ok-hear_datagram-in-Came.ensures.done in
+    let left = latest_rises c.release.ensures.done in
+    let reached = c.in_ok-hear_datagram-in-Came.ensures.reached in
+    omega (arith, read, done, left, reached)
+
+-- there was none
+pub returns-in-Empty-clause-done : goal.returns-in-Empty-clause-done
+returns-in-Empty-clause-done g c = ((0, NoDatagram) ∷ [], λ taken few. silent few, none_came c.note_empty.ensures (asked_as (ap datagram_heard c.in-Empty.is) c.next_datagram.ensures))
+
+pub returns-in-Empty-clause-reached : goal.returns-in-Empty-clause-reached
+returns-in-Empty-clause-reached g c =
+    let asked = latest_rises c.next_datagram.ensures in
+    let reached = c.requires in
+    omega (arith, asked, reached)
+
+-- it isn't known
+pub returns-in-Failed-clause-done : goal.returns-in-Failed-clause-done
+returns-in-Failed-clause-done g c = ((0, FailedDatagram) ∷ [], λ taken few. failed few, none_known (asked_as (ap datagram_heard c.in-Failed.is) c.next_datagram.ensures))
+
+pub returns-in-Failed-clause-reached : goal.returns-in-Failed-clause-reached
+returns-in-Failed-clause-reached g c =
+    let asked = latest_rises c.next_datagram.ensures in
+    let reached = c.requires in
+    omega (arith, asked, reached)

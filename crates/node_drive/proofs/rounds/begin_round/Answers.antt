@@ -9,7 +9,7 @@ pub returns-then-not-has_listener-clause-done : goal.returns-then-not-has_listen
 returns-then-not-has_listener-clause-done g c =
     let begins = c.read_clock-begins.result in
     let asked = calls_same (ap (λ v. AsksListener v ∷ []) c.if-not-has_listener.true) c.has_listener.ensures in
-    (begins, false, λ course. opens_quiet g.N.Node.does begins (g.N.Node.node c.args.node.now).state course c.rest.ensures c.read_clock-begins.ensures asked)
+    (begins, false, opens_quiet g.N.Node.does begins (g.N.Node.node c.args.node.now).state c.args.course.now _ c.note_reading.ensures c.rest.ensures c.read_clock-begins.ensures asked)
 
 pub returns-then-not-has_listener-clause-reached : goal.returns-then-not-has_listener-clause-reached
 returns-then-not-has_listener-clause-reached g c =
@@ -25,7 +25,7 @@ returns-in_err-tell_all-clause-stopped g c =
     let begins = c.read_clock-begins.result in
     let asked = calls_same (ap (λ v. AsksListener v ∷ []) c.if-not-has_listener.false) c.has_listener.ensures in
     stopped c.from_residual.result
-    (begins, true, λ course. opens_cut g.N.Node.does begins (g.N.Node.node c.args.node.now).state course c.rest.ensures c.read_clock-begins.ensures asked (cuts_none _ _))
+    (begins, true, opens_cut g.N.Node.does begins (g.N.Node.node c.args.node.now).state c.args.course.now c.rest.ensures c.read_clock-begins.ensures asked (cuts_none _ _))
 
 -- or only some of it
 pub returns-in_err-say_all-clause-stopped : goal.returns-in_err-say_all-clause-stopped
@@ -36,7 +36,7 @@ returns-in_err-say_all-clause-stopped g c =
     stopped c.from_residual-in_err-say_all.result (
       begins,
       true,
-      λ course. opens_listened_cut g.N.Node.does begins (n c.args.node.now) _ course c.in_ok-tell_all.ensures c.rest.ensures c.read_clock-begins.ensures asked c.in_err-say_all.ensures.stopped,
+      opens_listened_cut g.N.Node.does begins (n c.args.node.now) _ c.args.course.now c.in_ok-tell_all.ensures c.rest.ensures c.read_clock-begins.ensures asked c.in_err-say_all.ensures.stopped,
     )
 
 pub returns-clause-done : goal.returns-clause-done
@@ -47,7 +47,7 @@ returns-clause-done g c =
     let said = c.in_ok-say_all.ensures in (
       begins,
       true,
-      λ course. opens_listened g.N.Node.does begins (n c.args.node.now) _ _ course c.in_ok-tell_all.ensures said.node c.rest.ensures c.read_clock-begins.ensures asked said.done,
+      opens_listened g.N.Node.does begins (n c.args.node.now) _ _ c.args.course.now _ c.in_ok-tell_all.ensures said.node c.note_reading.ensures c.rest.ensures c.read_clock-begins.ensures asked said.done,
     )
 
 pub returns-clause-reached : goal.returns-clause-reached

@@ -1,7 +1,8 @@
 use Rattle.std.proofs.Common.{refl, false, [], arith}
 use Rattle.std.proofs.lemmas.Result.{IfOk-weaker, on_err_weaker}
 use Rattle.node_drive.proofs.Calls.{stopped}
-use Rattle.node_drive.proofs.Turns.{cut_in_lines, cut_is_round, performs_all, stops_datagrams, stops_lines, stops_opening, stops_tick, whole_round}
+use Rattle.node_drive.proofs.Comings.{performs_then}
+use Rattle.node_drive.proofs.Turns.{cut_in_lines, cut_is_round, performs_all, stops_datagrams, stops_lines, stops_opening, stops_tick, whole_is_round, whole_round}
 use Rattle.node_drive.proofs.rounds.round.Goals as goal
 
 pub returns-in_err-begin_round-clause-stopped : goal.returns-in_err-begin_round-clause-stopped
@@ -9,8 +10,8 @@ returns-in_err-begin_round-clause-stopped g c =
     let cut = c.in_err-begin_round.ensures.stopped in
     stopped c.from_residual.result (
       cut_in_lines cut.0 cut.1 [] false,
-      cut_is_round c.args.before cut.0 cut.1 [] false (omega arith),
-      stops_opening cut.0 cut.1 (cut_in_lines cut.0 cut.1 [] false) refl refl (cut.2 c.args.course.now),
+      cut_is_round g.N.Node.does _ cut.0 cut.1 [] false (omega arith),
+      stops_opening cut.0 cut.1 (cut_in_lines cut.0 cut.1 [] false) refl refl cut.2,
     )
 
 pub returns-in_err-hear_lines-clause-stopped : goal.returns-in_err-hear_lines-clause-stopped
@@ -19,8 +20,8 @@ returns-in_err-hear_lines-clause-stopped g c =
     let cut = c.in_err-hear_lines.ensures.stopped in
     stopped c.from_residual-in_err-hear_lines.result (
       cut_in_lines begun.0 begun.1 cut.0 cut.1,
-      cut_is_round c.args.before begun.0 begun.1 cut.0 cut.1 cut.2,
-      stops_lines begun.0 begun.1 cut.0 cut.1 (begun.2 c.args.course.now) cut.3,
+      cut_is_round g.N.Node.does _ begun.0 begun.1 cut.0 cut.1 cut.2,
+      stops_lines begun.0 begun.1 cut.0 cut.1 begun.2 cut.3,
     )
 
 pub returns-in_err-hear_datagrams-clause-stopped : goal.returns-in_err-hear_datagrams-clause-stopped
@@ -29,9 +30,9 @@ returns-in_err-hear_datagrams-clause-stopped g c =
     let lines = c.in_ok-hear_lines.ensures.done in
     let cut = c.in_err-hear_datagrams.ensures.stopped in
     stopped c.from_residual-in_err-hear_datagrams.result (
-      whole_round begun.0 begun.1 lines.0 cut.0 cut.1 0,
-      record { few_lines = lines.1; few_datagrams = cut.2; fresh = cut.3; ends = cut.4 },
-      stops_datagrams begun.0 begun.1 lines.0 cut.0 cut.1 0 (begun.2 c.args.course.now) lines.2 cut.5,
+      whole_round begun.0 begun.1 lines.0 cut.0 cut.1 0 0,
+      whole_is_round g.N.Node.does begun.0 begun.1 lines.0 cut.0 cut.1 0 0 (performs_then begun.2 lines.2) lines.1 cut.2 cut.3 cut.4,
+      stops_datagrams begun.0 begun.1 lines.0 cut.0 cut.1 0 0 begun.2 lines.2 cut.5,
     )
 
 pub returns-clause-done : goal.returns-clause-done
@@ -41,11 +42,11 @@ returns-clause-done g c =
     let datagrams = c.in_ok-hear_datagrams.ensures.done in
     IfOk-weaker c.tick.result _ _
     (λ ticks ticked. (
-      whole_round begun.0 begun.1 lines.0 datagrams.0 datagrams.1 ticks,
-      record { few_lines = lines.1; few_datagrams = datagrams.2; fresh = datagrams.3; ends = datagrams.4 },
+      whole_round begun.0 begun.1 lines.0 datagrams.0 datagrams.1 ticks ticked.0,
+      whole_is_round g.N.Node.does begun.0 begun.1 lines.0 datagrams.0 datagrams.1 ticks ticked.0 (performs_then begun.2 lines.2) lines.1 datagrams.2 datagrams.3 datagrams.4,
       refl,
       refl,
-      performs_all begun.0 begun.1 lines.0 datagrams.0 datagrams.1 ticks (begun.2 c.args.course.now) lines.2 datagrams.5 ticked,
+      performs_all begun.0 begun.1 lines.0 datagrams.0 datagrams.1 ticks ticked.0 begun.2 lines.2 datagrams.5 ticked.1,
     ))
     c.tick.ensures.done
 
@@ -56,8 +57,8 @@ returns-clause-stopped g c =
     let datagrams = c.in_ok-hear_datagrams.ensures.done in
     on_err_weaker c.tick.result
     (λ cut. (
-      whole_round begun.0 begun.1 lines.0 datagrams.0 datagrams.1 cut.0,
-      record { few_lines = lines.1; few_datagrams = datagrams.2; fresh = datagrams.3; ends = datagrams.4 },
-      stops_tick begun.0 begun.1 lines.0 datagrams.0 datagrams.1 cut.0 (begun.2 c.args.course.now) lines.2 datagrams.5 cut.1,
+      whole_round begun.0 begun.1 lines.0 datagrams.0 datagrams.1 cut.0 0,
+      whole_is_round g.N.Node.does begun.0 begun.1 lines.0 datagrams.0 datagrams.1 cut.0 0 (performs_then begun.2 lines.2) lines.1 datagrams.2 datagrams.3 datagrams.4,
+      stops_tick begun.0 begun.1 lines.0 datagrams.0 datagrams.1 cut.0 0 begun.2 lines.2 datagrams.5 cut.1,
     ))
     c.tick.ensures.stopped

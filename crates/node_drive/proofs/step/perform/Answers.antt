@@ -1,7 +1,7 @@
 use Rattle.std.proofs.Common.{◌∙◌, ap, refl}
 use Rattle.node_drive.specs.Rounds.{with_datagrams}
-use Rattle.node_drive.proofs.Calls.{stopped}
-use Rattle.node_drive.proofs.Performed.{performed_calls, performed_course, performed_cut_behind_order, performed_cut_in_lines, performed_cut_in_order}
+use Rattle.node_drive.proofs.Calls.{cuts_all, stopped}
+use Rattle.node_drive.proofs.Performed.{performed_calls, performed_course, performed_cut_in_lines, performed_cut_in_order}
 use Rattle.node_drive.proofs.step.perform.Goals as goal
 
 pub returns-in_err-say_all-clause-stopped : goal.returns-in_err-say_all-clause-stopped
@@ -24,15 +24,14 @@ returns-in_err-take_datagrams-clause-stopped g c =
     let node = g.N.Node.node c.args.node.now in
     let same = c.order.ensures ∙ ap (λ n. does.order n.state) c.in_ok-say_all.ensures.node in
     stopped c.from_residual-in_err-take_datagrams.result
-    (performed_cut_behind_order c.args.reading node.said node.handed _ _ c.args.course.now same c.in_ok-say_all.ensures.done c.in_ok-write_order.ensures.done)
+    (cuts_all (performed_calls c.args.reading node.said node.handed _ _ c.args.course.now same c.in_ok-say_all.ensures.done c.in_ok-write_order.ensures.done))
 
 pub returns-clause-done : goal.returns-clause-done
 returns-clause-done g c =
     let does = g.N.Node.does in
     let node = g.N.Node.node c.args.node.now in
     let same = c.order.ensures ∙ ap (λ n. does.order n.state) c.in_ok-say_all.ensures.node in
-    let waiting = c.in_ok-take_datagrams.ensures.course ∙ ap (λ n. with_datagrams c.args.reading n.handed c.write_order.new.course) c.in_ok-say_all.ensures.node in
-    performed_calls c.args.reading node.said node.handed _ _ c.args.course.now same _ _ c.in_ok-write_order.ensures.course waiting c.in_ok-say_all.ensures.done c.in_ok-write_order.ensures.done c.release.ensures.done
+    performed_calls c.args.reading node.said node.handed _ _ c.args.course.now same c.in_ok-say_all.ensures.done c.in_ok-write_order.ensures.done
 
 pub returns-clause-course : goal.returns-clause-course
 returns-clause-course g c =
@@ -40,4 +39,4 @@ returns-clause-course g c =
     let node = g.N.Node.node c.args.node.now in
     let same = c.order.ensures ∙ ap (λ n. does.order n.state) c.in_ok-say_all.ensures.node in
     let waiting = c.in_ok-take_datagrams.ensures.course ∙ ap (λ n. with_datagrams c.args.reading n.handed c.write_order.new.course) c.in_ok-say_all.ensures.node in
-    performed_course c.args.reading node.said node.handed _ _ c.args.course.now same _ _ _ c.in_ok-write_order.ensures.course waiting c.release.ensures.course
+    performed_course c.args.reading node.said node.handed _ _ c.args.course.now same _ _ c.in_ok-write_order.ensures.course waiting

@@ -1,25 +1,25 @@
 -- The process of a node, from its first call to its last.
 use Rattle.std.specs.Prelude.{◌≡◌, ◌-◌, ℕ, List, [], ◌∷◌, Option, Some, None, slice_get}
-use Rattle.node_kinds.specs.simulator_run.layout.Entries.{DetectorEntry, Site}
-use Rattle.node_kinds.specs.simulator_run.layout.declared.entries.Point.{Point as PointEntry}
-use Rattle.node_kinds.specs.simulator_run.layout.declared.entries.Signal.{Signal as SignalEntry}
-use Rattle.node_kinds.specs.simulator_run.sci_telegram.declared.message.Occupancy.{Occupancy}
-use Rattle.node_kinds.specs.simulator_run.sci_telegram.declared.message.Position.{Position}
-use Rattle.node_kinds.specs.simulator_run.object_host.declared.input.Input.{Input}
-use Rattle.node_kinds.specs.simulator_run.signal_ctl.Signal.{SignalState}
-use Rattle.node_kinds.specs.simulator_run.point_ctl.Drive.{PointState}
-use Rattle.node_kinds.specs.simulator_run.tds_ctl.declared.section.Section.{Section as SectionState}
-use Rattle.node_kinds.specs.ixl_table.Table.{IsTableOf}
-use Rattle.node_kinds.specs.simulator_run.ixl_rules.Table.{Table}
-use Rattle.node_kinds.specs.simulator_run.First.{new_ixl, new_point, new_signal}
-use Rattle.node_kinds.specs.simulator_run.Nodes.{Node, Interlocking, Signal, Point, Detector}
+use Rattle.simulator_run.specs.layout.Entries.{DetectorEntry, Site}
+use Rattle.simulator_run.specs.layout.declared.entries.Point.{Point as PointEntry}
+use Rattle.simulator_run.specs.layout.declared.entries.Signal.{Signal as SignalEntry}
+use Rattle.simulator_run.specs.sci_telegram.declared.message.Occupancy.{Occupancy}
+use Rattle.simulator_run.specs.sci_telegram.declared.message.Position.{Position}
+use Rattle.simulator_run.specs.object_host.declared.input.Input.{Input}
+use Rattle.simulator_run.specs.signal_ctl.Signal.{SignalState}
+use Rattle.simulator_run.specs.point_ctl.Drive.{PointState}
+use Rattle.simulator_run.specs.tds_ctl.declared.section.Section.{Section as SectionState}
+use Rattle.ixl_state.specs.ixl_table.Table.{IsTableOf}
+use Rattle.simulator_run.specs.ixl_rules.Table.{Table}
+use Rattle.simulator_run.specs.First.{new_ixl, new_point, new_signal}
+use Rattle.simulator_run.specs.Nodes.{Node, Interlocking, Signal, Point, Detector}
 use Rattle.node_kinds.specs.Made.{detector_sensing}
-use Rattle.node_kinds.specs.node_drive.node_lines.declared.order.Order.{Order}
-use Rattle.node_kinds.specs.node_drive.Beginning.{first_course, last_line}
-use Rattle.node_kinds.specs.node_drive.Calls.{Calls, CallsCut, Reads, Told}
-use Rattle.node_kinds.specs.node_drive.Drives.{CutOff, Ran}
-use Rattle.node_kinds.specs.node_drive.Kinds.{Kind}
-use Rattle.node_kinds.specs.node_drive.Rounds.{CourseState, Standing}
+use Rattle.node_drive.specs.node_lines.declared.order.Order.{Order}
+use Rattle.node_drive.specs.Beginning.{first_course, last_line}
+use Rattle.node_drive.specs.Calls.{Calls, CallsCut, Reads, Told}
+use Rattle.node_drive.specs.Drives.{CutOff, Ran}
+use Rattle.node_drive.specs.Kinds.{Kind}
+use Rattle.node_drive.specs.Rounds.{CourseState, Standing}
 use Rattle.node_kinds.specs.Controllers.{Controller, OwnSections, detector_kind, point_kind, signal_kind}
 use Rattle.node_kinds.specs.Interlockings.{InterlockingNode, interlocking_kind}
 use Rattle.node_kinds.specs.Openings.{Equipment, Lamp, Motor, Sections, Opening, opening_kind, rest_order, untold}

@@ -1,0 +1,57 @@
+-- Small orders, computed.
+use Rattle.std.proofs.Common.{◌≡◌, ◌∙◌, ◌+◌, ◌≤◌, ℕ, zero, suc, true, false, List, [], ◌∷◌, ◌++◌, map, Some, None, slice_get, refl, sym, ap, append-nil, arith}
+use Rattle.std.proofs.lemmas.Option.{same_Some}
+use Rattle.std.proofs.lemmas.Bool.{false≢true}
+use Rattle.node_kinds.specs.simulator_run.layout.declared.port.Port.{Port}
+use Rattle.node_kinds.specs.simulator_run.object_host.Host.{keeping}
+use Rattle.node_kinds.specs.simulator_run.object_host.Hosted.{new_host}
+use Rattle.node_kinds.specs.simulator_run.simulator_event.declared.event.Event.{Event}
+use Rattle.node_kinds.specs.simulator_run.First.{world_at}
+use Rattle.node_kinds.specs.simulator_run.Refusals.{refusal, refusal_of_time}
+use Rattle.simulator_nodes.specs.Lives.{host_after}
+use Rattle.simulator_nodes.specs.Said.{Departure, LeftInTime, departures_in, said_to}
+use Rattle.simulator_nodes.specs.Told.{ToInterlocking}
+use Rattle.simulator_nodes.specs.Worked.{small, small_outset, small_table, the_point}
+use Rattle.node_kinds.specs.simulator_run.ixl_rules.Step as ixl
+use Rattle.node_theorem.specs.Orders.{events_of, up_to}
+use Rattle.node_theorem.specs.WorkedOrders.{Drifts, IsTooOld, MovesUndriven, TellsTheDetector, comes_after, is_called}
+
+pub drifts : (at : Port) → Drifts at
+unfolding world_at refusal refusal_of_time
+drifts at = record { within = refl; beyond = refl }
+
+pub undriven : (at : Port) → MovesUndriven at
+unfolding host_after new_host keeping
+undriven at truth = false≢true (truth the_point refl)
+
+pub tells : (at : Port) → TellsTheDetector at
+tells at = record { detector = refl; point = refl; signal = refl; station = refl }
+
+-- ---- the departures of one step
+
+none_some : {A : Type 0} (one : A) → None ≡ Some one → ⊥
+none_some one e = cc (e)
+
+-- all that one step hands out leaves at one time
+leaves_at : (leaving : List ℕ → Departure) (time : ℕ) → ((bytes : List ℕ) → (leaving bytes).time ≡ time) → (handed : List (List ℕ)) (place : ℕ) (one : Departure) → slice_get (map leaving handed ++ []) place ≡ Some one → one.time ≡ time
+leaves_at leaving time is [] place one there = absurd (none_some one there)
+leaves_at leaving time is (first ∷ others) zero one there = ap (λ (d : Departure). d.time) (sym (same_Some (leaving first) one there)) ∙ is first
+leaves_at leaving time is (first ∷ others) (suc place) one there = leaves_at leaving time is others place one there
+
+module _ (at : Port) where
+  sent_at_6000 : (elapsed : ℕ) (bytes : List ℕ) (left : LeftInTime (small at) small_table small_outset (up_to (is_called ∷ []) (comes_after elapsed)) bytes) → left.departure.time ≡ 6000000
+  sent_at_6000 elapsed bytes left = leaves_at _ 6000000 (λ one. refl) _ left.place left.departure left.left
+
+  later : (bytes : List ℕ) → LeftInTime (small at) small_table small_outset (up_to (is_called ∷ []) (comes_after 0)) bytes → LeftInTime (small at) small_table small_outset (up_to (is_called ∷ []) (comes_after 2000000)) bytes
+  later bytes left =
+      let time = sent_at_6000 0 bytes left in
+      record { place = left.place; departure = left.departure; left = left.left; same = left.same; in_time = omega (arith, time) }
+
+  too_late : (bytes : List ℕ) → LeftInTime (small at) small_table small_outset (up_to (is_called ∷ []) (comes_after 2000001)) bytes → ⊥
+  too_late bytes left =
+      let time = sent_at_6000 2000001 bytes left in
+      let in_time = left.in_time in
+      omega (arith, time, in_time)
+
+pub too_old : (at : Port) → IsTooOld at
+too_old at = record { in_time = later at; too_old = too_late at }
