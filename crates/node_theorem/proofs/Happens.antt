@@ -1,4 +1,4 @@
--- The events of an order can happen.
+-- The events of an order may come, and its clocks keep time.
 use Rattle.std.proofs.Common.{◌≡◌, ◌∙◌, ◌&&◌, ◌<◌, ◌≤◌, ◌*◌, ℕ, suc, nat_le, nat_lt, not, Bool, true, false, List, [], ◌∷◌, ◌++◌, length, get_or, Option, Some, None, is_none, slice_get, refl, sym, ap, subst, append_assoc, append-nil, arith}
 use Rattle.std.proofs.lemmas.Bool.Decides.{nat_tests}
 use Rattle.std.proofs.lemmas.Option.{slice_get-get_or}
@@ -23,14 +23,16 @@ use Rattle.node_kinds.specs.simulator_run.Happens.{happens}
 use Rattle.node_kinds.specs.simulator_run.Network.{copy_of}
 use Rattle.node_kinds.specs.simulator_run.Nodes.{key_of, nodes}
 use Rattle.node_kinds.specs.simulator_run.Refusals.{clock_limit, is_missing, may_reach, refusal, refused_where}
-use Rattle.node_kinds.specs.simulator_run.Run.{CanHappen, after_all}
+use Rattle.node_kinds.specs.simulator_run.Run.{after_all}
 use Rattle.node_kinds.specs.simulator_run.State.{WorldState}
+use Rattle.node_kinds.specs.simulator_run.TrueClocks.{KeepTime, MayAllCome, MayCome, StaysSteady, moment_of, sets}
+use Rattle.node_kinds.specs.simulator_run.rasta_core.TrueClocks.{Moment, unless}
 use Rattle.node_kinds.specs.node_drive.node_lines.Orders.{side_ordered}
 use Rattle.node_kinds.specs.Controllers.{drive_order}
 use Rattle.simulator_nodes.specs.Contacts.{point_now}
 use Rattle.simulator_nodes.specs.Said.{LeftInTime, NoneLost}
 use Rattle.simulator_nodes.specs.Shown.{point_life}
-use Rattle.node_theorem.specs.Orders.{Entry, IfDone, IsDeed, IsFresh, IsHistory, KeepsTime, TellsTruth, events_of, listed, up_to}
+use Rattle.node_theorem.specs.Orders.{Entry, IfDone, IsDeed, IsFresh, IsHistory, TellsTruth, events_of, listed, up_to}
 use Rattle.node_theorem.proofs.Seen.{LinesDrive, drive_line}
 
 -- ---- lists of events
@@ -63,6 +65,41 @@ deed_kept site (event.Restart node clock first) is = (refl, tt)
 deeds_kept : (site : Site) (deed : Option Event) → IfDone deed (IsDeed site) → NoneLost (listed deed)
 deeds_kept site None is = tt
 deeds_kept site (Some deed) is = deed_kept site deed is
+
+-- what nothing refuses may come
+comes : (site : Site) (deed : Event) (w : WorldState) → IsDeed site deed → refusal site deed w ≡ None → MayCome site deed w
+comes site (event.Request command) w is allowed = allowed
+comes site (event.Occupy section occupancy) w is allowed = allowed
+comes site (event.Tick node) w is allowed = allowed
+comes site (event.Time elapsed clocks) w is allowed = absurd is
+comes site (event.Deliver node bytes) w is allowed = allowed
+comes site (event.Lose bytes) w is allowed = allowed
+comes site (event.Reach point position) w is allowed = allowed
+comes site (event.Restart node clock first) w is allowed = allowed
+
+-- ---- clocks
+
+unless_then : {One Other : Type 0} (set : Bool) → (One → Other) → unless set One → unless set Other
+unless_then true so is = tt
+unless_then false so is = so is
+
+-- a clock that keeps time over a list keeps it over its beginnings
+steady_so_far : (site : Site) (table : Table) (node : ℕ) (from : Moment) (some more : List Event) (w : WorldState) → StaysSteady site table node from (some ++ more) w → StaysSteady site table node from some w
+steady_so_far site table node from [] [] w steady = steady
+steady_so_far site table node from [] (first ∷ more) w steady = steady.0
+steady_so_far site table node from (first ∷ some) more w steady =
+    (steady.0, unless_then (sets node first) (steady_so_far site table node from some more (happens site table first w)) steady.1)
+
+time_so_far : (site : Site) (table : Table) (some more : List Event) (w : WorldState) → KeepTime site table (some ++ more) w → KeepTime site table some w
+time_so_far site table [] more w keep = tt
+time_so_far site table (first ∷ some) more w keep =
+    (λ node below. steady_so_far site table node (moment_of node w) (first ∷ some) more w (keep.0 node below), time_so_far site table some more (happens site table first w) keep.1)
+
+pub keep : (site : Site) (table : Table) (outset : Outset) (order : List Entry) → IsHistory site table outset order → (before behind : List Entry) → order ≡ before ++ behind
+    → KeepTime site table (events_of before) (world_at site table outset)
+keep site table outset order history before behind is =
+    time_so_far site table (events_of before) (events_of behind) (world_at site table outset)
+    (subst (λ l. KeepTime site table l (world_at site table outset)) (ap events_of is ∙ events_then before behind) history.clocks)
 
 -- ---- tests
 
@@ -168,23 +205,23 @@ module _ (site : Site) (table : Table) (outset : Outset) where
           ∙ after_then site table (up_to before entry) (listed entry.deed) (world_at site table outset)
           ∙ ap (after_all site table (listed entry.deed)) (world_then before entry)
 
-      -- and the deed of an entry can happen there, with what comes behind it
-      deed_can : (events : List Event) (w : WorldState) (deed : Option Event) (later : List Event) → w ≡ world events → IfDone deed (IsDeed site) → NoneLost events → IfDone deed (IsFresh site table outset events)
-          → IfDone deed (TellsTruth site table outset events) → CanHappen site table later (after_all site table (listed deed) w) → CanHappen site table (listed deed ++ later) w
-      deed_can events w None later is deed none fresh truth can = can
-      deed_can events w (Some deed) later is named none fresh truth can = (subst (λ v. refusal site deed v ≡ None) (sym is) (allowed events deed named none fresh truth), can)
+      -- and the deed of an entry may come there, with what comes behind it
+      deed_may : (events : List Event) (w : WorldState) (deed : Option Event) (later : List Event) → w ≡ world events → IfDone deed (IsDeed site) → NoneLost events → IfDone deed (IsFresh site table outset events)
+          → IfDone deed (TellsTruth site table outset events) → MayAllCome site table later (after_all site table (listed deed) w) → MayAllCome site table (listed deed ++ later) w
+      deed_may events w None later is deed none fresh truth may = may
+      deed_may events w (Some deed) later is named none fresh truth may = (comes site deed w named (subst (λ v. refusal site deed v ≡ None) (sym is) (allowed events deed named none fresh truth)), may)
 
-      can_from : (before rest behind : List Entry) → order ≡ before ++ (rest ++ behind) → NoneLost (events_of before) → CanHappen site table (events_of rest) (world (events_of before))
-      can_from before [] behind is none = tt
-      can_from before (entry ∷ rest) behind is none =
+      may_from : (before rest behind : List Entry) → order ≡ before ++ (rest ++ behind) → NoneLost (events_of before) → MayAllCome site table (events_of rest) (world (events_of before))
+      may_from before [] behind is none = tt
+      may_from before (entry ∷ rest) behind is none =
           let deed = history.deeds before (rest ++ behind) entry is in
           let is_more : order ≡ (before ++ entry ∷ []) ++ (rest ++ behind) = is ∙ sym (append_assoc before (entry ∷ []) (rest ++ behind)) in
-          let later = can_from (before ++ entry ∷ []) rest behind is_more (none_more before entry none deed) in (
-            history.clocks before (rest ++ behind) entry is,
-            deed_can (up_to before entry) (happens site table (event.Time entry.elapsed entry.clocks) (world (events_of before))) entry.deed (events_of rest) (sym (world_then before entry)) deed (none_to before entry none)
+          let later = may_from (before ++ entry ∷ []) rest behind is_more (none_more before entry none deed) in (
+            history.passes before (rest ++ behind) entry is,
+            deed_may (up_to before entry) (happens site table (event.Time entry.elapsed entry.clocks) (world (events_of before))) entry.deed (events_of rest) (sym (world_then before entry)) deed (none_to before entry none)
                 (history.fresh before (rest ++ behind) entry is) (history.contacts before (rest ++ behind) entry is)
-                (subst (CanHappen site table (events_of rest)) (world_more before entry) later),
+                (subst (MayAllCome site table (events_of rest)) (world_more before entry) later),
           )
 
-      pub can : (before behind : List Entry) → order ≡ before ++ behind → CanHappen site table (events_of before) (world_at site table outset)
-      can before behind is = can_from [] before behind is tt
+      pub may : (before behind : List Entry) → order ≡ before ++ behind → MayAllCome site table (events_of before) (world_at site table outset)
+      may before behind is = may_from [] before behind is tt

@@ -1,5 +1,5 @@
 -- Small orders, computed.
-use Rattle.std.proofs.Common.{◌≡◌, ◌∙◌, ◌+◌, ◌≤◌, ℕ, zero, suc, true, false, List, [], ◌∷◌, ◌++◌, map, Some, None, slice_get, refl, sym, ap, append-nil, arith}
+use Rattle.std.proofs.Common.{◌≡◌, ◌∙◌, ◌+◌, ◌<◌, ◌≤◌, ℕ, zero, suc, true, false, List, [], ◌∷◌, ◌++◌, map, Some, None, slice_get, refl, sym, ap, append-nil, arith}
 use Rattle.std.proofs.lemmas.Option.{same_Some}
 use Rattle.std.proofs.lemmas.Bool.{false≢true}
 use Rattle.node_kinds.specs.simulator_run.layout.declared.port.Port.{Port}
@@ -8,17 +8,48 @@ use Rattle.node_kinds.specs.simulator_run.object_host.Hosted.{new_host}
 use Rattle.node_kinds.specs.simulator_run.simulator_event.declared.event.Event.{Event}
 use Rattle.node_kinds.specs.simulator_run.First.{world_at}
 use Rattle.node_kinds.specs.simulator_run.Refusals.{refusal, refusal_of_time}
+use Rattle.node_kinds.specs.simulator_run.TrueClocks.{StaysSteady, moment_of, refusal_but_drift}
+use Rattle.node_kinds.specs.simulator_run.rasta_core.TrueClocks.{IsSteady}
 use Rattle.simulator_nodes.specs.Lives.{host_after}
 use Rattle.simulator_nodes.specs.Said.{Departure, LeftInTime, departures_in, said_to}
 use Rattle.simulator_nodes.specs.Told.{ToInterlocking}
 use Rattle.simulator_nodes.specs.Worked.{small, small_outset, small_table, the_point}
 use Rattle.node_kinds.specs.simulator_run.ixl_rules.Step as ixl
 use Rattle.node_theorem.specs.Orders.{events_of, up_to}
-use Rattle.node_theorem.specs.WorkedOrders.{Drifts, IsTooOld, MovesUndriven, TellsTheDetector, comes_after, is_called}
+use Rattle.node_theorem.specs.WorkedOrders.{Drifts, IsTooOld, Keep, MovesUndriven, TellsTheDetector, comes_after, goes_by, is_called}
+
+-- the clocks over one entry, where that of the signal is steady
+keeps : (at : Port) (elapsed of_signal : ℕ) → IsSteady (record { at = 0; clock = 0 }) (record { at = elapsed; clock = of_signal }) → Keep at elapsed of_signal
+unfolding world_at
+keeps at elapsed of_signal steady = (λ node below. by_node node below, tt) where
+  exact : IsSteady (record { at = 0; clock = 0 }) (record { at = elapsed; clock = elapsed })
+  exact = record { least = omega arith; most = omega arith }
+
+  begun : IsSteady (record { at = 0; clock = 0 }) (record { at = 0; clock = 0 })
+  begun = record { least = omega arith; most = omega arith }
+
+  by_node : (node : ℕ) → node < 4 → StaysSteady (small at) small_table node (moment_of node (world_at (small at) small_table small_outset)) (events_of (goes_by elapsed of_signal ∷ [])) (world_at (small at) small_table small_outset)
+  by_node zero below = (begun, exact)
+  by_node (suc zero) below = (begun, steady)
+  by_node (suc (suc zero)) below = (begun, exact)
+  by_node (suc (suc (suc zero))) below = (begun, exact)
+  by_node (suc (suc (suc (suc node)))) below = absurd (let no : ⊥ = omega (arith, below) in no)
+
+beyond : (at : Port) → Keep at 1000000 1001011 → ⊥
+unfolding world_at
+beyond at keep =
+    let most = ((keep.0 1 (omega arith)).1).most in
+    omega (arith, most)
 
 pub drifts : (at : Port) → Drifts at
-unfolding world_at refusal refusal_of_time
-drifts at = record { within = refl; beyond = refl }
+unfolding world_at refusal refusal_of_time refusal_but_drift
+drifts at = record {
+  passes = refl;
+  within = keeps at 1000000 1001010 (record { least = omega arith; most = omega arith });
+  beyond = beyond at;
+  short = keeps at 100 101 (record { least = omega arith; most = omega arith });
+  short_in_world = refl;
+}
 
 pub undriven : (at : Port) → MovesUndriven at
 unfolding host_after new_host keeping

@@ -18,8 +18,9 @@ use Rattle.node_kinds.specs.simulator_run.simulator_snapshot.declared.snapshot.S
 use Rattle.node_kinds.specs.simulator_run.First.{Outset, at_zero, world_at}
 use Rattle.node_kinds.specs.simulator_run.Interlocking.{held_of}
 use Rattle.node_kinds.specs.simulator_run.Nodes.{key_of, nodes}
-use Rattle.node_kinds.specs.simulator_run.Refusals.{clock_limit, may_reach, refusal}
+use Rattle.node_kinds.specs.simulator_run.Refusals.{clock_limit, may_reach}
 use Rattle.node_kinds.specs.simulator_run.Run.{after_all}
+use Rattle.node_kinds.specs.simulator_run.TrueClocks.{KeepTime, MayCome}
 use Rattle.node_kinds.specs.node_drive.Calls.{Told}
 use Rattle.node_kinds.specs.node_drive.Kinds.{Kind}
 use Rattle.node_kinds.specs.node_drive.Lives.{came, state_after}
@@ -145,16 +146,18 @@ abbrev pub IfDone : Option Event → (Event → Type 0) → Type 0
 IfDone None holds = Unit {0}
 IfDone (Some deed) holds = holds deed
 
--- Time goes on to an entry so that each clock keeps within one in a thousand of it.
-abbrev pub KeepsTime : Site → Table → Outset → List Entry → Entry → Type 0
-KeepsTime site table outset before entry = refusal site (event.Time entry.elapsed entry.clocks) (after_all site table (events_of before) (world_at site table outset)) ≡ None
+-- Time may go on to an entry: there is a clock for each node, and none comes to its end.
+abbrev pub MayPass : Site → Table → Outset → List Entry → Entry → Type 0
+MayPass site table outset before entry = MayCome site (event.Time entry.elapsed entry.clocks) (after_all site table (events_of before) (world_at site table outset))
 
 module _ (site : Site) (table : Table) (outset : Outset) (order : List Entry) where
   pub record IsHistory : Type 0 where
     -- what happens names what is there
     pub deeds : (before behind : List Entry) (entry : Entry) → order ≡ before ++ entry ∷ behind → IfDone entry.deed (IsDeed site)
-    -- clocks keep time
-    pub clocks : (before behind : List Entry) (entry : Entry) → order ≡ before ++ entry ∷ behind → KeepsTime site table outset before entry
+    -- each clock goes on by 999 to 1001 in 1000 of true time, give or take ten microseconds, between any two moments since its node
+    -- was made
+    pub clocks : KeepTime site table (events_of order) (world_at site table outset)
+    pub passes : (before behind : List Entry) (entry : Entry) → order ≡ before ++ entry ∷ behind → MayPass site table outset before entry
     -- no datagram is heard that is older than 2000 ms, and none that no node sent
     pub fresh : (before behind : List Entry) (entry : Entry) → order ≡ before ++ entry ∷ behind → IfDone entry.deed (IsFresh site table outset (up_to before entry))
     -- contacts tell the truth

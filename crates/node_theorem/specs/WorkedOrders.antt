@@ -11,22 +11,30 @@ use Rattle.node_kinds.specs.simulator_run.simulator_event.declared.event.Event.T
 use Rattle.node_kinds.specs.simulator_run.simulator_event.refused.Refused.TheVariants.{Drift}
 use Rattle.node_kinds.specs.simulator_run.First.{world_at}
 use Rattle.node_kinds.specs.simulator_run.Refusals.{refusal}
-use Rattle.node_kinds.specs.simulator_run.Run.{after_all}
+use Rattle.node_kinds.specs.simulator_run.TrueClocks.{KeepTime}
 use Rattle.simulator_nodes.specs.Said.{LeftInTime, detector_life}
 use Rattle.simulator_nodes.specs.Shown.{interlocking_life, point_life, signal_life}
 use Rattle.simulator_nodes.specs.Worked.{small, small_outset, small_table}
-use Rattle.node_theorem.specs.Orders.{Entry, KeepsTime, TellsTruth, events_of, up_to}
+use Rattle.node_theorem.specs.Orders.{Entry, MayPass, TellsTruth, events_of, up_to}
 
 -- ---- clocks
 
--- a second goes by, and the clock of the signal goes on by so much
-abbrev pub a_second : ℕ → Entry
-a_second of_signal = record { elapsed = 1000000; clocks = 1000000 ∷ of_signal ∷ 1000000 ∷ 1000000 ∷ []; deed = None }
+-- so much time goes by, and the clock of the signal goes on by so much
+abbrev pub goes_by : ℕ → ℕ → Entry
+goes_by elapsed of_signal = record { elapsed = elapsed; clocks = elapsed ∷ of_signal ∷ elapsed ∷ elapsed ∷ []; deed = None }
 
--- One part in a thousand is within time, and one microsecond more isn't.
+-- the clocks keep time over it
+abbrev pub Keep : Port → ℕ → ℕ → Type 0
+Keep at elapsed of_signal = KeepTime (small at) small_table (events_of (goes_by elapsed of_signal ∷ [])) (world_at (small at) small_table small_outset)
+
+-- In a second a clock may be off by a millisecond and ten microseconds. One microsecond more isn't in time. In a tenth of a
+-- millisecond it may go on by a microsecond too much, which an event of a world may not.
 pub record Drifts (at : Port) : Type 0 where
-  pub within : KeepsTime (small at) small_table small_outset [] (a_second 1001000)
-  pub beyond : refusal (small at) (event.Time 1000000 (a_second 1001001).clocks) (after_all (small at) small_table (events_of []) (world_at (small at) small_table small_outset)) ≡ Some Drift
+  pub passes : MayPass (small at) small_table small_outset [] (goes_by 1000000 1001010)
+  pub within : Keep at 1000000 1001010
+  pub beyond : Keep at 1000000 1001011 → ⊥
+  pub short : Keep at 100 101
+  pub short_in_world : refusal (small at) (event.Time 100 (goes_by 100 101).clocks) (world_at (small at) small_table small_outset) ≡ Some Drift
 
 -- ---- contacts
 

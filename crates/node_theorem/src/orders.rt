@@ -15,7 +15,7 @@ use crate::laws::{controllers_are_those_of_a_world, orders_tell_all_until_the_ne
 use simulator_nodes::{
     a_point_drives_as_its_last_line, a_point_may_be_told_while_it_is_driven,
     contacts_of_sections_change_no_snapshot, what_is_delivered_left_a_node,
-    what_the_nodes_show_is_safe, what_the_nodes_show_is_seen,
+    what_nodes_of_true_clocks_show_is_safe, what_the_nodes_show_is_seen,
 };
 
 /// Where there is one order of all that the processes of a station did by their own records, which keeps what a history has to
@@ -30,7 +30,7 @@ pub fn what_processes_did_is_safe()
     a_point_may_be_told_while_it_is_driven();
     a_point_drives_as_its_last_line();
     what_the_nodes_show_is_seen();
-    what_the_nodes_show_is_safe();
+    what_nodes_of_true_clocks_show_is_safe();
     controllers_are_those_of_a_world();
     orders_tell_all_until_the_next();
 }
