@@ -1,12 +1,14 @@
 """What documents count, and what is counted anew: numbers, numbers of lines, and lists that are to be whole. It is no command:
 bench/documents.py asks it."""
+import csv
 import functools
 import re
 
 import ways
-from tree import OPTION, TOP, commands, crates, text_of, wrong_bodies
+from tree import TOP, crates, text_of, wrong_bodies
 
-MAP, PROVED, THEOREMS = "docs/MAP.md", "docs/PROVED.md", "docs/THEOREMS.md"
+COST, MAP, PROMISE = "docs/COST.md", "docs/MAP.md", "docs/PROMISE.md"
+RECOVERY, TESTED, WHY = "docs/RECOVERY.md", "docs/TESTED.md", "docs/WHY.md"
 HALDEN, NEUSTADT = "examples/halden.toml", "examples/neustadt.toml"
 # what `station check` counts of a layout
 SIZED = ("signal", "point", "section", "route")
@@ -56,18 +58,14 @@ def tried_by_gate():
     return sum(it.is_tried_by_gate for it in wrong_bodies())
 
 
+@functools.lru_cache(None)
 def times():
-    """The rows of the table of times: a crate, the seconds of its proof, its tests and its wrong bodies, and the memory."""
-    lines = [line for line in read(MAP).splitlines() if line.endswith(" GB |") and not line.startswith("| all ")]
-    return [[cell.strip(" `") for cell in line.split("|")[1:-1]] for line in lines]
-
-
-def seconds(column):
-    return sum(int(row[column] or 0) for row in times())
+    """What each crate costs the gate, by bench/times.tsv."""
+    return list(csv.DictReader(read("bench/times.tsv").splitlines(), delimiter="\t"))
 
 
 def minutes(*columns):
-    return round(sum(map(seconds, columns)) / 60)
+    return round(sum(int(row[column] or 0) for row in times() for column in columns) / 60)
 
 
 # ---- code
@@ -158,10 +156,6 @@ def restarts():
 # ---- what a page itself has
 
 
-def line_with(page, words):
-    return next(line for line in read(page).splitlines() if words in line)
-
-
 def behind(page, words):
     """The lines of the first list or table that comes behind some words of a page."""
     rest = read(page).split(words, 1)[1].split("\n", 1)[1].lstrip("\n")
@@ -173,41 +167,7 @@ def items(page, words, begin):
     return sum(bool(re.match(begin, line)) for line in behind(page, words))
 
 
-def laws(lines):
-    """How many laws are named: by words without capitals."""
-    return len({name for line in lines for name in re.findall(r"`([a-z]\w*_\w+)`", line)})
-
-
-# ---- lines of files
-
-
-def files_told(cell):
-    """The files that a cell of a table tells: by their paths; or by a folder, with names of its files or of those left out."""
-    for group in cell.split("; "):
-        first, *names = re.findall(r"`([^`]+)`", group)
-        top = next(it for it in (TOP / first, TOP / "crates" / first) if it.exists())
-        stems = {name.split(".")[0] for name in names}
-        if top.is_file():
-            yield from [top, *(TOP / it for it in names)]
-        else:
-            yield from (it for it in top.iterdir() if not names or (it.stem in stems) != (" all but " in group))
-
-
-def lines_of_heads(text):
-    """How many lines the public functions of a file have without their bodies: comments, heads and clauses."""
-    count, comment, inside = 0, 0, False
-    for line in text.splitlines():
-        inside = inside or line.lstrip().startswith("pub fn ")
-        count += (1 + comment) * inside
-        comment = comment + 1 if line.lstrip().startswith(("///", "#[")) else 0
-        inside = inside and line.strip() not in ("{", "}")
-    return count
-
-
-def lines_of_files(cell):
-    """How many lines there are of what a cell tells: whole files, or what stands before the bodies of functions."""
-    count = lines_of_heads if "the clauses of " in cell else lambda text: len(text.splitlines())
-    return sum(count(text_of(file)) for file in files_told(cell))
+# ---- lists of a page
 
 
 def column(page, head, at):
@@ -219,19 +179,6 @@ def column(page, head, at):
 def named(page, begin, end):
     """The names in backticks between two texts of a page."""
     return set(re.findall(r"`(\w+)`", read(page).split(begin, 1)[1].split(end, 1)[0]))
-
-
-def lines_of_commands():
-    """The commands of `station` with their options."""
-    return {" ".join([command, *sorted(options)]) for command, options in commands().items()}
-
-
-def commands_told(line):
-    """The same, by the lines in backticks of a line of a page."""
-    told = {}
-    for text in re.findall(r"`([a-z]+ [^`]+)`", line):
-        told.setdefault(text.split()[0], set()).update(OPTION.findall(text))
-    return {" ".join([command, *sorted(options)]) for command, options in told.items() if command in commands()}
 
 
 def drawn(pattern):
@@ -257,20 +204,21 @@ TOLD = {
         (r"junction.toml` has (\w+) routes", lambda: entries("examples/junction.toml", "route")),
         (r" and (\d+) conflicts:", lambda: [conflicts("junction.toml")]),
     ],
-    MAP: [
-        (r"All (\d+) crates together have ([\d,]+) ways", lambda: [len(crates()), ways_of_all()]),
+    COST: [
         (r"proves (\d+) crates and their tests, tries (\d+) wrong", lambda: [len(crates()), tried_by_gate()]),
         (r"The ([\d,]+) wrong bodies of `by-hand/`", lambda: [len(wrong_bodies()) - tried_by_gate()]),
-        (r"\| all \| (\d+) \| (\d+) \| (\d+) \|", lambda: [seconds(1), seconds(2), seconds(3)]),
-        (r"\| all \|.*\| ([\d.]+) GB \|", lambda: [max(float(row[4].split()[0]) for row in times())]),
-        (r"takes (\d+) min for proofs and programs, (\d+) for tests and", lambda: [minutes(1), minutes(2)]),
-        (r" (\d+) for wrong bodies: (\d+) min", lambda: [minutes(3), minutes(1, 2, 3)]),
+        (r"takes (\d+) min for proofs and programs, (\d+) for tests and", lambda: [minutes("proof s"), minutes("tests s")]),
+        (r" (\d+) for wrong bodies: (\d+) min", lambda: [minutes("wrong bodies s"), minutes("proof s", "tests s", "wrong bodies s")]),
+        (r"at most ([\d.]+) GB", lambda: [max(float(row["memory GB"]) for row in times())]),
+    ],
+    MAP: [
+        (r"All (\d+) crates together have ([\d,]+) ways", lambda: [len(crates()), ways_of_all()]),
     ],
     "docs/PROTOCOL.md": [
         (r"Bytes that are no PDU have one of (\w+) faults", lambda: [variants("rasta_pdu/src/fault.rt", "PduFault")]),
         (r"Bytes that are no telegram have one of (\w+) faults", lambda: [variants("sci_telegram/src/fault.rt", "SciFault")]),
     ],
-    PROVED: [
+    TESTED: [
         (r"(\d+) stored runs of whole stations", lambda: [len(runs("sim", "replay", "restarts"))]),
         (r"(\d+) layouts, sound and faulty", lambda: [statuses("report", "commented") + cases("contents")]),
         (r"tells of (\d+) of these layouts", lambda: [statuses("explain") - cases("items")]),
@@ -286,34 +234,33 @@ TOLD = {
         (r"neustadt.*, (\w+) detectors and (\d+) routes", lambda: entries(NEUSTADT, "detector", "route")),
         (r"neustadt.* routes, (\d+) of them slow", lambda: [slow_routes(NEUSTADT)]),
     ],
-    THEOREMS: [
+    PROMISE: [
         (r"simulator/src/world.rt` \| (\w+) lines", lambda: [conditions("crates/simulator/src/world.rt")]),
         (r"`Threads`, `Wait` and `Net`. (\w+) files", lambda: [len(files_with_handles())]),
         (r"the (\w+) kinds of `Event`", lambda: [variants("simulator_event/src/event.rt", "Event")]),
-        (r"It has (\w+) facts", lambda: [items(THEOREMS, "still in flight:", r"\| \*\w+\* \|")]),
-        (r"(\w+) wrong bodies leave a station safe", lambda: [items(THEOREMS, "leave a station safe", "- ")]),
-        (r"(\w+) laws speak of any list of events", lambda: [laws([line_with(THEOREMS, "laws speak of any list")])]),
-        (
-            r"(\w+) laws are steps to the theorem",
-            lambda: [laws(line.split(" | ")[0] for line in behind(THEOREMS, "laws are steps to the theorem")[2:])],
-        ),
+        (r"Of real equipment all (\w+) are assumed", lambda: [items(PROMISE, "## The premises", r"\| \d+ \|")]),
+    ],
+    RECOVERY: [
+        (r"(\w+) wrong bodies leave a station safe", lambda: [items(RECOVERY, "leave a station safe", "- ")]),
+    ],
+    WHY: [
+        (r"It has (\w+) facts", lambda: [items(WHY, "still in flight:", r"\| \*\w+\* \|")]),
+        (r"Each of these (\w+) rules is needed", lambda: [items(WHY, "rules is needed", r"\| [a-z]")]),
     ],
 }
 
 # of each page: what lists something, the list, and what it is to have
 LISTED = {
     MAP: [
-        ("the table of layers", lambda: column(MAP, "| Layer |", 1), lambda: set(crates())),
-        ("the table of times", lambda: {row[0] for row in times()}, lambda: set(crates())),
         ("the table of doors", lambda: column(MAP, "| Door |", 0), doors),
         ("the drawing", lambda: drawn(r"\w+"), crates_but_of_tests),
         ("what has a star in the drawing", lambda: drawn(r"(\w+)\*"), doors),
     ],
-    PROVED: [
-        ("what is told of command lines", lambda: commands_told(line_with(PROVED, "- These lines are `")), lines_of_commands),
-    ],
-    THEOREMS: [
-        ("what uses handles", lambda: named(THEOREMS, "files use them", "None is of"), crates_with_handles),
+    PROMISE: [
+        ("what uses handles", lambda: named(PROMISE, "files use them", "None is of"), crates_with_handles),
         ("what uses handles and isn't above `simulator`", set, lambda: crates_with_handles() & below("simulator")),
+    ],
+    COST: [
+        ("bench/times.tsv", lambda: {row["crate"] for row in times()}, lambda: set(crates())),
     ],
 }

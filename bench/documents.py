@@ -9,7 +9,7 @@ names         what stands in backticks and looks like a name is there: of a crat
 quotations    a definition or a clause that stands in a block stands so, word for word, in a file that is named before it
 links         a link leads to a file, and to a heading in it
 numbers       what can be counted is as it is counted anew, by the tables of bench/counted.py
-wrong bodies  docs/WRONG_BODIES.md is what bench/wrong_bodies_page.py writes, and each named wrong body has its edit
+pages         those that bench/pages.py makes are as it would write them now, and each named wrong body has its edit
 
 CHANGELOG.md tells what was: numbers aren't judged there.
 """
@@ -19,7 +19,7 @@ import re
 import sys
 
 import counted
-import wrong_bodies_page
+import pages as made_pages
 from tree import OPTION, TOP, clauses_of_functions, commands, ends_of_paths, names, options, text_of, wrong_bodies
 
 # What stands in backticks, looks like a name, and is none of the tree's.
@@ -41,7 +41,7 @@ OTHER_PATHS = re.compile(
     re.VERBOSE,
 )
 # Options of programs of others: of `rt`, and of `grep`.
-OTHER_OPTIONS = {"--only", "--allow-holes", "--test", "--progress", "--data", "--include"}
+OTHER_OPTIONS = {"--only", "--allow-holes", "--test", "--progress", "--data", "--include", "--seconds"}
 
 BACKTICKED = re.compile(r"`([^`]+)`(\*(?!\*))?")
 NAME = re.compile(r"[A-Za-z_]\w*(?:::\w+)*")
@@ -62,7 +62,6 @@ EDITS_OF_CRATE = re.compile(r"`(\w+)` (`\w+`\*?(?:, `\w+`(?! `)\*?)*)")
 # Parts of pages that are what a program reads or prints: how each begins, and the file in which it stands.
 STORED = "crates/stored_runs/stdout"
 COPIED = {
-    "README.md": [("# Two tracks side by side", "examples/crossover.toml"), ("ok\naccepted\naccepted\nrefused 5 X\n", STORED)],
     "docs/INTERLOCKING.md": [("ok: 3 signals", STORED), ("table fault 6 FlankOpen", STORED)],
     "docs/PAIR.md": [("ok\naccepted\n", "crates/pair/stdout")],
     "docs/STATIONS.md": [("| Route | Entry | Exit |", STORED)],
@@ -253,14 +252,6 @@ def check_numbers(page):
                 yield page.line_of(it.start(1)), f"{it[0]}: counted, it is {', '.join(map(str, count()))}"
 
 
-def check_lines(page):
-    """A table that tells what to read tells the number of its lines."""
-    for table in re.finditer(r"\| Read \| Lines \|(?:.*\n)+?\n", page.text):
-        for row in re.finditer(r"(?m)^\| (`.*`.*?) \| (\d+) \| ", table[0]):
-            if int(row[2]) != counted.lines_of_files(row[1]):
-                yield page.line_of(table.start() + row.start()), f"{row[1]}: counted, it is {counted.lines_of_files(row[1])} lines"
-
-
 def check_lists(page):
     for what, told, there in counted.LISTED.get(page.name, ()):
         for it in sorted(told() - there()):
@@ -269,7 +260,7 @@ def check_lists(page):
             yield 1, f"{what} lacks `{it}`"
 
 
-OF_NOW = [check_edits, check_numbers, check_lines, check_lists]
+OF_NOW = [check_edits, check_numbers, check_lists]
 OF_ALL = [check_names, check_whereabouts, check_clauses, check_commands, check_fields]
 OF_ALL += [check_quotations, check_copies, check_links]
 
@@ -286,8 +277,8 @@ def main():
     asked = [it.resolve() for it in words.parse_args().pages]
     pages = asked or [TOP / "README.md", TOP / "CHANGELOG.md", *sorted(TOP.glob("docs/*.md"))]
     found = [it for page in pages for it in findings(Page(page))]
-    if wrong_bodies_page.PAGE in pages:
-        found += [(file.relative_to(TOP), line, what) for file, line, what in wrong_bodies_page.faults()]
+    if not asked:
+        found += [(file.relative_to(TOP), line, what) for file, line, what in made_pages.faults()]
     for name, line, what in found:
         print(f"{name}:{line}: {what}")
     return 1 if found else 0

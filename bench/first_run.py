@@ -9,10 +9,10 @@ tells the processor time and the time on the clock.
 """
 import contextlib
 import copy
+import csv
 import os
 import pathlib
 import queue
-import re
 import shutil
 import subprocess
 import sys
@@ -83,9 +83,9 @@ def build_libraries(rt, name):
 
 
 def seconds_of_crates():
-    """The seconds of processor time that the proof of each crate takes, as the table of docs/MAP.md has them."""
-    rows = re.findall(r"^\| `(\w+)` \| (\d+) \|", pathlib.Path(f"{ROOT}/docs/MAP.md").read_text(), re.MULTILINE)
-    return {name: int(seconds) for name, seconds in rows}
+    """The seconds of processor time that the proof of each crate takes, as bench/times.tsv has them."""
+    with open(f"{ROOT}/bench/times.tsv", newline="", encoding="utf-8") as file:
+        return {row["crate"]: int(row["proof s"]) for row in csv.DictReader(file, delimiter="\t")}
 
 
 def chains(crates):

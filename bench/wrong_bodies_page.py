@@ -1,14 +1,6 @@
-#!/usr/bin/env python3
-"""Writes docs/WRONG_BODIES.md: every wrong body of the tree, by layer and crate, with what it does wrong and the function that it
-changes; and first those that the specification names, by bench/named_wrong_bodies.tsv.
-
-    python3 bench/wrong_bodies_page.py            writes the page
-    python3 bench/wrong_bodies_page.py --check    tells, each on a line, an edit that can't be applied, a named one without an edit,
-                                                  and whether the page is another; it ends with status 1 if there is any of these
-"""
-import argparse
+"""Makes docs/WRONG_BODIES.md: every wrong body of the tree, by layer and crate, with what it does wrong and the function that it
+changes; and first those that the specification names, by bench/named_wrong_bodies.tsv. It is no command: bench/pages.py asks it."""
 import csv
-import sys
 
 from tree import TOP, crates, wrong_bodies
 
@@ -17,7 +9,7 @@ PAGE = TOP / "docs" / "WRONG_BODIES.md"
 
 HEAD = """# Wrong bodies
 
-`python3 bench/wrong_bodies_page.py` writes this page, by the files that it tells of.
+`python3 bench/pages.py` writes this page, by the files that it tells of.
 
 A wrong body is a change of a crate's code that the proof has to refuse, at the function that it changes. It stands in a file of the crate, `must-fail/NAME.edit` or `by-hand/NAME.edit`; its name, here in words, says what the code does wrong with it. The gate tries those in `must-fail/`, {gate} of {all}. `python3 bench/wrong_bodies.py CRATE` tries the other {hand}.
 
@@ -79,28 +71,10 @@ def page():
 
 
 def faults():
-    """What is off: of each its file, a line, and what it is."""
+    """An edit that can't be applied, and a named wrong body without an edit: of each its file, a line, and what it is."""
     for body in wrong_bodies():
         for fault in body.faults():
             yield body.file, 1, fault
     for number, (what, crate, edit) in enumerate(named(), 2):
         if (crate, edit) not in by_name():
             yield NAMED, number, f"{what}: there is no edit `{edit}` of `{crate}`"
-    if not PAGE.is_file() or PAGE.read_text(encoding="utf-8") != page():
-        yield PAGE, 1, "it isn't what `python3 bench/wrong_bodies_page.py` would write"
-
-
-def main():
-    words = argparse.ArgumentParser(description=__doc__, formatter_class=argparse.RawDescriptionHelpFormatter)
-    words.add_argument("--check", action="store_true")
-    if not words.parse_args().check:
-        PAGE.write_text(page(), encoding="utf-8")
-        return 0
-    found = list(faults())
-    for file, line, what in found:
-        print(f"{file.relative_to(TOP)}:{line}: {what}")
-    return 1 if found else 0
-
-
-if __name__ == "__main__":
-    sys.exit(main())
