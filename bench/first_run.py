@@ -2,7 +2,7 @@
 """The first `rt run` of a program, with its libraries built side by side: as many at a time as there are processors and memory. The
 longest chain of crates has all processors, and the others take what it leaves. Of a library the crates above load what it states,
 and not its proofs. `rt run` by itself builds one after the other, and loads all proofs below. It finds later what is built here. This
-tells the processor time and the time on the clock.
+tells how far it is, and at its end the processor time and the time on the clock.
 
     python3 bench/first_run.py CRATE [WORD ..]      the words are the program's arguments
     python3 bench/first_run.py CRATE --libraries    builds the libraries alone
@@ -82,16 +82,15 @@ def build_libraries(rt, name):
     return built
 
 
-def seconds_of_crates():
+def seconds_of(crates):
     """The seconds of processor time that the proof of each crate takes, as bench/times.tsv has them."""
     with open(f"{ROOT}/bench/times.tsv", newline="", encoding="utf-8") as file:
-        return {row["crate"]: int(row["proof s"]) for row in csv.DictReader(file, delimiter="\t")}
+        told = {row["crate"]: int(row["proof s"]) for row in csv.DictReader(file, delimiter="\t")}
+    return {it.name: told.get(it.name, 0.1 * it.count(b"\n")) for it in crates}
 
 
-def chains(crates):
+def chains(crates, own):
     """Of each crate the seconds of the longest chain of crates that begins with it, each below the next."""
-    seconds = seconds_of_crates()
-    own = {it.name: seconds.get(it.name, 0.1 * it.count(b"\n")) for it in crates}
     longest = dict(own)
     for crate in reversed(crates):
         for low in crate.below():
@@ -104,7 +103,8 @@ class SideBySide:
     for, and has two jobs at least: those that begin beside it leave it room in memory, and work behind it."""
 
     def __init__(self, rt, crates):
-        self.rt, self.longest = rt, chains(crates)
+        self.rt, self.seconds, self.begun = rt, seconds_of(crates), time.monotonic()
+        self.longest = chains(crates, self.seconds)
         self.processors, self.memory = rt.processors(), 0.85 * rt.free()
         self.left = sorted(crates, key=lambda it: -self.longest[it.name])
         self.running, self.built, self.ended = [], set(), queue.SimpleQueue()
@@ -146,6 +146,13 @@ class SideBySide:
             is_near = 2 * self.longest[crate.name] > self.longest[first.name]
             self.begin(crate, 10 if is_near else 19, self.jobs_for(len(ready) - place))
 
+    def tell_how_far(self):
+        """How many libraries stand, and how long the others will take if they go on so."""
+        done = sum(self.seconds[it] for it in self.built)
+        left = (time.monotonic() - self.begun) * (sum(self.seconds.values()) / max(1, done) - 1)
+        with printing:
+            print(f"{len(self.built)} of {len(self.seconds)} libraries, some {left / 60:.0f} min left", flush=True)
+
     def are_built(self):
         """Builds them all. Where one can't be, no other one begins, and those that have begun end."""
         all_well = True
@@ -157,6 +164,7 @@ class SideBySide:
             all_well = all_well and done
             if done:
                 self.built.add(crate.name)
+                self.tell_how_far()
         return all_well
 
 
