@@ -1,5 +1,5 @@
 -- Calls one behind another.
-use Rattle.std.proofs.Common.{◌≡◌, ◌∙◌, ℕ, List, [], ◌∷◌, ◌++◌, Option, Some, None, ap, append_assoc, subst}
+use Rattle.std.proofs.Common.{◌∙◌, ℕ, List, [], ◌∷◌, ◌++◌, Option, Some, None, ap, append_assoc, subst}
 use Rattle.node_kinds.specs.node_drive.Calls.{Call, Calls, Grows, Reads, Rises, Told}
 
 grows_then : {A : Type 0} (a b c : Option (List A)) (xs ys : List A) → Grows a b xs → Grows b c ys → Grows a c (xs ++ ys)

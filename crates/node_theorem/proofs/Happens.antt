@@ -1,5 +1,5 @@
 -- The events of an order may come, and its clocks keep time.
-use Rattle.std.proofs.Common.{◌≡◌, ◌∙◌, ◌&&◌, ◌<◌, ◌≤◌, ◌*◌, ℕ, suc, nat_le, nat_lt, not, Bool, true, false, List, [], ◌∷◌, ◌++◌, length, get_or, Option, Some, None, is_none, slice_get, refl, sym, ap, subst, append_assoc, append-nil, arith}
+use Rattle.std.proofs.Common.{◌≡◌, ◌∙◌, ◌&&◌, ◌<◌, ◌≤◌, ◌*◌, ℕ, nat_le, nat_lt, not, Bool, true, false, List, [], ◌∷◌, ◌++◌, length, get_or, Option, Some, None, is_none, slice_get, refl, sym, ap, subst, append_assoc, append-nil, arith}
 use Rattle.std.proofs.lemmas.Bool.Decides.{nat_tests}
 use Rattle.std.proofs.lemmas.Option.{slice_get-get_or}
 use Rattle.node_kinds.specs.simulator_run.layout.Entries.{Site}
@@ -16,7 +16,6 @@ use Rattle.node_kinds.specs.simulator_run.ixl_rules.Table.{Table}
 use Rattle.node_kinds.specs.simulator_run.simulator_event.declared.event.Event.{Event}
 use Rattle.node_kinds.specs.simulator_run.simulator_event.declared.event.Event.TheVariants as event
 use Rattle.node_kinds.specs.simulator_run.simulator_event.declared.event.NodeId.{NodeId}
-use Rattle.node_kinds.specs.simulator_run.simulator_event.refused.Refused.{Refused}
 use Rattle.node_kinds.specs.simulator_run.simulator_event.refused.Refused.TheVariants.{ClockLimit, NeverSent, NoSuchNode, NotDriven}
 use Rattle.node_kinds.specs.simulator_run.First.{Outset, world_at}
 use Rattle.node_kinds.specs.simulator_run.Happens.{happens}

@@ -1,5 +1,5 @@
 -- What stands on the lines is what the nodes of a world show, or the equipment rests.
-use Rattle.std.proofs.Common.{◌≡◌, ◌∙◌, ◌⊎◌, inl, inr, ◌<◌, ◌≤◌, ℕ, List, [], ◌∷◌, ◌++◌, length, get_or, Option, Some, None, slice_get, refl, sym, ap, subst, append-nil, arith}
+use Rattle.std.proofs.Common.{◌≡◌, ◌∙◌, ◌⊎◌, inl, inr, ◌<◌, ◌≤◌, ℕ, List, [], ◌∷◌, ◌++◌, length, get_or, Option, Some, None, slice_get, refl, sym, ap, append-nil, arith}
 use Rattle.std.proofs.lemmas.Option.{same_Some, slice_get_cases, slice_get_within}
 use Rattle.node_kinds.specs.simulator_run.layout.Entries.{Site}
 use Rattle.node_kinds.specs.simulator_run.layout.declared.entries.Point.{Point as PointEntry}
@@ -23,16 +23,14 @@ use Rattle.node_kinds.specs.simulator_run.First.{Outset, new_point, new_signal}
 use Rattle.node_kinds.specs.simulator_run.simulator_snapshot.Safe.{Shows}
 use Rattle.node_kinds.specs.simulator_run.simulator_snapshot.declared.snapshot.Shown.{Shown}
 use Rattle.node_kinds.specs.simulator_run.simulator_snapshot.declared.snapshot.Snapshot.{Snapshot}
-use Rattle.node_kinds.specs.simulator_run.simulator_snapshot.declared.snapshot.Stands.{Stands}
 use Rattle.node_kinds.specs.node_drive.Kinds.{Kind}
 use Rattle.node_kinds.specs.node_drive.Lives.{state_after}
 use Rattle.node_kinds.specs.node_drive.node_lines.Orders.{aspect_ordered, side_ordered}
-use Rattle.node_kinds.specs.node_drive.node_lines.declared.order.Order.{Order}
 use Rattle.node_kinds.specs.Controllers.{Controller, drive_order, lamp_order, point_kind, signal_kind}
 use Rattle.node_kinds.specs.Processes.{point_made, signal_made}
 use Rattle.simulator_nodes.specs.Lives.{Life, host_after}
 use Rattle.simulator_nodes.specs.Shown.{AreAll, IsOfNodes, host_now, point_life, signal_life}
-use Rattle.node_theorem.specs.Orders.{AreNodes, Each, IsNode, of_record, not_yet, IsOfRecord, IsOnLines, is_contact, line_of, while_up}
+use Rattle.node_theorem.specs.Orders.{AreNodes, IsNode, of_record, not_yet, IsOfRecord, IsOnLines, is_contact, line_of, while_up}
 use Rattle.node_theorem.specs.Processes.{driven_by, shown_by}
 use Rattle.node_theorem.proofs.Rests.{Rests}
 use Rattle.node_theorem.proofs.Seen.{HostLives, LinesDrive, drive_line}

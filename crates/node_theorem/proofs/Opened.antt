@@ -1,5 +1,5 @@
 -- What the equipment of a controller was told last when its node is made.
-use Rattle.std.proofs.Common.{◌≡◌, ◌∙◌, ◌&&◌, ◌==◌, ◌⊎◌, inl, inr, ℕ, nat_le, Bool, true, false, cond, List, [], ◌∷◌, ◌++◌, map, Option, Some, None, IsSome, refl, sym, ap, subst, length, append_assoc, append-nil, arith}
+use Rattle.std.proofs.Common.{◌≡◌, ◌∙◌, ◌&&◌, ◌==◌, ◌⊎◌, inl, inr, ℕ, nat_le, Bool, true, false, cond, List, [], ◌∷◌, ◌++◌, map, Option, Some, None, refl, sym, ap, subst, length, append_assoc, append-nil, arith}
 use Rattle.std.proofs.lemmas.Bool.Decides.{nat_tests}
 use Rattle.node_kinds.specs.simulator_run.layout.Entries.{Site}
 use Rattle.node_kinds.specs.simulator_run.sci_telegram.declared.message.Side.{Side}
@@ -11,7 +11,7 @@ use Rattle.node_kinds.specs.node_drive.simulator_event.declared.event.NodeId.{No
 use Rattle.node_kinds.specs.node_drive.Beginning.{first_course}
 use Rattle.node_kinds.specs.node_drive.Calls.{Call, Complains, Told}
 use Rattle.node_kinds.specs.node_drive.Drives.{AreRounds, Ran, Round, behind_lines, datagrams_in, in_round, in_rounds, line_in, lines_end, opening}
-use Rattle.node_kinds.specs.node_drive.Kinds.{Kind, Meaning, InForce, Comes, Faulty}
+use Rattle.node_kinds.specs.node_drive.Kinds.{Meaning, InForce, Comes, Faulty}
 use Rattle.node_kinds.specs.node_drive.Rounds.{Coming, RoundBegins, Listened, Line, NoLine, LinesEnd, Datagram, NoDatagram, FailedDatagram, Tick, CourseState, Done, Standing, all_come, asked, comes, datagram, having_called, heard_one, last_order, later, line, new_order, not_heard, step, steps, then_released, told}
 use Rattle.node_kinds.specs.node_drive.Same.{is_same_order, is_same_side}
 use Rattle.node_kinds.specs.node_drive.Seen.{is_heard}

@@ -1,21 +1,19 @@
 -- What a process records of its node.
-use Rattle.std.proofs.Common.{◌≡◌, ◌∙◌, ℕ, Bool, true, false, List, [], ◌∷◌, ◌++◌, Option, Some, None, refl, sym, ap}
-use Rattle.node_kinds.specs.ixl_table.Table.{IsTableOf}
+use Rattle.std.proofs.Common.{◌≡◌, ◌∙◌, ℕ, Bool, true, false, List, [], ◌∷◌, ◌++◌, Option, Some, refl, sym}
 use Rattle.node_kinds.specs.simulator_run.ixl_rules.Table.{Table}
 use Rattle.node_kinds.specs.simulator_run.layout.Entries.{Site}
 use Rattle.node_kinds.specs.node_drive.Ages.{SendsBy}
 use Rattle.node_kinds.specs.node_drive.Beginning.{first_course}
-use Rattle.node_kinds.specs.node_drive.Calls.{Call, Calls, Reads, Told}
-use Rattle.node_kinds.specs.node_drive.Drives.{CutOff, Ran, broken_in, in_rounds}
+use Rattle.node_kinds.specs.node_drive.Calls.{Call, Reads, Told}
+use Rattle.node_kinds.specs.node_drive.Drives.{CutOff, broken_in, in_rounds}
 use Rattle.node_kinds.specs.node_drive.Kinds.{Kind}
 use Rattle.node_kinds.specs.node_drive.Lives.{came}
-use Rattle.node_kinds.specs.node_drive.Rounds.{Coming, CourseState, Standing, all_come}
+use Rattle.node_kinds.specs.node_drive.Rounds.{Coming, CourseState, all_come}
 use Rattle.node_kinds.specs.node_drive.Seen.{nothing_seen}
-use Rattle.node_kinds.specs.Interlockings.{InterlockingNode, interlocking_kind}
+use Rattle.node_kinds.specs.Interlockings.{interlocking_kind}
 use Rattle.node_kinds.specs.Openings.{Equipment, Opening, opening_kind, rest_order, untold}
 use Rattle.node_kinds.specs.Processes.{Controls, waited, lived, ControlsCut, waiting, opened, living, unmade, cut, Lives, Opens, ReadsAt, StationRuns, StationCut, not_made, cut_off, interlocking_made, left_of, standing}
-use Rattle.node_theorem.specs.Processes.{Process}
-use Rattle.node_theorem.specs.Records.{IsRecorded, Records, WasCalled, WasHandedOut, calls_in, made_before, made_in, station_before}
+use Rattle.node_theorem.specs.Records.{Records, WasCalled, WasHandedOut, calls_in, made_before, made_in, station_before}
 use Rattle.node_theorem.proofs.Calls.{calls_then}
 use Rattle.node_theorem.proofs.Opened.{run_hands_none, run_rests}
 use Rattle.node_theorem.proofs.Sent.{AllInTime, opening_sends, record_sends}

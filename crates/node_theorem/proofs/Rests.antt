@@ -1,19 +1,15 @@
 -- What is seen is safe where more equipment rests than in what is safe.
-use Rattle.std.proofs.Common.{◌≡◌, ◌∙◌, ◌⊎◌, inl, inr, ◌<◌, ℕ, List, length, Option, Some, None, slice_get, refl, sym, ap, subst, arith}
+use Rattle.std.proofs.Common.{◌≡◌, ◌∙◌, ◌⊎◌, inl, inr, ℕ, List, length, Option, Some, None, slice_get, sym, subst}
 use Rattle.std.specs.Prelude.{◌≢◌}
 use Rattle.std.specs.List.{Contains}
-use Rattle.std.proofs.lemmas.Option.{same_Some, slice_get_within}
 use Rattle.node_kinds.specs.simulator_run.layout.Entries.{Site}
 use Rattle.node_kinds.specs.simulator_run.layout.declared.ids.PointId.{PointId}
-use Rattle.node_kinds.specs.simulator_run.layout.declared.ids.RouteId.{RouteId}
 use Rattle.node_kinds.specs.simulator_run.layout.declared.ids.SignalId.{SignalId}
-use Rattle.node_kinds.specs.simulator_run.control_table.Table.{Conflict, RouteRequires}
 use Rattle.node_kinds.specs.simulator_run.sci_telegram.declared.message.Aspect.{Aspect}
 use Rattle.node_kinds.specs.simulator_run.sci_telegram.declared.message.Aspect.TheVariants as aspects
 use Rattle.node_kinds.specs.simulator_run.sci_telegram.declared.message.Side.{Side}
-use Rattle.node_kinds.specs.simulator_run.simulator_snapshot.Safe.{IsHeldFor, IsProtected, Safe, Shows, ShowsOther, StandsUndriven, position_at}
+use Rattle.node_kinds.specs.simulator_run.simulator_snapshot.Safe.{IsProtected, Safe, Shows, ShowsOther, StandsUndriven}
 use Rattle.node_kinds.specs.simulator_run.simulator_snapshot.declared.snapshot.Held.{Held}
-use Rattle.node_kinds.specs.simulator_run.simulator_snapshot.declared.snapshot.Shown.{Shown}
 use Rattle.node_kinds.specs.simulator_run.simulator_snapshot.declared.snapshot.Snapshot.{Snapshot}
 
 -- Each signal shows stop or what it shows in the other, each point is driven nowhere or to where it is driven in the other, and all

@@ -1,11 +1,8 @@
 -- What processes show is what their nodes show.
-use Rattle.std.proofs.Common.{◌≡◌, ◌∙◌, ℕ, List, [], Option, Some, None, IsSome, ap, refl, sym, slice_get}
+use Rattle.std.proofs.Common.{◌≡◌, ◌∙◌, ℕ, List, [], Option, Some, IsSome, ap, refl, sym, slice_get}
 use Rattle.node_kinds.specs.simulator_run.layout.Entries.{Site}
 use Rattle.node_kinds.specs.simulator_run.layout.declared.entries.Point.{Point as PointEntry}
 use Rattle.node_kinds.specs.simulator_run.layout.declared.entries.Signal.{Signal as SignalEntry}
-use Rattle.node_kinds.specs.simulator_run.sci_telegram.declared.message.Aspect.{Aspect}
-use Rattle.node_kinds.specs.simulator_run.sci_telegram.declared.message.Position.{Position}
-use Rattle.node_kinds.specs.simulator_run.sci_telegram.declared.message.Side.{Side}
 use Rattle.node_kinds.specs.simulator_run.rasta_core.Ends.{reading_of}
 use Rattle.node_kinds.specs.simulator_run.object_host.Host.{HostState}
 use Rattle.node_kinds.specs.simulator_run.object_host.declared.input.Input.{Input}
@@ -14,16 +11,15 @@ use Rattle.node_kinds.specs.simulator_run.signal_ctl.Signal.{SignalState, signal
 use Rattle.node_kinds.specs.simulator_run.point_ctl.Controlled.{point_behaviour}
 use Rattle.node_kinds.specs.simulator_run.point_ctl.Drive.{PointState, drive_of, drives, driven_by as drive_at}
 use Rattle.node_kinds.specs.simulator_run.point_ctl.declared.drive.Drive.{Drive}
-use Rattle.node_kinds.specs.simulator_run.ixl_rules.State.{IxlState}
 use Rattle.node_kinds.specs.simulator_run.ixl_rules.Step as ixl
 use Rattle.node_kinds.specs.simulator_run.ixl_rules.Table.{Table}
 use Rattle.node_kinds.specs.simulator_run.simulator_event.declared.event.Event.{Event}
 use Rattle.node_kinds.specs.simulator_run.First.{Outset, new_ixl, new_point, new_signal}
 use Rattle.node_kinds.specs.simulator_run.Interlocking.{held_of}
 use Rattle.node_kinds.specs.simulator_run.simulator_snapshot.declared.snapshot.Snapshot.{Snapshot}
-use Rattle.simulator_nodes.specs.Lives.{Life, first_life, host_after, ixl_after}
+use Rattle.simulator_nodes.specs.Lives.{first_life, host_after, ixl_after}
 use Rattle.simulator_nodes.specs.Said.{last_line, lines_after}
-use Rattle.simulator_nodes.specs.Shown.{AreAll, IsOfNodes, frozen_in, host_now, interlocking_life, interlocking_now, point_life, signal_life, signal_shows}
+use Rattle.simulator_nodes.specs.Shown.{AreAll, IsOfNodes, frozen_in, host_now, interlocking_life, point_life, signal_life}
 use Rattle.node_kinds.specs.node_drive.node_lines.Orders.{aspect_ordered, side_ordered}
 use Rattle.node_kinds.specs.node_drive.Kinds.{Kind}
 use Rattle.node_kinds.specs.node_drive.Lives.{came, state_after}

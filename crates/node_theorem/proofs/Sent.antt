@@ -1,5 +1,5 @@
 -- What a process sends was handed out in time.
-use Rattle.std.proofs.Common.{◌≡◌, ◌∙◌, ◌<◌, ◌+◌, ℕ, Bool, true, false, List, [], ◌∷◌, ◌++◌, map, Option, Some, None, IsSomeAnd, refl, sym, subst}
+use Rattle.std.proofs.Common.{◌≡◌, ℕ, Bool, true, false, List, [], ◌∷◌, ◌++◌, map, Option, Some, None, IsSomeAnd, refl, sym, subst}
 use Rattle.node_kinds.specs.simulator_run.layout.Entries.{Site}
 use Rattle.node_kinds.specs.node_drive.Ages.{IsIn, SendsBy, SentInTime, handed_by}
 use Rattle.node_kinds.specs.node_drive.Beginning.{first_course}

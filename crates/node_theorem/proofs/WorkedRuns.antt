@@ -1,28 +1,27 @@
 -- Small orders, computed.
-use Rattle.std.proofs.Common.{◌≡◌, ◌∙◌, ◌+◌, ◌<◌, ◌≤◌, ℕ, zero, suc, true, false, List, [], ◌∷◌, ◌++◌, map, Some, None, slice_get, refl, sym, ap, append-nil, arith}
+use Rattle.std.proofs.Common.{◌≡◌, ◌∙◌, ◌+◌, ◌*◌, ◌<◌, ◌≤◌, ℕ, zero, suc, List, [], ◌∷◌, ◌++◌, map, Some, None, slice_get, refl, sym, ap, arith}
 use Rattle.std.proofs.lemmas.Option.{same_Some}
 use Rattle.std.proofs.lemmas.Bool.{false≢true}
 use Rattle.node_kinds.specs.simulator_run.layout.declared.port.Port.{Port}
 use Rattle.node_kinds.specs.simulator_run.object_host.Host.{keeping}
 use Rattle.node_kinds.specs.simulator_run.object_host.Hosted.{new_host}
-use Rattle.node_kinds.specs.simulator_run.simulator_event.declared.event.Event.{Event}
 use Rattle.node_kinds.specs.simulator_run.First.{world_at}
+use Rattle.node_kinds.specs.simulator_run.Controllers.{controller_later}
+use Rattle.node_kinds.specs.simulator_run.Happens.{happens, passed}
 use Rattle.node_kinds.specs.simulator_run.Refusals.{refusal, refusal_of_time}
 use Rattle.node_kinds.specs.simulator_run.TrueClocks.{StaysSteady, moment_of, refusal_but_drift}
 use Rattle.node_kinds.specs.simulator_run.rasta_core.TrueClocks.{IsSteady}
 use Rattle.simulator_nodes.specs.Lives.{host_after}
-use Rattle.simulator_nodes.specs.Said.{Departure, LeftInTime, departures_in, said_to}
-use Rattle.simulator_nodes.specs.Told.{ToInterlocking}
+use Rattle.simulator_nodes.specs.Said.{Departure, LeftInTime}
 use Rattle.simulator_nodes.specs.Worked.{small, small_outset, small_table, the_point}
-use Rattle.node_kinds.specs.simulator_run.ixl_rules.Step as ixl
 use Rattle.node_theorem.specs.Orders.{events_of, up_to}
 use Rattle.node_theorem.specs.WorkedOrders.{Drifts, IsTooOld, Keep, MovesUndriven, TellsTheDetector, comes_after, goes_by, is_called}
 
 -- the clocks over one entry, where that of the signal is steady
-keeps : (at : Port) (elapsed of_signal : ℕ) → IsSteady (record { at = 0; clock = 0 }) (record { at = elapsed; clock = of_signal }) → Keep at elapsed of_signal
-unfolding world_at
+keeps : (at : Port) (elapsed of_signal : ℕ) → IsSteady (record { at = 0; clock = 0 }) (record { at = 0 + elapsed; clock = 0 + of_signal }) → Keep at elapsed of_signal
+unfolding world_at happens passed controller_later
 keeps at elapsed of_signal steady = (λ node below. by_node node below, tt) where
-  exact : IsSteady (record { at = 0; clock = 0 }) (record { at = elapsed; clock = elapsed })
+  exact : IsSteady (record { at = 0; clock = 0 }) (record { at = 0 + elapsed; clock = 0 + elapsed })
   exact = record { least = omega arith; most = omega arith }
 
   begun : IsSteady (record { at = 0; clock = 0 }) (record { at = 0; clock = 0 })
@@ -36,9 +35,9 @@ keeps at elapsed of_signal steady = (λ node below. by_node node below, tt) wher
   by_node (suc (suc (suc (suc node)))) below = absurd (let no : ⊥ = omega (arith, below) in no)
 
 beyond : (at : Port) → Keep at 1000000 1001011 → ⊥
-unfolding world_at
+unfolding world_at happens passed controller_later
 beyond at keep =
-    let most = ((keep.0 1 (omega arith)).1).most in
+    let most : 1000 * 1001011 + 1001 * 0 ≤ 1000 * 0 + 1001 * 1000000 + 10000 = ((keep.0 1 (omega arith)).1).most in
     omega (arith, most)
 
 pub drifts : (at : Port) → Drifts at

@@ -1,5 +1,5 @@
 -- What a controller writes are the orders of its life.
-use Rattle.std.proofs.Common.{◌≡◌, ◌∙◌, ℕ, nat_le, Bool, true, false, ◌&&◌, cond, List, [], ◌∷◌, ◌++◌, map, Option, Some, None, refl, sym, ap, append_assoc, append-nil}
+use Rattle.std.proofs.Common.{◌≡◌, ◌∙◌, ℕ, nat_le, Bool, true, false, ◌&&◌, cond, List, [], ◌∷◌, ◌++◌, map, Option, Some, None, refl, ap, append_assoc, append-nil}
 use Rattle.node_kinds.specs.simulator_run.layout.Entries.{Site}
 use Rattle.node_kinds.specs.simulator_run.layout.declared.ids.SectionId.{SectionId}
 use Rattle.node_kinds.specs.simulator_run.object_host.Behaviour.{Behaviour}
@@ -18,7 +18,7 @@ use Rattle.node_kinds.specs.node_drive.Rounds.{Coming, RoundBegins, Listened, Li
 use Rattle.node_kinds.specs.node_drive.Seen.{is_heard}
 use Rattle.node_kinds.specs.node_drive.Waiting.{Waiting, leaving, none_waits}
 use Rattle.node_kinds.specs.node_drive.declared.outside.ThrownAway.{ThrownAway}
-use Rattle.node_kinds.specs.Controllers.{Controller, controller, is_same_occupancy, is_same_position, own_place, stands_so, told_of_section, told_to_detector, told_to_point, told_to_signal, unless_again}
+use Rattle.node_kinds.specs.Controllers.{Controller, controller, is_same_position, own_place, stands_so, told_of_section, told_to_detector, told_to_point, told_to_signal, unless_again}
 use Rattle.node_theorem.specs.Records.{order_lines, texts_in}
 use Rattle.std.specs.Prelude.{Result, Ok, Err, slice_get}
 

@@ -26,7 +26,7 @@ use Rattle.node_kinds.specs.node_drive.Kinds.{Kind}
 use Rattle.node_kinds.specs.node_drive.Lives.{came, state_after}
 use Rattle.node_kinds.specs.node_drive.node_lines.declared.order.Order.{Order}
 use Rattle.node_kinds.specs.Controllers.{detector_kind, drive_order, point_kind, signal_kind}
-use Rattle.node_kinds.specs.Interlockings.{InterlockingNode, interlocking_kind}
+use Rattle.node_kinds.specs.Interlockings.{interlocking_kind}
 use Rattle.node_kinds.specs.Processes.{detector_made, interlocking_made, point_made, signal_made}
 use Rattle.simulator_nodes.specs.Contacts.{point_now}
 use Rattle.simulator_nodes.specs.Lives.{Life, first_life}

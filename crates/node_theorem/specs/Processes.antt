@@ -8,17 +8,15 @@ use Rattle.node_kinds.specs.simulator_run.sci_telegram.declared.message.Aspect.T
 use Rattle.node_kinds.specs.simulator_run.sci_telegram.declared.message.Position.{Position}
 use Rattle.node_kinds.specs.simulator_run.sci_telegram.declared.message.Side.{Side}
 use Rattle.node_kinds.specs.simulator_run.rasta_core.Ends.{reading_of}
-use Rattle.node_kinds.specs.simulator_run.object_host.declared.input.Input.{Input}
 use Rattle.node_kinds.specs.simulator_run.signal_ctl.Signal.{SignalState}
 use Rattle.node_kinds.specs.simulator_run.point_ctl.Drive.{PointState}
 use Rattle.node_kinds.specs.simulator_run.tds_ctl.declared.section.Section.{Section as SectionState}
-use Rattle.node_kinds.specs.simulator_run.ixl_rules.Step as ixl
 use Rattle.node_kinds.specs.simulator_run.ixl_rules.Table.{Table}
 use Rattle.node_kinds.specs.simulator_run.simulator_event.declared.event.Event.{Event}
 use Rattle.node_kinds.specs.simulator_run.First.{Outset, new_ixl, new_point, new_signal}
 use Rattle.node_kinds.specs.simulator_run.Interlocking.{held_of}
 use Rattle.node_kinds.specs.simulator_run.simulator_snapshot.declared.snapshot.Snapshot.{Snapshot}
-use Rattle.simulator_nodes.specs.Lives.{Life, detector_sensing, first_life}
+use Rattle.simulator_nodes.specs.Lives.{detector_sensing, first_life}
 use Rattle.simulator_nodes.specs.Said.{detector_life}
 use Rattle.simulator_nodes.specs.Shown.{AreAll, frozen_in, interlocking_life, point_life, signal_life}
 use Rattle.node_kinds.specs.node_drive.node_lines.Orders.{aspect_ordered, side_ordered}

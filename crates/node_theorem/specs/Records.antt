@@ -1,6 +1,5 @@
 -- What the record of a process says of its node: whether and how it was made, and all that came to it.
 use Rattle.std.specs.Prelude.{◌≡◌, ◌<◌, ◌+◌, ℕ, Bool, true, false, List, [], ◌∷◌, ◌++◌, Option, Some, None}
-use Rattle.node_kinds.specs.ixl_table.Table.{IsTableOf}
 use Rattle.node_kinds.specs.simulator_run.ixl_rules.Table.{Table}
 use Rattle.node_kinds.specs.simulator_run.layout.Entries.{Site}
 use Rattle.node_kinds.specs.node_drive.Ages.{IsIn, SendsBy, handed_by}
@@ -12,7 +11,7 @@ use Rattle.node_kinds.specs.node_drive.Seen.{nothing_seen}
 use Rattle.node_kinds.specs.node_drive.Waiting.{Addressed}
 use Rattle.node_kinds.specs.node_drive.node_lines.declared.order.Order.{Order}
 use Rattle.node_kinds.specs.Openings.{Equipment, Opening}
-use Rattle.node_kinds.specs.Processes.{Controls, waited, lived, ControlsCut, waiting, opened, living, unmade, cut, StationRuns, StationCut, not_made, cut_off}
+use Rattle.node_kinds.specs.Processes.{Controls, waited, lived, ControlsCut, waiting, opened, living, unmade, cut, StationCut, not_made, cut_off}
 use Rattle.node_theorem.specs.Processes.{Process}
 
 -- what was called, where a process ran to its end (true), and where it was cut off

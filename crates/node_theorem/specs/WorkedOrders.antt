@@ -1,12 +1,10 @@
 -- Small orders that don't keep what a history has to keep, and what is told to whom.
-use Rattle.std.specs.Prelude.{◌≡◌, ◌++◌, ℕ, true, false, List, [], ◌∷◌, None, Some}
+use Rattle.std.specs.Prelude.{◌≡◌, ℕ, List, [], ◌∷◌, None, Some}
 use Rattle.node_kinds.specs.simulator_run.layout.declared.port.Port.{Port}
-use Rattle.node_kinds.specs.simulator_run.object_host.declared.input.Input.{Input}
 use Rattle.node_kinds.specs.simulator_run.object_host.declared.input.Input.TheVariants as inputs
 use Rattle.node_kinds.specs.simulator_run.object_host.declared.sense.Sense.TheVariants as sense
 use Rattle.node_kinds.specs.simulator_run.sci_telegram.declared.message.Occupancy.TheVariants.{Occupied}
 use Rattle.node_kinds.specs.simulator_run.sci_telegram.declared.message.Position.TheVariants as positions
-use Rattle.node_kinds.specs.simulator_run.simulator_event.declared.event.Event.{Event}
 use Rattle.node_kinds.specs.simulator_run.simulator_event.declared.event.Event.TheVariants as event
 use Rattle.node_kinds.specs.simulator_run.simulator_event.refused.Refused.TheVariants.{Drift}
 use Rattle.node_kinds.specs.simulator_run.First.{world_at}
