@@ -1,6 +1,10 @@
 //! What `station panel --node` does.
 
-ghost use Rattle.std.specs.Prelude.{◌≤◌};
+ghost use Rattle.std.specs.Prelude.{◌≡◌, ◌≤◌, IfOk, OnOk};
+ghost use Rattle.node_panel.specs.Heard.{unheard};
+ghost use Rattle.node_panel.specs.Panels.{Explained, IsOpened, Stood, until};
+ghost use Rattle.panel_desk.specs.node_lines.layout.Entries.{Site};
+ghost use Rattle.station_check.specs.Report.{IsSound};
 
 use crate::attendance::attend_node;
 use crate::failure::NodePanelFailure;
@@ -37,7 +41,12 @@ pub fn panel_of_node<R: Net + Timer + RandomSource + AllocGlobal, O: Write, E: W
     out: &mut O,
     err: &mut E,
 ) -> u8
-    ensures { result ≤ 1 }
+    ensures status { result ≤ 1 }
+    ensures done { result ≡ 0 → (site : Site) × IsSound asked.now.page.layout.now site × Stood site asked.now.page (until asked.now.for_ms) }
+    ensures faulty { ((site : Site) → IsSound asked.now.page.layout.now site → ⊥) → (result ≡ 1) × (out.new ≡ out.old) }
+    ensures silent { result ≡ 0 → err.new ≡ err.old }
+    // Only a beginning of the line was told where a write to `err` failed.
+    ensures explains { result ≡ 1 → Explained asked.now.page.layout.now out.old out.new (E.contents err.old) (E.contents err.new) }
 {
     let table = match table_of(rt.alloc(), asked.page.layout) {
         Ok(table) => table,
@@ -49,8 +58,7 @@ pub fn panel_of_node<R: Net + Timer + RandomSource + AllocGlobal, O: Write, E: W
     match open(rt, asked, &table, out) {
         Ok(()) => 0,
         Err(failure) => {
-            // Where this can't be written, the status has to do.
-            let _ = err.writeln(format_args!("{failure}"));
+            failure.tell(err);
             1
         }
     }
@@ -62,7 +70,9 @@ fn open<R: Net + Timer + RandomSource + AllocGlobal, O: Write>(
     asked: &Asked<'_>,
     table: &Checked,
     out: &mut O,
-) -> Result<(), NodePanelFailure> {
+) -> Result<(), NodePanelFailure>
+    ensures { OnOk result (Stood table.now asked.now.page (until asked.now.for_ms)) }
+{
     if asked.record.is_some() {
         return Err(NodePanelFailure::Record);
     }
@@ -87,7 +97,9 @@ fn attend_opened<R: Net + Timer + RandomSource + AllocGlobal, O: Write>(
     mut caller: Caller<'_, R>,
     mut listener: Loopback,
     out: &mut O,
-) -> Result<(), NodePanelFailure> {
+) -> Result<(), NodePanelFailure>
+    ensures { OnOk result (Stood table.now asked.now.page (until asked.now.for_ms)) }
+{
     let (mut heard, mut desk) = open_room(rt, rt.alloc(), table, &asked.page)?;
     tell_address(asked.page.port, out)?;
     attend_node(
@@ -109,7 +121,10 @@ fn open_room<R: RandomSource>(
     alloc: Global,
     table: &Checked,
     page: &PageAsked<'_>,
-) -> Result<(Heard, Desk), NodePanelFailure> {
+) -> Result<(Heard, Desk), NodePanelFailure>
+    ensures heard { IfOk result (λ room. room.0 ≡ unheard table.now) }
+    ensures desk { IfOk result (λ room. IsOpened table.now page.now room.1) }
+{
     let heard = Heard::nothing(alloc, table.layout())?;
     let places = heard.picture(alloc)?.len();
     let desk = open_desk(rt, alloc, table.copy(alloc)?, places, page)?;

@@ -14,7 +14,7 @@ use Rattle.simulator_event.specs.declared.reply.Reply.{Reply}
 use Rattle.simulator_event.specs.declared.reply.Answer.{Answer}
 use Rattle.replay_lines.specs.Answers.{answer_text, recorded}
 use Rattle.replay_lines.specs.Written.{event_line}
-use Rattle.station_drive.specs.Told.{Asks, Call, Grows, Heard, Sends}
+use Rattle.station_drive.specs.Told.{Asks, Call, Carried, Grows, Heard, Sends}
 use Rattle.station_drive.specs.Doings.{added, recorded_line, Applies, Applying, Asking, Behaviour, Doing, Performs, Stops, after_doing, state_after, calls_of, calls_of_doing, text_of, line_of_doing}
 
 -- ---- what is told grows
@@ -28,6 +28,11 @@ Grows-trans a b None xs ys p q = tt
 Grows-trans a None (Some z) xs ys p q = absurd q
 Grows-trans None (Some y) (Some z) xs ys p q = absurd p
 Grows-trans (Some x) (Some y) (Some z) xs ys p q = q ∙ ap (λ l. l ++ ys) p ∙ append_assoc x xs ys
+
+-- calls behind others
+pub carried-on : {Net : Type 0} (carries : Net → Call → Net → Type 0) (a b c : Net) (xs ys : List Call) → Carried carries a b xs → Carried carries b c ys → Carried carries a c (xs ++ ys)
+carried-on carries a b c [] ys p q = subst (λ n. Carried carries n c ys) p q
+carried-on carries a b c (x ∷ xs) ys p q = (p.0, p.1, carried-on carries p.0 b c xs ys p.2 q)
 
 -- ---- doings behind others
 
@@ -87,33 +92,33 @@ module _ {State : Type 0} (does : Behaviour State) where
 
 -- ---- what was done, one behind another
 
-module _ {State : Type 0} {does : Behaviour State} {site : Site} where
-  pub performs_none : (a : State) (ca : Option (List Call)) (ta : Option (List ℕ)) → Performs does site [] a a ca ca ta ta
-  performs_none a ca ta = record { state_is = refl; called = Grows-nil ca; written = Appends-nil ta }
+module _ {State Net : Type 0} {does : Behaviour State} {carries : Net → Call → Net → Type 0} {site : Site} where
+  pub performs_none : (a : State) (ca : Net) (ta : Option (List ℕ)) → Performs does carries site [] a a ca ca ta ta
+  performs_none a ca ta = record { state_is = refl; called = refl; written = Appends-nil ta }
 
-  pub performs_then : {xs ys : List Doing} {a b c : State} {ca cb cc : Option (List Call)} {ta tb tc : Option (List ℕ)}
-      → Performs does site xs a b ca cb ta tb → Performs does site ys b c cb cc tb tc → Performs does site (xs ++ ys) a c ca cc ta tc
+  pub performs_then : {xs ys : List Doing} {a b c : State} {ca cb cc : Net} {ta tb tc : Option (List ℕ)}
+      → Performs does carries site xs a b ca cb ta tb → Performs does carries site ys b c cb cc tb tc → Performs does carries site (xs ++ ys) a c ca cc ta tc
   performs_then {xs} {ys} {a} {b} {c} {ca} {cb} {cc} {ta} {tb} {tc} first second = record {
     state_is = second.state_is ∙ (ap (λ p. state_after does p ys) first.state_is ∙ sym (state_after-append does a xs ys));
-    called = subst (Grows ca cc) (calls_joined does a b xs ys first.state_is) (Grows-trans ca cb cc _ _ first.called second.called);
+    called = subst (Carried carries ca cc) (calls_joined does a b xs ys first.state_is) (carried-on carries ca cb cc _ _ first.called second.called);
     written = subst (Appends ta tc) (text_joined does site a b xs ys first.state_is) (Appends-trans ta tb tc _ _ first.written second.written);
   }
 
   -- nothing was done
-  pub stops_none : (doings : List Doing) (a : State) (ca : Option (List Call)) (ta : Option (List ℕ)) → Stops does site doings a a ca ca ta ta
+  pub stops_none : (doings : List Doing) (a : State) (ca : Net) (ta : Option (List ℕ)) → Stops does carries site doings a a ca ca ta ta
   stops_none doings a ca ta = record {
     count = 0;
     within = omega arith;
     state_is = refl;
-    called = Grows-nil ca;
+    called = refl;
     taken = 0;
     written = Appends-nil ta;
     lines = omega arith;
   }
 
   -- all was done, and then it was given up
-  pub stops_all : {xs : List Doing} {a b : State} {ca cb : Option (List Call)} {ta tb : Option (List ℕ)}
-      → Performs does site xs a b ca cb ta tb → (s : Stops does site xs a b ca cb ta tb) × (length xs ≤ s.count)
+  pub stops_all : {xs : List Doing} {a b : State} {ca cb : Net} {ta tb : Option (List ℕ)}
+      → Performs does carries site xs a b ca cb ta tb → (s : Stops does carries site xs a b ca cb ta tb) × (length xs ≤ s.count)
   stops_all {xs} {a} {b} {ca} {cb} {ta} {tb} done =
       let all : take (length xs) xs ≡ xs = take-length xs in
       let text : List ℕ = text_of does site a xs in (
@@ -121,7 +126,7 @@ module _ {State : Type 0} {does : Behaviour State} {site : Site} where
           count = length xs;
           within = omega arith;
           state_is = done.state_is ∙ ap (state_after does a) (sym all);
-          called = subst (Grows ca cb) (ap (calls_of does a) (sym all)) done.called;
+          called = subst (Carried carries ca cb) (ap (calls_of does a) (sym all)) done.called;
           taken = length text;
           written = subst (Appends ta tb) (sym (take-length text) ∙ ap (λ (l : List Doing). take (length text) (text_of does site a l)) (sym all)) done.written;
           lines = text_of-take does site a (length xs - 1) xs;
@@ -130,8 +135,8 @@ module _ {State : Type 0} {does : Behaviour State} {site : Site} where
       )
 
   -- doings that were never come to
-  pub stops_before : {xs : List Doing} {a b : State} {ca cb : Option (List Call)} {ta tb : Option (List ℕ)} (ys : List Doing)
-      → Stops does site xs a b ca cb ta tb → Stops does site (xs ++ ys) a b ca cb ta tb
+  pub stops_before : {xs : List Doing} {a b : State} {ca cb : Net} {ta tb : Option (List ℕ)} (ys : List Doing)
+      → Stops does carries site xs a b ca cb ta tb → Stops does carries site (xs ++ ys) a b ca cb ta tb
   stops_before {xs} {a} {b} {ca} {cb} {ta} {tb} ys s =
       let within = s.within in
       let longer = length-append xs ys in
@@ -141,15 +146,15 @@ module _ {State : Type 0} {does : Behaviour State} {site : Site} where
         count = s.count;
         within = omega (arith, within, longer);
         state_is = s.state_is ∙ ap (state_after does a) (sym same);
-        called = subst (Grows ca cb) (ap (calls_of does a) (sym same)) s.called;
+        called = subst (Carried carries ca cb) (ap (calls_of does a) (sym same)) s.called;
         taken = s.taken;
         written = subst (Appends ta tb) (ap (λ (l : List Doing). take s.taken (text_of does site a l)) (sym same)) s.written;
         lines = subst (λ (l : List Doing). length (text_of does site a l) ≤ s.taken) (sym (take-append-le (s.count - 1) xs ys fewer)) s.lines;
       }
 
   -- what was done whole, and then a beginning of more
-  pub stops_behind : {xs ys : List Doing} {a b c : State} {ca cb cc : Option (List Call)} {ta tb tc : Option (List ℕ)}
-      → Performs does site xs a b ca cb ta tb → Stops does site ys b c cb cc tb tc → (s : Stops does site (xs ++ ys) a c ca cc ta tc) × (length xs ≤ s.count)
+  pub stops_behind : {xs ys : List Doing} {a b c : State} {ca cb cc : Net} {ta tb tc : Option (List ℕ)}
+      → Performs does carries site xs a b ca cb ta tb → Stops does carries site ys b c cb cc tb tc → (s : Stops does carries site (xs ++ ys) a c ca cc ta tc) × (length xs ≤ s.count)
   stops_behind {xs} {ys} {a} {b} {c} {ca} {cb} {cc} {ta} {tb} {tc} first second =
       let done : List Doing = take second.count ys in
       let all : xs ++ done ≡ take (length xs + second.count) (xs ++ ys) = sym (take-append-add xs ys second.count) in
@@ -161,7 +166,7 @@ module _ {State : Type 0} {does : Behaviour State} {site : Site} where
           count = length xs + second.count;
           within = omega (arith, within, longer);
           state_is = second.state_is ∙ (ap (λ p. state_after does p done) first.state_is ∙ (sym (state_after-append does a xs done) ∙ ap (state_after does a) all));
-          called = subst (Grows ca cc) (calls_joined does a b xs done first.state_is ∙ ap (calls_of does a) all) (Grows-trans ca cb cc _ _ first.called second.called);
+          called = subst (Carried carries ca cc) (calls_joined does a b xs done first.state_is ∙ ap (calls_of does a) all) (carried-on carries ca cb cc _ _ first.called second.called);
           taken = length before + second.taken;
           written = subst (Appends ta tc)
               (sym (take-append-add before behind second.taken)
@@ -172,20 +177,20 @@ module _ {State : Type 0} {does : Behaviour State} {site : Site} where
         omega arith,
       )
 
-  pub stops_then : {xs ys : List Doing} {a b c : State} {ca cb cc : Option (List Call)} {ta tb tc : Option (List ℕ)}
-      → Performs does site xs a b ca cb ta tb → Stops does site ys b c cb cc tb tc → Stops does site (xs ++ ys) a c ca cc ta tc
+  pub stops_then : {xs ys : List Doing} {a b c : State} {ca cb cc : Net} {ta tb tc : Option (List ℕ)}
+      → Performs does carries site xs a b ca cb ta tb → Stops does carries site ys b c cb cc tb tc → Stops does carries site (xs ++ ys) a c ca cc ta tc
   stops_then {xs} {ys} {a} {b} {c} {ca} {cb} {cc} {ta} {tb} {tc} first second = (stops_behind first second).0
 
   -- given up before what is behind
-  pub stops_now : {xs : List Doing} {a b : State} {ca cb : Option (List Call)} {ta tb : Option (List ℕ)} (ys : List Doing)
-      → Performs does site xs a b ca cb ta tb → Stops does site (xs ++ ys) a b ca cb ta tb
+  pub stops_now : {xs : List Doing} {a b : State} {ca cb : Net} {ta tb : Option (List ℕ)} (ys : List Doing)
+      → Performs does carries site xs a b ca cb ta tb → Stops does carries site (xs ++ ys) a b ca cb ta tb
   stops_now {xs} {a} {b} {ca} {cb} {ta} {tb} ys done = stops_before ys (stops_all done).0
 
-  pub stops_same : {xs ys : List Doing} {a b : State} {ca cb : Option (List Call)} {ta tb : Option (List ℕ)} → xs ≡ ys → Stops does site xs a b ca cb ta tb → Stops does site ys a b ca cb ta tb
-  stops_same {xs} {ys} {a} {b} {ca} {cb} {ta} {tb} e s = subst (λ (l : List Doing). Stops does site l a b ca cb ta tb) e s
+  pub stops_same : {xs ys : List Doing} {a b : State} {ca cb : Net} {ta tb : Option (List ℕ)} → xs ≡ ys → Stops does carries site xs a b ca cb ta tb → Stops does carries site ys a b ca cb ta tb
+  stops_same {xs} {ys} {a} {b} {ca} {cb} {ta} {tb} e s = subst (λ (l : List Doing). Stops does carries site l a b ca cb ta tb) e s
 
   -- what was written was handed on
-  pub performs_kept : {xs : List Doing} {a b : State} {ca cb : Option (List Call)} {ta tb tc : Option (List ℕ)} → Performs does site xs a b ca cb ta tb → Keeps tb tc → Performs does site xs a b ca cb ta tc
+  pub performs_kept : {xs : List Doing} {a b : State} {ca cb : Net} {ta tb tc : Option (List ℕ)} → Performs does carries site xs a b ca cb ta tb → Keeps tb tc → Performs does carries site xs a b ca cb ta tc
   performs_kept {xs} {a} {b} {ca} {cb} {ta} {tb} {tc} done kept = record {
     state_is = done.state_is;
     called = done.called;
@@ -193,29 +198,29 @@ module _ {State : Type 0} {does : Behaviour State} {site : Site} where
   }
 
   -- the same where the layout of what comes behind is the same, seen from there
-  pub performs_next : {other : Site} {xs ys : List Doing} {a b c : State} {ca cb cc : Option (List Call)} {ta tb tc : Option (List ℕ)}
-      → other ≡ site → Performs does site xs a b ca cb ta tb → Performs does other ys b c cb cc tb tc → Performs does site (xs ++ ys) a c ca cc ta tc
+  pub performs_next : {other : Site} {xs ys : List Doing} {a b c : State} {ca cb cc : Net} {ta tb tc : Option (List ℕ)}
+      → other ≡ site → Performs does carries site xs a b ca cb ta tb → Performs does carries other ys b c cb cc tb tc → Performs does carries site (xs ++ ys) a c ca cc ta tc
   performs_next {other} {xs} {ys} {a} {b} {c} {ca} {cb} {cc} {ta} {tb} {tc} e first second =
-      performs_then first (subst (λ (p : Site). Performs does p ys b c cb cc tb tc) e second)
+      performs_then first (subst (λ (p : Site). Performs does carries p ys b c cb cc tb tc) e second)
 
-  pub stops_next : {other : Site} {xs ys : List Doing} {a b c : State} {ca cb cc : Option (List Call)} {ta tb tc : Option (List ℕ)}
-      → other ≡ site → Performs does site xs a b ca cb ta tb → Stops does other ys b c cb cc tb tc → Stops does site (xs ++ ys) a c ca cc ta tc
+  pub stops_next : {other : Site} {xs ys : List Doing} {a b c : State} {ca cb cc : Net} {ta tb tc : Option (List ℕ)}
+      → other ≡ site → Performs does carries site xs a b ca cb ta tb → Stops does carries other ys b c cb cc tb tc → Stops does carries site (xs ++ ys) a c ca cc ta tc
   stops_next {other} {xs} {ys} {a} {b} {c} {ca} {cb} {cc} {ta} {tb} {tc} e first second =
-      stops_then first (subst (λ (p : Site). Stops does p ys b c cb cc tb tc) e second)
+      stops_then first (subst (λ (p : Site). Stops does carries p ys b c cb cc tb tc) e second)
 
   -- one more event was applied
-  pub performs_push : {other : Site} {event : Event} {a b c : State} {ca cb cc : Option (List Call)} {ta tb tc : Option (List ℕ)}
-      → (events : List Event) → other ≡ site → Performs does site (map Applying events) a b ca cb ta tb → Performs does other (Applying event ∷ []) b c cb cc tb tc
-      → Performs does site (map Applying (events ++ event ∷ [])) a c ca cc ta tc
+  pub performs_push : {other : Site} {event : Event} {a b c : State} {ca cb cc : Net} {ta tb tc : Option (List ℕ)}
+      → (events : List Event) → other ≡ site → Performs does carries site (map Applying events) a b ca cb ta tb → Performs does carries other (Applying event ∷ []) b c cb cc tb tc
+      → Performs does carries site (map Applying (events ++ event ∷ [])) a c ca cc ta tc
   performs_push {other} {event} {a} {b} {c} {ca} {cb} {cc} {ta} {tb} {tc} events e first second =
-      subst (λ (l : List Doing). Performs does site l a c ca cc ta tc) (sym (map-append Applying events (event ∷ []))) (performs_next e first second)
+      subst (λ (l : List Doing). Performs does carries site l a c ca cc ta tc) (sym (map-append Applying events (event ∷ []))) (performs_next e first second)
 
-  pub performs_same : {xs ys : List Doing} {a b : State} {ca cb : Option (List Call)} {ta tb : Option (List ℕ)} → xs ≡ ys → Performs does site xs a b ca cb ta tb → Performs does site ys a b ca cb ta tb
-  performs_same {xs} {ys} {a} {b} {ca} {cb} {ta} {tb} e done = subst (λ (l : List Doing). Performs does site l a b ca cb ta tb) e done
+  pub performs_same : {xs ys : List Doing} {a b : State} {ca cb : Net} {ta tb : Option (List ℕ)} → xs ≡ ys → Performs does carries site xs a b ca cb ta tb → Performs does carries site ys a b ca cb ta tb
+  performs_same {xs} {ys} {a} {b} {ca} {cb} {ta} {tb} e done = subst (λ (l : List Doing). Performs does carries site l a b ca cb ta tb) e done
 
   -- a node asked
-  pub performs_asking : {node : NodeId} {heard : Heard} (a : State) {ca cb : Option (List Call)} (ta : Option (List ℕ)) → Grows ca cb (Asks node heard ∷ []) → Performs does site (Asking node heard ∷ []) a a ca cb ta ta
-  performs_asking a ta told = record { state_is = refl; called = told; written = Appends-nil ta }
+  pub performs_asking : {node : NodeId} {heard : Heard} (a : State) {ca cb : Net} (ta : Option (List ℕ)) → carries ca (Asks node heard) cb → Performs does carries site (Asking node heard ∷ []) a a ca cb ta ta
+  performs_asking a {ca} {cb} ta told = record { state_is = refl; called = (cb, told, refl); written = Appends-nil ta }
 
 -- what was given up stays so, whatever fault is told
 pub stopped : {T E P : Type 0} (result : Result T E) → P → OnErr result P
@@ -247,19 +252,19 @@ happened does event old (Err NotDriven) new e h = h
 happened does event old (Err ClockLimit) new e h = h
 
 -- one more datagram was sent
-pub sent_more : (a b c : Option (List Call)) (done : List (NodeId × List ℕ)) (one : NodeId × List ℕ)
-    → Grows a b (map (λ o. Sends o.0 o.1) done) → Grows b c (Sends one.0 one.1 ∷ []) → Grows a c (map (λ o. Sends o.0 o.1) (done ++ one ∷ []))
-sent_more a b c done one first second =
+pub sent_more : {Net : Type 0} (carries : Net → Call → Net → Type 0) (a b c : Net) (done : List (NodeId × List ℕ)) (one : NodeId × List ℕ)
+    → Carried carries a b (map (λ o. Sends o.0 o.1) done) → carries b (Sends one.0 one.1) c → Carried carries a c (map (λ o. Sends o.0 o.1) (done ++ one ∷ []))
+sent_more carries a b c done one first second =
     let send : NodeId × List ℕ → Call = λ o. Sends o.0 o.1 in
-    subst (Grows a c) (sym (map-append send done (one ∷ []))) (Grows-trans a b c (map send done) (send one ∷ []) first second)
+    subst (Carried carries a c) (sym (map-append send done (one ∷ []))) (carried-on carries a b c (map send done) (send one ∷ []) first (c, second, refl))
 
 -- the datagrams that an event added were sent
-pub event_called : {State : Type 0} (does : Behaviour State) (event : Event) (old new : State) (count : ℕ) (a b : Option (List Call))
+pub event_called : {State Net : Type 0} (does : Behaviour State) (carries : Net → Call → Net → Type 0) (event : Event) (old new : State) (count : ℕ) (a b : Net)
     → new ≡ does.after old event → count ≡ length (does.sent old)
-    → Grows a b (map (λ o. Sends o.0 o.1) (drop count (does.sent new))) → Grows a b (calls_of does old (Applying event ∷ []))
-event_called does event old new count a b is counted h =
+    → Carried carries a b (map (λ o. Sends o.0 o.1) (drop count (does.sent new))) → Carried carries a b (calls_of does old (Applying event ∷ []))
+event_called does carries event old new count a b is counted h =
     let send : NodeId × List ℕ → Call = λ o. Sends o.0 o.1 in
-    subst (Grows a b)
+    subst (Carried carries a b)
     (ap (λ p. map send (drop count (does.sent p))) is
     ∙ (ap (λ n. map send (drop n (does.sent (does.after old event)))) counted
     ∙ sym (append-nil (map send (added does old event)))))

@@ -9,7 +9,7 @@ use Rattle.simulator_event.specs.declared.event.Event.{Event}
 use Rattle.simulator_event.specs.declared.event.Event.TheVariants.{Deliver, Tick}
 use Rattle.simulator_event.specs.declared.event.NodeId.{NodeId}
 use Rattle.station_drive.specs.declared.course.Drive.{Drive}
-use Rattle.station_drive.specs.Told.{Asks, Call, Datagram, Grows, Heard, Nothing, heard_of}
+use Rattle.station_drive.specs.Told.{Asks, Call, Datagram, Heard, Nothing, heard_of}
 use Rattle.station_drive.specs.Doings.{Doing, Asking, Applying}
 use Rattle.station_drive.specs.Rounds.{IsSilence, drives_after, Hearing, comings, hearing_of, hearings, ticks}
 
@@ -95,15 +95,15 @@ pub failed : {P : Type 0} (b : Bool) → (IsTrue b ↔ P) → b ≡ false → P 
 failed b h e p = let t = h.1 p in cc
 
 -- what was heard, by what was answered
-pub asked_some : {Bytes : Type 0} (bytes : Bytes → List ℕ) (node : NodeId) (answer : Option Bytes) (a b : Option (List Call))
-    → Grows a b (Asks node (heard_of bytes (Ok answer)) ∷ []) → IfSome answer (λ datagram. Grows a b (Asks node (Datagram (bytes datagram)) ∷ []))
-asked_some bytes node None a b told = tt
-asked_some bytes node (Some datagram) a b told = told
+pub asked_some : {Bytes Net : Type 0} (carries : Net → Call → Net → Type 0) (bytes : Bytes → List ℕ) (node : NodeId) (answer : Option Bytes) (a b : Net)
+    → carries a (Asks node (heard_of bytes (Ok answer))) b → IfSome answer (λ datagram. carries a (Asks node (Datagram (bytes datagram))) b)
+asked_some carries bytes node None a b told = tt
+asked_some carries bytes node (Some datagram) a b told = told
 
-pub asked_none : {Bytes : Type 0} (bytes : Bytes → List ℕ) (node : NodeId) (answer : Option Bytes) (a b : Option (List Call))
-    → Grows a b (Asks node (heard_of bytes (Ok answer)) ∷ []) → IfNone answer ((last : Heard) × IsSilence last × Grows a b (Asks node last ∷ []))
-asked_none bytes node None a b told = (Nothing, tt, told)
-asked_none bytes node (Some datagram) a b told = tt
+pub asked_none : {Bytes Net : Type 0} (carries : Net → Call → Net → Type 0) (bytes : Bytes → List ℕ) (node : NodeId) (answer : Option Bytes) (a b : Net)
+    → carries a (Asks node (heard_of bytes (Ok answer))) b → IfNone answer ((last : Heard) × IsSilence last × carries a (Asks node last) b)
+asked_none carries bytes node None a b told = (Nothing, tt, told)
+asked_none carries bytes node (Some datagram) a b told = tt
 
 pub all-push : {A : Type 0} (P : A → Type 0) (xs : List A) (x : A) → AllByRecursion P xs → P x → AllByRecursion P (xs ++ x ∷ [])
 all-push P [] x h p = (p, tt)

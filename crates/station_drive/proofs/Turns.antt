@@ -41,30 +41,30 @@ next_read a b c first turns turn p q =
     let reading : RoundHeard → ℕ = λ t. t.reading in
     subst (Grows a c) (ap (λ l. first ∷ l) (sym (map-append reading turns (turn ∷ [])))) (Grows-trans a b c (first ∷ map reading turns) (turn.reading ∷ []) p q)
 
-module _ {State : Type 0} {does : Behaviour State} {site : Site} where
+module _ {State Net : Type 0} {does : Behaviour State} {carries : Net → Call → Net → Type 0} {site : Site} where
   -- one more round
-  pub next_round : {other : Site} {a b c : State} {ca cb cc : Option (List Call)} {ta tb tc : Option (List ℕ)} (start standing : RunSoFar) (turns : List RoundHeard) (turn : RoundHeard)
+  pub next_round : {other : Site} {a b c : State} {ca cb cc : Net} {ta tb tc : Option (List ℕ)} (start standing : RunSoFar) (turns : List RoundHeard) (turn : RoundHeard)
       → other ≡ site → standing ≡ standing_end does site a start turns
-      → Performs does site (rounds does site a start turns) a b ca cb ta tb → Performs does other (round other standing turn) b c cb cc tb tc
-      → Performs does site (rounds does site a start (turns ++ turn ∷ [])) a c ca cc ta tc
+      → Performs does carries site (rounds does site a start turns) a b ca cb ta tb → Performs does carries other (round other standing turn) b c cb cc tb tc
+      → Performs does carries site (rounds does site a start (turns ++ turn ∷ [])) a c ca cc ta tc
   next_round {other} {a} {b} {c} {ca} {cb} {cc} {ta} {tb} {tc} start standing turns turn e same before now =
       performs_same (sym (rounds-push does site a start turns turn))
       (performs_next e before (performs_same (ap (λ (p : Site). round p standing turn) e ∙ ap (λ (s : RunSoFar). round site s turn) same) now))
 
   -- a round that was broken off
-  pub broken_round : {other : Site} {a b c : State} {ca cb cc : Option (List Call)} {ta tb tc : Option (List ℕ)} (start standing : RunSoFar) (turns : List RoundHeard) (turn : RoundHeard)
+  pub broken_round : {other : Site} {a b c : State} {ca cb cc : Net} {ta tb tc : Option (List ℕ)} (start standing : RunSoFar) (turns : List RoundHeard) (turn : RoundHeard)
       → other ≡ site → standing ≡ standing_end does site a start turns
-      → Performs does site (rounds does site a start turns) a b ca cb ta tb → Stops does other (round other standing turn) b c cb cc tb tc
-      → (s : Stops does site (rounds does site a start (turns ++ turn ∷ [])) a c ca cc ta tc) × (length (rounds does site a start turns) ≤ s.count)
+      → Performs does carries site (rounds does site a start turns) a b ca cb ta tb → Stops does carries other (round other standing turn) b c cb cc tb tc
+      → (s : Stops does carries site (rounds does site a start (turns ++ turn ∷ [])) a c ca cc ta tc) × (length (rounds does site a start turns) ≤ s.count)
   broken_round {other} {a} {b} {c} {ca} {cb} {cc} {ta} {tb} {tc} start standing turns turn e same before now =
-      let here : Stops does site (round other standing turn) b c cb cc tb tc = subst (λ (p : Site). Stops does p (round other standing turn) b c cb cc tb tc) e now in
-      let cut : Stops does site (round site (standing_end does site a start turns) turn) b c cb cc tb tc =
+      let here : Stops does carries site (round other standing turn) b c cb cc tb tc = subst (λ (p : Site). Stops does carries p (round other standing turn) b c cb cc tb tc) e now in
+      let cut : Stops does carries site (round site (standing_end does site a start turns) turn) b c cb cc tb tc =
       stops_same (ap (λ (p : Site). round p standing turn) e ∙ ap (λ (s : RunSoFar). round site s turn) same) here in
       let whole : List Doing = rounds does site a start turns in
-      subst (λ (l : List Doing). (s : Stops does site l a c ca cc ta tc) × (length whole ≤ s.count)) (sym (rounds-push does site a start turns turn)) (stops_behind before cut)
+      subst (λ (l : List Doing). (s : Stops does carries site l a c ca cc ta tc) × (length whole ≤ s.count)) (sym (rounds-push does site a start turns turn)) (stops_behind before cut)
 
-  pub next_standing : {a c : State} {ca cc : Option (List Call)} {ta tc : Option (List ℕ)} (start standing after : RunSoFar) (turns : List RoundHeard) (turn : RoundHeard)
-      → Performs does site (rounds does site a start (turns ++ turn ∷ [])) a c ca cc ta tc
+  pub next_standing : {a c : State} {ca cc : Net} {ta tc : Option (List ℕ)} (start standing after : RunSoFar) (turns : List RoundHeard) (turn : RoundHeard)
+      → Performs does carries site (rounds does site a start (turns ++ turn ∷ [])) a c ca cc ta tc
       → standing ≡ standing_end does site a start turns → after ≡ run_after does c standing turn.reading
       → after ≡ standing_end does site a start (turns ++ turn ∷ [])
   next_standing {a} {c} {ca} {cc} {ta} {tc} start standing after turns turn performs same h =

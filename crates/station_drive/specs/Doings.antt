@@ -11,7 +11,7 @@ use Rattle.simulator_event.specs.declared.reply.Answer.{Answer}
 use Rattle.simulator_event.specs.declared.reply.Reply.{Reply}
 use Rattle.replay_lines.specs.Written.{event_line}
 use Rattle.replay_lines.specs.Answers.{answer_text, recorded}
-use Rattle.station_drive.specs.Told.{Call, Sends, Asks, Heard, Grows}
+use Rattle.station_drive.specs.Told.{Call, Sends, Asks, Heard, Carried}
 
 -- how a station behaves to which events happen
 pub record Behaviour (State : Type 0) : Type 0 where
@@ -75,19 +75,19 @@ module _ {State : Type 0} (does : Behaviour State) where
   text_of site state (doing ∷ doings) = line_of_doing site state doing ++ text_of site (after_doing state doing) doings
 
   -- These were done: the station, and what the network and the record tell, are as they come of it.
-  pub record Performs (site : Site) (doings : List Doing) (old new : State) (calls_old calls_new : Option (List Call)) (text_old text_new : Option (List ℕ)) : Type 0 where
+  pub record Performs {Net : Type 0} (carries : Net → Call → Net → Type 0) (site : Site) (doings : List Doing) (old new : State) (net_old net_new : Net) (text_old text_new : Option (List ℕ)) : Type 0 where
     pub state_is : new ≡ state_after old doings
-    pub called : Grows calls_old calls_new (calls_of old doings)
+    pub called : Carried carries net_old net_new (calls_of old doings)
     pub written : Appends text_old text_new (text_of site old doings)
 
   -- A beginning of these was done, and then it was given up: the first `count` were done, and nothing behind them. The station,
   -- and what the network tells, are as they come of it. The record has the lines of all that was done, of the last perhaps only a
   -- beginning.
-  pub record Stops (site : Site) (doings : List Doing) (old new : State) (calls_old calls_new : Option (List Call)) (text_old text_new : Option (List ℕ)) : Type 0 where
+  pub record Stops {Net : Type 0} (carries : Net → Call → Net → Type 0) (site : Site) (doings : List Doing) (old new : State) (net_old net_new : Net) (text_old text_new : Option (List ℕ)) : Type 0 where
     pub count : ℕ
     pub within : count ≤ length doings
     pub state_is : new ≡ state_after old (take count doings)
-    pub called : Grows calls_old calls_new (calls_of old (take count doings))
+    pub called : Carried carries net_old net_new (calls_of old (take count doings))
     pub taken : ℕ
     pub written : Appends text_old text_new (take taken (text_of site old (take count doings)))
     pub lines : length (text_of site old (take (count - 1) doings)) ≤ taken

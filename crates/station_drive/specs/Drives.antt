@@ -19,8 +19,8 @@ pub record IsPlain (site : Site) (one : RoundHeard) : Type 0 where
   pub unjammed : one.jammed ≡ []
 
 -- After a first reading each further one made a round, up to and with the first that was `for_ms` or more behind it.
-pub record Driven {State : Type 0} (does : Behaviour State) (site : Site) (script : List (ℕ × Event)) (for_ms : ℕ)
-    (old new : State) (readings_old readings_new : Option (List ℕ)) (calls_old calls_new : Option (List Call)) (text_old text_new : Option (List ℕ)) : Type 0 where
+pub record Driven {State Net : Type 0} (does : Behaviour State) (carries : Net → Call → Net → Type 0) (site : Site) (script : List (ℕ × Event)) (for_ms : ℕ)
+    (old new : State) (readings_old readings_new : Option (List ℕ)) (net_old net_new : Net) (text_old text_new : Option (List ℕ)) : Type 0 where
   pub first : ℕ
   pub earlier : List RoundHeard
   pub last : RoundHeard
@@ -28,7 +28,7 @@ pub record Driven {State : Type 0} (does : Behaviour State) (site : Site) (scrip
   pub plain : AllByRecursion (IsPlain site) (earlier ++ last ∷ [])
   pub goes_on : AllByRecursion (λ one. (one.reading - first) / 1000 < for_ms) earlier
   pub over : for_ms ≤ (last.reading - first) / 1000
-  pub performs : Performs does site (rounds does site old (beginning site script first) (earlier ++ last ∷ [])) old new calls_old calls_new text_old text_new
+  pub performs : Performs does carries site (rounds does site old (beginning site script first) (earlier ++ last ∷ [])) old new net_old net_new text_old text_new
 
 -- the rounds that were made, and the one that was broken off, if one had begun
 abbrev pub begun : List RoundHeard → Option RoundHeard → List RoundHeard
@@ -38,13 +38,13 @@ begun made (Some broken) = made ++ broken ∷ []
 -- The same drive, cut off by a fault. After a first reading each further one began a round. All rounds before the last were made
 -- whole, and none of them was `for_ms` behind the first. What was done is a beginning of what these rounds do: what a node would hear
 -- behind the cut doesn't count.
-pub record CutOff {State : Type 0} (does : Behaviour State) (site : Site) (script : List (ℕ × Event)) (for_ms : ℕ)
-    (old new : State) (readings_old readings_new : Option (List ℕ)) (calls_old calls_new : Option (List Call)) (text_old text_new : Option (List ℕ)) : Type 0 where
+pub record CutOff {State Net : Type 0} (does : Behaviour State) (carries : Net → Call → Net → Type 0) (site : Site) (script : List (ℕ × Event)) (for_ms : ℕ)
+    (old new : State) (readings_old readings_new : Option (List ℕ)) (net_old net_new : Net) (text_old text_new : Option (List ℕ)) : Type 0 where
   pub first : ℕ
   pub made : List RoundHeard
   pub broken : Option RoundHeard
   pub read : Grows readings_old readings_new (first ∷ map (λ one. one.reading) (begun made broken))
   pub plain : AllByRecursion (IsPlain site) (begun made broken)
   pub goes_on : AllByRecursion (λ one. (one.reading - first) / 1000 < for_ms) made
-  pub stops : Stops does site (rounds does site old (beginning site script first) (begun made broken)) old new calls_old calls_new text_old text_new
+  pub stops : Stops does carries site (rounds does site old (beginning site script first) (begun made broken)) old new net_old net_new text_old text_new
   pub all_made : length (rounds does site old (beginning site script first) made) ≤ stops.count

@@ -1,5 +1,5 @@
 -- What clocks and networks tell of their calls.
-use Rattle.std.specs.Prelude.{◌≡◌, ℕ, suc, List, ◌++◌, Option, Some, None, Result, Ok, Err}
+use Rattle.std.specs.Prelude.{◌≡◌, ℕ, suc, List, [], ◌∷◌, ◌++◌, Option, Some, None, Result, Ok, Err}
 use Rattle.simulator_event.specs.declared.event.NodeId.{NodeId}
 use Rattle.station_drive.specs.declared.datagrams.NetFault.{NetFault}
 
@@ -25,6 +25,11 @@ abbrev pub Grows : {A : Type 0} → Option (List A) → Option (List A) → List
 Grows old None more = Unit {0}
 Grows None (Some after) more = ⊥
 Grows (Some before) (Some after) more = after ≡ before ++ more
+
+-- Calls of a network, one behind another, by what each call makes of what the network tells of itself.
+abbrev pub Carried : {Net : Type 0} → (Net → Call → Net → Type 0) → Net → Net → List Call → Type 0
+Carried carries old new [] = new ≡ old
+Carried {Net} carries old new (call ∷ calls) = (mid : Net) × carries old call mid × Carried carries mid new calls
 
 -- the count of failed calls rises where a call fails, and there alone
 abbrev pub Counts : {A : Type 0} → Result A NetFault → ℕ → ℕ → Type 0

@@ -16,23 +16,29 @@ pub enum NetFault {
 
 /// A network that carries datagrams between the nodes of a station, or loses them.
 pub trait Datagrams {
-    ghost use Rattle.std.specs.Prelude.{◌≡◌, ℕ, List, [], ◌∷◌, Option, None};
-    ghost use Rattle.station_drive.specs.Told.{Asks, Call, Counts, Grows, Sends, heard_of};
+    ghost use Rattle.std.specs.Prelude.{◌≡◌, ℕ};
+    ghost use Rattle.station_drive.specs.Told.{Asks, Call, Counts, Sends, heard_of};
 
-    /// Its calls so far, with what was heard, where it tells them.
-    ghost calls: { Self → Option (List Call) } = { λ _. None };
+    /// What it can tell of itself.
+    ghost Told: { Type 0 };
+
+    /// What it tells now.
+    ghost told: { Self → Told };
+
+    /// What a call makes of that: what it tells before the call and behind it.
+    ghost carries: { Told → Call → Told → Type 0 };
 
     /// How many of its calls failed.
     ghost failed: { Self → ℕ };
 
     /// Sends bytes to a node. Where that fails they are lost.
     fn send(&mut self, to: NodeId, bytes: &[u8]) -> Result<(), NetFault>
-        ensures told { Grows (calls self.old) (calls self.new) (Sends to bytes.now ∷ []) }
+        ensures told { carries (told self.old) (Sends to bytes.now) (told self.new) }
         ensures faults { Counts result (failed self.old) (failed self.new) };
 
     /// A datagram that has come to a node, if there is one. It doesn't wait.
     fn receive(&mut self, node: NodeId) -> Result<Option<Received>, NetFault>
-        ensures told { Grows (calls self.old) (calls self.new) (Asks node (heard_of (λ bytes. bytes.items) result) ∷ []) }
+        ensures told { carries (told self.old) (Asks node (heard_of (λ bytes. bytes.items) result)) (told self.new) }
         ensures faults { Counts result (failed self.old) (failed self.new) };
 
     /// How many calls failed. At its greatest value the count stays: a call that fails then answers that it sent, or

@@ -31,8 +31,8 @@ pub(crate) fn pass<S: Station, N: Datagrams, W: Write>(
     recorder: &mut W,
     elapsed: u64,
 ) -> Result<(), DriveFault>
-    ensures done { OnOk result (Performs S.does (S.site station.old) (Applying (Time elapsed (replicate (length (node_names (S.site station.old))) elapsed)) ∷ []) (S.state station.old) (S.state station.new) (N.calls net.old) (N.calls net.new) (W.contents recorder.old) (W.contents recorder.new)) }
-    ensures stopped { OnErr result (Stops S.does (S.site station.old) (Applying (Time elapsed (replicate (length (node_names (S.site station.old))) elapsed)) ∷ []) (S.state station.old) (S.state station.new) (N.calls net.old) (N.calls net.new) (W.contents recorder.old) (W.contents recorder.new)) }
+    ensures done { OnOk result (Performs S.does N.carries (S.site station.old) (Applying (Time elapsed (replicate (length (node_names (S.site station.old))) elapsed)) ∷ []) (S.state station.old) (S.state station.new) (N.told net.old) (N.told net.new) (W.contents recorder.old) (W.contents recorder.new)) }
+    ensures stopped { OnErr result (Stops S.does N.carries (S.site station.old) (Applying (Time elapsed (replicate (length (node_names (S.site station.old))) elapsed)) ∷ []) (S.state station.old) (S.state station.new) (N.told net.old) (N.told net.new) (W.contents recorder.old) (W.contents recorder.new)) }
     ensures site { S.site station.new ≡ S.site station.old }
 {
     let nodes = node_count(station.table().layout());
@@ -55,8 +55,8 @@ pub(crate) fn apply_due<S: Station, N: Datagrams, W: Write>(
     script: &WaitingLines<'_>,
     passed: u64,
 ) -> Result<(), DriveFault>
-    ensures done { OnOk result (Performs S.does (S.site station.old) (map Applying (due passed (waiting script.now.applied script.now.lines.now))) (S.state station.old) (S.state station.new) (N.calls net.old) (N.calls net.new) (W.contents recorder.old) (W.contents recorder.new)) }
-    ensures stopped { OnErr result (Stops S.does (S.site station.old) (map Applying (due passed (waiting script.now.applied script.now.lines.now))) (S.state station.old) (S.state station.new) (N.calls net.old) (N.calls net.new) (W.contents recorder.old) (W.contents recorder.new)) }
+    ensures done { OnOk result (Performs S.does N.carries (S.site station.old) (map Applying (due passed (waiting script.now.applied script.now.lines.now))) (S.state station.old) (S.state station.new) (N.told net.old) (N.told net.new) (W.contents recorder.old) (W.contents recorder.new)) }
+    ensures stopped { OnErr result (Stops S.does N.carries (S.site station.old) (map Applying (due passed (waiting script.now.applied script.now.lines.now))) (S.state station.old) (S.state station.new) (N.told net.old) (N.told net.new) (W.contents recorder.old) (W.contents recorder.new)) }
     ensures site { S.site station.new ≡ S.site station.old }
 {
     for place in 0..script.lines.len() {
@@ -80,8 +80,8 @@ pub(crate) fn apply_asked<S: Station, N: Datagrams, W: Write>(
     recorder: &mut W,
     asked: &[Event],
 ) -> Result<(), DriveFault>
-    ensures done { OnOk result (Performs S.does (S.site station.old) (map Applying asked.now) (S.state station.old) (S.state station.new) (N.calls net.old) (N.calls net.new) (W.contents recorder.old) (W.contents recorder.new)) }
-    ensures stopped { OnErr result (Stops S.does (S.site station.old) (map Applying asked.now) (S.state station.old) (S.state station.new) (N.calls net.old) (N.calls net.new) (W.contents recorder.old) (W.contents recorder.new)) }
+    ensures done { OnOk result (Performs S.does N.carries (S.site station.old) (map Applying asked.now) (S.state station.old) (S.state station.new) (N.told net.old) (N.told net.new) (W.contents recorder.old) (W.contents recorder.new)) }
+    ensures stopped { OnErr result (Stops S.does N.carries (S.site station.old) (map Applying asked.now) (S.state station.old) (S.state station.new) (N.told net.old) (N.told net.new) (W.contents recorder.old) (W.contents recorder.new)) }
     ensures site { S.site station.new ≡ S.site station.old }
 {
     for place in 0..asked.len() {
@@ -100,8 +100,8 @@ pub(crate) fn reach_all<S: Station, N: Datagrams, W: Write>(
     jammed: &[bool],
     reading: u64,
 ) -> Result<(), DriveFault>
-    ensures done { OnOk result (Performs S.does (S.site station.old) (map Applying (reaches jammed.now reading 0 drives.now)) (S.state station.old) (S.state station.new) (N.calls net.old) (N.calls net.new) (W.contents recorder.old) (W.contents recorder.new)) }
-    ensures stopped { OnErr result (Stops S.does (S.site station.old) (map Applying (reaches jammed.now reading 0 drives.now)) (S.state station.old) (S.state station.new) (N.calls net.old) (N.calls net.new) (W.contents recorder.old) (W.contents recorder.new)) }
+    ensures done { OnOk result (Performs S.does N.carries (S.site station.old) (map Applying (reaches jammed.now reading 0 drives.now)) (S.state station.old) (S.state station.new) (N.told net.old) (N.told net.new) (W.contents recorder.old) (W.contents recorder.new)) }
+    ensures stopped { OnErr result (Stops S.does N.carries (S.site station.old) (map Applying (reaches jammed.now reading 0 drives.now)) (S.state station.old) (S.state station.new) (N.told net.old) (N.told net.new) (W.contents recorder.old) (W.contents recorder.new)) }
     ensures site { S.site station.new ≡ S.site station.old }
 {
     for (place, drive) in drives.iter().enumerate() {
@@ -148,8 +148,8 @@ fn reach<S: Station, N: Datagrams, W: Write>(
     drive: Option<Drive>,
     reading: u64,
 ) -> Result<(), DriveFault>
-    ensures done { OnOk result (Performs S.does (S.site station.old) (map Applying (reach reading point.0 drive)) (S.state station.old) (S.state station.new) (N.calls net.old) (N.calls net.new) (W.contents recorder.old) (W.contents recorder.new)) }
-    ensures stopped { OnErr result (Stops S.does (S.site station.old) (map Applying (reach reading point.0 drive)) (S.state station.old) (S.state station.new) (N.calls net.old) (N.calls net.new) (W.contents recorder.old) (W.contents recorder.new)) }
+    ensures done { OnOk result (Performs S.does N.carries (S.site station.old) (map Applying (reach reading point.0 drive)) (S.state station.old) (S.state station.new) (N.told net.old) (N.told net.new) (W.contents recorder.old) (W.contents recorder.new)) }
+    ensures stopped { OnErr result (Stops S.does N.carries (S.site station.old) (map Applying (reach reading point.0 drive)) (S.state station.old) (S.state station.new) (N.told net.old) (N.told net.new) (W.contents recorder.old) (W.contents recorder.new)) }
     ensures site { S.site station.new ≡ S.site station.old }
 {
     match drive {
@@ -184,8 +184,8 @@ pub(crate) fn tick_all<S: Station, N: Datagrams, W: Write>(
     net: &mut N,
     recorder: &mut W,
 ) -> Result<(), DriveFault>
-    ensures done { OnOk result (Performs S.does (S.site station.old) (map Applying (ticks (length (node_names (S.site station.old))))) (S.state station.old) (S.state station.new) (N.calls net.old) (N.calls net.new) (W.contents recorder.old) (W.contents recorder.new)) }
-    ensures stopped { OnErr result (Stops S.does (S.site station.old) (map Applying (ticks (length (node_names (S.site station.old))))) (S.state station.old) (S.state station.new) (N.calls net.old) (N.calls net.new) (W.contents recorder.old) (W.contents recorder.new)) }
+    ensures done { OnOk result (Performs S.does N.carries (S.site station.old) (map Applying (ticks (length (node_names (S.site station.old))))) (S.state station.old) (S.state station.new) (N.told net.old) (N.told net.new) (W.contents recorder.old) (W.contents recorder.new)) }
+    ensures stopped { OnErr result (Stops S.does N.carries (S.site station.old) (map Applying (ticks (length (node_names (S.site station.old))))) (S.state station.old) (S.state station.new) (N.told net.old) (N.told net.new) (W.contents recorder.old) (W.contents recorder.new)) }
     ensures site { S.site station.new ≡ S.site station.old }
 {
     for node in 0..node_count(station.table().layout()) {

@@ -5,7 +5,7 @@ ghost use Rattle.std.specs.Io.KnownBytes.{Appends, Keeps};
 ghost use Rattle.std.specs.Option.{option_map};
 ghost use Rattle.replay_lines.specs.Answers.{answer_text};
 ghost use Rattle.simulator_event.specs.refused.Refused.TheVariants as refused;
-ghost use Rattle.station_drive.specs.Told.{Grows, Sends};
+ghost use Rattle.station_drive.specs.Told.{Carried, Sends};
 ghost use Rattle.station_drive.specs.Doings.{Applying, Performs, Stops, recorded_line};
 
 use crate::datagrams::Datagrams;
@@ -26,8 +26,8 @@ pub(crate) fn perform<S: Station, N: Datagrams, W: Write>(
     recorder: &mut W,
     event: &Event,
 ) -> Result<(), DriveFault>
-    ensures done { OnOk result (Performs S.does (S.site station.old) (Applying event.now ∷ []) (S.state station.old) (S.state station.new) (N.calls net.old) (N.calls net.new) (W.contents recorder.old) (W.contents recorder.new)) }
-    ensures stopped { OnErr result (Stops S.does (S.site station.old) (Applying event.now ∷ []) (S.state station.old) (S.state station.new) (N.calls net.old) (N.calls net.new) (W.contents recorder.old) (W.contents recorder.new)) }
+    ensures done { OnOk result (Performs S.does N.carries (S.site station.old) (Applying event.now ∷ []) (S.state station.old) (S.state station.new) (N.told net.old) (N.told net.new) (W.contents recorder.old) (W.contents recorder.new)) }
+    ensures stopped { OnErr result (Stops S.does N.carries (S.site station.old) (Applying event.now ∷ []) (S.state station.old) (S.state station.new) (N.told net.old) (N.told net.new) (W.contents recorder.old) (W.contents recorder.new)) }
     ensures site { S.site station.new ≡ S.site station.old }
 {
     let line = write_event(alloc, station.table(), event)?;
@@ -49,7 +49,7 @@ fn lacks_memory(answer: Result<Answer, Refused>) -> bool
 
 /// Sends the datagrams from a place on. Where the network fails they are lost.
 fn send_from<S: Station, N: Datagrams>(station: &S, net: &mut N, first: usize)
-    ensures { Grows (N.calls net.old) (N.calls net.new) (map (λ one. Sends one.0 one.1) (drop first (S.does.sent (S.state station.now)))) }
+    ensures { Carried N.carries (N.told net.old) (N.told net.new) (map (λ one. Sends one.0 one.1) (drop first (S.does.sent (S.state station.now)))) }
 {
     for place in first..station.sent_count() {
         let Some(outgoing) = station.sent_at(place) else {

@@ -36,9 +36,9 @@ pub fn drive<S: Station, N: Datagrams, C: Clock, W: Write>(
     for_ms: u64,
     recorder: &mut W,
 ) -> Result<(), DriveFault>
-    ensures done { OnOk result (Driven S.does (S.site station.old) script.now for_ms (S.state station.old) (S.state station.new) (C.readings clock.old) (C.readings clock.new) (N.calls net.old) (N.calls net.new) (W.contents recorder.old) (W.contents recorder.new)) }
+    ensures done { OnOk result (Driven S.does N.carries (S.site station.old) script.now for_ms (S.state station.old) (S.state station.new) (C.readings clock.old) (C.readings clock.new) (N.told net.old) (N.told net.new) (W.contents recorder.old) (W.contents recorder.new)) }
     // It ends with a fault exactly as it would have ended without, but cut off.
-    ensures stopped { OnErr result (CutOff S.does (S.site station.old) script.now for_ms (S.state station.old) (S.state station.new) (C.readings clock.old) (C.readings clock.new) (N.calls net.old) (N.calls net.new) (W.contents recorder.old) (W.contents recorder.new)) }
+    ensures stopped { OnErr result (CutOff S.does N.carries (S.site station.old) script.now for_ms (S.state station.old) (S.state station.new) (C.readings clock.old) (C.readings clock.new) (N.told net.old) (N.told net.new) (W.contents recorder.old) (W.contents recorder.new)) }
 {
     let first = clock.read();
     let mut course = begin(alloc, station, script, first)?;
@@ -107,9 +107,9 @@ pub fn round<S: Station, N: Datagrams, W: Write>(
     jammed: &[bool],
 ) -> Result<(), DriveFault>
     requires { length course.old.drives ≡ length (S.site station.old).points }
-    ensures done { OnOk result ((heard : List Hearing) × (length heard ≡ length (node_names (S.site station.old))) × Performs S.does (S.site station.old) (round (S.site station.old) course.old (record { reading = reading; heard = heard; asked = asked.now; jammed = jammed.now })) (S.state station.old) (S.state station.new) (N.calls net.old) (N.calls net.new) (W.contents recorder.old) (W.contents recorder.new)) }
+    ensures done { OnOk result ((heard : List Hearing) × (length heard ≡ length (node_names (S.site station.old))) × Performs S.does N.carries (S.site station.old) (round (S.site station.old) course.old (record { reading = reading; heard = heard; asked = asked.now; jammed = jammed.now })) (S.state station.old) (S.state station.new) (N.told net.old) (N.told net.new) (W.contents recorder.old) (W.contents recorder.new)) }
     ensures course { OnOk result (course.new ≡ run_after S.does (S.state station.new) course.old reading) }
-    ensures stopped { OnErr result ((heard : List Hearing) × (length heard ≡ length (node_names (S.site station.old))) × Stops S.does (S.site station.old) (round (S.site station.old) course.old (record { reading = reading; heard = heard; asked = asked.now; jammed = jammed.now })) (S.state station.old) (S.state station.new) (N.calls net.old) (N.calls net.new) (W.contents recorder.old) (W.contents recorder.new)) }
+    ensures stopped { OnErr result ((heard : List Hearing) × (length heard ≡ length (node_names (S.site station.old))) × Stops S.does N.carries (S.site station.old) (round (S.site station.old) course.old (record { reading = reading; heard = heard; asked = asked.now; jammed = jammed.now })) (S.state station.old) (S.state station.new) (N.told net.old) (N.told net.new) (W.contents recorder.old) (W.contents recorder.new)) }
     ensures site { S.site station.new ≡ S.site station.old }
 {
     let passed = millis_since(course.first, reading);

@@ -4,6 +4,7 @@
 
 mod datagrams_waiting;
 mod failures_counted;
+mod laws;
 mod log;
 mod memory_clock;
 mod network;
@@ -11,6 +12,7 @@ mod port;
 mod round_clock;
 mod sockets;
 
+pub use laws::calls_are_told_in_their_order;
 pub use log::NetCall;
 pub use memory_clock::SteppingClock;
 pub use network::MemoryNetwork;

@@ -2,7 +2,7 @@
 
 ghost use Rattle.std.specs.Prelude.{◌≡◌, [], ◌∷◌, IfOk, map};
 ghost use Rattle.station_drive.specs.Told.{Call, Grows};
-ghost use Rattle.station_network.specs.Log.{call_of, told};
+ghost use Rattle.station_network.specs.Log.{call_of, so_far};
 
 use station_drive::simulator_event::NodeId;
 use std::alloc::AllocError;
@@ -31,7 +31,7 @@ pub(crate) struct Log {
 impl Log {
     /// Keeps a call, if memory was there for it.
     pub(crate) fn add(&mut self, call: Result<NetCall, AllocError>)
-        ensures { (one : Call) → IfOk call (λ kept. call_of kept ≡ one) → Grows (told self.old.tells (map call_of self.old.calls.items)) (told self.new.tells (map call_of self.new.calls.items)) (one ∷ []) }
+        ensures { (one : Call) → IfOk call (λ kept. call_of kept ≡ one) → Grows (so_far self.old.tells (map call_of self.old.calls.items)) (so_far self.new.tells (map call_of self.new.calls.items)) (one ∷ []) }
     {
         let Ok(call) = call else {
             self.tells = false;

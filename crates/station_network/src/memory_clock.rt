@@ -15,11 +15,11 @@ pub struct SteppingClock {
 
 impl SteppingClock {
     ghost use Rattle.std.specs.Prelude.{◌≡◌, [], Some};
-    ghost use Rattle.station_network.specs.Log.{told};
+    ghost use Rattle.station_network.specs.Log.{so_far};
 
     /// A clock of which the first reading is a step behind this time.
     pub fn new(alloc: Global, time: u64, step: u64) -> SteppingClock
-        ensures { told result.tells result.readings.items ≡ Some [] }
+        ensures { so_far result.tells result.readings.items ≡ Some [] }
     {
         SteppingClock {
             latest: time,
@@ -38,9 +38,9 @@ impl SteppingClock {
 }
 
 impl Clock for SteppingClock {
-    ghost use Rattle.station_network.specs.Log.{told};
+    ghost use Rattle.station_network.specs.Log.{so_far};
 
-    ghost readings = { λ clock. told clock.tells clock.readings.items };
+    ghost readings = { λ clock. so_far clock.tells clock.readings.items };
 
     ghost latest = { λ clock. clock.latest };
 

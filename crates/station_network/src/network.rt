@@ -2,7 +2,7 @@
 
 ghost use Rattle.std.specs.Prelude.{◌≡◌, [], IfOk, Some, map};
 ghost use Rattle.station_drive.specs.Told.{Asks, Counts, Sends, heard_of};
-ghost use Rattle.station_network.specs.Log.{call_of, told};
+ghost use Rattle.station_network.specs.Log.{call_of, so_far};
 
 use crate::datagrams_waiting::Waiting;
 use crate::failures_counted::Counting;
@@ -34,7 +34,7 @@ impl Drop for MemoryNetwork {
 impl MemoryNetwork {
     /// A network that carries nothing yet. Its call of the number `failing` fails, counted from 1; none at 0.
     pub fn new(alloc: Global, failing: u64) -> MemoryNetwork
-        ensures { told result.log.tells (map call_of result.log.calls.items) ≡ Some [] }
+        ensures { so_far result.log.tells (map call_of result.log.calls.items) ≡ Some [] }
     {
         MemoryNetwork {
             waiting: Waiting {
@@ -81,7 +81,15 @@ impl MemoryNetwork {
 }
 
 impl Datagrams for MemoryNetwork {
-    ghost calls = { λ network. told network.log.tells (map call_of network.log.calls.items) };
+    ghost use Rattle.std.specs.Prelude.{List, Option};
+    ghost use Rattle.station_drive.specs.Told.{Call};
+    ghost use Rattle.station_network.specs.Log.{grows_by};
+
+    ghost Told = { Option (List Call) };
+
+    ghost told = { λ network. so_far network.log.tells (map call_of network.log.calls.items) };
+
+    ghost carries = { grows_by };
 
     ghost failed = { λ network. network.counting.failed };
 

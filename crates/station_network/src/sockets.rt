@@ -86,6 +86,14 @@ impl Sockets {
 }
 
 impl Datagrams for Sockets {
+    ghost use Rattle.station_network.specs.Log.{Silent, anything};
+
+    ghost Told = { Silent };
+
+    ghost told = { λ _. tt };
+
+    ghost carries = { anything };
+
     ghost failed = { λ sockets. sockets.failed };
 
     fn send(&mut self, to: NodeId, bytes: &[u8]) -> Result<(), NetFault> {

@@ -1,3 +1,4 @@
 pub mod Cancels
+pub mod DisturbedCalls
 pub mod Readings
 pub mod Turn

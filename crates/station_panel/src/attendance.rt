@@ -2,6 +2,7 @@
 
 ghost use Rattle.std.specs.Prelude.{◌≡◌, List, ℕ, None, IfOk, OnErr, OnOk, length};
 ghost use Rattle.station_network.specs.station_drive.Told.{Grows};
+ghost use Rattle.station_panel.specs.DisturbedNetwork.{disturbance};
 ghost use Rattle.station_panel.specs.Turns.{Attended, CutShort, EndsSo, IsLived, IsLivedShort, Moment, Turns};
 
 use crate::disturbed::Disturbed;
@@ -32,8 +33,8 @@ pub fn attend<S: Station + Pictured, N: Datagrams, C: Clock, W: Write, R: Random
     desk: &mut Desk,
     limits: Limits,
 ) -> Result<Ending, DriveFault>
-    ensures done { IfOk result (λ ending. (last : Moment S) × (told : Attended S.does (S.site station.old.station) S.state S.lines limits.memory station.old.station desk.old (W.contents recorder.old) (C.readings clock.old) (C.readings clock.new) last) × EndsSo limits.for_ms told.first told.readings ending × (last.station ≡ station.new.station) × (last.desk ≡ desk.new) × (last.text ≡ W.contents recorder.new)) }
-    ensures stopped { OnErr result ((last : Moment S) × Attended S.does (S.site station.old.station) S.state S.lines limits.memory station.old.station desk.old (W.contents recorder.old) (C.readings clock.old) None last × CutShort S.does (S.site station.old.station) S.state S.lines last station.new.station (W.contents recorder.new)) }
+    ensures done { IfOk result (λ ending. (last : Moment S N) × (told : Attended S.does N.told N.carries (S.site station.old.station) S.state S.lines limits.memory station.old.station (disturbance net.old) desk.old (W.contents recorder.old) (C.readings clock.old) (C.readings clock.new) last) × EndsSo limits.for_ms told.first told.readings ending × (last.station ≡ station.new.station) × (last.net ≡ disturbance net.new) × (last.desk ≡ desk.new) × (last.text ≡ W.contents recorder.new)) }
+    ensures stopped { OnErr result ((last : Moment S N) × Attended S.does N.told N.carries (S.site station.old.station) S.state S.lines limits.memory station.old.station (disturbance net.old) desk.old (W.contents recorder.old) (C.readings clock.old) None last × CutShort S.does N.told N.carries (S.site station.old.station) S.state S.lines last station.new.station (disturbance net.new) (W.contents recorder.new)) }
 {
     let first = clock.read();
     let mut seat = Seat::new(alloc, station, first)?;
@@ -68,8 +69,8 @@ fn attend_on<S: Station + Pictured, N: Datagrams, C: Clock, W: Write, R: RandomS
     connections: &mut Connections<L::Stream>,
 ) -> Result<Ending, DriveFault>
     requires { length seat.old.course.drives ≡ length (S.site station.old.station).points }
-    ensures done { IfOk result (λ ending. (readings : List ℕ) × Grows (C.readings clock.old) (C.readings clock.new) readings × Turns S.does (S.site station.old.station) S.state S.lines limits.memory (record { station = station.old.station; run = seat.old.course; desk = desk.old; faults = seat.old.faults; text = W.contents recorder.old }) readings (record { station = station.new.station; run = seat.new.course; desk = desk.new; faults = seat.new.faults; text = W.contents recorder.new }) × EndsSo limits.for_ms seat.old.first readings ending) }
-    ensures stopped { OnErr result ((readings : List ℕ) × (last : Moment S) × Turns S.does (S.site station.old.station) S.state S.lines limits.memory (record { station = station.old.station; run = seat.old.course; desk = desk.old; faults = seat.old.faults; text = W.contents recorder.old }) readings last × CutShort S.does (S.site station.old.station) S.state S.lines last station.new.station (W.contents recorder.new)) }
+    ensures done { IfOk result (λ ending. (readings : List ℕ) × Grows (C.readings clock.old) (C.readings clock.new) readings × Turns S.does N.told N.carries (S.site station.old.station) S.state S.lines limits.memory (record { station = station.old.station; net = disturbance net.old; run = seat.old.course; desk = desk.old; faults = seat.old.faults; text = W.contents recorder.old }) readings (record { station = station.new.station; net = disturbance net.new; run = seat.new.course; desk = desk.new; faults = seat.new.faults; text = W.contents recorder.new }) × EndsSo limits.for_ms seat.old.first readings ending) }
+    ensures stopped { OnErr result ((readings : List ℕ) × (last : Moment S N) × Turns S.does N.told N.carries (S.site station.old.station) S.state S.lines limits.memory (record { station = station.old.station; net = disturbance net.old; run = seat.old.course; desk = desk.old; faults = seat.old.faults; text = W.contents recorder.old }) readings last × CutShort S.does N.told N.carries (S.site station.old.station) S.state S.lines last station.new.station (disturbance net.new) (W.contents recorder.new)) }
 {
     for _ in 0..u64::MAX {
         let reading = clock.read();
@@ -104,8 +105,8 @@ fn turn<S: Station + Pictured, N: Datagrams, W: Write>(
     reading: u64,
 ) -> Result<(), DriveFault>
     requires { length seat.old.course.drives ≡ length (S.site station.old.station).points }
-    ensures done { OnOk result (IsLived S.does (S.site station.old.station) S.state S.lines limit reading (record { station = station.old.station; run = seat.old.course; desk = desk.old; faults = seat.old.faults; text = W.contents recorder.old }) (record { station = station.new.station; run = seat.new.course; desk = desk.new; faults = seat.new.faults; text = W.contents recorder.new })) }
-    ensures stopped { OnErr result (IsLivedShort S.does (S.site station.old.station) S.state S.lines reading (record { station = station.old.station; run = seat.old.course; desk = desk.old; faults = seat.old.faults; text = W.contents recorder.old }) station.new.station (W.contents recorder.new)) }
+    ensures done { OnOk result (IsLived S.does N.told N.carries (S.site station.old.station) S.state S.lines limit reading (record { station = station.old.station; net = disturbance net.old; run = seat.old.course; desk = desk.old; faults = seat.old.faults; text = W.contents recorder.old }) (record { station = station.new.station; net = disturbance net.new; run = seat.new.course; desk = desk.new; faults = seat.new.faults; text = W.contents recorder.new })) }
+    ensures stopped { OnErr result (IsLivedShort S.does N.told N.carries (S.site station.old.station) S.state S.lines reading (record { station = station.old.station; net = disturbance net.old; run = seat.old.course; desk = desk.old; faults = seat.old.faults; text = W.contents recorder.old }) station.new.station (disturbance net.new) (W.contents recorder.new)) }
     ensures site { S.site station.new.station ≡ S.site station.old.station }
     ensures first { seat.new.first ≡ seat.old.first }
 {

@@ -1,6 +1,8 @@
 //! A network that is disturbed.
 
-ghost use Rattle.std.specs.Prelude.{◌≡◌};
+ghost use Rattle.std.specs.Prelude.{◌≡◌, ◌++◌, IfOk, OnOk, map};
+ghost use Rattle.station_panel.specs.DisturbedNetwork.{Released, comes_late, disturbance, flag_at, flags_from, heeded, identities, is_cut_off, is_one_cut, is_sender_cut, is_turn, undisturbed};
+ghost use Rattle.station_panel.specs.Inside.{FirstGoes, Keeps, Loses, is_first_due};
 
 use crate::faults::Faults;
 use panel_desk::node_lines::ixl_rules::control_table::layout::Layout;
@@ -38,8 +40,8 @@ pub struct Disturbed<N> {
     since: u64,
     /// By how many microseconds datagrams come late.
     delay: u64,
-    /// The clock, in microseconds.
-    now: u64,
+    /// The clock at the round, in microseconds.
+    reading: u64,
     late: VecDeque<Late>,
 }
 
@@ -54,7 +56,7 @@ impl<N: Drop> Drop for Disturbed<N> {
             one_in: _,
             since: _,
             delay: _,
-            now: _,
+            reading: _,
             late: _,
         } = self;
     }
@@ -62,7 +64,9 @@ impl<N: Drop> Drop for Disturbed<N> {
 
 impl<N: Drop> Disturbed<N> {
     /// A network between the nodes of a layout, that isn't disturbed yet.
-    pub fn of(alloc: Global, net: N, layout: &Layout) -> Result<Disturbed<N>, AllocError> {
+    pub fn of(alloc: Global, net: N, layout: &Layout) -> Result<Disturbed<N>, AllocError>
+        ensures { IfOk result (λ d. disturbance d ≡ undisturbed layout.now net) }
+    {
         let ids = identities(alloc, layout)?;
         let cut = vec![in alloc; false; ids.len()]?;
         Ok(Disturbed {
@@ -73,7 +77,7 @@ impl<N: Drop> Disturbed<N> {
             one_in: 0,
             since: 0,
             delay: 0,
-            now: 0,
+            reading: 0,
             late: VecDeque::new(alloc),
         })
     }
@@ -81,58 +85,84 @@ impl<N: Drop> Disturbed<N> {
 
 impl<N> Disturbed<N> {
     /// From now on it is disturbed so.
-    pub(crate) fn heed(&mut self, faults: &Faults, now: u64) {
-        for place in 0..self.cut.len() {
-            self.cut[place] = flag_at(&faults.cut, place);
-        }
+    pub(crate) fn heed(&mut self, faults: &Faults, reading: u64)
+        ensures { disturbance self.new ≡ heeded faults.now reading (disturbance self.old) }
+    {
+        set_flags(&mut self.cut, &faults.cut);
         self.one_in = faults.one_in;
         self.delay = faults.millis.saturating_mul(MICROS);
-        self.now = now;
+        self.reading = reading;
     }
 
     /// Whether bytes that go to a node are lost: this node is cut off, or the one that sent them, or their turn has come.
     fn loses(&mut self, to: NodeId, bytes: &[u8]) -> bool
-        ensures { self.new.net ≡ self.old.net }
+        ensures lost { Loses (disturbance self.old) to bytes.now result (disturbance self.new) }
+        ensures net { self.new.net ≡ self.old.net }
     {
-        if flag_at(&self.cut, to.0) || self.is_sender_cut(bytes) {
+        if self.is_cut_off(to, bytes) {
+            return true;
+        }
+        if self.is_turn() {
+            self.since = 0;
             return true;
         }
         self.since = self.since.saturating_add(1);
-        if self.one_in == 0 || self.since < self.one_in {
-            return false;
-        }
-        self.since = 0;
-        true
-    }
-
-    /// Whether the node is cut off that sent these bytes.
-    fn is_sender_cut(&self, bytes: &[u8]) -> bool {
-        if bytes.len() < SENDER {
-            return false;
-        }
-        let sender = receiver_of(&bytes[SENDER..]);
-        for place in 0..self.ids.len() {
-            if self.ids[place] == sender {
-                return flag_at(&self.cut, place);
-            }
-        }
         false
     }
 
-    /// Keeps bytes that come late; where memory is lacking they are lost.
-    fn keep(&mut self, to: NodeId, bytes: &[u8])
-        ensures { self.new.net ≡ self.old.net }
+    /// Whether the node is cut off to which bytes go, or the one that sent them.
+    fn is_cut_off(&self, to: NodeId, bytes: &[u8]) -> bool
+        ensures { result ≡ is_cut_off (disturbance self.now) to bytes.now }
     {
-        let due = self.now.saturating_add(self.delay);
-        if let Ok(bytes) = Vec::from_slice(self.alloc, bytes) {
-            let _ = self.late.push_back(Late { to, bytes, due });
+        flag_at(&self.cut, to.0) || self.is_sender_cut(bytes)
+    }
+
+    /// Whether the turn of the next datagram to be lost has come.
+    fn is_turn(&self) -> bool
+        ensures { result ≡ is_turn (disturbance self.now) }
+    {
+        self.one_in != 0 && self.one_in <= self.since.saturating_add(1)
+    }
+
+    /// Whether the next datagram comes late.
+    fn comes_late(&self) -> bool
+        ensures { result ≡ comes_late (disturbance self.now) }
+    {
+        self.delay > 0 || !self.late.is_empty()
+    }
+
+    /// Whether the node is cut off that sent these bytes.
+    fn is_sender_cut(&self, bytes: &[u8]) -> bool
+        ensures { result ≡ is_sender_cut (disturbance self.now) bytes.now }
+    {
+        if bytes.len() < SENDER {
+            return false;
         }
+        let (_, behind) = bytes.split_at(SENDER);
+        is_one_cut(&self.cut, receiver_of(behind), &self.ids)
+    }
+
+    /// Keeps bytes that come late, if memory is there for them, and answers whether it does.
+    fn keeps(&mut self, to: NodeId, bytes: &[u8]) -> bool
+        ensures kept { Keeps (disturbance self.old) to bytes.now result (disturbance self.new) }
+        ensures net { self.new.net ≡ self.old.net }
+    {
+        if !self.comes_late() {
+            return false;
+        }
+        let due = self.reading.saturating_add(self.delay);
+        let Ok(bytes) = Vec::from_slice(self.alloc, bytes) else {
+            return false;
+        };
+        self.late.push_back(Late { to, bytes, due }).is_ok()
     }
 
     /// Whether the first datagram that is kept goes on now.
-    fn is_first_due(&self) -> bool {
+    fn is_first_due(&self) -> bool
+        ensures { result ≡ is_first_due (disturbance self.now).late self.now.reading }
+    {
         match self.late.front() {
-            Some(first) => first.due <= self.now,
+            Some(first) => first.due <= self.reading,
             None => false,
         }
     }
@@ -140,27 +170,44 @@ impl<N> Disturbed<N> {
 
 impl<N: Datagrams> Disturbed<N> {
     /// What comes late and is due goes on.
-    pub(crate) fn release(&mut self) {
+    pub(crate) fn release(&mut self)
+        ensures { Released N.told N.carries (disturbance self.old) (disturbance self.new) }
+    {
         for _ in 0..self.late.len() {
             if !self.is_first_due() {
                 return;
             }
-            if let Some(first) = self.late.pop_front() {
-                let _ = self.net.send(first.to, &first.bytes);
-            }
+            self.send_first();
         }
+    }
+
+    /// The first that waits goes on.
+    fn send_first(&mut self)
+        ensures { FirstGoes N.told N.carries (disturbance self.old).late (disturbance self.old) (disturbance self.new) }
+    {
+        let Some(first) = self.late.pop_front() else {
+            return;
+        };
+        let _ = self.net.send(first.to, &first.bytes);
     }
 }
 
 impl<N: Datagrams> Datagrams for Disturbed<N> {
+    ghost use Rattle.station_panel.specs.DisturbedNetwork.{DisturbedView, Passes, disturbance};
+
+    ghost Told = { DisturbedView N };
+
+    ghost told = { disturbance };
+
+    ghost carries = { Passes N.told N.carries };
+
     ghost failed = { λ disturbed. N.failed disturbed.net };
 
     fn send(&mut self, to: NodeId, bytes: &[u8]) -> Result<(), NetFault> {
         if self.loses(to, bytes) {
             return Ok(());
         }
-        if self.delay > 0 || !self.late.is_empty() {
-            self.keep(to, bytes);
+        if self.keeps(to, bytes) {
             return Ok(());
         }
         self.net.send(to, bytes)
@@ -176,15 +223,40 @@ impl<N: Datagrams> Datagrams for Disturbed<N> {
 }
 
 /// The flag at a place; none is set where there is none.
-fn flag_at(flags: &[bool], place: usize) -> bool {
+fn flag_at(flags: &[bool], place: usize) -> bool
+    ensures { result ≡ flag_at flags.now place }
+{
     match flags.get(place) {
         Some(flag) => *flag,
         None => false,
     }
 }
 
+/// Sets flags as they are wanted; none is set that isn't among the wanted ones.
+fn set_flags(flags: &mut [bool], wanted: &[bool])
+    ensures { flags.new ≡ flags_from wanted.now 0 flags.old }
+{
+    for place in 0..flags.len() {
+        flags[place] = flag_at(wanted, place);
+    }
+}
+
+/// Whether the node of an identity is cut off.
+fn is_one_cut(cut: &[bool], sender: u32, ids: &[u32]) -> bool
+    ensures { result ≡ is_one_cut cut.now sender ids.now 0 }
+{
+    for place in 0..ids.len() {
+        if ids[place] == sender {
+            return flag_at(cut, place);
+        }
+    }
+    false
+}
+
 /// The identities of all nodes, in their order.
-fn identities(alloc: Global, layout: &Layout) -> Result<Vec<u32>, AllocError> {
+fn identities(alloc: Global, layout: &Layout) -> Result<Vec<u32>, AllocError>
+    ensures { IfOk result (λ ids. ids.items ≡ identities layout.now) }
+{
     let mut ids = Vec::new(alloc);
     ids.push(layout.station().id)?;
     add_signals(&mut ids, layout)?;
@@ -193,21 +265,27 @@ fn identities(alloc: Global, layout: &Layout) -> Result<Vec<u32>, AllocError> {
     Ok(ids)
 }
 
-fn add_signals(ids: &mut Vec<u32>, layout: &Layout) -> Result<(), AllocError> {
+fn add_signals(ids: &mut Vec<u32>, layout: &Layout) -> Result<(), AllocError>
+    ensures { OnOk result (ids.new.items ≡ ids.old.items ++ map (λ one. one.id) layout.now.signals) }
+{
     for signal in layout.signals() {
         ids.push(signal.id)?;
     }
     Ok(())
 }
 
-fn add_points(ids: &mut Vec<u32>, layout: &Layout) -> Result<(), AllocError> {
+fn add_points(ids: &mut Vec<u32>, layout: &Layout) -> Result<(), AllocError>
+    ensures { OnOk result (ids.new.items ≡ ids.old.items ++ map (λ one. one.id) layout.now.points) }
+{
     for point in layout.points() {
         ids.push(point.id)?;
     }
     Ok(())
 }
 
-fn add_detectors(ids: &mut Vec<u32>, layout: &Layout) -> Result<(), AllocError> {
+fn add_detectors(ids: &mut Vec<u32>, layout: &Layout) -> Result<(), AllocError>
+    ensures { OnOk result (ids.new.items ≡ ids.old.items ++ map (λ one. one.id) layout.now.detectors) }
+{
     for detector in layout.detectors() {
         ids.push(detector.id())?;
     }

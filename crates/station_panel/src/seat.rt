@@ -1,13 +1,15 @@
 //! What a panel keeps between its turns.
 
-ghost use Rattle.std.specs.Prelude.{◌≡◌, ◌++◌, ◌-◌, ◌/◌, ◌≤◌, [], List, ℕ, None, Some, IfOk, OnErr, OnOk, length};
+ghost use Rattle.std.specs.Prelude.{◌≡◌, ◌++◌, ◌-◌, ◌/◌, ◌≤◌, [], List, ℕ, Some, IfOk, OnErr, OnOk, length};
 ghost use Rattle.panel_desk.specs.node_lines.replay_lines.Names.{node_names};
 ghost use Rattle.station_network.specs.station_drive.Doings.{Performs, Stops};
 ghost use Rattle.station_network.specs.station_drive.Drives.{beginning};
 ghost use Rattle.station_network.specs.station_drive.Rounds.{Hearing, round, run_after};
 ghost use Rattle.station_panel.specs.Asked.{events_asked, faults_after};
+ghost use Rattle.station_panel.specs.DisturbedNetwork.{DisturbedView, Passes, Released, disturbance, heeded};
 ghost use Rattle.station_panel.specs.Faults.{no_faults};
 ghost use Rattle.panel_desk.specs.Boards.{Notes, shown_anew};
+ghost use Rattle.station_panel.specs.Opened.{place_count};
 ghost use Rattle.station_panel.specs.Shown.{fault_lines};
 ghost use Rattle.station_panel.specs.Turns.{emptied};
 ghost use Rattle.station_panel.specs.declared.ending.Ending.TheVariants as ends;
@@ -32,7 +34,7 @@ const MICROS: u64 = 1000;
 
 /// How many places a board needs for the picture of a station, with what is disturbed.
 pub fn places<S: Station + Pictured>(alloc: Global, station: &S) -> Result<usize, AllocError>
-    ensures { IfOk result (λ places. places ≡ length (S.lines station.now ++ fault_lines (no_faults (length (node_names (S.site station.now))) (length (S.site station.now).points)) 0 0)) }
+    ensures { IfOk result (λ places. places ≡ place_count (S.site station.now) (S.lines station.now)) }
 {
     let mut lines = station.picture(alloc)?;
     let layout = station.table().layout();
@@ -103,9 +105,9 @@ impl<'a> Seat<'a> {
         reading: u64,
     ) -> Result<(), DriveFault>
         requires { length self.old.course.drives ≡ length (S.site station.old.station).points }
-        ensures done { OnOk result ((heard : List Hearing) × (length heard ≡ length (node_names (S.site station.old.station))) × Performs S.does (S.site station.old.station) (round (S.site station.old.station) self.old.course (record { reading = reading; heard = heard; asked = self.old.events.items; jammed = self.old.faults.jammed })) (S.state station.old.station) (S.state station.new.station) None None (W.contents recorder.old) (W.contents recorder.new)) }
+        ensures done { OnOk result ((begun : DisturbedView N) × Released N.told N.carries (heeded self.old.faults reading (disturbance net.old)) begun × (heard : List Hearing) × (length heard ≡ length (node_names (S.site station.old.station))) × Performs S.does (Passes N.told N.carries) (S.site station.old.station) (round (S.site station.old.station) self.old.course (record { reading = reading; heard = heard; asked = self.old.events.items; jammed = self.old.faults.jammed })) (S.state station.old.station) (S.state station.new.station) begun (disturbance net.new) (W.contents recorder.old) (W.contents recorder.new)) }
         ensures course { OnOk result (self.new.course ≡ run_after S.does (S.state station.new.station) self.old.course reading) }
-        ensures stopped { OnErr result ((heard : List Hearing) × (length heard ≡ length (node_names (S.site station.old.station))) × Stops S.does (S.site station.old.station) (round (S.site station.old.station) self.old.course (record { reading = reading; heard = heard; asked = self.old.events.items; jammed = self.old.faults.jammed })) (S.state station.old.station) (S.state station.new.station) None None (W.contents recorder.old) (W.contents recorder.new)) }
+        ensures stopped { OnErr result ((begun : DisturbedView N) × Released N.told N.carries (heeded self.old.faults reading (disturbance net.old)) begun × (heard : List Hearing) × (length heard ≡ length (node_names (S.site station.old.station))) × Stops S.does (Passes N.told N.carries) (S.site station.old.station) (round (S.site station.old.station) self.old.course (record { reading = reading; heard = heard; asked = self.old.events.items; jammed = self.old.faults.jammed })) (S.state station.old.station) (S.state station.new.station) begun (disturbance net.new) (W.contents recorder.old) (W.contents recorder.new)) }
         ensures site { S.site station.new.station ≡ S.site station.old.station }
         ensures faults { self.new.faults ≡ self.old.faults }
         ensures first { self.new.first ≡ self.old.first }

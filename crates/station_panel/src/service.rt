@@ -1,8 +1,10 @@
 //! A panel of a station, from its desk to its end.
 
-ghost use Rattle.std.specs.Prelude.{◌≡◌, IfOk};
+ghost use Rattle.std.specs.Prelude.{◌≡◌, ◌⊎◌, IfOk, None, OnErr};
 ghost use Rattle.panel_desk.specs.Answers.{DeskView};
-ghost use Rattle.station_panel.specs.Turns.{Attended, EndsSo, Moment};
+ghost use Rattle.station_panel.specs.DisturbedNetwork.{DisturbedView, disturbance, undisturbed};
+ghost use Rattle.station_panel.specs.Opened.{IsOpened, page_of};
+ghost use Rattle.station_panel.specs.Turns.{Attended, CutShort, EndsSo, Moment};
 
 use crate::attendance::attend;
 use crate::disturbed::Disturbed;
@@ -46,7 +48,9 @@ pub fn serve<
     limits: Limits,
     out: &mut O,
 ) -> Result<Ending, PanelFault>
-    ensures { IfOk result (λ ending. (opened : DeskView) × (last : Moment S) × (told : Attended S.does (S.site station) S.state S.lines limits.memory station opened (W.contents recorder.old) (C.readings clock.old) (C.readings clock.new) last) × EndsSo limits.for_ms told.first told.readings ending × (last.text ≡ W.contents recorder.new)) }
+    ensures done { IfOk result (λ ending. (opened : DeskView) × IsOpened (S.site station) (S.lines station) (page_of page.now) opened × (last : Moment S N) × (told : Attended S.does N.told N.carries (S.site station) S.state S.lines limits.memory station (undisturbed (S.site station) net) opened (W.contents recorder.old) (C.readings clock.old) (C.readings clock.new) last) × EndsSo limits.for_ms told.first told.readings ending × (last.text ≡ W.contents recorder.new)) }
+    // No turn was begun, or the station and its network were left so behind the turns that were made whole.
+    ensures stopped { OnErr result ((recorder.new ≡ recorder.old) ⊎ ((opened : DeskView) × IsOpened (S.site station) (S.lines station) (page_of page.now) opened × (last : Moment S N) × Attended S.does N.told N.carries (S.site station) S.state S.lines limits.memory station (undisturbed (S.site station) net) opened (W.contents recorder.old) (C.readings clock.old) None last × (left : S) × (left_net : DisturbedView N) × CutShort S.does N.told N.carries (S.site station) S.state S.lines last left left_net (W.contents recorder.new))) }
 {
     let mut room = open_room(rt, alloc, station, net, page)?;
     tell_address(page.port, out)?;
@@ -72,7 +76,9 @@ fn open_room<R: RandomSource, S: Station + Pictured + Drop, N: Drop>(
     net: N,
     page: &PageAsked<'_>,
 ) -> Result<Room<S, N>, PanelFault>
-    ensures { IfOk result (λ room. room.station.station ≡ station) }
+    ensures station { IfOk result (λ room. room.station.station ≡ station) }
+    ensures net { IfOk result (λ room. disturbance room.net ≡ undisturbed (S.site station) net) }
+    ensures desk { IfOk result (λ room. IsOpened (S.site station) (S.lines station) (page_of page.now) room.desk) }
 {
     let table = station.table().copy(alloc)?;
     let desk = open_desk(rt, alloc, table, places(alloc, &station)?, page)?;

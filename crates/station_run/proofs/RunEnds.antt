@@ -25,18 +25,18 @@ leaves_all (Failed (why.Line fault)) old new same = same
 leaves_all (Failed why.OutOfMemory) old new same = same
 leaves_all (Failed why.NotWritten) old new same = tt
 
-module _ {first : Played} {lines : List (ℕ × Event)} {for_ms : ℕ} {readings_old readings_new : Option (List ℕ)} {calls_old calls_new : Option (List Call)} {text_old text_new : Option (List ℕ)} where
+module _ {Net : Type 0} {carries : Net → Call → Net → Type 0} {first : Played} {lines : List (ℕ × Event)} {for_ms : ℕ} {readings_old readings_new : Option (List ℕ)} {net_old net_new : Net} {text_old text_new : Option (List ℕ)} where
   -- a drive ended before its time
   pub drive_ends : {last : Played} (fault : DriveFault)
-      → CutOff driven_worlds first.sited.site lines for_ms first last readings_old readings_new calls_old calls_new text_old text_new
-      → EndsEarly first lines for_ms readings_old readings_new calls_old calls_new text_old text_new (of_drive fault)
+      → CutOff driven_worlds carries first.sited.site lines for_ms first last readings_old readings_new net_old net_new text_old text_new
+      → EndsEarly carries first lines for_ms readings_old readings_new net_old net_new text_old text_new (of_drive fault)
   drive_ends drive.OutOfMemory cut = lacks_memory cut
   drive_ends drive.WriteFailed cut = cannot_run cut
 
   -- the picture wasn't told
   pub picture_ends : {W : Type 0} {last : Played} (old new : W) (failure : Failure) → IsLate old new failure
-      → Driven driven_worlds first.sited.site lines for_ms first last readings_old readings_new calls_old calls_new text_old text_new
-      → EndsEarly first lines for_ms readings_old readings_new calls_old calls_new text_old text_new (Failed failure)
+      → Driven driven_worlds carries first.sited.site lines for_ms first last readings_old readings_new net_old net_new text_old text_new
+      → EndsEarly carries first lines for_ms readings_old readings_new net_old net_new text_old text_new (Failed failure)
   picture_ends old new why.OutOfMemory late driven = lacks_memory_at_its_end driven
   picture_ends old new why.NotWritten late driven = not_told driven
   picture_ends old new (why.Layout fault) late driven = absurd late
@@ -45,13 +45,13 @@ module _ {first : Played} {lines : List (ℕ × Event)} {for_ms : ℕ} {readings
 
   -- so it is where a call is answered with this failure
   pub ended : {T W : Type 0} (tried : Result T RunFailure) (failure : RunFailure) (old new : W) → IsErrAnd tried (λ told. told ≡ failure)
-      → EndsEarly first lines for_ms readings_old readings_new calls_old calls_new text_old text_new failure → Leaves failure old new
-      → IfErr tried (λ why. EndsEarly first lines for_ms readings_old readings_new calls_old calls_new text_old text_new why × Leaves why old new)
+      → EndsEarly carries first lines for_ms readings_old readings_new net_old net_new text_old text_new failure → Leaves failure old new
+      → IfErr tried (λ why. EndsEarly carries first lines for_ms readings_old readings_new net_old net_new text_old text_new why × Leaves why old new)
   ended (Ok answer) failure old new told ends leaves = absurd told
   ended (Err other) failure old new told ends leaves =
-      subst (λ why. EndsEarly first lines for_ms readings_old readings_new calls_old calls_new text_old text_new why × Leaves why old new) (sym told) (ends, leaves)
+      subst (λ why. EndsEarly carries first lines for_ms readings_old readings_new net_old net_new text_old text_new why × Leaves why old new) (sym told) (ends, leaves)
 
-  pub early_is_of_run : {failure : RunFailure} → EndsEarly first lines for_ms readings_old readings_new calls_old calls_new text_old text_new failure → IsOfRun failure
+  pub early_is_of_run : {failure : RunFailure} → EndsEarly carries first lines for_ms readings_old readings_new net_old net_new text_old text_new failure → IsOfRun failure
   early_is_of_run (cannot_run cut) = tt
   early_is_of_run (lacks_memory cut) = tt
   early_is_of_run (lacks_memory_at_its_end driven) = tt

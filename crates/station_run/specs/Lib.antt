@@ -2,6 +2,7 @@ pub mod Worlds
 pub mod Failures
 pub mod Runs
 pub mod Panel
+pub mod Panels
 pub mod Inside
 -- what crates above need of the crates below
 pub use Rattle.station_record.specs as station_record

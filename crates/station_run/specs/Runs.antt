@@ -9,6 +9,7 @@ use Rattle.station_record.specs.replay.simulator.World.{IsPicture}
 use Rattle.station_record.specs.replay.station_check.Report.{IsSound}
 use Rattle.station_panel.specs.station_network.station_drive.Drives.{CutOff, Driven}
 use Rattle.station_panel.specs.station_network.station_drive.Told.{Call}
+use Rattle.station_panel.specs.station_network.Log.{anything}
 use Rattle.station_record.specs.replay.station_check.Failures.{ExplainsTable}
 use Rattle.station_record.specs.replay.station_check.declared.failure.Failure.{Failure}
 use Rattle.station_record.specs.replay.station_check.declared.failure.Failure.TheVariants as why
@@ -46,39 +47,37 @@ ExplainsTexts layout text failure = ExplainsTable layout failure
 -- ---- the run
 
 -- The station was driven for its time, and the picture of its last world was written. That world is safe.
-pub record IsRun (first : Played) (lines : List (ℕ × Event)) (for_ms : ℕ) (readings_old readings_new : Option (List ℕ))
-    (calls_old calls_new : Option (List Call)) (text_old text_new out_old out_new : Option (List ℕ)) : Type 0 where
+pub record IsRun {Net : Type 0} (carries : Net → Call → Net → Type 0) (first : Played) (lines : List (ℕ × Event)) (for_ms : ℕ) (readings_old readings_new : Option (List ℕ))
+    (net_old net_new : Net) (text_old text_new out_old out_new : Option (List ℕ)) : Type 0 where
   pub last : Played
-  pub driven : Driven driven_worlds first.sited.site lines for_ms first last readings_old readings_new calls_old calls_new text_old text_new
+  pub driven : Driven driven_worlds carries first.sited.site lines for_ms first last readings_old readings_new net_old net_new text_old text_new
   pub picture : List ℕ
   pub picture_is : IsPicture last.sited last.run picture
   pub written : Appends out_old out_new (picture ++ codes "\n")
 
 -- The station didn't run to its end.
-pub data EndsEarly (first : Played) (lines : List (ℕ × Event)) (for_ms : ℕ) (readings_old readings_new : Option (List ℕ))
-    (calls_old calls_new : Option (List Call)) (text_old text_new : Option (List ℕ)) : RunFailure → Type 0 where
+pub data EndsEarly {Net : Type 0} (carries : Net → Call → Net → Type 0) (first : Played) (lines : List (ℕ × Event)) (for_ms : ℕ) (readings_old readings_new : Option (List ℕ))
+    (net_old net_new : Net) (text_old text_new : Option (List ℕ)) : RunFailure → Type 0 where
   -- It was driven as for its time, but cut off, with a beginning of the record.
-  cannot_run : {last : Played} → CutOff driven_worlds first.sited.site lines for_ms first last readings_old readings_new calls_old calls_new text_old text_new
-      → EndsEarly first lines for_ms readings_old readings_new calls_old calls_new text_old text_new CannotRun
-  lacks_memory : {last : Played} → CutOff driven_worlds first.sited.site lines for_ms first last readings_old readings_new calls_old calls_new text_old text_new
-      → EndsEarly first lines for_ms readings_old readings_new calls_old calls_new text_old text_new (Failed why.OutOfMemory)
+  cannot_run : {last : Played} → CutOff driven_worlds carries first.sited.site lines for_ms first last readings_old readings_new net_old net_new text_old text_new
+      → EndsEarly carries first lines for_ms readings_old readings_new net_old net_new text_old text_new CannotRun
+  lacks_memory : {last : Played} → CutOff driven_worlds carries first.sited.site lines for_ms first last readings_old readings_new net_old net_new text_old text_new
+      → EndsEarly carries first lines for_ms readings_old readings_new net_old net_new text_old text_new (Failed why.OutOfMemory)
   -- It was driven for its time, but has no picture.
-  lacks_memory_at_its_end : {last : Played} → Driven driven_worlds first.sited.site lines for_ms first last readings_old readings_new calls_old calls_new text_old text_new
-      → EndsEarly first lines for_ms readings_old readings_new calls_old calls_new text_old text_new (Failed why.OutOfMemory)
-  not_told : {last : Played} → Driven driven_worlds first.sited.site lines for_ms first last readings_old readings_new calls_old calls_new text_old text_new
-      → EndsEarly first lines for_ms readings_old readings_new calls_old calls_new text_old text_new (Failed why.NotWritten)
+  lacks_memory_at_its_end : {last : Played} → Driven driven_worlds carries first.sited.site lines for_ms first last readings_old readings_new net_old net_new text_old text_new
+      → EndsEarly carries first lines for_ms readings_old readings_new net_old net_new text_old text_new (Failed why.OutOfMemory)
+  not_told : {last : Played} → Driven driven_worlds carries first.sited.site lines for_ms first last readings_old readings_new net_old net_new text_old text_new
+      → EndsEarly carries first lines for_ms readings_old readings_new net_old net_new text_old text_new (Failed why.NotWritten)
 
 -- ---- the whole
 
--- A station ran to its end, whatever its clock, its network and its record tell.
+-- A station ran to its end over a network that tells nothing, whatever its clock and its record tell.
 pub record RunsSomehow (first : Played) (lines : List (ℕ × Event)) (for_ms : ℕ) (out_old out_new : Option (List ℕ)) : Type 0 where
   pub readings_old : Option (List ℕ)
   pub readings_new : Option (List ℕ)
-  pub calls_old : Option (List Call)
-  pub calls_new : Option (List Call)
   pub text_old : Option (List ℕ)
   pub text_new : Option (List ℕ)
-  pub run : IsRun first lines for_ms readings_old readings_new calls_old calls_new text_old text_new out_old out_new
+  pub run : IsRun anything first lines for_ms readings_old readings_new tt tt text_old text_new out_old out_new
 
 -- Both texts are sound, and a station of them ran to its end.
 pub record IsWhole (layout text : List ℕ) (for_ms : ℕ) (out_old out_new : Option (List ℕ)) : Type 0 where

@@ -69,9 +69,9 @@ pub fn drive<N: Datagrams, C: Clock, W: Write>(
     for_ms: u64,
     recorder: &mut W,
 ) -> Result<(), DriveFault>
-    ensures done { OnOk result (Driven driven_worlds world.old.sited.site script.now for_ms (played world.old) (played world.new) (C.readings clock.old) (C.readings clock.new) (N.calls net.old) (N.calls net.new) (W.contents recorder.old) (W.contents recorder.new)) }
+    ensures done { OnOk result (Driven driven_worlds N.carries world.old.sited.site script.now for_ms (played world.old) (played world.new) (C.readings clock.old) (C.readings clock.new) (N.told net.old) (N.told net.new) (W.contents recorder.old) (W.contents recorder.new)) }
     // It was never begun, or it is a drive that was cut off: the world is as the events applied so far left it.
-    ensures stopped { OnErr result (((world.new ≡ world.old) × (net.new ≡ net.old) × (recorder.new ≡ recorder.old)) ⊎ CutOff driven_worlds world.old.sited.site script.now for_ms (played world.old) (played world.new) (C.readings clock.old) (C.readings clock.new) (N.calls net.old) (N.calls net.new) (W.contents recorder.old) (W.contents recorder.new)) }
+    ensures stopped { OnErr result (((world.new ≡ world.old) × (net.new ≡ net.old) × (recorder.new ≡ recorder.old)) ⊎ CutOff driven_worlds N.carries world.old.sited.site script.now for_ms (played world.old) (played world.new) (C.readings clock.old) (C.readings clock.new) (N.told net.old) (N.told net.new) (W.contents recorder.old) (W.contents recorder.new)) }
 {
     let spare = World::new(alloc, world.table().copy(alloc)?)?;
     drive_behind(alloc, world, spare, net, clock, script, for_ms, recorder)
@@ -88,8 +88,8 @@ fn drive_behind<N: Datagrams, C: Clock, W: Write>(
     for_ms: u64,
     recorder: &mut W,
 ) -> Result<(), DriveFault>
-    ensures done { OnOk result (Driven driven_worlds world.old.sited.site script.now for_ms (played world.old) (played world.new) (C.readings clock.old) (C.readings clock.new) (N.calls net.old) (N.calls net.new) (W.contents recorder.old) (W.contents recorder.new)) }
-    ensures stopped { OnErr result (CutOff driven_worlds world.old.sited.site script.now for_ms (played world.old) (played world.new) (C.readings clock.old) (C.readings clock.new) (N.calls net.old) (N.calls net.new) (W.contents recorder.old) (W.contents recorder.new)) }
+    ensures done { OnOk result (Driven driven_worlds N.carries world.old.sited.site script.now for_ms (played world.old) (played world.new) (C.readings clock.old) (C.readings clock.new) (N.told net.old) (N.told net.new) (W.contents recorder.old) (W.contents recorder.new)) }
+    ensures stopped { OnErr result (CutOff driven_worlds N.carries world.old.sited.site script.now for_ms (played world.old) (played world.new) (C.readings clock.old) (C.readings clock.new) (N.told net.old) (N.told net.new) (W.contents recorder.old) (W.contents recorder.new)) }
 {
     let mut station = Running(mem::replace(world, spare));
     let ended = station_panel::station_network::station_drive::drive(

@@ -1,11 +1,17 @@
 //! What `station panel` does.
 
 ghost use Rattle.std.specs.Prelude.{◌≡◌, ◌≤◌, []};
-ghost use Rattle.station_run.specs.Runs.{CanRun};
+ghost use Rattle.station_panel.specs.Opened.{page_of};
+ghost use Rattle.station_run.specs.Failures.{Tells};
+ghost use Rattle.station_run.specs.Inside.{IsOfRun};
+ghost use Rattle.station_run.specs.Panels.{IsAttended, IsAttendedOverSockets, IsAttendedSomehow, IsPanel};
+ghost use Rattle.station_run.specs.Runs.{CanRun, Explains};
+ghost use Rattle.station_run.specs.declared.failure.RunFailure.{RunFailure as Why};
 
 use crate::failure::RunFailure;
 use crate::machine::{Machine, fail, open};
 use crate::prepared::{Prepared, prepare};
+use station_panel::station_network::Sockets;
 use station_panel::station_network::station_drive::{Clock, Datagrams};
 use station_panel::{Ending, Limits, Listens, Loopback, PageAsked, PanelFault, serve};
 use station_record::replay::station_check::Failure;
@@ -34,7 +40,11 @@ pub fn panel<R: Files + Net + Timer + RandomSource + AllocGlobal, O: Write, E: W
     err: &mut E,
 ) -> u8
     ensures status { result ≤ 1 }
-    ensures faulty { (CanRun asked.now.page.layout.now [] → ⊥) → result ≡ 1 }
+    ensures done { result ≡ 0 → IsPanel (page_of asked.now.page) asked.now.limits }
+    ensures faulty { (CanRun asked.now.page.layout.now [] → ⊥) → (result ≡ 1) × (out.new ≡ out.old) }
+    ensures silent { result ≡ 0 → err.new ≡ err.old }
+    // Only a beginning of the line was told where a write to `err` failed.
+    ensures explains { result ≡ 1 → (failure : Why) × Explains asked.now.page.layout.now [] failure × Tells failure (E.contents err.old) (E.contents err.new) }
 {
     let prepared = match prepare(rt.alloc(), asked.page.layout, "") {
         Ok(prepared) => prepared,
@@ -59,6 +69,9 @@ fn attend_machine<R: Files + Net + Timer + RandomSource + AllocGlobal, O: Write,
     err: &mut E,
 ) -> u8
     ensures status { result ≤ 1 }
+    ensures done { result ≡ 0 → IsAttendedSomehow (page_of asked.now.page) asked.now.limits prepared.station }
+    ensures silent { result ≡ 0 → err.new ≡ err.old }
+    ensures told { result ≡ 1 → (failure : Why) × IsOfRun failure × Tells failure (E.contents err.old) (E.contents err.new) }
 {
     let Machine {
         sockets,
@@ -66,15 +79,48 @@ fn attend_machine<R: Files + Net + Timer + RandomSource + AllocGlobal, O: Write,
         clock,
     } = machine;
     let (mut recorder, mut clock) = (recorder, clock);
-    let status = match Loopback::open(rt, asked.page.port) {
+    let status = attend_browsers(
+        rt,
+        rt.alloc(),
+        prepared,
+        sockets,
+        &mut clock,
+        &mut recorder,
+        asked,
+        out,
+        err,
+    );
+    drop(recorder);
+    drop(clock);
+    status
+}
+
+/// Attends a panel of a station over sockets, and listens for browsers of this machine.
+fn attend_browsers<R: Net + RandomSource, C: Clock, W: Write, O: Write, E: Write>(
+    rt: &R,
+    alloc: Global,
+    prepared: Prepared,
+    sockets: Sockets,
+    clock: &mut C,
+    recorder: &mut W,
+    asked: &PanelAsked<'_>,
+    out: &mut O,
+    err: &mut E,
+) -> u8
+    ensures status { result ≤ 1 }
+    ensures done { result ≡ 0 → IsAttendedOverSockets (page_of asked.now.page) asked.now.limits prepared.station sockets (C.readings clock.old) (C.readings clock.new) (W.contents recorder.old) (W.contents recorder.new) }
+    ensures silent { result ≡ 0 → err.new ≡ err.old }
+    ensures told { result ≡ 1 → (failure : Why) × IsOfRun failure × Tells failure (E.contents err.old) (E.contents err.new) }
+{
+    match Loopback::open(rt, asked.page.port) {
         Ok(mut listener) => {
             let status = attend_station(
                 rt,
-                rt.alloc(),
+                alloc,
                 prepared,
                 sockets,
-                &mut clock,
-                &mut recorder,
+                clock,
+                recorder,
                 &mut listener,
                 asked,
                 out,
@@ -88,10 +134,7 @@ fn attend_machine<R: Files + Net + Timer + RandomSource + AllocGlobal, O: Write,
             drop(sockets);
             fail(RunFailure::CannotRun, err)
         }
-    };
-    drop(recorder);
-    drop(clock);
-    status
+    }
 }
 
 /// Attends a panel of a station, over a network, by a clock, with a record and a listener for browsers. It writes what `panel`
@@ -117,6 +160,9 @@ pub fn attend_station<
     err: &mut E,
 ) -> u8
     ensures status { result ≤ 1 }
+    ensures done { result ≡ 0 → IsAttended N.told N.carries (page_of asked.now.page) asked.now.limits prepared.station net (C.readings clock.old) (C.readings clock.new) (W.contents recorder.old) (W.contents recorder.new) }
+    ensures silent { result ≡ 0 → err.new ≡ err.old }
+    ensures told { result ≡ 1 → (failure : Why) × IsOfRun failure × Tells failure (E.contents err.old) (E.contents err.new) }
 {
     let Prepared { station, script: _ } = prepared;
     let ended = serve(

@@ -62,9 +62,9 @@ impl Prepared {
         err: &mut E,
     ) -> u8
         ensures status { result ≤ 1 }
-        ensures done { result ≡ 0 → IsRun (played self.station.0) self.script.items for_ms (C.readings clock.old) (C.readings clock.new) (N.calls net.old) (N.calls net.new) (W.contents recorder.old) (W.contents recorder.new) (O.contents out.old) (O.contents out.new) }
+        ensures done { result ≡ 0 → IsRun N.carries (played self.station.0) self.script.items for_ms (C.readings clock.old) (C.readings clock.new) (N.told net.old) (N.told net.new) (W.contents recorder.old) (W.contents recorder.new) (O.contents out.old) (O.contents out.new) }
         ensures silent { result ≡ 0 → err.new ≡ err.old }
-        ensures told { result ≡ 1 → (failure : Why) × EndsEarly (played self.station.0) self.script.items for_ms (C.readings clock.old) (C.readings clock.new) (N.calls net.old) (N.calls net.new) (W.contents recorder.old) (W.contents recorder.new) failure × Leaves failure out.old out.new × Tells failure (E.contents err.old) (E.contents err.new) }
+        ensures told { result ≡ 1 → (failure : Why) × EndsEarly N.carries (played self.station.0) self.script.items for_ms (C.readings clock.old) (C.readings clock.new) (N.told net.old) (N.told net.new) (W.contents recorder.old) (W.contents recorder.new) failure × Leaves failure out.old out.new × Tells failure (E.contents err.old) (E.contents err.new) }
     {
         let Prepared { station, script } = self;
         let mut station = station;
@@ -101,8 +101,8 @@ fn go<N: Datagrams, C: Clock, W: Write, O: Write>(
     recorder: &mut W,
     out: &mut O,
 ) -> Result<(), RunFailure>
-    ensures done { OnOk result (IsRun (played station.old.0) script.now for_ms (C.readings clock.old) (C.readings clock.new) (N.calls net.old) (N.calls net.new) (W.contents recorder.old) (W.contents recorder.new) (O.contents out.old) (O.contents out.new)) }
-    ensures failed { IfErr result (λ failure. EndsEarly (played station.old.0) script.now for_ms (C.readings clock.old) (C.readings clock.new) (N.calls net.old) (N.calls net.new) (W.contents recorder.old) (W.contents recorder.new) failure × Leaves failure out.old out.new) }
+    ensures done { OnOk result (IsRun N.carries (played station.old.0) script.now for_ms (C.readings clock.old) (C.readings clock.new) (N.told net.old) (N.told net.new) (W.contents recorder.old) (W.contents recorder.new) (O.contents out.old) (O.contents out.new)) }
+    ensures failed { IfErr result (λ failure. EndsEarly N.carries (played station.old.0) script.now for_ms (C.readings clock.old) (C.readings clock.new) (N.told net.old) (N.told net.new) (W.contents recorder.old) (W.contents recorder.new) failure × Leaves failure out.old out.new) }
 {
     drive(alloc, station, net, clock, script, for_ms, recorder)?;
     write_picture(alloc, station, out)?;

@@ -9,6 +9,6 @@ invariant-loop-place g l =
     let s = g.S.Station in
     (done : List Event)
     × (done ++ drop l.place l.asked ≡ l.asked)
-    × Performs s.does (s.site l.fn.station) (map Applying done) (s.state l.fn.station) (s.state l.station)
-    (g.N.Datagrams.calls l.fn.net) (g.N.Datagrams.calls l.net) (g.W.Write.contents l.fn.recorder) (g.W.Write.contents l.recorder)
+    × Performs s.does g.N.Datagrams.carries (s.site l.fn.station) (map Applying done) (s.state l.fn.station) (s.state l.station)
+    (g.N.Datagrams.told l.fn.net) (g.N.Datagrams.told l.net) (g.W.Write.contents l.fn.recorder) (g.W.Write.contents l.recorder)
     × (s.site l.station ≡ s.site l.fn.station)

@@ -11,6 +11,6 @@ invariant-loop-place g l =
     let s = g.S.Station in
     (done : List Event)
     × (done ++ due l.passed (waiting l.script.applied (drop l.place l.script.lines.now)) ≡ due l.passed (waiting l.script.applied l.script.lines.now))
-    × Performs s.does (s.site l.fn.station) (map Applying done) (s.state l.fn.station) (s.state l.station)
-    (g.N.Datagrams.calls l.fn.net) (g.N.Datagrams.calls l.net) (g.W.Write.contents l.fn.recorder) (g.W.Write.contents l.recorder)
+    × Performs s.does g.N.Datagrams.carries (s.site l.fn.station) (map Applying done) (s.state l.fn.station) (s.state l.station)
+    (g.N.Datagrams.told l.fn.net) (g.N.Datagrams.told l.net) (g.W.Write.contents l.fn.recorder) (g.W.Write.contents l.recorder)
     × (s.site l.station ≡ s.site l.fn.station)

@@ -14,11 +14,11 @@ pub returns-then-lacks_memory-clause-stopped : goal.returns-then-lacks_memory-cl
 returns-then-lacks_memory-clause-stopped g c =
     let s = g.S.Station in
     let old = s.state c.args.station.now in
-    let calls = g.N.Datagrams.calls c.args.net.now in
+    let calls = g.N.Datagrams.told c.args.net.now in
     let text = g.W.Write.contents c.args.recorder.now in
     let same = unchanged s.does c.args.event.now old c.apply.result _ (sym c.recorded-answer.ensures ∙ c.lacks_memory.ensures.0 c.if-lacks_memory.true) c.apply.ensures.applies in
     let event : List Doing = Applying c.args.event.now ∷ [] in
-    subst (λ p. Stops s.does (s.site c.args.station.now) event old p calls calls text text) (sym same) (stops_none event old calls text)
+    subst (λ p. Stops s.does g.N.Datagrams.carries (s.site c.args.station.now) event old p calls calls text text) (sym same) (stops_none event old calls text)
 
 pub returns-clause-stopped : goal.returns-clause-stopped
 returns-clause-stopped g c =
@@ -33,7 +33,7 @@ returns-clause-stopped g c =
       count = 1;
       within = omega arith;
       state_is = done.1;
-      called = event_called s.does event old _ c.sent_count-before.result _ _ done.1 c.sent_count-before.ensures c.send_from.ensures;
+      called = event_called s.does g.N.Datagrams.carries event old _ c.sent_count-before.result _ _ done.1 c.sent_count-before.ensures c.send_from.ensures;
       taken = h.0;
       written = subst (λ l. Appends (g.W.Write.contents c.args.recorder.now) (g.W.Write.contents c.write_line.new.recorder) (take h.0 l)) line h.1;
       lines = omega arith;

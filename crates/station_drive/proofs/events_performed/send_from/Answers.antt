@@ -12,5 +12,5 @@ loop-place-preserved g c =
     let one : NodeId × List ℕ = (c.in-Some.outgoing.to, c.in-Some.outgoing.bytes.now) in (
       before.0 ++ one ∷ [],
       moved before.0 _ _ one _ (drop_at all c.loop-place.place one (sym c.in-Some.ensures)) before.1,
-      sent_more _ _ _ before.0 one before.2 c.send.ensures.told,
+      sent_more _ _ _ _ before.0 one before.2 c.send.ensures.told,
     )

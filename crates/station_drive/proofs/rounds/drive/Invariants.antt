@@ -16,8 +16,8 @@ invariant-loop g l =
     × Grows (g.C.Clock.readings l.fn.clock) (g.C.Clock.readings l.clock) (l.first ∷ map (λ turn. turn.reading) turns)
     × AllByRecursion (IsPlain site) turns
     × AllByRecursion (λ turn. (turn.reading - l.first) / 1000 < l.for_ms) turns
-    × Performs s.does site (rounds s.does site (s.state l.fn.station) (beginning site l.script l.first) turns) (s.state l.fn.station) (s.state l.station)
-    (g.N.Datagrams.calls l.fn.net) (g.N.Datagrams.calls l.net) (g.W.Write.contents l.fn.recorder) (g.W.Write.contents l.recorder)
+    × Performs s.does g.N.Datagrams.carries site (rounds s.does site (s.state l.fn.station) (beginning site l.script l.first) turns) (s.state l.fn.station) (s.state l.station)
+    (g.N.Datagrams.told l.fn.net) (g.N.Datagrams.told l.net) (g.W.Write.contents l.fn.recorder) (g.W.Write.contents l.recorder)
     × (l.course ≡ standing_end s.does site (s.state l.fn.station) (beginning site l.script l.first) turns)
     × (l.course.first ≡ l.first)
     × (length l.course.drives ≡ length site.points)
