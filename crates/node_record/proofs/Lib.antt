@@ -11,3 +11,4 @@ pub mod Stories
 pub mod KeptRows
 pub mod Lines
 pub mod AnswerWords
+pub mod FormsRead

@@ -65,12 +65,14 @@ pub(crate) fn read_line(alloc: Global, layout: &Layout, line: &str) -> Result<Re
     let Some(first) = words.next() else {
         return Err(Fault::Words);
     };
-    match told_by(FORMS, first) {
-        Some(Form::Comes) => datagram(alloc, layout, true, words),
-        Some(Form::Sends) => datagram(alloc, layout, false, words),
-        Some(Form::ThrowsAway) => throws_away(words),
-        Some(form) => other(form, words),
-        None => Err(Fault::Words),
+    let Some(form) = told_by(FORMS, first) else {
+        return Err(Fault::Words);
+    };
+    match form {
+        Form::Comes => datagram(alloc, layout, true, words),
+        Form::Sends => datagram(alloc, layout, false, words),
+        Form::ThrowsAway => throws_away(words),
+        _ => other(form, words),
     }
 }
 

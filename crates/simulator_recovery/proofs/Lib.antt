@@ -290,3 +290,4 @@ pub mod EndedStep
 pub mod EndedLinks
 pub mod EndedWorld
 pub mod EndedAlways
+pub mod FlowsStay

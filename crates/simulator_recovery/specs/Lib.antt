@@ -1,4 +1,5 @@
 pub mod Rounds
+pub mod Flows
 pub mod LinkRounds
 pub mod Conversation
 pub mod Silence

@@ -7,8 +7,6 @@ ghost use Rattle.simulator_run.specs.ixl_rules.Due.{IsRouteOf};
 ghost use Rattle.simulator_run.specs.ixl_rules.State.{RouteState};
 ghost use Rattle.simulator_run.specs.ixl_rules.Table.{Need, Row, Table};
 ghost use Rattle.simulator_run.specs.layout.Entries.{Site};
-ghost use Rattle.simulator_run.specs.layout.Once.{Once};
-ghost use Rattle.simulator_run.specs.layout.Station.{IsStation};
 ghost use Rattle.simulator_run.specs.rasta_core.Each.{Each};
 ghost use Rattle.simulator_run.specs.simulator_event.declared.event.Event.{Event};
 ghost use Rattle.simulator_run.specs.Flow.{Flowing, round, stations};
@@ -17,6 +15,7 @@ ghost use Rattle.simulator_run.specs.State.{WorldState};
 ghost use Rattle.simulator_run.specs.Tried.{Played};
 ghost use Rattle.simulator_headline.specs.Reached.{IsReached};
 ghost use Rattle.simulator_recovery.specs.Answered.{HasGivenSince, IsOccupancy, NoneWaitsFor, answered_rounds};
+ghost use Rattle.simulator_recovery.specs.Flows.{IsFlow};
 ghost use Rattle.simulator_recovery.specs.LinkRounds.{StaysBelowLimit};
 ghost use Rattle.simulator_recovery.specs.Moves.{move_rounds};
 ghost use Rattle.simulator_recovery.specs.NothingDue.{IsPointReady, Proceeds};
@@ -52,10 +51,9 @@ use simulator_run_links::{
 /// the good rounds began, nor any that was given to this point longer ago. Whatever requests and occupancies come between the rounds.
 /// The premises are those of `moves_are_answered`.
 pub fn moves_that_are_out_are_new()
-    ensures { (between : List Event) (later more : List (List Event)) (flowing : Flowing Played) (place : ℕ) → Once flowing.state.sited.site → IsStation flowing.state.sited.site
-        → IsTableOf flowing.state.sited.site flowing.state.sited.table → IsReached flowing.state.sited.site flowing.state.sited.table flowing.state.run
+    ensures { (between : List Event) (later more : List (List Event)) (flowing : Flowing Played) (place : ℕ) → IsFlow flowing
         → Each IsWork between → Each (Each IsWork) (later ++ more) → HasTime (suc (length (later ++ more))) flowing.state.run → place < length flowing.state.sited.site.points
-        → length flowing.state.sited.site.points ≤ length flowing.drives → answered_rounds ≤ suc (length (later ++ more)) → length more ≡ move_rounds
+        → answered_rounds ≤ suc (length (later ++ more)) → length more ≡ move_rounds
         → StaysBelowLimit flowing.state.sited.site (point_link flowing.state.sited.site place) (later ++ more) (all_tried between (round stations flowing))
         → AwaitsMove place (good_rounds (between ∷ (later ++ more)) flowing).state.run
         → HasGivenSince (point_link flowing.state.sited.site place) (good_rounds (between ∷ later) flowing).state.run (good_rounds (between ∷ (later ++ more)) flowing).state.run }
@@ -97,10 +95,9 @@ pub fn moves_that_are_out_are_new()
 /// began, none is, if no route waits for the point at the 1565th. Sections may be occupied and left as they like. The premises are else
 /// those of `moves_are_answered`.
 pub fn no_move_is_unanswered()
-    ensures { (between : List Event) (later more last : List (List Event)) (flowing : Flowing Played) (place : ℕ) → Once flowing.state.sited.site → IsStation flowing.state.sited.site
-        → IsTableOf flowing.state.sited.site flowing.state.sited.table → IsReached flowing.state.sited.site flowing.state.sited.table flowing.state.run
+    ensures { (between : List Event) (later more last : List (List Event)) (flowing : Flowing Played) (place : ℕ) → IsFlow flowing
         → Each IsWork between → Each (Each IsWork) ((later ++ more) ++ last) → HasTime (suc (length ((later ++ more) ++ last))) flowing.state.run → place < length flowing.state.sited.site.points
-        → length flowing.state.sited.site.points ≤ length flowing.drives → ready_rounds ≤ suc (length later) → length last ≡ move_rounds
+        → ready_rounds ≤ suc (length later) → length last ≡ move_rounds
         → StaysBelowLimit flowing.state.sited.site (point_link flowing.state.sited.site place) ((later ++ more) ++ last) (all_tried between (round stations flowing))
         → Each (Each IsOccupancy) (more ++ last) → NoneWaitsFor flowing.state.sited.table (good_rounds (between ∷ later) flowing).state.run.station.ixl place
         → AwaitsMove place (good_rounds (between ∷ ((later ++ more) ++ last)) flowing).state.run → ⊥ }

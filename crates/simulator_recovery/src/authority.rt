@@ -1,9 +1,6 @@
 //! When authority ends.
 
 ghost use Rattle.std.specs.Prelude.{◌≡◌, ◌≤◌, ◌<◌, ℕ, suc, List, [], ◌∷◌, ◌++◌, length, false, true, Some, slice_get};
-ghost use Rattle.ixl_table.specs.Table.{IsTableOf};
-ghost use Rattle.simulator_run.specs.layout.Once.{Once};
-ghost use Rattle.simulator_run.specs.layout.Station.{IsStation};
 ghost use Rattle.simulator_run.specs.layout.declared.ids.RouteId.{RouteId};
 ghost use Rattle.simulator_run.specs.layout.Entries.{Site};
 ghost use Rattle.simulator_run.specs.ixl_rules.Due.{AllClear, At, IsRouteOf, LetsGo};
@@ -19,6 +16,7 @@ ghost use Rattle.simulator_run.specs.State.{WorldState};
 ghost use Rattle.simulator_run.specs.Tried.{Played};
 ghost use Rattle.simulator_headline.specs.Reached.{IsReached};
 ghost use Rattle.simulator_recovery.specs.Authority.{HasGivenMore, IsUnseen, authority_rounds};
+ghost use Rattle.simulator_recovery.specs.Flows.{IsFlow};
 ghost use Rattle.simulator_recovery.specs.Lamps.{AcceptsCancel, IsWithdrawnFrom, NoneProceeds, and_cancel, as_cancel_comes};
 ghost use Rattle.simulator_recovery.specs.LinkRounds.{StaysBelowLimit};
 ghost use Rattle.simulator_recovery.specs.NothingDue.{Proceeds};
@@ -54,8 +52,7 @@ use simulator_run_links::{
 /// requests and occupancies come between the rounds, before and after, as long as that route isn't set anew (`IsNotSetAnew`). The
 /// premises are those of `links_come_up`, of the signal's link.
 pub fn authority_ends_where_stop_is_given()
-    ensures { (between : List Event) (later : List (List Event)) (last : List Event) (more : List (List Event)) (flowing : Flowing Played) (signal : ℕ) → Once flowing.state.sited.site → IsStation flowing.state.sited.site
-        → IsTableOf flowing.state.sited.site flowing.state.sited.table → IsReached flowing.state.sited.site flowing.state.sited.table flowing.state.run
+    ensures { (between : List Event) (later : List (List Event)) (last : List Event) (more : List (List Event)) (flowing : Flowing Played) (signal : ℕ) → IsFlow flowing
         → Each IsWork between → Each (Each IsWork) (later ++ last ∷ more) → HasTime (suc (length (later ++ last ∷ more))) flowing.state.run → signal < length flowing.state.sited.site.signals
         → ready_rounds ≤ suc (suc (length later)) → authority_rounds ≤ length more
         → StaysBelowLimit flowing.state.sited.site signal (later ++ last ∷ more) (all_tried between (round stations flowing))
@@ -98,8 +95,7 @@ pub fn authority_ends_where_stop_is_given()
 /// withdrawn from its signal behind the second round after, or a later one, whatever requests and occupancies come before and after, as
 /// long as that route isn't set anew (`IsNotSetAnew`): 20 ms after the cancel at most its authority has ended.
 pub fn authority_ends_behind_a_cancel()
-    ensures { (between : List Event) (later : List (List Event)) (before : List Event) (more : List (List Event)) (flowing : Flowing Played) (route : RouteId) (row : Row) → Once flowing.state.sited.site → IsStation flowing.state.sited.site
-        → IsTableOf flowing.state.sited.site flowing.state.sited.table → IsReached flowing.state.sited.site flowing.state.sited.table flowing.state.run
+    ensures { (between : List Event) (later : List (List Event)) (before : List Event) (more : List (List Event)) (flowing : Flowing Played) (route : RouteId) (row : Row) → IsFlow flowing
         → Each IsWork between → Each (Each IsWork) later → Each IsWork before → Each (Each IsWork) more → HasTime (suc (length (later ++ and_cancel route before ∷ more))) flowing.state.run
         → slice_get flowing.state.sited.table.rows route.0 ≡ Some row → ready_rounds ≤ suc (suc (length later)) → authority_rounds ≤ length more
         → StaysBelowLimit flowing.state.sited.site row.entry (later ++ and_cancel route before ∷ more) (all_tried between (round stations flowing))
@@ -154,8 +150,7 @@ pub fn rounds_leave_no_cancelled_route()
 /// clear then, and its approach didn't count. So it is 20 ms after the cancel, whatever requests and occupancies come before and after,
 /// as long as the route isn't set anew (`IsNotSetAnew`).
 pub fn routes_are_free_behind_a_cancel()
-    ensures { (between : List Event) (later : List (List Event)) (before : List Event) (more : List (List Event)) (flowing : Flowing Played) (route : RouteId) (row : Row) → Once flowing.state.sited.site → IsStation flowing.state.sited.site
-        → IsTableOf flowing.state.sited.site flowing.state.sited.table → IsReached flowing.state.sited.site flowing.state.sited.table flowing.state.run
+    ensures { (between : List Event) (later : List (List Event)) (before : List Event) (more : List (List Event)) (flowing : Flowing Played) (route : RouteId) (row : Row) → IsFlow flowing
         → Each IsWork between → Each (Each IsWork) later → Each IsWork before → Each (Each IsWork) more → IsNotSetAnew route.0 more (good_rounds (between ∷ (later ++ and_cancel route before ∷ [])) flowing) → HasTime (suc (length (later ++ and_cancel route before ∷ more))) flowing.state.run
         → slice_get flowing.state.sited.table.rows route.0 ≡ Some row → ready_rounds ≤ suc (suc (length later)) → authority_rounds ≤ length more
         → StaysBelowLimit flowing.state.sited.site row.entry (later ++ and_cancel route before ∷ more) (all_tried between (round stations flowing))

@@ -1,9 +1,6 @@
 //! What becomes of a move that is out: it is driven for, or answered, where set routes want it.
 
 ghost use Rattle.std.specs.Prelude.{◌≡◌, ◌≤◌, ◌<◌, ℕ, suc, List, ◌∷◌, ◌++◌, length};
-ghost use Rattle.ixl_table.specs.Table.{IsTableOf};
-ghost use Rattle.simulator_run.specs.layout.Once.{Once};
-ghost use Rattle.simulator_run.specs.layout.Station.{IsStation};
 ghost use Rattle.simulator_run.specs.ixl_rules.Due.{IsHeldAt};
 ghost use Rattle.simulator_run.specs.rasta_core.Each.{Each};
 ghost use Rattle.simulator_run.specs.sci_telegram.declared.message.Side.{Side};
@@ -11,8 +8,8 @@ ghost use Rattle.simulator_run.specs.simulator_event.declared.event.Event.{Event
 ghost use Rattle.simulator_run.specs.Flow.{Flowing, round, stations};
 ghost use Rattle.simulator_run.specs.Nodes.{point_link};
 ghost use Rattle.simulator_run.specs.Tried.{Played};
-ghost use Rattle.simulator_headline.specs.Reached.{IsReached};
 ghost use Rattle.simulator_recovery.specs.BeginsOfMoves.{TakesReportBehind};
+ghost use Rattle.simulator_recovery.specs.Flows.{IsFlow};
 ghost use Rattle.simulator_recovery.specs.LinkRounds.{StaysBelowLimit};
 ghost use Rattle.simulator_recovery.specs.Moves.{DrivesSince, IsDriving, ReportComesBehind, drive_rounds, drive_time, move_rounds};
 ghost use Rattle.simulator_recovery.specs.Ready.{ready_rounds};
@@ -48,13 +45,11 @@ use simulator_run_links::{
 
 /// Drives stay far from their limit: where a point's controller drives for a move behind a good round from the 1565th on, it will be at least
 /// 510 ms more until that drive comes to its limit, whenever it began. For a drive is found behind 50 good rounds at most, so it began in
-/// one of the last ones. So no drive times out from then on. The premises are those of `links_are_ready`, of the point's link; and the
-/// flow notes of each point for how long it was found driven.
+/// one of the last ones. So no drive times out from then on. The premises are those of `links_are_ready`, of the point's link.
 pub fn drives_stay_far_from_their_limit()
-    ensures { (between : List Event) (later : List (List Event)) (flowing : Flowing Played) (place : ℕ) (side : Side) (since : ℕ) → Once flowing.state.sited.site → IsStation flowing.state.sited.site
-        → IsTableOf flowing.state.sited.site flowing.state.sited.table → IsReached flowing.state.sited.site flowing.state.sited.table flowing.state.run
+    ensures { (between : List Event) (later : List (List Event)) (flowing : Flowing Played) (place : ℕ) (side : Side) (since : ℕ) → IsFlow flowing
         → Each IsWork between → Each (Each IsWork) later → HasTime (suc (length later)) flowing.state.run → place < length flowing.state.sited.site.points
-        → length flowing.state.sited.site.points ≤ length flowing.drives → ready_rounds ≤ suc (length later)
+        → ready_rounds ≤ suc (length later)
         → StaysBelowLimit flowing.state.sited.site (point_link flowing.state.sited.site place) later (all_tried between (round stations flowing))
         → DrivesSince place side since (good_rounds (between ∷ later) flowing).state.run → IsDriving place side since drive_time (good_rounds (between ∷ later) flowing).state.run }
 {
@@ -99,10 +94,8 @@ pub fn drives_stay_far_from_their_limit()
 /// driven to, and the interlocking's end takes this report. The premises are else those of `moves_are_answered`.
 pub fn reports_of_drives_come_back()
     ensures { (between : List Event) (later more : List (List Event)) (flowing : Flowing Played) (place : ℕ) (side : Side) (since : ℕ)
-        → Once flowing.state.sited.site → IsStation flowing.state.sited.site
-        → IsTableOf flowing.state.sited.site flowing.state.sited.table → IsReached flowing.state.sited.site flowing.state.sited.table flowing.state.run
-        → Each IsWork between → Each (Each IsWork) (later ++ more) → HasTime (suc (length (later ++ more))) flowing.state.run → place < length flowing.state.sited.site.points
-        → length flowing.state.sited.site.points ≤ length flowing.drives → ready_rounds ≤ suc (length later) → length more ≡ suc drive_rounds
+        → IsFlow flowing → Each IsWork between → Each (Each IsWork) (later ++ more) → HasTime (suc (length (later ++ more))) flowing.state.run → place < length flowing.state.sited.site.points
+        → ready_rounds ≤ suc (length later) → length more ≡ suc drive_rounds
         → StaysBelowLimit flowing.state.sited.site (point_link flowing.state.sited.site place) (later ++ more) (all_tried between (round stations flowing))
         → DrivesSince place side since (good_rounds (between ∷ later) flowing).state.run
         → ReportComesBehind flowing.state.sited.site place side more (good_rounds (between ∷ later) flowing) }
@@ -154,10 +147,8 @@ pub fn reports_of_drives_come_back()
 /// `moves_are_answered`.
 pub fn moves_that_are_out_are_reported()
     ensures { (between : List Event) (later more : List (List Event)) (flowing : Flowing Played) (place : ℕ) (side : Side)
-        → Once flowing.state.sited.site → IsStation flowing.state.sited.site
-        → IsTableOf flowing.state.sited.site flowing.state.sited.table → IsReached flowing.state.sited.site flowing.state.sited.table flowing.state.run
-        → Each IsWork between → Each (Each IsWork) (later ++ more) → HasTime (suc (length (later ++ more))) flowing.state.run → place < length flowing.state.sited.site.points
-        → length flowing.state.sited.site.points ≤ length flowing.drives → ready_rounds ≤ suc (length later) → length more ≡ move_rounds
+        → IsFlow flowing → Each IsWork between → Each (Each IsWork) (later ++ more) → HasTime (suc (length (later ++ more))) flowing.state.run → place < length flowing.state.sited.site.points
+        → ready_rounds ≤ suc (length later) → length more ≡ move_rounds
         → StaysBelowLimit flowing.state.sited.site (point_link flowing.state.sited.site place) (later ++ more) (all_tried between (round stations flowing))
         → AwaitsMove place (good_rounds (between ∷ later) flowing).state.run
         → IsHeldAt flowing.state.sited.table (good_rounds (between ∷ later) flowing).state.run.station.ixl place side

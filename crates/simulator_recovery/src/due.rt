@@ -22,6 +22,7 @@ ghost use Rattle.simulator_run.specs.rasta_core.Ends.{reading_of};
 ghost use Rattle.simulator_run.specs.Flow.{Flowing};
 ghost use Rattle.simulator_run.specs.State.{WorldState};
 ghost use Rattle.simulator_run.specs.Tried.{Played};
+ghost use Rattle.simulator_recovery.specs.Flows.{IsFlow};
 ghost use Rattle.simulator_recovery.specs.Rounds.{good_rounds};
 ghost use Rattle.simulator_headline.specs.Reached.{IsReached};
 ghost use Rattle.simulator_recovery.specs.NothingDue.{FindsUpheld, GivesMoveTo, HasLinksReady, HasPointsUp, IsClearFor, IsInside, IsUpAtClock, IsUpheld, KeepsSetting, HasAspect, RoundsFind, UpholdsAspect, Waits, known_in_step};
@@ -141,12 +142,10 @@ pub fn routes_proceed_while_their_sections_are_clear()
 /// the interlocking anew: provided that its sections are clear and its links last over each event while it proceeds (*stays*). And it proceeds
 /// where behind them its points are known, its sections are clear, and its signal's link is ready (*comes*).
 pub fn set_routes_go_on_over_rounds()
-    ensures stays { (rounds : List (List Event)) (flowing : Flowing Played) (number : ℕ) (row : Row) → IsTableOf flowing.state.sited.site flowing.state.sited.table
-        → IsReached flowing.state.sited.site flowing.state.sited.table flowing.state.run → slice_get flowing.state.sited.table.rows number ≡ Some row → Each (Each (KeepsSetting flowing.state.sited.site number)) rounds
+    ensures stays { (rounds : List (List Event)) (flowing : Flowing Played) (number : ℕ) (row : Row) → IsFlow flowing → slice_get flowing.state.sited.table.rows number ≡ Some row → Each (Each (KeepsSetting flowing.state.sited.site number)) rounds
         → RoundsFind (FindsUpheld flowing.state.sited.site flowing.state.sited.table number row) rounds flowing → At flowing.state.run.station.ixl.routes number (λ one. Waits one ⊎ HasAspect one)
         → At (good_rounds rounds flowing).state.run.station.ixl.routes number (λ one. Waits one ⊎ HasAspect one) }
-    ensures comes { (rounds : List (List Event)) (flowing : Flowing Played) (number : ℕ) (row : Row) → IsTableOf flowing.state.sited.site flowing.state.sited.table
-        → IsReached flowing.state.sited.site flowing.state.sited.table flowing.state.run → slice_get flowing.state.sited.table.rows number ≡ Some row → Each (Each (KeepsSetting flowing.state.sited.site number)) rounds
+    ensures comes { (rounds : List (List Event)) (flowing : Flowing Played) (number : ℕ) (row : Row) → IsFlow flowing → slice_get flowing.state.sited.table.rows number ≡ Some row → Each (Each (KeepsSetting flowing.state.sited.site number)) rounds
         → RoundsFind (FindsUpheld flowing.state.sited.site flowing.state.sited.table number row) rounds flowing → At flowing.state.run.station.ixl.routes number (λ one. Waits one ⊎ HasAspect one)
         → IsUpheld flowing.state.sited.table (good_rounds rounds flowing).state.run.station.ixl row → At (good_rounds rounds flowing).state.run.station.ixl.routes number HasAspect }
 {

@@ -1,16 +1,13 @@
 //! What good rounds come to from the first of them on.
 
 ghost use Rattle.std.specs.Prelude.{ℕ, ◌≤◌, ◌<◌, suc, List, ◌∷◌, length};
-ghost use Rattle.ixl_table.specs.Table.{IsTableOf};
-ghost use Rattle.simulator_run.specs.layout.Once.{Once};
-ghost use Rattle.simulator_run.specs.layout.Station.{IsStation};
 ghost use Rattle.simulator_run.specs.rasta_core.Each.{Each};
 ghost use Rattle.simulator_run.specs.simulator_event.declared.event.Event.{Event};
 ghost use Rattle.simulator_run.specs.Flow.{Flowing};
 ghost use Rattle.simulator_run.specs.Nodes.{links};
 ghost use Rattle.simulator_run.specs.Tried.{Played};
-ghost use Rattle.simulator_headline.specs.Reached.{IsReached};
 ghost use Rattle.simulator_recovery.specs.FirstRound.{NoneIsSaidAgain, first_link_rounds, first_ready_rounds};
+ghost use Rattle.simulator_recovery.specs.Flows.{IsFlow};
 ghost use Rattle.simulator_recovery.specs.LinkRounds.{IsUpOn, StaysBelowLimit};
 ghost use Rattle.simulator_recovery.specs.Ready.{IsReadyOn};
 ghost use Rattle.simulator_recovery.specs.Rounds.{HasTime, IsWork, good_rounds};
@@ -33,8 +30,7 @@ use simulator_run_links::{
 /// of a datagram of the same bytes that is too old itself, and of which no copy can come as the round begins; what nodes say as they tick
 /// comes in the next. And so it is where neither end comes to the limit of PDUs in a connection.
 pub fn links_come_up_from_the_first_round()
-    ensures { (between : List Event) (later : List (List Event)) (flowing : Flowing Played) (link : ℕ) → Once flowing.state.sited.site → IsStation flowing.state.sited.site
-        → IsTableOf flowing.state.sited.site flowing.state.sited.table → IsReached flowing.state.sited.site flowing.state.sited.table flowing.state.run
+    ensures { (between : List Event) (later : List (List Event)) (flowing : Flowing Played) (link : ℕ) → IsFlow flowing
         → Each IsWork between → Each (Each IsWork) later → HasTime (suc (length later)) flowing.state.run → link < links flowing.state.sited.site → first_link_rounds ≤ suc (length later)
         → NoneIsSaidAgain link flowing → StaysBelowLimit flowing.state.sited.site link (between ∷ later) flowing
         → IsUpOn link (good_rounds (between ∷ later) flowing).state.run }
@@ -56,8 +52,7 @@ pub fn links_come_up_from_the_first_round()
 /// interlocking and a controller is ready at both ends: both are up, and the initialisation of their connection is completed at
 /// both. The premises are those of `links_come_up_from_the_first_round`.
 pub fn links_are_ready_from_the_first_round()
-    ensures { (between : List Event) (later : List (List Event)) (flowing : Flowing Played) (link : ℕ) → Once flowing.state.sited.site → IsStation flowing.state.sited.site
-        → IsTableOf flowing.state.sited.site flowing.state.sited.table → IsReached flowing.state.sited.site flowing.state.sited.table flowing.state.run
+    ensures { (between : List Event) (later : List (List Event)) (flowing : Flowing Played) (link : ℕ) → IsFlow flowing
         → Each IsWork between → Each (Each IsWork) later → HasTime (suc (length later)) flowing.state.run → link < links flowing.state.sited.site → first_ready_rounds ≤ suc (length later)
         → NoneIsSaidAgain link flowing → StaysBelowLimit flowing.state.sited.site link (between ∷ later) flowing
         → IsReadyOn flowing.state.sited.site link (good_rounds (between ∷ later) flowing).state.run }

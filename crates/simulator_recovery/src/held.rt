@@ -2,9 +2,6 @@
 
 ghost use Rattle.std.specs.Prelude.{◌≡◌, ◌≤◌, ℕ, suc, List, [], ◌∷◌, ◌++◌, length, Some, slice_get};
 ghost use Rattle.std.specs.List.{Contains};
-ghost use Rattle.ixl_table.specs.Table.{IsTableOf};
-ghost use Rattle.simulator_run.specs.layout.Once.{Once};
-ghost use Rattle.simulator_run.specs.layout.Station.{IsStation};
 ghost use Rattle.simulator_run.specs.layout.declared.ids.RouteId.{RouteId};
 ghost use Rattle.simulator_run.specs.ixl_rules.Table.{Need, Row};
 ghost use Rattle.simulator_run.specs.rasta_core.Each.{Each};
@@ -12,8 +9,8 @@ ghost use Rattle.simulator_run.specs.sci_telegram.declared.message.Side.{Side};
 ghost use Rattle.simulator_run.specs.simulator_event.declared.event.Event.{Event};
 ghost use Rattle.simulator_run.specs.Flow.{Flowing, round, stations};
 ghost use Rattle.simulator_run.specs.Tried.{Played};
-ghost use Rattle.simulator_headline.specs.Reached.{IsReached};
 ghost use Rattle.simulator_recovery.specs.BeginsOfMoves.{TakesReportBehind};
+ghost use Rattle.simulator_recovery.specs.Flows.{IsFlow};
 ghost use Rattle.simulator_recovery.specs.HeldPoints.{ComesBy, MayHaveItsPoints, MayYetHaveItsPoints};
 ghost use Rattle.simulator_recovery.specs.Moves.{DrivesSince, move_rounds};
 ghost use Rattle.simulator_recovery.specs.Ready.{ready_rounds};
@@ -65,9 +62,7 @@ use simulator_run_links::{
 /// report is out, and in the step that takes the report the point is known behind what comes, before the rules.
 pub fn reports_make_points_of_routes_known()
     ensures { (between : List Event) (later more : List (List Event)) (flowing : Flowing Played) (number : ℕ) (row : Row) (need : Need)
-        → Once flowing.state.sited.site → IsStation flowing.state.sited.site
-        → IsTableOf flowing.state.sited.site flowing.state.sited.table → IsReached flowing.state.sited.site flowing.state.sited.table flowing.state.run
-        → Each IsWork between → Each (Each IsWork) (later ++ more) → HasTime (suc (length (later ++ more))) flowing.state.run → ready_rounds ≤ suc (length later)
+        → IsFlow flowing → Each IsWork between → Each (Each IsWork) (later ++ more) → HasTime (suc (length (later ++ more))) flowing.state.run → ready_rounds ≤ suc (length later)
         → slice_get flowing.state.sited.table.rows number ≡ Some row → Contains row.needs need
         → AreBelowLimit flowing.state.sited.site row (later ++ more) (all_tried between (round stations flowing)) → StaysSet number row more (good_rounds (between ∷ later) flowing)
         → AwaitsMove need.point (good_rounds (between ∷ later) flowing).state.run → TakesReportBehind flowing.state.sited.site need.point need.side more (good_rounds (between ∷ later) flowing)
@@ -128,10 +123,8 @@ pub fn reports_make_points_of_routes_known()
 /// stays set. The premises are else those of `moves_that_are_out_are_reported`, and of `links_are_ready`, of the route's links.
 pub fn driven_points_of_a_route_are_known()
     ensures { (between : List Event) (later more : List (List Event)) (flowing : Flowing Played) (number : ℕ) (row : Row) (need : Need) (to : Side) (since : ℕ)
-        → Once flowing.state.sited.site → IsStation flowing.state.sited.site
-        → IsTableOf flowing.state.sited.site flowing.state.sited.table → IsReached flowing.state.sited.site flowing.state.sited.table flowing.state.run
-        → Each IsWork between → Each (Each IsWork) (later ++ more) → HasTime (suc (length (later ++ more))) flowing.state.run
-        → length flowing.state.sited.site.points ≤ length flowing.drives → ready_rounds ≤ suc (length later) → length more ≡ move_rounds
+        → IsFlow flowing → Each IsWork between → Each (Each IsWork) (later ++ more) → HasTime (suc (length (later ++ more))) flowing.state.run
+        → ready_rounds ≤ suc (length later) → length more ≡ move_rounds
         → slice_get flowing.state.sited.table.rows number ≡ Some row → Contains row.needs need
         → AreBelowLimit flowing.state.sited.site row (later ++ more) (all_tried between (round stations flowing))
         → DrivesSince need.point to since (good_rounds (between ∷ later) flowing).state.run
@@ -153,10 +146,8 @@ pub fn driven_points_of_a_route_are_known()
 /// else those of `routes_come` and `moves_that_are_out_are_reported`.
 pub fn set_routes_come_in_time()
     ensures { (between : List Event) (later more still : List (List Event)) (flowing : Flowing Played) (number : ℕ) (row : Row)
-        → Once flowing.state.sited.site → IsStation flowing.state.sited.site
-        → IsTableOf flowing.state.sited.site flowing.state.sited.table → IsReached flowing.state.sited.site flowing.state.sited.table flowing.state.run
-        → Each IsWork between → Each (Each IsWork) later → Each (Each IsWork) more → Each (Each IsWork) still
-        → HasTime (suc (length ((later ++ more) ++ still))) flowing.state.run → length flowing.state.sited.site.points ≤ length flowing.drives
+        → IsFlow flowing → Each IsWork between → Each (Each IsWork) later → Each (Each IsWork) more → Each (Each IsWork) still
+        → HasTime (suc (length ((later ++ more) ++ still))) flowing.state.run
         → ready_rounds ≤ suc (length later) → length more ≡ move_rounds → slice_get flowing.state.sited.table.rows number ≡ Some row
         → AreBelowLimit flowing.state.sited.site row ((later ++ more) ++ still) (all_tried between (round stations flowing))
         → StaysSet number row (more ++ still) (good_rounds (between ∷ later) flowing)
@@ -181,10 +172,8 @@ pub fn set_routes_come_in_time()
 /// clear and it isn't cancelled. The premises are else those of `accepted_routes_come` and `moves_that_are_out_are_reported`.
 pub fn accepted_routes_come_in_time()
     ensures { (between : List Event) (later : List (List Event)) (before : List Event) (more still : List (List Event)) (flowing : Flowing Played) (route : RouteId) (row : Row)
-        → Once flowing.state.sited.site
-        → IsStation flowing.state.sited.site → IsTableOf flowing.state.sited.site flowing.state.sited.table → IsReached flowing.state.sited.site flowing.state.sited.table flowing.state.run
-        → Each IsWork between → Each (Each IsWork) later → Each IsWork before → Each (Each IsWork) more → Each (Each IsWork) still
-        → HasTime (suc (length (((later ++ and_request route before ∷ []) ++ more) ++ still))) flowing.state.run → length flowing.state.sited.site.points ≤ length flowing.drives
+        → IsFlow flowing → Each IsWork between → Each (Each IsWork) later → Each IsWork before → Each (Each IsWork) more → Each (Each IsWork) still
+        → HasTime (suc (length (((later ++ and_request route before ∷ []) ++ more) ++ still))) flowing.state.run
         → ready_rounds ≤ suc (suc (length later)) → length more ≡ move_rounds → slice_get flowing.state.sited.table.rows route.0 ≡ Some row
         → AreBelowLimit flowing.state.sited.site row (((later ++ and_request route before ∷ []) ++ more) ++ still) (all_tried between (round stations flowing))
         → AcceptsRequest route (as_request_comes (between ∷ later) before flowing).state

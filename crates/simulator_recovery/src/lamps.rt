@@ -19,6 +19,7 @@ ghost use Rattle.simulator_run.specs.Nodes.{links};
 ghost use Rattle.simulator_run.specs.State.{WorldState};
 ghost use Rattle.simulator_run.specs.Tried.{Played};
 ghost use Rattle.simulator_headline.specs.Reached.{IsReached};
+ghost use Rattle.simulator_recovery.specs.Flows.{IsFlow};
 ghost use Rattle.simulator_recovery.specs.HandedOver.{HasConfirmed, HasHandedOver};
 ghost use Rattle.simulator_recovery.specs.Lamps.{AcceptsCancel, GivesNoMore, HasStopLast, IsAtStop, IsStopTaken, IsWithdrawnFrom, NoneProceeds, and_cancel, as_cancel_comes, stop_rounds};
 ghost use Rattle.simulator_recovery.specs.LinkRounds.{StaysBelowLimit, link_rounds};
@@ -40,8 +41,7 @@ use simulator_run_links::{
 /// What is given on a link of a station by one good round has come over behind the next one: from the 1562nd round on each end has
 /// taken as many items as the other had given by the round before. The premises are those of `links_come_up`.
 pub fn links_hand_over()
-    ensures { (between : List Event) (later : List (List Event)) (last : List Event) (flowing : Flowing Played) (link : ℕ) → Once flowing.state.sited.site → IsStation flowing.state.sited.site
-        → IsTableOf flowing.state.sited.site flowing.state.sited.table → IsReached flowing.state.sited.site flowing.state.sited.table flowing.state.run
+    ensures { (between : List Event) (later : List (List Event)) (last : List Event) (flowing : Flowing Played) (link : ℕ) → IsFlow flowing
         → Each IsWork between → Each (Each IsWork) (later ++ last ∷ []) → HasTime (suc (length (later ++ last ∷ []))) flowing.state.run → link < links flowing.state.sited.site → link_rounds ≤ suc (length later)
         → StaysBelowLimit flowing.state.sited.site link (later ++ last ∷ []) (all_tried between (round stations flowing))
         → HasHandedOver link (good_rounds (between ∷ later) flowing).state.run (good_rounds (between ∷ (later ++ last ∷ [])) flowing).state.run }
@@ -125,8 +125,7 @@ pub fn cancels_leave_no_aspect()
 /// whatever requests and occupancies come between the rounds before. The premises are those of `links_come_up`, of the
 /// signal's link.
 pub fn stop_comes()
-    ensures { (between : List Event) (later : List (List Event)) (flowing : Flowing Played) (signal : ℕ) → Once flowing.state.sited.site → IsStation flowing.state.sited.site
-        → IsTableOf flowing.state.sited.site flowing.state.sited.table → IsReached flowing.state.sited.site flowing.state.sited.table flowing.state.run
+    ensures { (between : List Event) (later : List (List Event)) (flowing : Flowing Played) (signal : ℕ) → IsFlow flowing
         → Each IsWork between → Each (Each IsWork) later → HasTime (suc (stop_rounds + length later)) flowing.state.run → signal < length flowing.state.sited.site.signals → link_rounds ≤ suc (length later)
         → StaysBelowLimit flowing.state.sited.site signal (later ++ replicate stop_rounds []) (all_tried between (round stations flowing))
         → NoneProceeds flowing.state.sited.table (good_rounds (between ∷ later) flowing).state.run.station.ixl signal
@@ -153,8 +152,7 @@ pub fn stop_comes()
 /// The lamp falls behind a cancel: where a cancel of a route is accepted behind a good round from the 1562nd on, the lamp of the route's
 /// signal is at stop behind the next round, whatever requests and occupancies come before.
 pub fn lamps_fall_behind_a_cancel()
-    ensures { (between : List Event) (later : List (List Event)) (before : List Event) (flowing : Flowing Played) (route : RouteId) (row : Row) → Once flowing.state.sited.site → IsStation flowing.state.sited.site
-        → IsTableOf flowing.state.sited.site flowing.state.sited.table → IsReached flowing.state.sited.site flowing.state.sited.table flowing.state.run
+    ensures { (between : List Event) (later : List (List Event)) (before : List Event) (flowing : Flowing Played) (route : RouteId) (row : Row) → IsFlow flowing
         → Each IsWork between → Each (Each IsWork) later → Each IsWork before → HasTime (suc (stop_rounds + suc (length later))) flowing.state.run
         → slice_get flowing.state.sited.table.rows route.0 ≡ Some row → link_rounds ≤ suc (suc (length later))
         → StaysBelowLimit flowing.state.sited.site row.entry (later ++ and_cancel route before ∷ replicate stop_rounds []) (all_tried between (round stations flowing))

@@ -1,10 +1,7 @@
 //! What good rounds come to.
 
 ghost use Rattle.std.specs.Prelude.{◌≡◌, ◌≤◌, ◌<◌, ℕ, suc, false, List, ◌∷◌, length};
-ghost use Rattle.ixl_table.specs.Table.{IsTableOf};
 ghost use Rattle.simulator_run.specs.layout.Entries.{Site};
-ghost use Rattle.simulator_run.specs.layout.Once.{Once};
-ghost use Rattle.simulator_run.specs.layout.Station.{IsStation};
 ghost use Rattle.simulator_run.specs.ixl_rules.View.{is_holding};
 ghost use Rattle.simulator_run.specs.rasta_core.Each.{Each};
 ghost use Rattle.simulator_run.specs.rasta_core.EachLink.{AreTimely};
@@ -17,6 +14,7 @@ ghost use Rattle.simulator_run.specs.Nodes.{links};
 ghost use Rattle.simulator_run.specs.State.{WorldState};
 ghost use Rattle.simulator_run.specs.Tried.{Played};
 ghost use Rattle.simulator_headline.specs.Reached.{IsReached};
+ghost use Rattle.simulator_recovery.specs.Flows.{IsFlow};
 ghost use Rattle.simulator_recovery.specs.LinkRounds.{AreInOne, IsAtWorkOn, IsUpOn, StaysBelowLimit, link_rounds};
 ghost use Rattle.simulator_recovery.specs.Ready.{IsReadyOn, ready_rounds};
 ghost use Rattle.simulator_recovery.specs.Rounds.{AllCome, HasTime, IsWork, LeavesFresh, all_tried, clocks_of, good_rounds, hold_rounds, rounds_later};
@@ -43,8 +41,7 @@ pub fn good_rounds_are_events()
 /// In each good round true time and the clock of every node go on by 10 ms, as long as none comes to its limit, whatever
 /// requests and occupancies come between the rounds.
 pub fn good_rounds_take_their_time()
-    ensures { (between : List (List Event)) (flowing : Flowing Played) → Once flowing.state.sited.site → IsStation flowing.state.sited.site
-        → IsReached flowing.state.sited.site flowing.state.sited.table flowing.state.run → Each (Each IsWork) between → HasTime (length between) flowing.state.run
+    ensures { (between : List (List Event)) (flowing : Flowing Played) → IsFlow flowing → Each (Each IsWork) between → HasTime (length between) flowing.state.run
         → clocks_of (good_rounds between flowing).state.run ≡ rounds_later (length between) (clocks_of flowing.state.run) }
 {
     reached_worlds_are_safe();
@@ -60,8 +57,7 @@ pub fn good_rounds_leave_fresh_datagrams()
 /// What was sent since a good round began comes in the next one, in the order of sending: each datagram to the node at the other
 /// end of its link, and none of these deliveries is refused.
 pub fn each_round_delivers_what_the_last_one_left()
-    ensures { (old new : Flowing Played) (leaves : LeavesFresh old new) → Once new.state.sited.site → IsStation new.state.sited.site
-        → IsReached new.state.sited.site new.state.sited.table new.state.run → AllCome old new leaves }
+    ensures { (old new : Flowing Played) (leaves : LeavesFresh old new) → IsFlow new → AllCome old new leaves }
 {
     layouts_name_their_links();
     links_keep_time();
@@ -72,8 +68,7 @@ pub fn each_round_delivers_what_the_last_one_left()
 /// any more for the hold, whatever requests and occupancies come between the rounds. One that was made anew still waits to
 /// be told to resume.
 pub fn the_hold_ends()
-    ensures { (between : List (List Event)) (flowing : Flowing Played) → Once flowing.state.sited.site → IsStation flowing.state.sited.site
-        → IsReached flowing.state.sited.site flowing.state.sited.table flowing.state.run → Each (Each IsWork) between → HasTime (length between) flowing.state.run
+    ensures { (between : List (List Event)) (flowing : Flowing Played) → IsFlow flowing → Each (Each IsWork) between → HasTime (length between) flowing.state.run
         → hold_rounds ≤ length between
         → is_holding (reading_of (good_rounds between flowing).state.run.station.clock) (good_rounds between flowing).state.run.station.ixl ≡ false }
 {
@@ -85,8 +80,7 @@ pub fn the_hold_ends()
 /// round before began comes to the end that it is for, in the order of sending, each end ticks, and the client opens. In
 /// between an end may be given items, and be closed. No datagram is lost, and no end is made anew.
 pub fn good_rounds_are_at_work_on_links()
-    ensures { (old new : Flowing Played) (leaves : LeavesFresh old new) (between : List Event) (before : Links) (link : ℕ) → Once new.state.sited.site → IsStation new.state.sited.site
-        → IsTableOf new.state.sited.site new.state.sited.table → IsReached new.state.sited.site new.state.sited.table new.state.run → Each IsWork between → HasTime 1 new.state.run
+    ensures { (old new : Flowing Played) (leaves : LeavesFresh old new) (between : List Event) (before : Links) (link : ℕ) → IsFlow new → Each IsWork between → HasTime 1 new.state.run
         → AreTimely (links new.state.sited.site) (names_at new.state.sited.site) before → AreLinksOf new.state.sited.site new.state.run before → link < links new.state.sited.site
         → IsAtWorkOn new.state.sited.site link between old new before }
 {
@@ -102,8 +96,7 @@ pub fn good_rounds_are_at_work_on_links()
 /// interlocking and each controller is up at both ends, whatever requests and occupancies come between the rounds. So it is
 /// where neither of its ends comes to the limit of PDUs in a connection.
 pub fn links_come_up()
-    ensures { (between : List Event) (later : List (List Event)) (flowing : Flowing Played) (link : ℕ) → Once flowing.state.sited.site → IsStation flowing.state.sited.site
-        → IsTableOf flowing.state.sited.site flowing.state.sited.table → IsReached flowing.state.sited.site flowing.state.sited.table flowing.state.run
+    ensures { (between : List Event) (later : List (List Event)) (flowing : Flowing Played) (link : ℕ) → IsFlow flowing
         → Each IsWork between → Each (Each IsWork) later → HasTime (suc (length later)) flowing.state.run → link < links flowing.state.sited.site → link_rounds ≤ suc (length later)
         → StaysBelowLimit flowing.state.sited.site link later (all_tried between (round stations flowing))
         → IsUpOn link (good_rounds (between ∷ later) flowing).state.run }
@@ -124,8 +117,7 @@ pub fn links_come_up()
 /// ends are up, and the initialisation of their connection is completed at both. So it is where neither of its ends comes to the
 /// limit of PDUs in a connection.
 pub fn links_are_ready()
-    ensures { (between : List Event) (later : List (List Event)) (flowing : Flowing Played) (link : ℕ) → Once flowing.state.sited.site → IsStation flowing.state.sited.site
-        → IsTableOf flowing.state.sited.site flowing.state.sited.table → IsReached flowing.state.sited.site flowing.state.sited.table flowing.state.run
+    ensures { (between : List Event) (later : List (List Event)) (flowing : Flowing Played) (link : ℕ) → IsFlow flowing
         → Each IsWork between → Each (Each IsWork) later → HasTime (suc (length later)) flowing.state.run → link < links flowing.state.sited.site → ready_rounds ≤ suc (length later)
         → StaysBelowLimit flowing.state.sited.site link later (all_tried between (round stations flowing))
         → IsReadyOn flowing.state.sited.site link (good_rounds (between ∷ later) flowing).state.run }

@@ -15,6 +15,7 @@ ghost use Rattle.simulator_run.specs.Nodes.{point_link};
 ghost use Rattle.simulator_run.specs.State.{WorldState};
 ghost use Rattle.simulator_run.specs.Tried.{Played};
 ghost use Rattle.simulator_headline.specs.Reached.{IsReached};
+ghost use Rattle.simulator_recovery.specs.Flows.{IsFlow};
 ghost use Rattle.simulator_recovery.specs.HandedOver.{HasHandedOver};
 ghost use Rattle.simulator_recovery.specs.LinkRounds.{StaysBelowLimit};
 ghost use Rattle.simulator_recovery.specs.Moves.{AreAnswered, DrivesSince, HasTakenMoves, HaveOwed, IsDrivenBehind, ReportsBehind, ReportsCome, drive_rounds, move_rounds};
@@ -49,9 +50,9 @@ use simulator_run_links::{
 
 /// Driven points reach their side: behind at most 50 good rounds, one after another, a point is found driven to one side, whatever
 /// requests and occupancies come between them, and on any network. For in the next one it comes to lie there, if its drive hasn't
-/// ended before. The flow notes of each point for how long it was found driven.
+/// ended before. A flow of a station notes for how long each point was found driven (`IsFlow`).
 pub fn driven_points_reach()
-    ensures { (rounds : List (List Event)) (flowing : Flowing Played) (place : ℕ) (side : Side) → Each (Each IsWork) rounds → length flowing.state.sited.site.points ≤ length flowing.drives
+    ensures { (rounds : List (List Event)) (flowing : Flowing Played) (place : ℕ) (side : Side) → IsFlow flowing → Each (Each IsWork) rounds
         → IsDrivenBehind place side rounds flowing → length rounds ≤ drive_rounds }
 {}
 
@@ -125,12 +126,11 @@ pub fn moves_come_over()
 /// Each move is answered: behind each good round from the 1565th on, the moves that a point was given by then are answered 52 good rounds
 /// later, 520 ms: the interlocking has taken a report for each, whatever requests and occupancies come between the rounds. No report
 /// waits for the window of the point's controller (`points_controllers_never_fill_their_windows`). The premises are those of
-/// `links_are_ready`, of the point's link; and the flow notes of each point for how long it was found driven.
+/// `links_are_ready`, of the point's link.
 pub fn moves_are_answered()
-    ensures { (between : List Event) (later more : List (List Event)) (flowing : Flowing Played) (place : ℕ) → Once flowing.state.sited.site → IsStation flowing.state.sited.site
-        → IsTableOf flowing.state.sited.site flowing.state.sited.table → IsReached flowing.state.sited.site flowing.state.sited.table flowing.state.run
+    ensures { (between : List Event) (later more : List (List Event)) (flowing : Flowing Played) (place : ℕ) → IsFlow flowing
         → Each IsWork between → Each (Each IsWork) (later ++ more) → HasTime (suc (length (later ++ more))) flowing.state.run → place < length flowing.state.sited.site.points
-        → length flowing.state.sited.site.points ≤ length flowing.drives → ready_rounds ≤ suc (length later) → length more ≡ move_rounds
+        → ready_rounds ≤ suc (length later) → length more ≡ move_rounds
         → StaysBelowLimit flowing.state.sited.site (point_link flowing.state.sited.site place) (later ++ more) (all_tried between (round stations flowing))
         → AreAnswered (point_link flowing.state.sited.site place) (good_rounds (between ∷ later) flowing).state.run (good_rounds (between ∷ (later ++ more)) flowing).state.run }
 {
@@ -179,10 +179,9 @@ pub fn moves_are_answered()
 /// point lies at the side it was driven to. So it is whenever the drive began, and whatever requests and occupancies come between the
 /// rounds. The premises are else those of `reports_of_drives_come_back`.
 pub fn drives_end_with_their_reports()
-    ensures { (between : List Event) (later more : List (List Event)) (flowing : Flowing Played) (place : ℕ) (side : Side) (since : ℕ) → Once flowing.state.sited.site → IsStation flowing.state.sited.site
-        → IsTableOf flowing.state.sited.site flowing.state.sited.table → IsReached flowing.state.sited.site flowing.state.sited.table flowing.state.run
+    ensures { (between : List Event) (later more : List (List Event)) (flowing : Flowing Played) (place : ℕ) (side : Side) (since : ℕ) → IsFlow flowing
         → Each IsWork between → Each (Each IsWork) (later ++ more) → HasTime (suc (length (later ++ more))) flowing.state.run → place < length flowing.state.sited.site.points
-        → length flowing.state.sited.site.points ≤ length flowing.drives → ready_rounds ≤ suc (length later) → length more ≡ suc drive_rounds
+        → ready_rounds ≤ suc (length later) → length more ≡ suc drive_rounds
         → StaysBelowLimit flowing.state.sited.site (point_link flowing.state.sited.site place) (later ++ more) (all_tried between (round stations flowing))
         → DrivesSince place side since (good_rounds (between ∷ later) flowing).state.run
         → ReportsBehind flowing.state.sited.site place side more (good_rounds (between ∷ later) flowing) }
@@ -195,8 +194,7 @@ pub fn drives_end_with_their_reports()
 /// taken is a beginning of what the controller has sent there behind the second. The premises are those of `links_are_ready`, of the
 /// point's link.
 pub fn reports_come_back()
-    ensures { (between last : List Event) (later : List (List Event)) (flowing : Flowing Played) (place : ℕ) → Once flowing.state.sited.site → IsStation flowing.state.sited.site
-        → IsTableOf flowing.state.sited.site flowing.state.sited.table → IsReached flowing.state.sited.site flowing.state.sited.table flowing.state.run
+    ensures { (between last : List Event) (later : List (List Event)) (flowing : Flowing Played) (place : ℕ) → IsFlow flowing
         → Each IsWork between → Each (Each IsWork) (later ++ last ∷ []) → HasTime (suc (length (later ++ last ∷ []))) flowing.state.run → place < length flowing.state.sited.site.points
         → ready_rounds ≤ suc (length later)
         → StaysBelowLimit flowing.state.sited.site (point_link flowing.state.sited.site place) (later ++ last ∷ []) (all_tried between (round stations flowing))

@@ -1,16 +1,13 @@
 //! How many moves a point is given: one, where no request comes.
 
 ghost use Rattle.std.specs.Prelude.{◌≡◌, ◌≤◌, ◌<◌, ℕ, suc, List, ◌∷◌, ◌++◌, length};
-ghost use Rattle.ixl_table.specs.Table.{IsTableOf};
-ghost use Rattle.simulator_run.specs.layout.Once.{Once};
-ghost use Rattle.simulator_run.specs.layout.Station.{IsStation};
 ghost use Rattle.simulator_run.specs.rasta_core.Each.{Each};
 ghost use Rattle.simulator_run.specs.simulator_event.declared.event.Event.{Event};
 ghost use Rattle.simulator_run.specs.Flow.{Flowing, round, stations};
 ghost use Rattle.simulator_run.specs.Nodes.{point_link};
 ghost use Rattle.simulator_run.specs.Tried.{Played};
-ghost use Rattle.simulator_headline.specs.Reached.{IsReached};
 ghost use Rattle.simulator_recovery.specs.Answered.{HasGivenSince, IsOccupancy};
+ghost use Rattle.simulator_recovery.specs.Flows.{IsFlow};
 ghost use Rattle.simulator_recovery.specs.LinkRounds.{StaysBelowLimit};
 ghost use Rattle.simulator_recovery.specs.Moves.{move_rounds};
 ghost use Rattle.simulator_recovery.specs.OnceMoved.{HasGivenOn, HasGivenOneAtMost};
@@ -47,8 +44,7 @@ use simulator_run_links::{
 /// on it grows or stays, behind however many rounds, and whatever requests and occupancies come between them. The premises are those of
 /// `links_are_ready`.
 pub fn links_of_points_count_on()
-    ensures { (between : List Event) (later more : List (List Event)) (flowing : Flowing Played) (place : ℕ) → Once flowing.state.sited.site → IsStation flowing.state.sited.site
-        → IsTableOf flowing.state.sited.site flowing.state.sited.table → IsReached flowing.state.sited.site flowing.state.sited.table flowing.state.run
+    ensures { (between : List Event) (later more : List (List Event)) (flowing : Flowing Played) (place : ℕ) → IsFlow flowing
         → Each IsWork between → Each (Each IsWork) (later ++ more) → HasTime (suc (length (later ++ more))) flowing.state.run → place < length flowing.state.sited.site.points
         → ready_rounds ≤ suc (length later)
         → StaysBelowLimit flowing.state.sited.site (point_link flowing.state.sited.site place) (later ++ more) (all_tried between (round stations flowing))
@@ -95,8 +91,7 @@ pub fn links_of_points_count_on()
 /// are moves. Sections may be occupied and left as they like: a route that waits for its point doesn't move it again. The premises
 /// are else those of `links_are_ready`.
 pub fn points_are_moved_once()
-    ensures { (between : List Event) (later more : List (List Event)) (flowing : Flowing Played) (place : ℕ) → Once flowing.state.sited.site → IsStation flowing.state.sited.site
-        → IsTableOf flowing.state.sited.site flowing.state.sited.table → IsReached flowing.state.sited.site flowing.state.sited.table flowing.state.run
+    ensures { (between : List Event) (later more : List (List Event)) (flowing : Flowing Played) (place : ℕ) → IsFlow flowing
         → Each IsWork between → Each (Each IsWork) (later ++ more) → HasTime (suc (length (later ++ more))) flowing.state.run → place < length flowing.state.sited.site.points
         → ready_rounds ≤ suc (length later)
         → StaysBelowLimit flowing.state.sited.site (point_link flowing.state.sited.site place) (later ++ more) (all_tried between (round stations flowing))
@@ -139,11 +134,10 @@ pub fn points_are_moved_once()
 /// given the point a move since, none is out 52 rounds on or behind any round from there: that move is answered then, and a second isn't given. The
 /// premises are else those of `moves_are_answered`.
 pub fn moves_that_are_given_are_the_last()
-    ensures { (between : List Event) (later more still last : List (List Event)) (flowing : Flowing Played) (place : ℕ) → Once flowing.state.sited.site → IsStation flowing.state.sited.site
-        → IsTableOf flowing.state.sited.site flowing.state.sited.table → IsReached flowing.state.sited.site flowing.state.sited.table flowing.state.run
+    ensures { (between : List Event) (later more still last : List (List Event)) (flowing : Flowing Played) (place : ℕ) → IsFlow flowing
         → Each IsWork between → Each (Each IsWork) (((later ++ more) ++ still) ++ last) → HasTime (suc (length (((later ++ more) ++ still) ++ last))) flowing.state.run
         → place < length flowing.state.sited.site.points
-        → length flowing.state.sited.site.points ≤ length flowing.drives → ready_rounds ≤ suc (length later) → length last ≡ move_rounds
+        → ready_rounds ≤ suc (length later) → length last ≡ move_rounds
         → StaysBelowLimit flowing.state.sited.site (point_link flowing.state.sited.site place) (((later ++ more) ++ still) ++ last) (all_tried between (round stations flowing))
         → Each (Each IsOccupancy) (more ++ (still ++ last))
         → HasGivenSince (point_link flowing.state.sited.site place) (good_rounds (between ∷ later) flowing).state.run (good_rounds (between ∷ (later ++ more)) flowing).state.run
@@ -159,11 +153,10 @@ pub fn moves_that_are_given_are_the_last()
 /// given. So behind the 52nd round and later ones a point's move is out within 52 rounds on end at most (520 ms), and then never again. The
 /// premises are else those of `moves_are_answered`.
 pub fn moves_that_are_out_are_the_last()
-    ensures { (between : List Event) (later more still last : List (List Event)) (flowing : Flowing Played) (place : ℕ) → Once flowing.state.sited.site → IsStation flowing.state.sited.site
-        → IsTableOf flowing.state.sited.site flowing.state.sited.table → IsReached flowing.state.sited.site flowing.state.sited.table flowing.state.run
+    ensures { (between : List Event) (later more still last : List (List Event)) (flowing : Flowing Played) (place : ℕ) → IsFlow flowing
         → Each IsWork between → Each (Each IsWork) (((later ++ more) ++ still) ++ last) → HasTime (suc (length (((later ++ more) ++ still) ++ last))) flowing.state.run
         → place < length flowing.state.sited.site.points
-        → length flowing.state.sited.site.points ≤ length flowing.drives → ready_rounds ≤ suc (length later) → length more ≡ move_rounds → length last ≡ move_rounds
+        → ready_rounds ≤ suc (length later) → length more ≡ move_rounds → length last ≡ move_rounds
         → StaysBelowLimit flowing.state.sited.site (point_link flowing.state.sited.site place) (((later ++ more) ++ still) ++ last) (all_tried between (round stations flowing))
         → Each (Each IsOccupancy) (more ++ (still ++ last)) → AwaitsMove place (good_rounds (between ∷ (later ++ more)) flowing).state.run
         → AwaitsMove place (good_rounds (between ∷ (((later ++ more) ++ still) ++ last)) flowing).state.run → ⊥ }

@@ -5,7 +5,6 @@ ghost use Rattle.std.specs.FinSet.{contains};
 ghost use Rattle.std.specs.List.{Contains};
 ghost use Rattle.ixl_table.specs.Table.{IsTableOf};
 ghost use Rattle.simulator_run.specs.layout.Entries.{Site};
-ghost use Rattle.simulator_run.specs.layout.Once.{Once};
 ghost use Rattle.simulator_run.specs.layout.Station.{IsStation};
 ghost use Rattle.simulator_run.specs.rasta_core.Each.{Each};
 ghost use Rattle.simulator_run.specs.ixl_rules.Due.{Freeable, IsClear, IsOccupied, IsRouteOf};
@@ -19,6 +18,7 @@ ghost use Rattle.simulator_run.specs.Happens.{happens};
 ghost use Rattle.simulator_run.specs.State.{WorldState};
 ghost use Rattle.simulator_run.specs.Tried.{Played};
 ghost use Rattle.simulator_headline.specs.Reached.{IsReached};
+ghost use Rattle.simulator_recovery.specs.Flows.{IsFlow};
 ghost use Rattle.simulator_recovery.specs.Passage.{AreUntold, IsLeft, IsPassed, IsSeen};
 ghost use Rattle.simulator_recovery.specs.Ready.{ready_rounds};
 ghost use Rattle.simulator_recovery.specs.Rounds.{HasTime, IsWork, good_rounds};
@@ -75,8 +75,7 @@ pub fn trains_free_their_routes()
 /// as often as you like. The premises are those of `links_are_ready`, of the links of these detectors.
 pub fn routes_are_free_behind_their_trains()
     ensures { (between : List Event) (later more : List (List Event)) (flowing : Flowing Played) (number clock freed : ℕ) (row : Row) (route : RouteState)
-        → Once flowing.state.sited.site → IsStation flowing.state.sited.site → IsTableOf flowing.state.sited.site flowing.state.sited.table → IsReached flowing.state.sited.site flowing.state.sited.table flowing.state.run
-        → Each IsWork between → Each (Each IsWork) (later ++ more) → HasTime (suc (length (later ++ more))) flowing.state.run → ready_rounds ≤ suc (length later) → section_rounds ≤ length more
+        → IsFlow flowing → Each IsWork between → Each (Each IsWork) (later ++ more) → HasTime (suc (length (later ++ more))) flowing.state.run → ready_rounds ≤ suc (length later) → section_rounds ≤ length more
         → AreUntold row more flowing → ((section : ℕ) → Contains row.sections section → IsLeft section between (later ++ more) flowing)
         → IsRouteOf flowing.state.sited.table (good_rounds (between ∷ (later ++ more)) flowing).state.run.station.ixl number row route → IsSeen row route → route.phase ≡ Ended clock freed → ⊥ }
 {

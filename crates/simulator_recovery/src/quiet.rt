@@ -15,6 +15,7 @@ ghost use Rattle.simulator_run.specs.Nodes.{detector_link, point_link};
 ghost use Rattle.simulator_run.specs.State.{WorldState};
 ghost use Rattle.simulator_run.specs.Tried.{Played};
 ghost use Rattle.simulator_headline.specs.Reached.{IsReached};
+ghost use Rattle.simulator_recovery.specs.Flows.{IsFlow};
 ghost use Rattle.simulator_recovery.specs.LinkRounds.{StaysBelowLimit};
 ghost use Rattle.simulator_recovery.specs.Moves.{move_rounds};
 ghost use Rattle.simulator_recovery.specs.NothingDue.{IsUpAtClock};
@@ -67,9 +68,7 @@ use simulator_run_links::{
 /// and of the detector of its own section.
 pub fn points_at_rest_stay_at_rest()
     ensures { (between : List Event) (later more last : List (List Event)) (flowing : Flowing Played) (place section : ℕ) (reporter : ℕ × ℕ)
-        → Once flowing.state.sited.site → IsStation flowing.state.sited.site
-        → IsTableOf flowing.state.sited.site flowing.state.sited.table → IsReached flowing.state.sited.site flowing.state.sited.table flowing.state.run
-        → Each IsWork between → Each (Each IsWork) later → Each (Each (IsOccupancyElsewhere section)) (more ++ last) → HasTime (suc (length ((later ++ more) ++ last))) flowing.state.run
+        → IsFlow flowing → Each IsWork between → Each (Each IsWork) later → Each (Each (IsOccupancyElsewhere section)) (more ++ last) → HasTime (suc (length ((later ++ more) ++ last))) flowing.state.run
         → place < length flowing.state.sited.site.points
         → slice_get flowing.state.sited.table.point_sections place ≡ Some section → slice_get flowing.state.sited.table.reporters section ≡ Some reporter
         → IsTimeToReport flowing.state.sited.table section between later more flowing
@@ -129,10 +128,8 @@ pub fn points_at_rest_stay_at_rest()
 /// full. The premises are else those of that law and of `moves_are_answered`.
 pub fn no_move_is_out_where_nothing_comes()
     ensures { (between : List Event) (later more last : List (List Event)) (flowing : Flowing Played) (place section : ℕ) (reporter : ℕ × ℕ)
-        → Once flowing.state.sited.site → IsStation flowing.state.sited.site
-        → IsTableOf flowing.state.sited.site flowing.state.sited.table → IsReached flowing.state.sited.site flowing.state.sited.table flowing.state.run
-        → Each IsWork between → Each (Each IsWork) later → Each (Each (IsOccupancyElsewhere section)) (more ++ last) → HasTime (suc (length ((later ++ more) ++ last))) flowing.state.run
-        → place < length flowing.state.sited.site.points → length flowing.state.sited.site.points ≤ length flowing.drives
+        → IsFlow flowing → Each IsWork between → Each (Each IsWork) later → Each (Each (IsOccupancyElsewhere section)) (more ++ last) → HasTime (suc (length ((later ++ more) ++ last))) flowing.state.run
+        → place < length flowing.state.sited.site.points
         → slice_get flowing.state.sited.table.point_sections place ≡ Some section → slice_get flowing.state.sited.table.reporters section ≡ Some reporter
         → IsTimeToReport flowing.state.sited.table section between later more flowing → length last ≡ move_rounds
         → StaysBelowLimit flowing.state.sited.site (point_link flowing.state.sited.site place) ((later ++ more) ++ last) (all_tried between (round stations flowing))
@@ -183,11 +180,9 @@ pub fn no_move_is_out_where_nothing_comes()
 /// window of the own section's detector has room (`detectors_windows_have_room`). The premises are else those of `no_move_is_out_where_nothing_comes`.
 pub fn no_move_is_out_where_nothing_came()
     ensures { (between : List Event) (later more last : List (List Event)) (flowing : Flowing Played) (place section : ℕ) (reporter : ℕ × ℕ)
-        → Once flowing.state.sited.site → IsStation flowing.state.sited.site
-        → IsTableOf flowing.state.sited.site flowing.state.sited.table → IsReached flowing.state.sited.site flowing.state.sited.table flowing.state.run
-        → Each IsWork between → Each (Each (IsWorkElsewhere flowing.state.sited.table reporter.0)) later → Each (Each (IsOccupancyElsewhere section)) (more ++ last)
+        → IsFlow flowing → Each IsWork between → Each (Each (IsWorkElsewhere flowing.state.sited.table reporter.0)) later → Each (Each (IsOccupancyElsewhere section)) (more ++ last)
         → HasTime (suc (length ((later ++ more) ++ last))) flowing.state.run
-        → place < length flowing.state.sited.site.points → length flowing.state.sited.site.points ≤ length flowing.drives
+        → place < length flowing.state.sited.site.points
         → slice_get flowing.state.sited.table.point_sections place ≡ Some section → slice_get flowing.state.sited.table.reporters section ≡ Some reporter
         → ready_rounds ≤ suc (suc (length later)) → 1 ≤ length more → length last ≡ move_rounds
         → StaysBelowLimit flowing.state.sited.site (point_link flowing.state.sited.site place) ((later ++ more) ++ last) (all_tried between (round stations flowing))

@@ -1,9 +1,6 @@
 //! What is said behind what was taken.
 
 ghost use Rattle.std.specs.Prelude.{◌≡◌, ◌≤◌, ◌<◌, ℕ, suc, true, List, [], ◌∷◌, ◌++◌, length, is_ok};
-ghost use Rattle.ixl_table.specs.Table.{IsTableOf};
-ghost use Rattle.simulator_run.specs.layout.Once.{Once};
-ghost use Rattle.simulator_run.specs.layout.Station.{IsStation};
 ghost use Rattle.simulator_run.specs.object_host.Host.{HostState};
 ghost use Rattle.simulator_run.specs.object_host.Step.{host_step};
 ghost use Rattle.simulator_run.specs.object_host.declared.input.Input.{Input};
@@ -15,7 +12,7 @@ ghost use Rattle.simulator_run.specs.simulator_event.declared.event.Event.{Event
 ghost use Rattle.simulator_run.specs.Flow.{Flowing, round, stations};
 ghost use Rattle.simulator_run.specs.Nodes.{links};
 ghost use Rattle.simulator_run.specs.Tried.{Played};
-ghost use Rattle.simulator_headline.specs.Reached.{IsReached};
+ghost use Rattle.simulator_recovery.specs.Flows.{IsFlow};
 ghost use Rattle.simulator_recovery.specs.HandedOver.{HasConfirmed};
 ghost use Rattle.simulator_recovery.specs.LinkRounds.{StaysBelowLimit, link_rounds};
 ghost use Rattle.simulator_recovery.specs.Replies.{GoOnWith, behind_what_comes, indication};
@@ -46,8 +43,7 @@ pub fn signals_report_at_once()
 /// where in the next round the controller accepts an item, behind calls by which it has taken all that the interlocking had given before,
 /// the interlocking's link holds that for confirmed behind the round after it. The premises are else those of `links_hand_over`.
 pub fn links_confirm()
-    ensures { (between : List Event) (later : List (List Event)) (replied last : List Event) (flowing : Flowing Played) (link : ℕ) → Once flowing.state.sited.site → IsStation flowing.state.sited.site
-        → IsTableOf flowing.state.sited.site flowing.state.sited.table → IsReached flowing.state.sited.site flowing.state.sited.table flowing.state.run
+    ensures { (between : List Event) (later : List (List Event)) (replied last : List Event) (flowing : Flowing Played) (link : ℕ) → IsFlow flowing
         → Each IsWork between → Each (Each IsWork) ((later ++ replied ∷ []) ++ last ∷ []) → HasTime (suc (length ((later ++ replied ∷ []) ++ last ∷ []))) flowing.state.run
         → link < links flowing.state.sited.site → link_rounds ≤ suc (length later)
         → StaysBelowLimit flowing.state.sited.site link ((later ++ replied ∷ []) ++ last ∷ []) (all_tried between (round stations flowing))

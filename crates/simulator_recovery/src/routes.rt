@@ -4,8 +4,6 @@ ghost use Rattle.std.specs.Prelude.{◌≡◌, ◌≤◌, ◌<◌, ◌⊎◌, �
 ghost use Rattle.std.specs.List.{Contains};
 ghost use Rattle.ixl_table.specs.Table.{IsTableOf};
 ghost use Rattle.simulator_run.specs.layout.Entries.{Site};
-ghost use Rattle.simulator_run.specs.layout.Once.{Once};
-ghost use Rattle.simulator_run.specs.layout.Station.{IsStation};
 ghost use Rattle.simulator_run.specs.layout.declared.ids.RouteId.{RouteId};
 ghost use Rattle.simulator_run.specs.ixl_rules.Due.{AllClear, AllKnown, At, IsRouteOf, IsSignalReady, Known, KnownStop};
 ghost use Rattle.simulator_run.specs.ixl_rules.State.{RouteState};
@@ -22,6 +20,7 @@ ghost use Rattle.simulator_run.specs.Nodes.{links};
 ghost use Rattle.simulator_run.specs.State.{WorldState};
 ghost use Rattle.simulator_run.specs.Tried.{Played};
 ghost use Rattle.simulator_headline.specs.Reached.{IsReached};
+ghost use Rattle.simulator_recovery.specs.Flows.{IsFlow};
 ghost use Rattle.simulator_recovery.specs.LinkRounds.{StaysBelowLimit};
 ghost use Rattle.simulator_recovery.specs.NothingDue.{HasAspect, IsUpheld, KeepsSetting, Waits};
 ghost use Rattle.simulator_recovery.specs.Ready.{ready_rounds};
@@ -69,8 +68,7 @@ pub fn set_routes_keep_their_course()
 /// Links stay up: from the good round on in which a link is ready, the interlocking's end of it is up behind each event of the rounds that
 /// follow, and of those between them. It is in one connection all the time. The premises are those of `links_are_ready`.
 pub fn links_stay_up()
-    ensures { (between : List Event) (later more : List (List Event)) (flowing : Flowing Played) (link : ℕ) → Once flowing.state.sited.site → IsStation flowing.state.sited.site
-        → IsTableOf flowing.state.sited.site flowing.state.sited.table → IsReached flowing.state.sited.site flowing.state.sited.table flowing.state.run
+    ensures { (between : List Event) (later more : List (List Event)) (flowing : Flowing Played) (link : ℕ) → IsFlow flowing
         → Each IsWork between → Each (Each IsWork) later → Each (Each IsWork) more → HasTime (suc (length (later ++ more))) flowing.state.run → link < links flowing.state.sited.site → ready_rounds ≤ suc (length later)
         → StaysBelowLimit flowing.state.sited.site link (later ++ more) (all_tried between (round stations flowing)) → Throughout (λ world. IsClientUp link world.run) more (good_rounds (between ∷ later) flowing) }
 {
@@ -121,14 +119,12 @@ pub fn accepted_settings_are_on_course()
 /// rounds, which a move takes at most (520 ms), its lamp shows its aspect behind the 53rd. The premises are else those of
 /// `links_are_ready`, of the links of its signal and its points.
 pub fn routes_come()
-    ensures proceeds { (between : List Event) (later more still : List (List Event)) (flowing : Flowing Played) (number : ℕ) (row : Row) → Once flowing.state.sited.site → IsStation flowing.state.sited.site
-        → IsTableOf flowing.state.sited.site flowing.state.sited.table → IsReached flowing.state.sited.site flowing.state.sited.table flowing.state.run
+    ensures proceeds { (between : List Event) (later more still : List (List Event)) (flowing : Flowing Played) (number : ℕ) (row : Row) → IsFlow flowing
         → Each IsWork between → Each (Each IsWork) later → Each (Each IsWork) more → Each (Each IsWork) still → HasTime (suc (length ((later ++ more) ++ still))) flowing.state.run → ready_rounds ≤ suc (length later)
         → slice_get flowing.state.sited.table.rows number ≡ Some row → AreBelowLimit flowing.state.sited.site row ((later ++ more) ++ still) (all_tried between (round stations flowing))
         → StaysSet number row (more ++ still) (good_rounds (between ∷ later) flowing) → AreKnownWithin row more (good_rounds (between ∷ later) flowing)
         → At (good_rounds (between ∷ (later ++ more)) flowing).state.run.station.ixl.routes number HasAspect }
-    ensures shows { (between : List Event) (later more still : List (List Event)) (flowing : Flowing Played) (number : ℕ) (row : Row) → Once flowing.state.sited.site → IsStation flowing.state.sited.site
-        → IsTableOf flowing.state.sited.site flowing.state.sited.table → IsReached flowing.state.sited.site flowing.state.sited.table flowing.state.run
+    ensures shows { (between : List Event) (later more still : List (List Event)) (flowing : Flowing Played) (number : ℕ) (row : Row) → IsFlow flowing
         → Each IsWork between → Each (Each IsWork) later → Each (Each IsWork) more → Each (Each IsWork) still → HasTime (suc (length ((later ++ more) ++ still))) flowing.state.run → ready_rounds ≤ suc (length later)
         → slice_get flowing.state.sited.table.rows number ≡ Some row → AreBelowLimit flowing.state.sited.site row ((later ++ more) ++ still) (all_tried between (round stations flowing))
         → StaysSet number row (more ++ still) (good_rounds (between ∷ later) flowing) → AreKnownWithin row more (good_rounds (between ∷ later) flowing)
@@ -168,16 +164,14 @@ pub fn routes_come()
 /// with that route as with each set one (`routes_come`): it has its aspect behind the rounds within which its points come to be known at
 /// their sides (*proceeds*), and its lamp shows the aspect from the next round on (*shows*).
 pub fn accepted_routes_come()
-    ensures proceeds { (between : List Event) (later : List (List Event)) (before : List Event) (more still : List (List Event)) (flowing : Flowing Played) (route : RouteId) (row : Row) → Once flowing.state.sited.site → IsStation flowing.state.sited.site
-        → IsTableOf flowing.state.sited.site flowing.state.sited.table → IsReached flowing.state.sited.site flowing.state.sited.table flowing.state.run
+    ensures proceeds { (between : List Event) (later : List (List Event)) (before : List Event) (more still : List (List Event)) (flowing : Flowing Played) (route : RouteId) (row : Row) → IsFlow flowing
         → Each IsWork between → Each (Each IsWork) later → Each IsWork before → Each (Each IsWork) more → Each (Each IsWork) still → HasTime (suc (length (((later ++ and_request route before ∷ []) ++ more) ++ still))) flowing.state.run
         → ready_rounds ≤ suc (suc (length later)) → slice_get flowing.state.sited.table.rows route.0 ≡ Some row
         → AreBelowLimit flowing.state.sited.site row (((later ++ and_request route before ∷ []) ++ more) ++ still) (all_tried between (round stations flowing))
         → AcceptsRequest route (as_request_comes (between ∷ later) before flowing).state → StaysClear route.0 row (more ++ still) (good_rounds (between ∷ (later ++ and_request route before ∷ [])) flowing)
         → AreKnownWithin row more (good_rounds (between ∷ (later ++ and_request route before ∷ [])) flowing)
         → At (good_rounds (between ∷ ((later ++ and_request route before ∷ []) ++ more)) flowing).state.run.station.ixl.routes route.0 HasAspect }
-    ensures shows { (between : List Event) (later : List (List Event)) (before : List Event) (more still : List (List Event)) (flowing : Flowing Played) (route : RouteId) (row : Row) → Once flowing.state.sited.site → IsStation flowing.state.sited.site
-        → IsTableOf flowing.state.sited.site flowing.state.sited.table → IsReached flowing.state.sited.site flowing.state.sited.table flowing.state.run
+    ensures shows { (between : List Event) (later : List (List Event)) (before : List Event) (more still : List (List Event)) (flowing : Flowing Played) (route : RouteId) (row : Row) → IsFlow flowing
         → Each IsWork between → Each (Each IsWork) later → Each IsWork before → Each (Each IsWork) more → Each (Each IsWork) still → HasTime (suc (length (((later ++ and_request route before ∷ []) ++ more) ++ still))) flowing.state.run
         → ready_rounds ≤ suc (suc (length later)) → slice_get flowing.state.sited.table.rows route.0 ≡ Some row
         → AreBelowLimit flowing.state.sited.site row (((later ++ and_request route before ∷ []) ++ more) ++ still) (all_tried between (round stations flowing))

@@ -19,6 +19,7 @@ ghost use Rattle.simulator_run.specs.Run.{CanHappen, after_all};
 ghost use Rattle.simulator_run.specs.State.{ClockedControllerState, WorldState};
 ghost use Rattle.simulator_run.specs.Tried.{Played};
 ghost use Rattle.simulator_headline.specs.Reached.{IsReached};
+ghost use Rattle.simulator_recovery.specs.Flows.{IsFlow};
 ghost use Rattle.simulator_recovery.specs.HandedOver.{ConfirmsAtOnce, HasHandedOver, HasSpoken, HasSpokenAlone};
 ghost use Rattle.simulator_recovery.specs.LinkRounds.{IsUpOn, StaysBelowLimit, link_rounds};
 ghost use Rattle.simulator_recovery.specs.Ready.{IsReadyOn, ready_rounds};
@@ -199,8 +200,7 @@ pub fn detectors_windows_hold_no_more()
 /// the interlocking knows a section as it is of which no report was owed behind the round before, and of whose occupancy nothing was told
 /// since, whatever else comes. The premises are those of `links_are_ready`, of the link of the section's detector.
 pub fn told_sections_are_known()
-    ensures { (between : List Event) (later : List (List Event)) (last : List Event) (flowing : Flowing Played) (section : ℕ) (reporter : ℕ × ℕ) → Once flowing.state.sited.site → IsStation flowing.state.sited.site
-        → IsTableOf flowing.state.sited.site flowing.state.sited.table → IsReached flowing.state.sited.site flowing.state.sited.table flowing.state.run
+    ensures { (between : List Event) (later : List (List Event)) (last : List Event) (flowing : Flowing Played) (section : ℕ) (reporter : ℕ × ℕ) → IsFlow flowing
         → Each IsWork between → Each (Each IsWork) (later ++ last ∷ []) → HasTime (suc (length (later ++ last ∷ []))) flowing.state.run
         → slice_get flowing.state.sited.table.reporters section ≡ Some reporter → ready_rounds ≤ suc (suc (length later))
         → StaysBelowLimit flowing.state.sited.site (detector_link flowing.state.sited.site reporter.0) (later ++ last ∷ []) (all_tried between (round stations flowing))
@@ -268,8 +268,7 @@ pub fn ready_detectors_were_given_two_items()
 /// On each link of a station the interlocking says something in 30 good rounds, so in 300 ms, from the 1562nd on. The premises are those of
 /// `links_hand_over`.
 pub fn interlockings_speak_on_links()
-    ensures { (between : List Event) (later more : List (List Event)) (flowing : Flowing Played) (link : ℕ) → Once flowing.state.sited.site → IsStation flowing.state.sited.site
-        → IsTableOf flowing.state.sited.site flowing.state.sited.table → IsReached flowing.state.sited.site flowing.state.sited.table flowing.state.run
+    ensures { (between : List Event) (later more : List (List Event)) (flowing : Flowing Played) (link : ℕ) → IsFlow flowing
         → Each IsWork between → Each (Each IsWork) (later ++ more) → HasTime (suc (length (later ++ more))) flowing.state.run → link < links flowing.state.sited.site → link_rounds ≤ suc (length later)
         → speaking_rounds ≤ length more → StaysBelowLimit flowing.state.sited.site link (later ++ more) (all_tried between (round stations flowing))
         → HasSpoken link (good_rounds (between ∷ later) flowing).state.run (good_rounds (between ∷ (later ++ more)) flowing).state.run }
@@ -292,8 +291,7 @@ pub fn interlockings_speak_on_links()
 /// behind the other, the interlocking gives nothing, and says something in the second. Behind the next round that confirms all
 /// (`quiet_links_confirm_at_once`). The premises are those of `links_are_ready`, of this link.
 pub fn interlockings_speak_alone_to_detectors()
-    ensures { (between : List Event) (later : List (List Event)) (one : List Event) (more : List (List Event)) (flowing : Flowing Played) (place : ℕ) → Once flowing.state.sited.site → IsStation flowing.state.sited.site
-        → IsTableOf flowing.state.sited.site flowing.state.sited.table → IsReached flowing.state.sited.site flowing.state.sited.table flowing.state.run
+    ensures { (between : List Event) (later : List (List Event)) (one : List Event) (more : List (List Event)) (flowing : Flowing Played) (place : ℕ) → IsFlow flowing
         → Each IsWork between → Each (Each IsWork) ((later ++ one ∷ []) ++ more) → HasTime (suc (length ((later ++ one ∷ []) ++ more))) flowing.state.run → place < length flowing.state.sited.site.detectors
         → ready_rounds ≤ suc (length later) → speaking_rounds ≤ length more
         → StaysBelowLimit flowing.state.sited.site (detector_link flowing.state.sited.site place) ((later ++ one ∷ []) ++ more) (all_tried between (round stations flowing))
@@ -318,8 +316,7 @@ pub fn interlockings_speak_alone_to_detectors()
 /// more for confirmed behind that round than before it; and behind the third it holds for confirmed all that it had given by the first. The
 /// premises are those of `links_hand_over`.
 pub fn quiet_links_confirm_at_once()
-    ensures { (between : List Event) (later : List (List Event)) (one two three : List Event) (flowing : Flowing Played) (link : ℕ) → Once flowing.state.sited.site → IsStation flowing.state.sited.site
-        → IsTableOf flowing.state.sited.site flowing.state.sited.table → IsReached flowing.state.sited.site flowing.state.sited.table flowing.state.run
+    ensures { (between : List Event) (later : List (List Event)) (one two three : List Event) (flowing : Flowing Played) (link : ℕ) → IsFlow flowing
         → Each IsWork between → Each (Each IsWork) (((later ++ one ∷ []) ++ two ∷ []) ++ three ∷ []) → HasTime (suc (length (((later ++ one ∷ []) ++ two ∷ []) ++ three ∷ []))) flowing.state.run
         → link < links flowing.state.sited.site → link_rounds ≤ suc (length later)
         → StaysBelowLimit flowing.state.sited.site link (((later ++ one ∷ []) ++ two ∷ []) ++ three ∷ []) (all_tried between (round stations flowing))
@@ -345,8 +342,7 @@ pub fn quiet_links_confirm_at_once()
 /// 1565th on the interlocking knows a section as it is of whose occupancy nothing was told since the round before, and behind that round
 /// the window of the detector's link wasn't full, whatever else comes. The premises are those of `links_are_ready`, of this link.
 pub fn sections_are_reported_with_room()
-    ensures { (between : List Event) (later : List (List Event)) (last : List Event) (flowing : Flowing Played) (section : ℕ) (reporter : ℕ × ℕ) → Once flowing.state.sited.site → IsStation flowing.state.sited.site
-        → IsTableOf flowing.state.sited.site flowing.state.sited.table → IsReached flowing.state.sited.site flowing.state.sited.table flowing.state.run
+    ensures { (between : List Event) (later : List (List Event)) (last : List Event) (flowing : Flowing Played) (section : ℕ) (reporter : ℕ × ℕ) → IsFlow flowing
         → Each IsWork between → Each (Each IsWork) (later ++ last ∷ []) → HasTime (suc (length (later ++ last ∷ []))) flowing.state.run
         → slice_get flowing.state.sited.table.reporters section ≡ Some reporter → ready_rounds ≤ suc (suc (length later))
         → StaysBelowLimit flowing.state.sited.site (detector_link flowing.state.sited.site reporter.0) (later ++ last ∷ []) (all_tried between (round stations flowing))

@@ -1,15 +1,12 @@
 //! Sections are reported as they are, so soon behind their last change.
 
 ghost use Rattle.std.specs.Prelude.{◌≡◌, ◌≤◌, ℕ, suc, List, [], ◌∷◌, ◌++◌, length, Some, slice_get};
-ghost use Rattle.ixl_table.specs.Table.{IsTableOf};
-ghost use Rattle.simulator_run.specs.layout.Once.{Once};
-ghost use Rattle.simulator_run.specs.layout.Station.{IsStation};
 ghost use Rattle.simulator_run.specs.rasta_core.Each.{Each};
 ghost use Rattle.simulator_run.specs.simulator_event.declared.event.Event.{Event};
 ghost use Rattle.simulator_run.specs.Flow.{Flowing, round, stations};
 ghost use Rattle.simulator_run.specs.Nodes.{detector_link};
 ghost use Rattle.simulator_run.specs.Tried.{Played};
-ghost use Rattle.simulator_headline.specs.Reached.{IsReached};
+ghost use Rattle.simulator_recovery.specs.Flows.{IsFlow};
 ghost use Rattle.simulator_recovery.specs.LinkRounds.{StaysBelowLimit, link_rounds};
 ghost use Rattle.simulator_recovery.specs.Quiet.{IsWorkElsewhere};
 ghost use Rattle.simulator_recovery.specs.Ready.{ready_rounds};
@@ -50,8 +47,7 @@ use simulator_run_links::{
 /// requests come, and other sections of the detector are told of as often as you like. The premises are those of `links_are_ready`, of the
 /// link of the section's detector.
 pub fn sections_are_reported()
-    ensures { (between : List Event) (later more : List (List Event)) (flowing : Flowing Played) (section : ℕ) (reporter : ℕ × ℕ) → Once flowing.state.sited.site → IsStation flowing.state.sited.site
-        → IsTableOf flowing.state.sited.site flowing.state.sited.table → IsReached flowing.state.sited.site flowing.state.sited.table flowing.state.run
+    ensures { (between : List Event) (later more : List (List Event)) (flowing : Flowing Played) (section : ℕ) (reporter : ℕ × ℕ) → IsFlow flowing
         → Each IsWork between → Each (Each IsWork) (later ++ more) → HasTime (suc (length (later ++ more))) flowing.state.run
         → slice_get flowing.state.sited.table.reporters section ≡ Some reporter → ready_rounds ≤ suc (length later) → section_rounds ≤ length more
         → StaysBelowLimit flowing.state.sited.site (detector_link flowing.state.sited.site reporter.0) (later ++ more) (all_tried between (round stations flowing))
@@ -102,8 +98,7 @@ pub fn sections_are_reported()
 /// is confirmed (`what_was_given_before_is_confirmed`). Requests may come as they like, and sections of other detectors may be occupied and left. What
 /// comes between the first round and the second may tell of any section. The premises are else those of `links_come_up`, of the detector's link.
 pub fn detectors_windows_have_room()
-    ensures { (between : List Event) (later : List (List Event)) (flowing : Flowing Played) (section : ℕ) (reporter : ℕ × ℕ) → Once flowing.state.sited.site → IsStation flowing.state.sited.site
-        → IsTableOf flowing.state.sited.site flowing.state.sited.table → IsReached flowing.state.sited.site flowing.state.sited.table flowing.state.run
+    ensures { (between : List Event) (later : List (List Event)) (flowing : Flowing Played) (section : ℕ) (reporter : ℕ × ℕ) → IsFlow flowing
         → Each IsWork between → Each (Each (IsWorkElsewhere flowing.state.sited.table reporter.0)) later → HasTime (suc (length later)) flowing.state.run
         → slice_get flowing.state.sited.table.reporters section ≡ Some reporter → link_rounds ≤ suc (length later)
         → StaysBelowLimit flowing.state.sited.site (detector_link flowing.state.sited.site reporter.0) later (all_tried between (round stations flowing))
@@ -151,9 +146,7 @@ pub fn detectors_windows_have_room()
 /// occupied and left. The premises are else those of `links_are_ready`, of the link of the detector.
 pub fn sections_are_reported_where_nothing_came()
     ensures { (between : List Event) (later : List (List Event)) (last : List Event) (flowing : Flowing Played) (section : ℕ) (reporter : ℕ × ℕ)
-        → Once flowing.state.sited.site → IsStation flowing.state.sited.site
-        → IsTableOf flowing.state.sited.site flowing.state.sited.table → IsReached flowing.state.sited.site flowing.state.sited.table flowing.state.run
-        → Each IsWork between → Each (Each (IsWorkElsewhere flowing.state.sited.table reporter.0)) (later ++ last ∷ []) → HasTime (suc (length (later ++ last ∷ []))) flowing.state.run
+        → IsFlow flowing → Each IsWork between → Each (Each (IsWorkElsewhere flowing.state.sited.table reporter.0)) (later ++ last ∷ []) → HasTime (suc (length (later ++ last ∷ []))) flowing.state.run
         → slice_get flowing.state.sited.table.reporters section ≡ Some reporter → ready_rounds ≤ suc (suc (length later))
         → StaysBelowLimit flowing.state.sited.site (detector_link flowing.state.sited.site reporter.0) (later ++ last ∷ []) (all_tried between (round stations flowing))
         → IsKnownAsInTheField flowing.state.sited.table (good_rounds (between ∷ (later ++ last ∷ [])) flowing).state.run section }

@@ -15,6 +15,7 @@ ghost use Rattle.simulator_run.specs.Flow.{Flowing, round, stations};
 ghost use Rattle.simulator_run.specs.State.{WorldState};
 ghost use Rattle.simulator_run.specs.Tried.{Played};
 ghost use Rattle.simulator_headline.specs.Reached.{IsReached};
+ghost use Rattle.simulator_recovery.specs.Flows.{IsFlow};
 ghost use Rattle.simulator_recovery.specs.HandedOver.{HasHandedOver};
 ghost use Rattle.simulator_recovery.specs.Lamps.{GivesNoMore};
 ghost use Rattle.simulator_recovery.specs.LinkRounds.{StaysBelowLimit, link_rounds};
@@ -71,8 +72,7 @@ pub fn rounds_give_proceeding_routes_nothing()
 /// A route shows its aspect: where it proceeds behind a good round from the 1562nd on, its signal's lamp shows the route's aspect behind the
 /// next round, if the route proceeds still. The premises are those of `links_come_up`, of the signal's link.
 pub fn routes_show_their_aspect()
-    ensures { (between : List Event) (later : List (List Event)) (flowing : Flowing Played) (number : ℕ) (row : Row) → Once flowing.state.sited.site → IsStation flowing.state.sited.site
-        → IsTableOf flowing.state.sited.site flowing.state.sited.table → IsReached flowing.state.sited.site flowing.state.sited.table flowing.state.run
+    ensures { (between : List Event) (later : List (List Event)) (flowing : Flowing Played) (number : ℕ) (row : Row) → IsFlow flowing
         → Each IsWork between → Each (Each IsWork) later → HasTime (suc (aspect_rounds + length later)) flowing.state.run → link_rounds ≤ suc (length later)
         → StaysBelowLimit flowing.state.sited.site row.entry (later ++ replicate aspect_rounds []) (all_tried between (round stations flowing))
         → RouteProceeds flowing.state.sited.table (good_rounds (between ∷ later) flowing).state.run.station.ixl number row
@@ -101,8 +101,7 @@ pub fn routes_show_their_aspect()
 /// aspect, or goes on to, and shows it also behind the requests and occupancies that come next. So it shows until the route is cancelled, or
 /// withdrawn. The premises are those of `links_come_up`, of the signal's link.
 pub fn aspects_stay()
-    ensures { (between : List Event) (later more : List (List Event)) (flowing : Flowing Played) (number : ℕ) (row : Row) → Once flowing.state.sited.site → IsStation flowing.state.sited.site
-        → IsTableOf flowing.state.sited.site flowing.state.sited.table → IsReached flowing.state.sited.site flowing.state.sited.table flowing.state.run
+    ensures { (between : List Event) (later more : List (List Event)) (flowing : Flowing Played) (number : ℕ) (row : Row) → IsFlow flowing
         → Each IsWork between → Each (Each IsWork) later → Each (Each IsWork) more → HasTime (suc (length (later ++ more))) flowing.state.run → link_rounds ≤ suc (length later)
         → StaysBelowLimit flowing.state.sited.site row.entry (later ++ more) (all_tried between (round stations flowing))
         → ProceedsThrough number row more (good_rounds (between ∷ later) flowing) → ShowsThrough row.entry row.aspect more (good_rounds (between ∷ later) flowing) }

@@ -16,6 +16,7 @@ ghost use Rattle.simulator_run.specs.Nodes.{point_link};
 ghost use Rattle.simulator_run.specs.State.{WorldState};
 ghost use Rattle.simulator_run.specs.Tried.{Played};
 ghost use Rattle.simulator_headline.specs.Reached.{IsReached};
+ghost use Rattle.simulator_recovery.specs.Flows.{IsFlow};
 ghost use Rattle.simulator_recovery.specs.LinkRounds.{StaysBelowLimit};
 ghost use Rattle.simulator_recovery.specs.Moves.{DrivesSince, ReportComesBehind, drive_rounds};
 ghost use Rattle.simulator_recovery.specs.NothingDue.{HasAspect, Waits};
@@ -115,10 +116,9 @@ pub fn driven_points_go_where_routes_want()
 /// routes hold the point at a side then, it reports within the next 51 good rounds, 510 ms, as its next item in this connection, that
 /// the point lies at this side, and the interlocking's end takes this report. The premises are else those of `reports_of_drives_come_back`.
 pub fn drives_are_reported_where_routes_want()
-    ensures { (between : List Event) (later more : List (List Event)) (flowing : Flowing Played) (place : ℕ) (side to : Side) (since : ℕ) → Once flowing.state.sited.site → IsStation flowing.state.sited.site
-        → IsTableOf flowing.state.sited.site flowing.state.sited.table → IsReached flowing.state.sited.site flowing.state.sited.table flowing.state.run
+    ensures { (between : List Event) (later more : List (List Event)) (flowing : Flowing Played) (place : ℕ) (side to : Side) (since : ℕ) → IsFlow flowing
         → Each IsWork between → Each (Each IsWork) (later ++ more) → HasTime (suc (length (later ++ more))) flowing.state.run → place < length flowing.state.sited.site.points
-        → length flowing.state.sited.site.points ≤ length flowing.drives → ready_rounds ≤ suc (length later) → length more ≡ suc drive_rounds
+        → ready_rounds ≤ suc (length later) → length more ≡ suc drive_rounds
         → StaysBelowLimit flowing.state.sited.site (point_link flowing.state.sited.site place) (later ++ more) (all_tried between (round stations flowing))
         → DrivesSince place to since (good_rounds (between ∷ later) flowing).state.run → IsHeldAt flowing.state.sited.table (good_rounds (between ∷ later) flowing).state.run.station.ixl place side
         → ReportComesBehind flowing.state.sited.site place side more (good_rounds (between ∷ later) flowing) }

@@ -2,9 +2,6 @@
 
 ghost use Rattle.std.specs.Prelude.{◌≡◌, ◌≤◌, ◌⊎◌, ℕ, suc, List, ◌∷◌, ◌++◌, false, length, Some, slice_get};
 ghost use Rattle.std.specs.List.{Contains};
-ghost use Rattle.ixl_table.specs.Table.{IsTableOf};
-ghost use Rattle.simulator_run.specs.layout.Once.{Once};
-ghost use Rattle.simulator_run.specs.layout.Station.{IsStation};
 ghost use Rattle.simulator_run.specs.ixl_rules.Due.{IsRouteOf};
 ghost use Rattle.simulator_run.specs.ixl_rules.State.{RouteState};
 ghost use Rattle.simulator_run.specs.ixl_rules.Table.{Row};
@@ -14,7 +11,7 @@ ghost use Rattle.simulator_run.specs.rasta_core.Each.{Each};
 ghost use Rattle.simulator_run.specs.simulator_event.declared.event.Event.{Event};
 ghost use Rattle.simulator_run.specs.Flow.{Flowing, round, stations};
 ghost use Rattle.simulator_run.specs.Tried.{Played};
-ghost use Rattle.simulator_headline.specs.Reached.{IsReached};
+ghost use Rattle.simulator_recovery.specs.Flows.{IsFlow};
 ghost use Rattle.simulator_recovery.specs.LinkRounds.{StaysBelowLimit};
 ghost use Rattle.simulator_recovery.specs.Passage.{AreUntold, IsLeft, IsSeen};
 ghost use Rattle.simulator_recovery.specs.Ready.{ready_rounds};
@@ -32,9 +29,7 @@ use simulator_headline::reached_worlds_are_safe;
 /// signal's link, and those of `links_are_ready`, of the links of the detectors of its sections (`IsLeft`).
 pub fn withdrawn_routes_are_free_behind_their_trains()
     ensures { (between : List Event) (later more : List (List Event)) (flowing : Flowing Played) (number : ℕ) (row : Row) (route state : RouteState)
-        → Once flowing.state.sited.site → IsStation flowing.state.sited.site
-        → IsTableOf flowing.state.sited.site flowing.state.sited.table → IsReached flowing.state.sited.site flowing.state.sited.table flowing.state.run
-        → Each IsWork between → Each (Each IsWork) (later ++ more) → HasTime (suc (length (later ++ more))) flowing.state.run → ready_rounds ≤ suc (length later) → told_rounds ≤ length more
+        → IsFlow flowing → Each IsWork between → Each (Each IsWork) (later ++ more) → HasTime (suc (length (later ++ more))) flowing.state.run → ready_rounds ≤ suc (length later) → told_rounds ≤ length more
         → IsNotSetAnew number more (good_rounds (between ∷ later) flowing) → AreUntold row more flowing
         → StaysBelowLimit flowing.state.sited.site row.entry (later ++ more) (all_tried between (round stations flowing))
         → ((section : ℕ) → Contains row.sections section → IsLeft section between (later ++ more) flowing)

@@ -3,8 +3,6 @@
 ghost use Rattle.std.specs.Prelude.{◌≡◌, ◌≤◌, ℕ, suc, List, [], ◌∷◌, ◌++◌, length, Some, slice_get};
 ghost use Rattle.ixl_table.specs.Table.{IsTableOf};
 ghost use Rattle.simulator_run.specs.layout.Entries.{Site};
-ghost use Rattle.simulator_run.specs.layout.Once.{Once};
-ghost use Rattle.simulator_run.specs.layout.Station.{IsStation};
 ghost use Rattle.simulator_run.specs.layout.declared.ids.RouteId.{RouteId};
 ghost use Rattle.simulator_run.specs.ixl_rules.Due.{HoldsPoint, IsHeldAt, IsRouteOf, Known};
 ghost use Rattle.simulator_run.specs.ixl_rules.State.{RouteState};
@@ -16,6 +14,7 @@ ghost use Rattle.simulator_run.specs.Flow.{Flowing, round, stations};
 ghost use Rattle.simulator_run.specs.State.{WorldState};
 ghost use Rattle.simulator_run.specs.Tried.{Played};
 ghost use Rattle.simulator_headline.specs.Reached.{IsReached};
+ghost use Rattle.simulator_recovery.specs.Flows.{IsFlow};
 ghost use Rattle.simulator_recovery.specs.HeldPoints.{ComesBy};
 ghost use Rattle.simulator_recovery.specs.Moves.{move_rounds};
 ghost use Rattle.simulator_recovery.specs.NothingDue.{IsPointReady, Proceeds};
@@ -53,10 +52,8 @@ pub fn points_of_proceeding_routes_are_known()
 /// The premises are else those of `accepted_routes_come_in_time`.
 pub fn accepted_routes_come_over_clear_sections()
     ensures { (between : List Event) (later : List (List Event)) (before : List Event) (more still : List (List Event)) (flowing : Flowing Played) (route : RouteId) (row : Row)
-        → Once flowing.state.sited.site
-        → IsStation flowing.state.sited.site → IsTableOf flowing.state.sited.site flowing.state.sited.table → IsReached flowing.state.sited.site flowing.state.sited.table flowing.state.run
-        → Each IsWork between → Each (Each IsWork) later → Each IsWork before → Each (Each IsWork) more → Each (Each IsWork) still
-        → HasTime (suc (length (((later ++ and_request route before ∷ []) ++ more) ++ still))) flowing.state.run → length flowing.state.sited.site.points ≤ length flowing.drives
+        → IsFlow flowing → Each IsWork between → Each (Each IsWork) later → Each IsWork before → Each (Each IsWork) more → Each (Each IsWork) still
+        → HasTime (suc (length (((later ++ and_request route before ∷ []) ++ more) ++ still))) flowing.state.run
         → ready_rounds ≤ suc (suc (length later)) → length more ≡ move_rounds → slice_get flowing.state.sited.table.rows route.0 ≡ Some row
         → AreBelowLimit flowing.state.sited.site row (((later ++ and_request route before ∷ []) ++ more) ++ still) (all_tried between (round stations flowing))
         → AcceptsRequest route (as_request_comes (between ∷ later) before flowing).state
@@ -80,10 +77,8 @@ pub fn accepted_routes_come_over_clear_sections()
 /// `set_routes_come_in_time`.
 pub fn set_routes_come_over_clear_sections()
     ensures { (between : List Event) (later more still : List (List Event)) (flowing : Flowing Played) (number : ℕ) (row : Row)
-        → Once flowing.state.sited.site → IsStation flowing.state.sited.site
-        → IsTableOf flowing.state.sited.site flowing.state.sited.table → IsReached flowing.state.sited.site flowing.state.sited.table flowing.state.run
-        → Each IsWork between → Each (Each IsWork) later → Each (Each IsWork) more → Each (Each IsWork) still
-        → HasTime (suc (length ((later ++ more) ++ still))) flowing.state.run → length flowing.state.sited.site.points ≤ length flowing.drives
+        → IsFlow flowing → Each IsWork between → Each (Each IsWork) later → Each (Each IsWork) more → Each (Each IsWork) still
+        → HasTime (suc (length ((later ++ more) ++ still))) flowing.state.run
         → ready_rounds ≤ suc (length later) → length more ≡ move_rounds → slice_get flowing.state.sited.table.rows number ≡ Some row
         → AreBelowLimit flowing.state.sited.site row ((later ++ more) ++ still) (all_tried between (round stations flowing))
         → StaysSet number row (more ++ still) (good_rounds (between ∷ later) flowing)

@@ -1,10 +1,7 @@
 //! When a cancelled route that waits is free, and when the authority of a withdrawn one ends.
 
 ghost use Rattle.std.specs.Prelude.{◌≡◌, ◌≤◌, ◌<◌, ℕ, suc, List, [], ◌∷◌, ◌++◌, length, false, true, Some, slice_get};
-ghost use Rattle.ixl_table.specs.Table.{IsTableOf};
 ghost use Rattle.simulator_run.specs.layout.Entries.{Site};
-ghost use Rattle.simulator_run.specs.layout.Once.{Once};
-ghost use Rattle.simulator_run.specs.layout.Station.{IsStation};
 ghost use Rattle.simulator_run.specs.layout.declared.ids.RouteId.{RouteId};
 ghost use Rattle.simulator_run.specs.ixl_rules.Due.{AllClear, At, IsRouteOf, LetsGo};
 ghost use Rattle.simulator_run.specs.ixl_rules.State.{RouteState};
@@ -23,6 +20,7 @@ ghost use Rattle.simulator_run.specs.State.{WorldState};
 ghost use Rattle.simulator_run.specs.Tried.{Played};
 ghost use Rattle.simulator_headline.specs.Reached.{IsReached};
 ghost use Rattle.simulator_recovery.specs.Authority.{HasGivenMore, IsUnseen, authority_rounds};
+ghost use Rattle.simulator_recovery.specs.Flows.{IsFlow};
 ghost use Rattle.simulator_recovery.specs.Lamps.{AcceptsCancel, IsWithdrawnFrom, NoneProceeds, and_cancel, as_cancel_comes};
 ghost use Rattle.simulator_recovery.specs.LinkRounds.{StaysBelowLimit, link_rounds};
 ghost use Rattle.simulator_recovery.specs.NothingDue.{HasAspect, Proceeds};
@@ -73,8 +71,7 @@ pub fn waiting_routes_are_free_at_once()
 /// A route that waits is free behind its cancel: where this is accepted behind a good round from the 1562nd on, the route is free in that
 /// step, whatever requests and occupancies come before. The premises are those of `links_come_up`, of the signal's link.
 pub fn waiting_routes_are_free_behind_a_cancel()
-    ensures { (between : List Event) (later : List (List Event)) (before : List Event) (flowing : Flowing Played) (route : RouteId) (row : Row) → Once flowing.state.sited.site → IsStation flowing.state.sited.site
-        → IsTableOf flowing.state.sited.site flowing.state.sited.table → IsReached flowing.state.sited.site flowing.state.sited.table flowing.state.run
+    ensures { (between : List Event) (later : List (List Event)) (before : List Event) (flowing : Flowing Played) (route : RouteId) (row : Row) → IsFlow flowing
         → Each IsWork between → Each (Each IsWork) later → Each IsWork before → HasTime (suc (suc (length later))) flowing.state.run
         → slice_get flowing.state.sited.table.rows route.0 ≡ Some row → link_rounds ≤ suc (suc (length later))
         → StaysBelowLimit flowing.state.sited.site row.entry (later ++ and_cancel route before ∷ []) (all_tried between (round stations flowing))
@@ -119,8 +116,7 @@ pub fn ended_routes_are_free_at_once()
 /// it is where a route is withdrawn within a round, as by a section that is reported occupied in it. The premises are those of
 /// `links_come_up`, of the signal's link.
 pub fn authority_ends_where_stop_is_given_within_a_round()
-    ensures { (between : List Event) (later : List (List Event)) (last : List Event) (more : List (List Event)) (flowing : Flowing Played) (signal : ℕ) → Once flowing.state.sited.site → IsStation flowing.state.sited.site
-        → IsTableOf flowing.state.sited.site flowing.state.sited.table → IsReached flowing.state.sited.site flowing.state.sited.table flowing.state.run
+    ensures { (between : List Event) (later : List (List Event)) (last : List Event) (more : List (List Event)) (flowing : Flowing Played) (signal : ℕ) → IsFlow flowing
         → Each IsWork between → Each (Each IsWork) (later ++ last ∷ more) → HasTime (suc (length (later ++ last ∷ more))) flowing.state.run → signal < length flowing.state.sited.site.signals
         → ready_rounds ≤ suc (length later) → authority_rounds ≤ length more
         → StaysBelowLimit flowing.state.sited.site signal (later ++ last ∷ more) (all_tried between (round stations flowing))
@@ -166,8 +162,7 @@ pub fn authority_ends_where_stop_is_given_within_a_round()
 /// come, as long as the route isn't set anew behind its withdrawal (`IsNotSetAnew`). Nor is any other route withdrawn from its signal
 /// then that wasn't set since. The premises are those of `links_come_up`, of the signal's link.
 pub fn authority_ends_behind_a_withdrawal()
-    ensures { (between : List Event) (later : List (List Event)) (last : List Event) (more : List (List Event)) (flowing : Flowing Played) (signal : ℕ) → Once flowing.state.sited.site → IsStation flowing.state.sited.site
-        → IsTableOf flowing.state.sited.site flowing.state.sited.table → IsReached flowing.state.sited.site flowing.state.sited.table flowing.state.run
+    ensures { (between : List Event) (later : List (List Event)) (last : List Event) (more : List (List Event)) (flowing : Flowing Played) (signal : ℕ) → IsFlow flowing
         → Each IsWork between → Each (Each IsWork) (later ++ last ∷ more) → HasTime (suc (length (later ++ last ∷ more))) flowing.state.run → signal < length flowing.state.sited.site.signals
         → ready_rounds ≤ suc (length later) → authority_rounds ≤ length more
         → StaysBelowLimit flowing.state.sited.site signal (later ++ last ∷ more) (all_tried between (round stations flowing))
@@ -213,8 +208,7 @@ pub fn authority_ends_behind_a_withdrawal()
 /// long ago and whatever came before, none is withdrawn from it 32 good rounds later, 320 ms, or more, whatever requests and occupancies
 /// come in these, but where it was set anew in them (`IsNotSetAnew`). The premises are those of `links_come_up`, of the signal's link.
 pub fn authority_ends_within_a_heartbeat()
-    ensures { (between : List Event) (later more : List (List Event)) (flowing : Flowing Played) (signal : ℕ) → Once flowing.state.sited.site → IsStation flowing.state.sited.site
-        → IsTableOf flowing.state.sited.site flowing.state.sited.table → IsReached flowing.state.sited.site flowing.state.sited.table flowing.state.run
+    ensures { (between : List Event) (later more : List (List Event)) (flowing : Flowing Played) (signal : ℕ) → IsFlow flowing
         → Each IsWork between → Each (Each IsWork) (later ++ more) → HasTime (suc (length (later ++ more))) flowing.state.run → signal < length flowing.state.sited.site.signals
         → link_rounds ≤ suc (length later) → told_rounds ≤ length more
         → StaysBelowLimit flowing.state.sited.site signal (later ++ more) (all_tried between (round stations flowing))
@@ -246,8 +240,7 @@ pub fn authority_ends_within_a_heartbeat()
 /// counted, whatever has happened to the station before, whatever becomes of its links, and whatever requests and occupancies come,
 /// as long as the route isn't set anew (`IsNotSetAnew`).
 pub fn ended_routes_are_free_behind_their_approach()
-    ensures { (more : List (List Event)) (flowing : Flowing Played) (number : ℕ) (row : Row) (route : RouteState) (clock freed : ℕ) → Once flowing.state.sited.site → IsStation flowing.state.sited.site
-        → IsReached flowing.state.sited.site flowing.state.sited.table flowing.state.run → Each (Each IsWork) more → IsNotSetAnew number more flowing → HasTime (length more) flowing.state.run → approach_time_rounds ≤ length more
+    ensures { (more : List (List Event)) (flowing : Flowing Played) (number : ℕ) (row : Row) (route : RouteState) (clock freed : ℕ) → IsFlow flowing → Each (Each IsWork) more → IsNotSetAnew number more flowing → HasTime (length more) flowing.state.run → approach_time_rounds ≤ length more
         → IsRouteOf flowing.state.sited.table flowing.state.run.station.ixl number row route → route.cancelled ≡ true → route.phase ≡ Ended clock freed
         → (state : RouteState) → slice_get (good_rounds more flowing).state.run.station.ixl.routes number ≡ Some state
         → IsUnseen row state → AllClear flowing.state.sited.table (good_rounds more flowing).state.run.station.ixl row.sections → is_set state.phase ≡ false }
@@ -263,8 +256,7 @@ pub fn ended_routes_are_free_behind_their_approach()
 /// route isn't set anew behind its cancel (`IsNotSetAnew`). The premises are those of `links_come_up`, of the signal's link, till 20 ms
 /// after it.
 pub fn cancelled_routes_are_free_behind_their_approach()
-    ensures { (between : List Event) (later : List (List Event)) (before : List Event) (some more : List (List Event)) (flowing : Flowing Played) (route : RouteId) (row : Row) → Once flowing.state.sited.site → IsStation flowing.state.sited.site
-        → IsTableOf flowing.state.sited.site flowing.state.sited.table → IsReached flowing.state.sited.site flowing.state.sited.table flowing.state.run
+    ensures { (between : List Event) (later : List (List Event)) (before : List Event) (some more : List (List Event)) (flowing : Flowing Played) (route : RouteId) (row : Row) → IsFlow flowing
         → Each IsWork between → Each (Each IsWork) later → Each IsWork before → Each (Each IsWork) (some ++ more) → IsNotSetAnew route.0 (some ++ more) (good_rounds (between ∷ (later ++ and_cancel route before ∷ [])) flowing) → HasTime (suc (length (later ++ and_cancel route before ∷ (some ++ more)))) flowing.state.run
         → slice_get flowing.state.sited.table.rows route.0 ≡ Some row → ready_rounds ≤ suc (suc (length later)) → length some ≡ authority_rounds → approach_rounds ≤ length (some ++ more)
         → StaysBelowLimit flowing.state.sited.site row.entry (later ++ and_cancel route before ∷ some) (all_tried between (round stations flowing))

@@ -10,13 +10,13 @@ use Rattle.simulator_recovery.proofs.HeldRounds.{point_below}
 use Rattle.simulator_recovery.proofs.answered.moves_that_are_out_are_new.Goals as goal
 
 pub returns : goal.returns
-returns c = λ between later more flowing place once station is_table reached work works can few notes long many below awaits.
+returns c = λ between later more flowing place flow work works can few long many below awaits.
     let site = flowing.state.sited.site
     in let was_long : ready_rounds ≤ suc (length later) = let n = length-append later more in omega (arith, long, n, many)
     in let now_long : ready_rounds ≤ suc (length (later ++ more)) = let n = length-append later more in omega (arith, was_long, n)
-    in let behind = c.good_rounds_are_events.ensures (between ∷ (later ++ more)) flowing reached
-    in let ready = c.links_are_ready.ensures between (later ++ more) flowing (point_link site place) once station is_table reached work works can (point_below site place few) now_long below
-    in let all = c.moves_are_answered.ensures between later more flowing place once station is_table reached work works can few notes was_long many below
+    in let behind = c.good_rounds_are_events.ensures (between ∷ (later ++ more)) flowing flow.reached
+    in let ready = c.links_are_ready.ensures between (later ++ more) flowing (point_link site place) flow work works can (point_below site place few) now_long below
+    in let all = c.moves_are_answered.ensures between later more flowing place flow work works can few was_long many below
     in given_since (record {
       expected = record {
         talked = record {
@@ -82,4 +82,4 @@ returns c = λ between later more flowing place once station is_table reached wo
       connection = record { up = c.one_connection.ensures.up; some = c.one_connection.ensures.some };
       counted = c.items_are_counted.ensures.counted;
     })
-    site flowing.state.sited.table (good_rounds (between ∷ later) flowing).state.run (good_rounds (between ∷ (later ++ more)) flowing).state.run place once station is_table behind few all ready awaits
+    site flowing.state.sited.table (good_rounds (between ∷ later) flowing).state.run (good_rounds (between ∷ (later ++ more)) flowing).state.run place flow.once flow.station flow.table behind few all ready awaits

@@ -17,7 +17,7 @@ use Rattle.simulator_recovery.proofs.WindowsAlone.{below_two}
 use Rattle.simulator_recovery.proofs.answered.no_move_is_unanswered.Goals as goal
 
 pub returns : goal.returns
-returns c = λ between later more last flowing place once station is_table reached work works can few notes long many below occupancies none awaits.
+returns c = λ between later more last flowing place flow work works can few long many below occupancies none awaits.
     let sited = flowing.state.sited
     in let rounds = later ++ more
     in let start : Flowing Played = good_rounds (between ∷ rounds) flowing
@@ -27,12 +27,12 @@ returns c = λ between later more last flowing place once station is_table reach
     in let long_so : ready_rounds ≤ suc (length rounds) = let n = length-append later more in omega (arith, long, n)
     in let now_long : ready_rounds ≤ suc (length (rounds ++ last)) = let n = length-append rounds last in omega (arith, long_so, n)
     in let answered_so : answered_rounds ≤ suc (length (rounds ++ last)) = let n = length-append rounds last in omega (arith, long_so, n, many)
-    in let was_reached = c.good_rounds_are_events.ensures (between ∷ rounds) flowing reached
-    in let is_reached = c.good_rounds_are_events.ensures (between ∷ (rounds ++ last)) flowing reached
-    in let was_ready = c.links_are_ready.ensures between rounds flowing link once station is_table reached work (each_split (Each IsWork) rounds last works).0 (fewer rounds last flowing.state.run can) (point_below sited.site place few) long_so
+    in let was_reached = c.good_rounds_are_events.ensures (between ∷ rounds) flowing flow.reached
+    in let is_reached = c.good_rounds_are_events.ensures (between ∷ (rounds ++ last)) flowing flow.reached
+    in let was_ready = c.links_are_ready.ensures between rounds flowing link flow work (each_split (Each IsWork) rounds last works).0 (fewer rounds last flowing.state.run can) (point_below sited.site place few) long_so
     (λ before are. below_two link rounds last (all_tried between (round stations flowing)) before (below before are))
-    in let ready = c.links_are_ready.ensures between (rounds ++ last) flowing link once station is_table reached work works can (point_below sited.site place few) now_long below
-    in let since = c.moves_that_are_out_are_new.ensures between rounds last flowing place once station is_table reached work works can few notes answered_so many below awaits
+    in let ready = c.links_are_ready.ensures between (rounds ++ last) flowing link flow work works can (point_below sited.site place few) now_long below
+    in let since = c.moves_that_are_out_are_new.ensures between rounds last flowing place flow work works can few answered_so many below awaits
     in let none_then = subst (λ (f : Flowing Played). NoneWaitsFor sited.table f.state.run.station.ixl place) (sym (rounds_both (between ∷ later) more flowing))
     (none_waits sited place more (good_rounds (between ∷ later) flowing) quiet.0 (rounds_same sited (between ∷ later) flowing refl) none)
     in let laws : UnansweredLaws = record {
@@ -104,6 +104,6 @@ returns c = λ between later more last flowing place once station is_table reach
       };
     }
     in let rests = stays_unmoved sited place was_ready.up.client.given last start quiet.1 (rounds_same sited (between ∷ rounds) flowing refl)
-    (unmoved_first laws sited.site sited.table once station is_table place few start.state.run was_reached was_ready none_then)
-    in none_is_new laws sited.site sited.table once station is_table place few start.state.run end.state.run was_reached is_reached was_ready ready
+    (unmoved_first laws sited.site sited.table flow.once flow.station flow.table place few start.state.run was_reached was_ready none_then)
+    in none_is_new laws sited.site sited.table flow.once flow.station flow.table place few start.state.run end.state.run was_reached is_reached was_ready ready
     (subst (λ (f : Flowing Played). Unmoved sited.table place was_ready.up.client.given f.state.run.station.ixl) (sym (rounds_both (between ∷ rounds) last flowing)) rests).still since awaits

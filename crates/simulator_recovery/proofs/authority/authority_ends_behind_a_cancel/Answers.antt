@@ -5,7 +5,7 @@ use Rattle.simulator_recovery.proofs.RepliedThrough.{EndLaws}
 use Rattle.simulator_recovery.proofs.authority.authority_ends_behind_a_cancel.Goals as goal
 
 pub returns : goal.returns
-returns c = λ between later_rounds before more flowing route row once station is_table reached work works before_works more_works can there long enough below proceeds accepted still apart.
+returns c = λ between later_rounds before more flowing route row flow work works before_works more_works can there long enough below proceeds accepted still apart.
     let link : LinkLaws = record {
       times = record { reach = record { on = c.reached_worlds_are_safe.ensures.on }; standing = c.stations_have_links.ensures.run };
       named = c.layouts_name_their_links.ensures;
@@ -66,4 +66,4 @@ returns c = λ between later_rounds before more flowing route row once station i
       few = c.signals_never_fill_their_windows.ensures.few;
       starts_timely = c.starts_in_time.ensures;
       starts_ordered = c.every_event_keeps_order.ensures.starts;
-    }) more between later_rounds before flowing route row once station is_table reached work works before_works more_works can there long enough below proceeds accepted still apart
+    }) more between later_rounds before flowing route row flow.once flow.station flow.table flow.reached work works before_works more_works can there long enough below proceeds accepted still apart

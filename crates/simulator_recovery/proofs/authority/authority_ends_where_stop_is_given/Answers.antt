@@ -5,7 +5,7 @@ use Rattle.simulator_recovery.proofs.RepliedThrough.{EndLaws}
 use Rattle.simulator_recovery.proofs.authority.authority_ends_where_stop_is_given.Goals as goal
 
 pub returns : goal.returns
-returns c = λ between later_rounds last more flowing signal once station is_table reached work works can few long enough below gave none still apart.
+returns c = λ between later_rounds last more flowing signal flow work works can few long enough below gave none still apart.
     let link : LinkLaws = record {
       times = record { reach = record { on = c.reached_worlds_are_safe.ensures.on }; standing = c.stations_have_links.ensures.run };
       named = c.layouts_name_their_links.ensures;
@@ -66,4 +66,4 @@ returns c = λ between later_rounds last more flowing signal once station is_tab
       few = c.signals_never_fill_their_windows.ensures.few;
       starts_timely = c.starts_in_time.ensures;
       starts_ordered = c.every_event_keeps_order.ensures.starts;
-    }) more between later_rounds last flowing signal once station is_table reached work works can few long enough below gave none still apart
+    }) more between later_rounds last flowing signal flow.once flow.station flow.table flow.reached work works can few long enough below gave none still apart

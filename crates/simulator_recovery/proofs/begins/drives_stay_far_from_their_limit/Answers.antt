@@ -1,9 +1,10 @@
 use Rattle.simulator_run.specs.rasta_core.identity.Role.TheVariants as role
 use Rattle.simulator_recovery.proofs.BeginsReports.{stays_far}
+use Rattle.simulator_recovery.proofs.FlowsStay.{noted}
 use Rattle.simulator_recovery.proofs.begins.drives_stay_far_from_their_limit.Goals as goal
 
 pub returns : goal.returns
-returns c = stays_far (record {
+returns c = λ between later flowing place side since flow work works can few. stays_far (record {
   ready = record {
     up = record {
       link = record {
@@ -95,4 +96,4 @@ returns c = stays_far (record {
     counted = c.items_are_counted.ensures.counted;
   };
   read_off = c.items_are_read_off_the_datagrams.ensures;
-})
+}) between later flowing place side since flow.once flow.station flow.table flow.reached work works can few (noted flow)

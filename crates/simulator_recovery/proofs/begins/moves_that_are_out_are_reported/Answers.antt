@@ -1,9 +1,10 @@
 use Rattle.simulator_run.specs.rasta_core.identity.Role.TheVariants as role
 use Rattle.simulator_recovery.proofs.BeginsTaken.{moves_reported}
+use Rattle.simulator_recovery.proofs.FlowsStay.{noted}
 use Rattle.simulator_recovery.proofs.begins.moves_that_are_out_are_reported.Goals as goal
 
 pub returns : goal.returns
-returns c = λ between later more flowing place side once station is_table reached work works can few notes long many. moves_reported (record {
+returns c = λ between later more flowing place side flow work works can few long many. moves_reported (record {
   ready = record {
     up = record {
       link = record {
@@ -101,4 +102,4 @@ returns c = λ between later more flowing place side once station is_table reach
   once = c.servers_enter_once.ensures;
   stays = c.outside_until_it_enters.ensures.stays;
 }) c.move_is_given_where_due.ensures c.request_is_accepted_where_admissible.ensures.accepted c.points_controllers_never_fill_their_windows.ensures
-    between more flowing place side once station is_table reached work few notes many later works can long
+    between more flowing place side flow.once flow.station flow.table flow.reached work few (noted flow) many later works can long

@@ -2,7 +2,7 @@ use Rattle.simulator_recovery.proofs.FirstRoundUp.{ready_from_the_first}
 use Rattle.simulator_recovery.proofs.first_round.links_are_ready_from_the_first_round.Goals as goal
 
 pub returns : goal.returns
-returns c = ready_from_the_first (record {
+returns c = λ between later flowing link flow. ready_from_the_first (record {
   up = record {
     link = record {
       times = record { reach = record { on = c.reached_worlds_are_safe.ensures.on }; standing = c.stations_have_links.ensures.run };
@@ -26,4 +26,4 @@ returns c = ready_from_the_first (record {
   };
   over = c.two_ends_at_work_hand_over.ensures;
   stand = c.stations_stand_by_their_counts.ensures;
-}) c.read_was_written.ensures.intact c.intact_is_tested.ensures
+}) c.read_was_written.ensures.intact c.intact_is_tested.ensures between later flowing link flow.once flow.station flow.table flow.reached

@@ -7,7 +7,7 @@ use Rattle.simulator_recovery.proofs.Rounds.{ReachLaws}
 use Rattle.simulator_recovery.proofs.held.reports_make_points_of_routes_known.Goals as goal
 
 pub returns : goal.returns
-returns c =
+returns c = λ between later more flowing number row need flow.
     let reach : ReachLaws = record { on = c.reached_worlds_are_safe.ensures.on }
     in let connection : ConnectionLaws = record { up = c.one_connection.ensures.up; some = c.one_connection.ensures.some }
     in let ready : ReadyLaws = record {
@@ -146,4 +146,4 @@ returns c =
           };
         };
       };
-    })
+    }) between later more flowing number row need flow.once flow.station flow.table flow.reached

@@ -17,7 +17,7 @@ use Rattle.simulator_recovery.proofs.Rounds.{TimeLaws, reached_on}
 use Rattle.simulator_recovery.proofs.held.set_routes_come_in_time.Goals as goal
 
 pub returns : goal.returns
-returns c = λ between later more still flowing number row once station is_table reached work works more_works still_works can notes long many row_there below set may.
+returns c = λ between later more still flowing number row flow work works more_works still_works can long many row_there below set may.
     let laws : TimeLaws = record { reach = record { on = c.reached_worlds_are_safe.ensures.on }; standing = c.stations_have_links.ensures.run }
     in let site = flowing.state.sited.site
     in let table = flowing.state.sited.table
@@ -27,24 +27,24 @@ returns c = λ between later more still flowing number row once station is_table
     in let some_below = below_front site row (later ++ more) still next below
     in let all_works = each_both (Each IsWork) later more works more_works
     in let some_set = set_front number row more still start set
-    in let start_reached = reached_on laws.reach (between ∷ later) flowing reached
+    in let start_reached = reached_on laws.reach (between ∷ later) flowing flow.reached
     in let known : AreKnownWithin row more start = λ need within.
-    let few = needs_there site table station is_table number row row_there need within
-    in let ready = c.links_are_ready.ensures between later flowing (point_link site need.point) once station is_table reached work works
+    let few = needs_there site table flow.station flow.table number row row_there need within
+    in let ready = c.links_are_ready.ensures between later flowing (point_link site need.point) flow work works
     (fewer later more flowing.state.run some) (point_below site need.point few) long
     ((below_front site row later more next some_below).points need within)
-    in let held = c.set_routes_hold_their_points.ensures site table start.state.run number row need is_table row_there within (set_course start.state.run.station.ixl number row set.course)
-    in known_or need more start (free_or laws site table station once start.state.run start_reached number row need few row_there within ready set.course
-    (λ one other route point side another. c.points_of_proceeding_routes_are_known.ensures site table start.state.run one other route point side another is_table start_reached) held
+    in let held = c.set_routes_hold_their_points.ensures site table start.state.run number row need flow.table row_there within (set_course start.state.run.station.ixl number row set.course)
+    in known_or need more start (free_or laws site table flow.station flow.once start.state.run start_reached number row need few row_there within ready set.course
+    (λ one other route point side another. c.points_of_proceeding_routes_are_known.ensures site table start.state.run one other route point side another flow.table start_reached) held
     (λ route is. c.no_move_waits_that_is_due.ensures site table start.state.run number row route need start_reached is within) (may need within))
-    (λ awaits. c.reports_make_points_of_routes_known.ensures between later more flowing number row need once station is_table reached work all_works some long row_there within
+    (λ awaits. c.reports_make_points_of_routes_known.ensures between later more flowing number row need flow work all_works some long row_there within
     some_below some_set awaits
-    (c.moves_that_are_out_are_reported.ensures between later more flowing need.point need.side once station is_table reached work all_works some few notes long many
+    (c.moves_that_are_out_are_reported.ensures between later more flowing need.point need.side flow work all_works some few long many
     (some_below.points need within) awaits held))
     in record {
       points = known;
       proceeds = subst (λ (f : Flowing Played). At f.state.run.station.ixl.routes number HasAspect) (rounds_both later more next)
-          (c.routes_come.ensures.proceeds between later more still flowing number row once station is_table reached work works more_works still_works can long row_there below set known);
+          (c.routes_come.ensures.proceeds between later more still flowing number row flow work works more_works still_works can long row_there below set known);
       shows = subst (ShowsThrough row.entry row.aspect still) (rounds_both later more next)
-          (c.routes_come.ensures.shows between later more still flowing number row once station is_table reached work works more_works still_works can long row_there below set known);
+          (c.routes_come.ensures.shows between later more still flowing number row flow work works more_works still_works can long row_there below set known);
     }

@@ -2,7 +2,7 @@ use Rattle.simulator_recovery.proofs.StopComes.{stop_behind_cancel}
 use Rattle.simulator_recovery.proofs.lamps.lamps_fall_behind_a_cancel.Goals as goal
 
 pub returns : goal.returns
-returns c = stop_behind_cancel (record {
+returns c = λ between later before flowing route row flow. stop_behind_cancel (record {
   ready = record {
     up = record {
       link = record {
@@ -35,4 +35,4 @@ returns c = stop_behind_cancel (record {
     counted = c.items_are_counted.ensures.counted;
     safe = c.order_is_safe.ensures;
   };
-})
+}) between later before flowing route row flow.once flow.station flow.table flow.reached

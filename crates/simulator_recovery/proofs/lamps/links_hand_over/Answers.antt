@@ -2,7 +2,7 @@ use Rattle.simulator_recovery.proofs.HandedOver.{hands_over}
 use Rattle.simulator_recovery.proofs.lamps.links_hand_over.Goals as goal
 
 pub returns : goal.returns
-returns c = hands_over (record {
+returns c = λ between later last flowing link flow. hands_over (record {
   up = record {
     link = record {
       times = record { reach = record { on = c.reached_worlds_are_safe.ensures.on }; standing = c.stations_have_links.ensures.run };
@@ -26,4 +26,4 @@ returns c = hands_over (record {
   };
   over = c.two_ends_at_work_hand_over.ensures;
   stand = c.stations_stand_by_their_counts.ensures;
-})
+}) between later last flowing link flow.once flow.station flow.table flow.reached

@@ -2,7 +2,7 @@ use Rattle.simulator_recovery.proofs.StopComes.{stop_comes}
 use Rattle.simulator_recovery.proofs.lamps.stop_comes.Goals as goal
 
 pub returns : goal.returns
-returns c = stop_comes (record {
+returns c = λ between later flowing signal flow. stop_comes (record {
   ready = record {
     up = record {
       link = record {
@@ -35,4 +35,4 @@ returns c = stop_comes (record {
     counted = c.items_are_counted.ensures.counted;
     safe = c.order_is_safe.ensures;
   };
-})
+}) between later flowing signal flow.once flow.station flow.table flow.reached

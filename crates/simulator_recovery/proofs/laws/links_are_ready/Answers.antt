@@ -2,7 +2,7 @@ use Rattle.simulator_recovery.proofs.Ready.{links_ready}
 use Rattle.simulator_recovery.proofs.laws.links_are_ready.Goals as goal
 
 pub returns : goal.returns
-returns c = links_ready (record {
+returns c = λ between later flowing link flow. links_ready (record {
   up = record {
     link = record {
       times = record { reach = record { on = c.reached_worlds_are_safe.ensures.on }; standing = c.stations_have_links.ensures.run };
@@ -26,4 +26,4 @@ returns c = links_ready (record {
   };
   over = c.two_ends_at_work_hand_over.ensures;
   stand = c.stations_stand_by_their_counts.ensures;
-})
+}) between later flowing link flow.once flow.station flow.table flow.reached

@@ -2,7 +2,7 @@ use Rattle.simulator_recovery.proofs.ComeUp.{come_up}
 use Rattle.simulator_recovery.proofs.laws.links_come_up.Goals as goal
 
 pub returns : goal.returns
-returns c = come_up (record {
+returns c = λ between later flowing link flow. come_up (record {
   link = record {
     times = record { reach = record { on = c.reached_worlds_are_safe.ensures.on }; standing = c.stations_have_links.ensures.run };
     named = c.layouts_name_their_links.ensures;
@@ -22,4 +22,4 @@ returns c = come_up (record {
   sees_one = c.each_link_sees_its_events.ensures.event;
   runs = c.each_link_is_a_run.ensures.runs;
   up = c.two_ends_at_work_come_up.ensures;
-})
+}) between later flowing link flow.once flow.station flow.table flow.reached

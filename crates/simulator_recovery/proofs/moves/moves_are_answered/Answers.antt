@@ -1,11 +1,12 @@
 use Rattle.std.proofs.Common.{◌∷◌}
 use Rattle.simulator_run.specs.rasta_core.identity.Role.TheVariants as role
 use Rattle.simulator_recovery.proofs.BeginsAnswered.{answered}
+use Rattle.simulator_recovery.proofs.FlowsStay.{noted}
 use Rattle.simulator_recovery.proofs.RoomBehind.{room_behind}
 use Rattle.simulator_recovery.proofs.moves.moves_are_answered.Goals as goal
 
 pub returns : goal.returns
-returns c = λ between later more flowing place once station is_table reached work works can few notes long many below. answered (record {
+returns c = λ between later more flowing place flow work works can few long many below. answered (record {
   ready = record {
     up = record {
       link = record {
@@ -102,5 +103,5 @@ returns c = λ between later more flowing place once station is_table reached wo
   counted = c.one_connection.ensures.counted;
   once = c.servers_enter_once.ensures;
   stays = c.outside_until_it_enters.ensures.stays;
-}) between later more flowing place once station is_table reached work works can few notes long many below
-    (room_behind (record { on = c.reached_worlds_are_safe.ensures.on }) c.points_controllers_never_fill_their_windows.ensures flowing once station is_table reached place (between ∷ later) more)
+}) between later more flowing place flow.once flow.station flow.table flow.reached work works can few (noted flow) long many below
+    (room_behind (record { on = c.reached_worlds_are_safe.ensures.on }) c.points_controllers_never_fill_their_windows.ensures flowing flow.once flow.station flow.table flow.reached place (between ∷ later) more)

@@ -3,7 +3,7 @@ use Rattle.simulator_recovery.proofs.MovesAnswered.{come_back}
 use Rattle.simulator_recovery.proofs.moves.reports_come_back.Goals as goal
 
 pub returns : goal.returns
-returns c = come_back (record {
+returns c = λ between last later flowing place flow. come_back (record {
   ready = record {
     up = record {
       link = record {
@@ -95,4 +95,4 @@ returns c = come_back (record {
     counted = c.items_are_counted.ensures.counted;
   };
   read_off = c.items_are_read_off_the_datagrams.ensures;
-})
+}) between last later flowing place flow.once flow.station flow.table flow.reached

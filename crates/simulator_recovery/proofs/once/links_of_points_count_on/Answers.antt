@@ -5,7 +5,7 @@ use Rattle.simulator_recovery.proofs.OnceCounted.{counts_on}
 use Rattle.simulator_recovery.proofs.once.links_of_points_count_on.Goals as goal
 
 pub returns : goal.returns
-returns c = λ between later more flowing place once station is_table reached work works can few long below. counts_on (record {
+returns c = λ between later more flowing place flow work works can few long below. counts_on (record {
   ready = record {
     up = record {
       link = record {
@@ -97,5 +97,5 @@ returns c = λ between later more flowing place once station is_table reached wo
     counted = c.items_are_counted.ensures.counted;
   };
   read_off = c.items_are_read_off_the_datagrams.ensures;
-}) between flowing place once station is_table reached work few more later (omega (arith, long))
+}) between flowing place flow.once flow.station flow.table flow.reached work few more later (omega (arith, long))
     (record { works = works; can = can; room = below; long = let n = length-append later more in omega (arith, long, n) })

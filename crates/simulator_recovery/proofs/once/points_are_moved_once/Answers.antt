@@ -18,18 +18,18 @@ use Rattle.simulator_recovery.proofs.WindowsAlone.{below_two}
 use Rattle.simulator_recovery.proofs.once.points_are_moved_once.Goals as goal
 
 pub returns : goal.returns
-returns c = λ between later more flowing place once station is_table reached work works can few long below occupancies.
+returns c = λ between later more flowing place flow work works can few long below occupancies.
     let sited = flowing.state.sited
     in let start : Flowing Played = good_rounds (between ∷ later) flowing
     in let end : Flowing Played = good_rounds (between ∷ (later ++ more)) flowing
     in let link = point_link sited.site place
     in let now_long : ready_rounds ≤ suc (length (later ++ more)) = let n = length-append later more in omega (arith, long, n)
-    in let was_reached = c.good_rounds_are_events.ensures (between ∷ later) flowing reached
-    in let is_reached = c.good_rounds_are_events.ensures (between ∷ (later ++ more)) flowing reached
-    in let was_ready = c.links_are_ready.ensures between later flowing link once station is_table reached work (each_split (Each IsWork) later more works).0
+    in let was_reached = c.good_rounds_are_events.ensures (between ∷ later) flowing flow.reached
+    in let is_reached = c.good_rounds_are_events.ensures (between ∷ (later ++ more)) flowing flow.reached
+    in let was_ready = c.links_are_ready.ensures between later flowing link flow work (each_split (Each IsWork) later more works).0
     (fewer later more flowing.state.run can) (point_below sited.site place few) long
     (λ before are. below_two link later more (all_tried between (round stations flowing)) before (below before are))
-    in let ready = c.links_are_ready.ensures between (later ++ more) flowing link once station is_table reached work works can (point_below sited.site place few) now_long below
+    in let ready = c.links_are_ready.ensures between (later ++ more) flowing link flow work works can (point_below sited.site place few) now_long below
     in let laws : UnansweredLaws = record {
       stand = c.stations_stand_by_their_counts.ensures;
       moment = record {
@@ -103,14 +103,14 @@ returns c = λ between later more flowing place once station is_table reached wo
       };
     }
     in let many = subst (λ (w : WorldState). length w.station.ixl.routes ≡ length sited.table.rows) (sym was_reached.after)
-    (c.every_world_is_safe.ensures.seen sited.site sited.table was_reached.outset was_reached.events once station is_table was_reached.lies was_reached.can).1.station.routes
+    (c.every_world_is_safe.ensures.seen sited.site sited.table was_reached.outset was_reached.events flow.once flow.station flow.table was_reached.lies was_reached.can).1.station.routes
     in let items = was_ready.up.client.given
-    in let stays = stays_once sited place items (gave_two laws sited.site sited.table once station is_table place few start.state.run was_reached was_ready) more start occupancies
+    in let stays = stays_once sited place items (gave_two laws sited.site sited.table flow.once flow.station flow.table place few start.state.run was_reached was_ready) more start occupancies
     (rounds_same sited (between ∷ later) flowing refl)
-    (once_first laws sited.site sited.table once station is_table place few start.state.run was_reached was_ready many)
+    (once_first laws sited.site sited.table flow.once flow.station flow.table place few start.state.run was_reached was_ready many)
     in record {
       before = was_ready.up;
       behind = ready.up;
-      more = once_later laws sited.site sited.table once station is_table place few end.state.run is_reached ready items
+      more = once_later laws sited.site sited.table flow.once flow.station flow.table place few end.state.run is_reached ready items
           (subst (λ (f : Flowing Played). IsMovedOnce sited.table place items f.state.run.station.ixl) (sym (rounds_both (between ∷ later) more flowing)) stays);
     }

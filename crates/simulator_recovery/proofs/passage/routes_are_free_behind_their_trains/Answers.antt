@@ -12,9 +12,9 @@ use Rattle.simulator_recovery.specs.SectionsReported.{IsKnownAs, IsKnownAsInTheF
 use Rattle.simulator_recovery.proofs.passage.routes_are_free_behind_their_trains.Goals as goal
 
 pub returns : goal.returns
-returns c between later more flowing number clock freed row route once station is_table reached work works time long enough untold left is seen ends =
-    c.trains_free_their_routes.ensures flowing.state.sited.site flowing.state.sited.table behind number clock freed row route station is_table
-    (c.good_rounds_are_events.ensures (between ∷ (later ++ more)) flowing reached) is (record { seen = seen; clear = all_clear }) ends
+returns c between later more flowing number clock freed row route flow work works time long enough untold left is seen ends =
+    c.trains_free_their_routes.ensures flowing.state.sited.site flowing.state.sited.table behind number clock freed row route flow.station flow.table
+    (c.good_rounds_are_events.ensures (between ∷ (later ++ more)) flowing flow.reached) is (record { seen = seen; clear = all_clear }) ends
   where
     behind : WorldState
     behind = (good_rounds (between ∷ (later ++ more)) flowing).state.run
@@ -23,7 +23,7 @@ returns c between later more flowing number clock freed row route once station i
     clear section among lies = subst (λ (o : Occupancy). IsKnownAs flowing.state.sited.table behind.station.ixl section o) (same_Some known.0 Clear (sym known.1 ∙ lies.clear)) known.2
       where
         known : IsKnownAsInTheField flowing.state.sited.table behind section
-        known = c.sections_are_reported.ensures between later more flowing section lies.reporter once station is_table reached work works time lies.reports long enough
+        known = c.sections_are_reported.ensures between later more flowing section lies.reporter flow work works time lies.reports long enough
             lies.below (untold section among)
 
     all_clear : AllClear flowing.state.sited.table behind.station.ixl row.sections

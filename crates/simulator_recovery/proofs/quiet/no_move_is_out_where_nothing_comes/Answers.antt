@@ -30,7 +30,7 @@ use Rattle.simulator_recovery.proofs.WindowsAlone.{below_two}
 use Rattle.simulator_recovery.proofs.quiet.no_move_is_out_where_nothing_comes.Goals as goal
 
 pub returns : goal.returns
-returns c = λ between later more last flowing place section reporter once station is_table reached work works quiet can few notes own reported time many below detector_below awaits.
+returns c = λ between later more last flowing place section reporter flow work works quiet can few own reported time many below detector_below awaits.
     let expected : ExpectedLaws = record {
       talked = record {
         links = record {
@@ -122,15 +122,15 @@ returns c = λ between later more last flowing place section reporter once stati
     in let all_works = each_both (Each IsWork) later more works (as_work more parts.0)
     in let can_rounds = fewer rounds last flowing.state.run can
     in let long_rounds : ready_rounds ≤ suc (length rounds) = time_long table section between later more flowing time
-    in let at = rounds_reached laws.time.reach sited (between ∷ rounds) flowing (record { same = refl; reached = reached })
-    in let ready = c.links_are_ready.ensures between rounds flowing link once station is_table reached work all_works can_rounds there long_rounds
+    in let at = rounds_reached laws.time.reach sited (between ∷ rounds) flowing (record { same = refl; reached = flow.reached })
+    in let ready = c.links_are_ready.ensures between rounds flowing link flow work all_works can_rounds there long_rounds
     (λ before are. below_two link rounds last next before (below before are))
     in let AwaitsBehind : List (List Event) → Type 0 = λ list. AwaitsMove place (good_rounds (between ∷ list) flowing).state.run
     -- it is enough that no move is out behind one of the last rounds
     in let one_free : (front rest : List (List Event)) → last ≡ front ++ rest → (AwaitsBehind (rounds ++ front) → ⊥) → ⊥ = λ front rest are none.
     let whole : (later ++ (more ++ front)) ++ rest ≡ rounds ++ last = ap (λ (list : List (List Event)). list ++ rest) (sym (append_assoc later more front)) ∙ (append_assoc rounds front rest
     ∙ ap (λ (list : List (List Event)). rounds ++ list) (sym are))
-    in c.points_at_rest_stay_at_rest.ensures between later (more ++ front) rest flowing place section reporter once station is_table reached work works
+    in c.points_at_rest_stay_at_rest.ensures between later (more ++ front) rest flowing place section reporter flow work works
     (subst (Each (Each (IsOccupancyElsewhere section))) (ap (λ (list : List (List Event)). more ++ list) are ∙ sym (append_assoc more front rest)) quiet)
     (subst (λ (list : List (List Event)). HasTime (suc (length list)) flowing.state.run) (sym whole) can) few own reported
     (time_longer table section between later more front flowing time)
@@ -139,8 +139,8 @@ returns c = λ between later more last flowing place section reporter once stati
     (λ out. none (subst AwaitsBehind (sym (append_assoc later more front)) out)) (subst AwaitsBehind (sym whole) awaits)
     -- where a move is out, and set routes hold the point, its report comes
     in let unheld : AwaitsBehind rounds → (side : Side) → IsHeldAt table start.state.run.station.ixl place side → ⊥ = λ out side held.
-    let takes : TakesReportBehind site place side last start = c.moves_that_are_out_are_reported.ensures between rounds last flowing place side once station is_table reached work
-    (each_both (Each IsWork) rounds last all_works last_works) can few notes long_rounds many below out held
+    let takes : TakesReportBehind site place side last start = c.moves_that_are_out_are_reported.ensures between rounds last flowing place side flow work
+    (each_both (Each IsWork) rounds last all_works last_works) can few long_rounds many below out held
     in let front = takes.front
     in let quiet_front = each_split (Each (IsOccupancyElsewhere section)) front takes.rest (subst (Each (Each (IsOccupancyElsewhere section))) takes.parts parts.1)
     in let front_works = as_work front quiet_front.0
@@ -149,17 +149,17 @@ returns c = λ between later more last flowing place section reporter once stati
     in let front_below : StaysBelowLimit site link (rounds ++ front) next = λ before are_links. below_two link (rounds ++ front) takes.rest next before
     (subst (λ (list : List (List Event)). StaysBelowLimit site link list next) joined below before are_links)
     in let same : good_rounds (between ∷ (rounds ++ front)) flowing ≡ good_rounds front start = rounds_both (between ∷ rounds) front flowing
-    in one_free front takes.rest takes.parts (λ out_then. none_out laws sited station once is_table place side few start at held out front
+    in one_free front takes.rest takes.parts (λ out_then. none_out laws sited flow.station flow.once flow.table place side few start at held out front
     (each_as (Each (IsOccupancyElsewhere section)) (Each AsksNothing) (λ list. each_as (IsOccupancyElsewhere section) AsksNothing (λ one is. (elsewhere_alone site table section one is).0) list) front quiet_front.0)
-    (c.links_stay_up.ensures between rounds front flowing link once station is_table reached work all_works front_works front_can there long_rounds front_below) ready
-    (subst (λ (f : Flowing Played). IsAt sited f.state) same (rounds_reached laws.time.reach sited (between ∷ (rounds ++ front)) flowing (record { same = refl; reached = reached })))
-    (subst (λ (f : Flowing Played). IsReadyOn site link f.state.run) same (c.links_are_ready.ensures between (rounds ++ front) flowing link once station is_table reached work
+    (c.links_stay_up.ensures between rounds front flowing link flow work all_works front_works front_can there long_rounds front_below) ready
+    (subst (λ (f : Flowing Played). IsAt sited f.state) same (rounds_reached laws.time.reach sited (between ∷ (rounds ++ front)) flowing (record { same = refl; reached = flow.reached })))
+    (subst (λ (f : Flowing Played). IsReadyOn site link f.state.run) same (c.links_are_ready.ensures between (rounds ++ front) flowing link flow work
     (each_both (Each IsWork) rounds front all_works front_works) front_can there (let n = length-append rounds front in omega (arith, long_rounds, n)) front_below))
     takes.takes (subst (λ (f : Flowing Played). AwaitsMove place f.state.run) same out_then))
-    in one_free [] last refl (λ out. c.no_move_is_unanswered.ensures between rounds [] last flowing place once station is_table reached work
+    in one_free [] last refl (λ out. c.no_move_is_unanswered.ensures between rounds [] last flowing place flow work
     (subst (λ (list : List (List Event)). Each (Each IsWork) (list ++ last)) (sym (append-nil rounds)) (each_both (Each IsWork) rounds last all_works last_works))
-    (subst (λ (list : List (List Event)). HasTime (suc (length (list ++ last))) flowing.state.run) (sym (append-nil rounds)) can) few notes long_rounds many
+    (subst (λ (list : List (List Event)). HasTime (suc (length (list ++ last))) flowing.state.run) (sym (append-nil rounds)) can) few long_rounds many
     (subst (λ (list : List (List Event)). StaysBelowLimit site link (list ++ last) next) (sym (append-nil rounds)) below)
     (each_as (Each (IsOccupancyElsewhere section)) (Each IsOccupancy) (λ list. each_as (IsOccupancyElsewhere section) IsOccupancy (elsewhere_occupancy section) list) last parts.1)
-    (none_waits_unheld site table is_table start.state.run.station.ixl place (unheld (subst AwaitsBehind (append-nil rounds) out)))
+    (none_waits_unheld site table flow.table start.state.run.station.ixl place (unheld (subst AwaitsBehind (append-nil rounds) out)))
     (subst (λ (list : List (List Event)). AwaitsBehind (list ++ last)) (sym (append-nil rounds)) awaits))

@@ -27,7 +27,7 @@ use Rattle.simulator_recovery.proofs.WindowsAlone.{below_two}
 use Rattle.simulator_recovery.proofs.quiet.points_at_rest_stay_at_rest.Goals as goal
 
 pub returns : goal.returns
-returns c = λ between later more last flowing place section reporter once station is_table reached work works quiet can few own reported time below detector_below none_out.
+returns c = λ between later more last flowing place section reporter flow work works quiet can few own reported time below detector_below none_out.
     let report : ReportLaws = record {
       rounds = record {
         sections = record {
@@ -146,15 +146,15 @@ returns c = λ between later more last flowing place section reporter once stati
     in let can_rounds = fewer rounds last flowing.state.run can
     in let long_rounds : ready_rounds ≤ suc (length rounds) = time_long table section between later more flowing time
     in let there = point_below site place few
-    in let detector_there = below_links report between flowing section reporter once station is_table reached work reported
+    in let detector_there = below_links report between flowing section reporter flow.once flow.station flow.table flow.reached work reported
     in let below_rounds : StaysBelowLimit site link rounds next = λ before are. below_two link rounds last next before (below before are)
     in let detector_rounds : StaysBelowLimit site detector rounds next = λ before are. below_two detector rounds last next before (detector_below before are)
-    in let ready = c.links_are_ready.ensures between rounds flowing link once station is_table reached work all_works can_rounds there long_rounds below_rounds
-    in let detector_ready = c.links_are_ready.ensures between rounds flowing detector once station is_table reached work all_works can_rounds detector_there long_rounds detector_rounds
-    in let at = reached_on reach (between ∷ rounds) flowing reached
-    in let whole : IsWhole site start.state.run = subst (IsWhole site) (sym at.after) (c.every_world_is_safe.ensures.seen site table at.outset at.events once station is_table at.lies at.can).1.linked.whole
+    in let ready = c.links_are_ready.ensures between rounds flowing link flow work all_works can_rounds there long_rounds below_rounds
+    in let detector_ready = c.links_are_ready.ensures between rounds flowing detector flow work all_works can_rounds detector_there long_rounds detector_rounds
+    in let at = reached_on reach (between ∷ rounds) flowing flow.reached
+    in let whole : IsWhole site start.state.run = subst (IsWhole site) (sym at.after) (c.every_world_is_safe.ensures.seen site table at.outset at.events flow.once flow.station flow.table at.lies at.can).1.linked.whole
     in let know : KnownToHolders table start.state.run place = λ number row own own_there within same (route, route_there, holds).
-    c.points_held_with_authority_are_known.ensures site table start.state.run number row route own once station is_table at (own_there, route_there) holds within
+    c.points_held_with_authority_are_known.ensures site table start.state.run number row route own flow.once flow.station flow.table at (own_there, route_there) holds within
     (subst (λ (point : ℕ). IsUpOn (point_link site point) start.state.run) (sym same) ready.up)
     (subst (IsPointReady start.state.run.station.ixl) (sym same) (ready_point site start.state.run whole place few ready))
     in λ awaits. rests_later (record {
@@ -162,9 +162,9 @@ returns c = λ between later more last flowing place section reporter once stati
       moves = c.move_is_given_where_due.ensures;
       requests = c.request_is_accepted_where_admissible.ensures.accepted;
       time = report.rounds.ready.up.link.times;
-    }) sited station once is_table place few section own reporter reported start (rounds_reached reach sited (between ∷ rounds) flowing (record { same = refl; reached = reached }))
-    (starts_in_time report between flowing section reporter once station is_table reached work reported later more all_works can_rounds time detector_rounds leaves) know ready detector_ready last parts.1
+    }) sited flow.station flow.once flow.table place few section own reporter reported start (rounds_reached reach sited (between ∷ rounds) flowing (record { same = refl; reached = flow.reached }))
+    (starts_in_time report between flowing section reporter flow.once flow.station flow.table flow.reached work reported later more all_works can_rounds time detector_rounds leaves) know ready detector_ready last parts.1
     none_out
-    (c.links_stay_up.ensures between rounds last flowing link once station is_table reached work all_works last_works can there long_rounds below)
-    (c.links_stay_up.ensures between rounds last flowing detector once station is_table reached work all_works last_works can detector_there long_rounds detector_below)
+    (c.links_stay_up.ensures between rounds last flowing link flow work all_works last_works can there long_rounds below)
+    (c.links_stay_up.ensures between rounds last flowing detector flow work all_works last_works can detector_there long_rounds detector_below)
     (subst (λ (f : Flowing Played). AwaitsMove place f.state.run) (rounds_both (between ∷ rounds) last flowing) awaits)

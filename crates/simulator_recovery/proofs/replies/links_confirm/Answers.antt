@@ -2,7 +2,7 @@ use Rattle.simulator_recovery.proofs.ConfirmedLinks.{links_confirm}
 use Rattle.simulator_recovery.proofs.replies.links_confirm.Goals as goal
 
 pub returns : goal.returns
-returns c = links_confirm (record {
+returns c = λ between later replied last flowing link flow. links_confirm (record {
   ready = record {
     up = record {
       link = record {
@@ -29,4 +29,4 @@ returns c = links_confirm (record {
     stand = c.stations_stand_by_their_counts.ensures;
   };
   confirm = c.two_ends_at_work_confirm.ensures;
-})
+}) between later replied last flowing link flow.once flow.station flow.table flow.reached

@@ -2,7 +2,7 @@ use Rattle.simulator_recovery.proofs.RoutesRounds.{up_throughout}
 use Rattle.simulator_recovery.proofs.routes.links_stay_up.Goals as goal
 
 pub returns : goal.returns
-returns c between later_rounds more flowing link once station is_table reached work works more_works can there = up_throughout (record {
+returns c between later_rounds more flowing link flow work works more_works can there = up_throughout (record {
   ready = record {
     up = record {
       link = record {
@@ -42,4 +42,4 @@ returns c between later_rounds more flowing link once station is_table reached w
   };
   order_starts = c.every_event_keeps_order.ensures.starts;
   time_starts = c.starts_in_time.ensures;
-}) between flowing link once station is_table reached work there later_rounds more works more_works can
+}) between flowing link flow.once flow.station flow.table flow.reached work there later_rounds more works more_works can

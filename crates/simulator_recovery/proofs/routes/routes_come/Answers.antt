@@ -2,7 +2,7 @@ use Rattle.simulator_recovery.proofs.RoutesCome.{route_comes, route_proceeds}
 use Rattle.simulator_recovery.proofs.routes.routes_come.Goals as goal
 
 pub returns-clause-proceeds : goal.returns-clause-proceeds
-returns-clause-proceeds c = route_proceeds (record {
+returns-clause-proceeds c = λ between later more still flowing number row flow. route_proceeds (record {
   course = record {
     requests = c.request_is_accepted_where_admissible.ensures.accepted;
     moves = c.move_is_given_where_due.ensures;
@@ -88,10 +88,10 @@ returns-clause-proceeds c = route_proceeds (record {
       at = c.reached_worlds_are_safe.ensures.at;
     };
   };
-})
+}) between later more still flowing number row flow.once flow.station flow.table flow.reached
 
 pub returns-clause-shows : goal.returns-clause-shows
-returns-clause-shows c = route_comes (record {
+returns-clause-shows c = λ between later more still flowing number row flow. route_comes (record {
   course = record {
     requests = c.request_is_accepted_where_admissible.ensures.accepted;
     moves = c.move_is_given_where_due.ensures;
@@ -177,4 +177,4 @@ returns-clause-shows c = route_comes (record {
       at = c.reached_worlds_are_safe.ensures.at;
     };
   };
-})
+}) between later more still flowing number row flow.once flow.station flow.table flow.reached

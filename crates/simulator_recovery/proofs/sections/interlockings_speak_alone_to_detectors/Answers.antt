@@ -2,7 +2,7 @@ use Rattle.simulator_recovery.proofs.WindowsAlone.{speaks_alone}
 use Rattle.simulator_recovery.proofs.sections.interlockings_speak_alone_to_detectors.Goals as goal
 
 pub returns : goal.returns
-returns c = speaks_alone (record {
+returns c = λ between later one more flowing place flow. speaks_alone (record {
   ready = record {
     up = record {
       link = record {
@@ -29,4 +29,4 @@ returns c = speaks_alone (record {
     stand = c.stations_stand_by_their_counts.ensures;
   };
   speak = c.clients_at_work_speak.ensures;
-})
+}) between later one more flowing place flow.once flow.station flow.table flow.reached

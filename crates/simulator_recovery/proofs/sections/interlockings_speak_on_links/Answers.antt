@@ -2,7 +2,7 @@ use Rattle.simulator_recovery.proofs.WindowsSpoken.{links_speak}
 use Rattle.simulator_recovery.proofs.sections.interlockings_speak_on_links.Goals as goal
 
 pub returns : goal.returns
-returns c = links_speak (record {
+returns c = λ between later more flowing link flow. links_speak (record {
   ready = record {
     up = record {
       link = record {
@@ -29,4 +29,4 @@ returns c = links_speak (record {
     stand = c.stations_stand_by_their_counts.ensures;
   };
   speak = c.clients_at_work_speak.ensures;
-})
+}) between later more flowing link flow.once flow.station flow.table flow.reached

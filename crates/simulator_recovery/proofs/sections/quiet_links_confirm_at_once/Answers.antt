@@ -2,7 +2,7 @@ use Rattle.simulator_recovery.proofs.WindowsConfirmed.{confirms_at_once}
 use Rattle.simulator_recovery.proofs.sections.quiet_links_confirm_at_once.Goals as goal
 
 pub returns : goal.returns
-returns c = confirms_at_once (record {
+returns c = λ between later one two three flowing link flow. confirms_at_once (record {
   ready = record {
     up = record {
       link = record {
@@ -30,4 +30,4 @@ returns c = confirms_at_once (record {
   };
   alone = c.quiet_clients_confirm_at_once.ensures.still;
   at_once = c.quiet_clients_confirm_at_once.ensures.all;
-})
+}) between later one two three flowing link flow.once flow.station flow.table flow.reached

@@ -3,7 +3,7 @@ use Rattle.simulator_recovery.proofs.SectionsRounds.{told_with_room}
 use Rattle.simulator_recovery.proofs.sections.sections_are_reported_with_room.Goals as goal
 
 pub returns : goal.returns
-returns c = λ between later last flowing section reporter once station is_table reached work works can reported long below room leaves. told_with_room (record {
+returns c = λ between later last flowing section reporter flow work works can reported long below room leaves. told_with_room (record {
   sections = record {
     expected = record {
       talked = record {
@@ -95,4 +95,4 @@ returns c = λ between later last flowing section reporter once station is_table
     over = c.two_ends_at_work_hand_over.ensures;
     stand = c.stations_stand_by_their_counts.ensures;
   };
-}) (record { told = c.step_is_told_to_the_object.ensures; stands = c.stations_have_links.ensures.run }) between later last flowing section reporter once station is_table reached work works can reported long below room leaves
+}) (record { told = c.step_is_told_to_the_object.ensures; stands = c.stations_have_links.ensures.run }) between later last flowing section reporter flow.once flow.station flow.table flow.reached work works can reported long below room leaves

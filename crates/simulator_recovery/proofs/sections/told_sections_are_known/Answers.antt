@@ -3,7 +3,7 @@ use Rattle.simulator_recovery.proofs.SectionsRounds.{told_are_known}
 use Rattle.simulator_recovery.proofs.sections.told_sections_are_known.Goals as goal
 
 pub returns : goal.returns
-returns c = λ between later last flowing section reporter once station is_table reached work works can reported long below owes leaves. told_are_known (record {
+returns c = λ between later last flowing section reporter flow work works can reported long below owes leaves. told_are_known (record {
   sections = record {
     expected = record {
       talked = record {
@@ -95,4 +95,4 @@ returns c = λ between later last flowing section reporter once station is_table
     over = c.two_ends_at_work_hand_over.ensures;
     stand = c.stations_stand_by_their_counts.ensures;
   };
-}) between later last flowing section reporter once station is_table reached work works can reported long below owes leaves
+}) between later last flowing section reporter flow.once flow.station flow.table flow.reached work works can reported long below owes leaves

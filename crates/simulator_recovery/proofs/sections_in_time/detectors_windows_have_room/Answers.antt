@@ -3,7 +3,7 @@ use Rattle.simulator_recovery.proofs.RoomSince.{room_then}
 use Rattle.simulator_recovery.proofs.sections_in_time.detectors_windows_have_room.Goals as goal
 
 pub returns : goal.returns
-returns c = λ between later flowing section reporter once station is_table reached work elsewhere can reported long below. room_then (record {
+returns c = λ between later flowing section reporter flow work elsewhere can reported long below. room_then (record {
   rounds = record {
     sections = record {
       expected = record {
@@ -99,4 +99,4 @@ returns c = λ between later flowing section reporter once station is_table reac
   };
   windows = record { told = c.step_is_told_to_the_object.ensures; stands = c.stations_have_links.ensures.run };
   given = c.what_was_given_before_is_confirmed.ensures;
-}) between later flowing section reporter once station is_table reached work elsewhere can reported long below
+}) between later flowing section reporter flow.once flow.station flow.table flow.reached work elsewhere can reported long below

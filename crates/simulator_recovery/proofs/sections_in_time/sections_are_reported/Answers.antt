@@ -3,7 +3,7 @@ use Rattle.simulator_recovery.proofs.SectionsInTime.{known_in_time}
 use Rattle.simulator_recovery.proofs.sections_in_time.sections_are_reported.Goals as goal
 
 pub returns : goal.returns
-returns c = λ between later more flowing section reporter once station is_table reached work works can reported long enough below leaves. known_in_time (record {
+returns c = λ between later more flowing section reporter flow work works can reported long enough below leaves. known_in_time (record {
   rounds = record {
     sections = record {
       expected = record {
@@ -101,4 +101,4 @@ returns c = λ between later more flowing section reporter once station is_table
   speak = c.clients_at_work_speak.ensures;
   alone = c.quiet_clients_confirm_at_once.ensures.still;
   at_once = c.quiet_clients_confirm_at_once.ensures.all;
-}) between flowing section reporter once station is_table reached work reported later more works can long enough below leaves
+}) between flowing section reporter flow.once flow.station flow.table flow.reached work reported later more works can long enough below leaves

@@ -14,7 +14,7 @@ use Rattle.simulator_recovery.proofs.WindowsAlone.{below_two}
 use Rattle.simulator_recovery.proofs.sections_in_time.sections_are_reported_where_nothing_came.Goals as goal
 
 pub returns : goal.returns
-returns c = λ between later last flowing section reporter once station is_table reached work elsewhere can reported long below.
+returns c = λ between later last flowing section reporter flow work elsewhere can reported long below.
     let sited = flowing.state.sited
     in let site = sited.site
     in let table = sited.table
@@ -23,9 +23,9 @@ returns c = λ between later last flowing section reporter once station is_table
     in let rounds = later ++ last ∷ []
     in let parts = each_split (Each (IsWorkElsewhere table reporter.0)) later (last ∷ []) elsewhere
     in let works = each_as (Each (IsWorkElsewhere table reporter.0)) (Each IsWork) (λ list. each_as (IsWorkElsewhere table reporter.0) IsWork (elsewhere_works table reporter.0) list) rounds elsewhere
-    in let room = c.detectors_windows_have_room.ensures between later flowing section reporter once station is_table reached work parts.0 (fewer later (last ∷ []) flowing.state.run can) reported
+    in let room = c.detectors_windows_have_room.ensures between later flowing section reporter flow work parts.0 (fewer later (last ∷ []) flowing.state.run can) reported
     (omega (arith, long)) (λ before are. below_two detector later (last ∷ []) next before (below before are))
     in let leaves = each_as (IsWorkElsewhere table reporter.0) (LeavesSection site table section) (elsewhere_leaves site table section reporter reported) last parts.1.0
-    in let known = c.sections_are_reported_with_room.ensures between later last flowing section reporter once station is_table reached work works can reported long below room leaves
-    in let at = rounds_reached (record { on = c.reached_worlds_are_safe.ensures.on }) sited (between ∷ rounds) flowing (record { same = refl; reached = reached })
-    in c.known_sections_are_as_in_the_field.ensures site table _ section station is_table at.reached known
+    in let known = c.sections_are_reported_with_room.ensures between later last flowing section reporter flow work works can reported long below room leaves
+    in let at = rounds_reached (record { on = c.reached_worlds_are_safe.ensures.on }) sited (between ∷ rounds) flowing (record { same = refl; reached = flow.reached })
+    in c.known_sections_are_as_in_the_field.ensures site table _ section flow.station flow.table at.reached known

@@ -2,7 +2,7 @@ use Rattle.simulator_recovery.proofs.ProceedsStays.{stays_shown}
 use Rattle.simulator_recovery.proofs.shows.aspects_stay.Goals as goal
 
 pub returns : goal.returns
-returns c = stays_shown (record {
+returns c = λ between later more flowing number row flow. stays_shown (record {
   ready = record {
     up = record {
       link = record {
@@ -39,4 +39,4 @@ returns c = stays_shown (record {
     reach = record { on = c.reached_worlds_are_safe.ensures.on };
     at = c.reached_worlds_are_safe.ensures.at;
   };
-})
+}) between later more flowing number row flow.once flow.station flow.table flow.reached

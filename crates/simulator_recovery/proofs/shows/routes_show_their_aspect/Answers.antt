@@ -2,7 +2,7 @@ use Rattle.simulator_recovery.proofs.ProceedsRounds.{route_shows}
 use Rattle.simulator_recovery.proofs.shows.routes_show_their_aspect.Goals as goal
 
 pub returns : goal.returns
-returns c = route_shows (record {
+returns c = λ between later flowing number row flow. route_shows (record {
   ready = record {
     up = record {
       link = record {
@@ -39,4 +39,4 @@ returns c = route_shows (record {
     reach = record { on = c.reached_worlds_are_safe.ensures.on };
     at = c.reached_worlds_are_safe.ensures.at;
   };
-})
+}) between later flowing number row flow.once flow.station flow.table flow.reached

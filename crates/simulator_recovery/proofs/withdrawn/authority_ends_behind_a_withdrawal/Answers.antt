@@ -8,7 +8,7 @@ use Rattle.simulator_recovery.proofs.SeenSignals.{SignalLaws}
 use Rattle.simulator_recovery.proofs.withdrawn.authority_ends_behind_a_withdrawal.Goals as goal
 
 pub returns : goal.returns
-returns c = λ between later_rounds last more flowing signal once station is_table reached work works can few long enough below withdrawn not_yet still apart.
+returns c = λ between later_rounds last more flowing signal flow work works can few long enough below withdrawn not_yet still apart.
     let reach : ReachLaws = record { on = c.reached_worlds_are_safe.ensures.on }
     in let link : LinkLaws = record {
       times = record { reach = reach; standing = c.stations_have_links.ensures.run };
@@ -92,4 +92,4 @@ returns c = λ between later_rounds last more flowing signal once station is_tab
         order_starts = c.every_event_keeps_order.ensures.starts;
         time_starts = c.starts_in_time.ensures;
       };
-    }) more between later_rounds last flowing signal once station is_table reached work works can few long enough below withdrawn not_yet still apart
+    }) more between later_rounds last flowing signal flow.once flow.station flow.table flow.reached work works can few long enough below withdrawn not_yet still apart

@@ -6,7 +6,7 @@ use Rattle.simulator_recovery.proofs.WithdrawnEnds.{ends_told}
 use Rattle.simulator_recovery.proofs.withdrawn.authority_ends_within_a_heartbeat.Goals as goal
 
 pub returns : goal.returns
-returns c = λ between later_rounds more flowing signal once station is_table reached work works can few long enough below withdrawn still apart.
+returns c = λ between later_rounds more flowing signal flow work works can few long enough below withdrawn still apart.
     let reach : ReachLaws = record { on = c.reached_worlds_are_safe.ensures.on }
     in let link : LinkLaws = record {
       times = record { reach = reach; standing = c.stations_have_links.ensures.run };
@@ -42,4 +42,4 @@ returns c = λ between later_rounds more flowing signal once station is_table re
       safe = c.order_is_safe.ensures;
     }
     in ends_told (record { ready = ready; speak = c.servers_at_work_speak.ensures; confirm = c.servers_at_work_confirm.ensures }) signals
-    between later_rounds more flowing signal once station is_table reached work works can few long enough below withdrawn still apart
+    between later_rounds more flowing signal flow.once flow.station flow.table flow.reached work works can few long enough below withdrawn still apart

@@ -5,7 +5,7 @@ use Rattle.simulator_recovery.proofs.WithdrawnApproach.{free_behind_approach}
 use Rattle.simulator_recovery.proofs.withdrawn.cancelled_routes_are_free_behind_their_approach.Goals as goal
 
 pub returns : goal.returns
-returns c = λ between later_rounds before some more flowing route row once station is_table reached work works before_works all_works all_apart can there long enough far below proceeds accepted.
+returns c = λ between later_rounds before some more flowing route row flow work works before_works all_works all_apart can there long enough far below proceeds accepted.
     let link : LinkLaws = record {
       times = record { reach = record { on = c.reached_worlds_are_safe.ensures.on }; standing = c.stations_have_links.ensures.run };
       named = c.layouts_name_their_links.ensures;
@@ -66,4 +66,4 @@ returns c = λ between later_rounds before some more flowing route row once stat
       few = c.signals_never_fill_their_windows.ensures.few;
       starts_timely = c.starts_in_time.ensures;
       starts_ordered = c.every_event_keeps_order.ensures.starts;
-    }) between later_rounds before some more flowing route row once station is_table reached work works before_works all_works all_apart can there long enough far below proceeds accepted
+    }) between later_rounds before some more flowing route row flow.once flow.station flow.table flow.reached work works before_works all_works all_apart can there long enough far below proceeds accepted

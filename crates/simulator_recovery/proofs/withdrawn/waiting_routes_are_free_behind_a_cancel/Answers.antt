@@ -2,7 +2,7 @@ use Rattle.simulator_recovery.proofs.WithdrawnWaiting.{free_behind_its_cancel}
 use Rattle.simulator_recovery.proofs.withdrawn.waiting_routes_are_free_behind_a_cancel.Goals as goal
 
 pub returns : goal.returns
-returns c = free_behind_its_cancel c.route_is_freed_where_cancel_lets_it_go.ensures c.request_is_accepted_where_admissible.ensures.accepted (record {
+returns c = λ between later before flowing route row flow. free_behind_its_cancel c.route_is_freed_where_cancel_lets_it_go.ensures c.request_is_accepted_where_admissible.ensures.accepted (record {
   ready = record {
     up = record {
       link = record {
@@ -35,4 +35,4 @@ returns c = free_behind_its_cancel c.route_is_freed_where_cancel_lets_it_go.ensu
     counted = c.items_are_counted.ensures.counted;
     safe = c.order_is_safe.ensures;
   };
-})
+}) between later before flowing route row flow.once flow.station flow.table flow.reached
