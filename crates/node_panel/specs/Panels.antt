@@ -33,13 +33,14 @@ pub record IsOpened (site : Site) (page : PageAsked) (desk : DeskView) : Type 0 
   pub board : desk.board ≡ blank (length (pictured (unheard site)))
   pub waiting : desk.waiting ≡ []
 
--- A panel of a layout stood until its clock had come to a moment: from a desk of this page on, and with nothing heard yet, there were
--- turns, and the calls by which they read the clock and spoke with the node.
+-- A panel of a layout stood until its clock, which began at 0, had come to a moment: from a desk of this page on, and with nothing heard
+-- yet, there were turns, and the calls by which they read the clock and spoke with the node.
 pub record Stood (site : Site) (page : PageAsked) (until : ℕ) : Type 0 where
   pub opened : DeskView
   pub desk : IsOpened site page opened
   pub told_old : Told
   pub told_new : Told
+  pub began : told_old.latest ≡ 0
   pub calls : List Call
   pub called : Calls told_old told_new calls
   pub last : Moment

@@ -98,9 +98,10 @@ fn attend_opened<R: Net + Timer + RandomSource + AllocGlobal, O: Write>(
     mut listener: Loopback,
     out: &mut O,
 ) -> Result<(), NodePanelFailure>
+    requires { caller.clock.latest ≡ 0 }
     ensures { OnOk result (Stood table.now asked.now.page (until asked.now.for_ms)) }
 {
-    let (mut heard, mut desk) = open_room(rt, rt.alloc(), table, &asked.page)?;
+    let mut room = open_room(rt, rt.alloc(), table, &asked.page)?;
     tell_address(asked.page.port, out)?;
     attend_node(
         rt,
@@ -108,25 +109,32 @@ fn attend_opened<R: Net + Timer + RandomSource + AllocGlobal, O: Write>(
         table.layout(),
         &mut caller,
         &mut listener,
-        &mut heard,
-        &mut desk,
+        &mut room.heard,
+        &mut room.desk,
         asked.for_ms.unwrap_or(u64::MAX),
     )?;
     Ok(())
 }
 
-/// What was told of a station before anything was, and the desk that shows it.
+/// What was told, and the desk that shows it.
+#[derive(Drop)]
+struct Room {
+    heard: Heard,
+    desk: Desk,
+}
+
+/// Nothing was told yet, and a desk is opened that shows this.
 fn open_room<R: RandomSource>(
     rt: &R,
     alloc: Global,
     table: &Checked,
     page: &PageAsked<'_>,
-) -> Result<(Heard, Desk), NodePanelFailure>
-    ensures heard { IfOk result (λ room. room.0 ≡ unheard table.now) }
-    ensures desk { IfOk result (λ room. IsOpened table.now page.now room.1) }
+) -> Result<Room, NodePanelFailure>
+    ensures heard { IfOk result (λ room. room.heard ≡ unheard table.now) }
+    ensures desk { IfOk result (λ room. IsOpened table.now page.now room.desk) }
 {
     let heard = Heard::nothing(alloc, table.layout())?;
     let places = heard.picture(alloc)?.len();
     let desk = open_desk(rt, alloc, table.copy(alloc)?, places, page)?;
-    Ok((heard, desk))
+    Ok(Room { heard, desk })
 }

@@ -33,10 +33,10 @@ pub keeps : {Network : Type 0} (there : Bool) (old new : List Late) (one : Late)
     → late_of one ≡ record { to = to; bytes = bytes; due = saturated (d.reading + d.delay) } → new ≡ (if there then old ++ one ∷ [] else old)
     → Keeps d to bytes there (record d { late = map late_of new })
 keeps true old new one d to bytes is_late late one_is is = (
-      is_late,
-      ap (λ (l : List LateView). record d { late = l })
+  is_late,
+  ap (λ (l : List LateView). record d { late = l })
       (ap (map late_of) is ∙ (map-append late_of old (one ∷ []) ∙ (ap (λ l. l ++ late_of one ∷ []) (sym late) ∙ ap (λ (o : LateView). d.late ++ o ∷ []) one_is))),
-    )
+)
 keeps false old new one d to bytes is_late late one_is is = ap (λ (l : List LateView). record d { late = l }) (ap (map late_of) is ∙ sym late)
 
 -- ---- what is lost

@@ -1,8 +1,7 @@
 -- A network that an operator disturbs: which of the datagrams that are sent are lost, and which come late. What a node hears is what
 -- the network below answers.
-use Rattle.std.specs.Prelude.{◌≡◌, ◌⊎◌, ◌==◌, ◌||◌, ◌&&◌, not, ◌*◌, ◌+◌, ◌^◌, ◌-◌, ℕ, suc, min, nat_le, nat_lt, Bool, true, false, if◌then◌else◌, List, [], ◌∷◌, ◌++◌, length, map, drop, get_or, replicate}
+use Rattle.std.specs.Prelude.{◌≡◌, ◌⊎◌, ◌==◌, not, ◌*◌, ◌+◌, ◌^◌, ◌-◌, ℕ, suc, min, nat_le, nat_lt, Bool, true, false, if◌then◌else◌, List, [], ◌∷◌, ◌++◌, length, map, drop, get_or, replicate}
 use Rattle.panel_desk.specs.node_lines.layout.Entries.{Site}
-use Rattle.panel_desk.specs.node_lines.replay_lines.Names.{node_names}
 use Rattle.panel_desk.specs.node_lines.ixl_rules.rasta_pdu.Header.{receiver_of}
 use Rattle.panel_desk.specs.node_lines.simulator_event.declared.event.NodeId.{NodeId}
 use Rattle.station_network.specs.station_drive.Told.{Asks, Call, Sends}

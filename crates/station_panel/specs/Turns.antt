@@ -1,6 +1,6 @@
 -- The turns of a panel: requests are answered, what was asked for happens in a round, and the desk shows what is seen behind it.
 -- A node hears in a round what the network answers it; what is sent is handed to the network, or is lost or late by what is disturbed.
-use Rattle.std.specs.Prelude.{◌≡◌, ◌≤◌, ◌-◌, ◌/◌, ℕ, List, [], ◌∷◌, ◌++◌, length, Option, None}
+use Rattle.std.specs.Prelude.{◌≡◌, ◌≤◌, ◌-◌, ◌/◌, ℕ, List, [], ◌∷◌, ◌++◌, length, Option}
 use Rattle.panel_connections.specs.Served.{Serves}
 use Rattle.panel_desk.specs.Answers.{Answered, DeskView}
 use Rattle.panel_desk.specs.declared.panel_line.PanelLine.{PanelLine}

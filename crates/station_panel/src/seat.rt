@@ -114,6 +114,26 @@ impl<'a> Seat<'a> {
     {
         net.heed(&self.faults, reading);
         net.release();
+        self.make_round(alloc, station, net, recorder, reading)
+    }
+
+    /// A round over a network that was disturbed as is wanted.
+    fn make_round<S: Station, N: Datagrams, W: Write>(
+        &mut self,
+        alloc: Global,
+        station: &mut Noting<S>,
+        net: &mut Disturbed<N>,
+        recorder: &mut W,
+        reading: u64,
+    ) -> Result<(), DriveFault>
+        requires { length self.old.course.drives ≡ length (S.site station.old.station).points }
+        ensures done { OnOk result ((heard : List Hearing) × (length heard ≡ length (node_names (S.site station.old.station))) × Performs S.does (Passes N.told N.carries) (S.site station.old.station) (round (S.site station.old.station) self.old.course (record { reading = reading; heard = heard; asked = self.old.events.items; jammed = self.old.faults.jammed })) (S.state station.old.station) (S.state station.new.station) (disturbance net.old) (disturbance net.new) (W.contents recorder.old) (W.contents recorder.new)) }
+        ensures course { OnOk result (self.new.course ≡ run_after S.does (S.state station.new.station) self.old.course reading) }
+        ensures stopped { OnErr result ((heard : List Hearing) × (length heard ≡ length (node_names (S.site station.old.station))) × Stops S.does (Passes N.told N.carries) (S.site station.old.station) (round (S.site station.old.station) self.old.course (record { reading = reading; heard = heard; asked = self.old.events.items; jammed = self.old.faults.jammed })) (S.state station.old.station) (S.state station.new.station) (disturbance net.old) (disturbance net.new) (W.contents recorder.old) (W.contents recorder.new)) }
+        ensures site { S.site station.new.station ≡ S.site station.old.station }
+        ensures faults { self.new.faults ≡ self.old.faults }
+        ensures first { self.new.first ≡ self.old.first }
+    {
         station.forget();
         round(
             alloc,

@@ -1,10 +1,10 @@
 -- What is seen of a world, as lines.
-use Rattle.std.proofs.Common.{◌≡◌, ◌∙◌, ◌+◌, ◌-◌, ◌<◌, ◌≤◌, ℕ, zero, suc, refl, sym, ap, subst, Bool, true, false, List, [], ◌∷◌, ◌++◌, length, drop, get_or, Option, Some, None, arith}
+use Rattle.std.proofs.Common.{◌≡◌, ◌∙◌, ◌+◌, ◌-◌, ◌<◌, ◌≤◌, ℕ, zero, suc, refl, sym, ap, subst, Bool, false, List, [], ◌∷◌, ◌++◌, length, Option, Some, None, arith}
 use Rattle.std.specs.Prelude.{slice_get, IfSome, if◌then◌else◌}
 use Rattle.std.specs.Option.{option_map, option_map_or}
 use Rattle.std.proofs.lemmas.List.{append_assoc, append-nil}
 use Rattle.station_record.specs.replay.ixl_rules.State.{IxlState, RouteState}
-use Rattle.station_record.specs.replay.ixl_rules.Table.{Row, Table, at}
+use Rattle.station_record.specs.replay.ixl_rules.Table.{Row, at}
 use Rattle.station_record.specs.replay.ixl_rules.View.{holds_section}
 use Rattle.station_record.specs.replay.layout.declared.ids.RouteId.{RouteId}
 use Rattle.station_record.specs.replay.simulator.ixl_state.ixl_field.Field.{FieldState, Rest, kept}

@@ -5,7 +5,6 @@ use Rattle.std.specs.List.{flat_map}
 use Rattle.std.specs.Option.{option_map_or}
 use Rattle.station_record.specs.replay.layout.Entries.{RouteEntry, Site}
 use Rattle.station_record.specs.replay.layout.declared.ids.RouteId.{RouteId}
-use Rattle.station_record.specs.replay.sci_telegram.declared.message.Aspect.{Aspect}
 use Rattle.station_record.specs.replay.sci_telegram.declared.message.Aspect.TheVariants as aspects
 use Rattle.station_record.specs.replay.sci_telegram.declared.message.Occupancy.TheVariants as occupancies
 use Rattle.station_record.specs.replay.sci_telegram.declared.message.Position.TheVariants as positions

@@ -39,7 +39,7 @@ pub record IsAttended {Network Net : Type 0} (told : Network → Net) (carries :
 
 -- so it was over sockets, which tell nothing of their calls
 abbrev pub IsAttendedOverSockets : PageView → Limits → Running → Sockets → (readings_old readings_new text_old text_new : Option (List ℕ)) → Type 0
-IsAttendedOverSockets = IsAttended {Sockets} {Silent} (λ net. tt) anything
+IsAttendedOverSockets = IsAttended {Network = Sockets} {Net = Silent} (λ net. tt) anything
 
 -- So it was, whatever its clock and its record tell.
 pub record IsAttendedSomehow (page : PageView) (limits : Limits) (first : Running) : Type 0 where

@@ -1,4 +1,4 @@
-use Rattle.std.proofs.Common.{List, subst}
+use Rattle.std.proofs.Common.{List, None, subst}
 use Rattle.node_drive.specs.Calls.{Call}
 use Rattle.panel_desk.specs.node_lines.layout.Entries.{Site}
 use Rattle.node_panel.specs.Heard.{HeardView, pictured}
@@ -9,15 +9,19 @@ pub returns : goal.returns
 returns g c =
     let room = c.in_ok-room.ensures in
     let ended = c.in_ok-attend_node.ensures in
-    let desk = c.in_ok-room.field-0.1 in
+    let desk = c.in_ok-room.room.desk in
+    let heard = c.in_ok-room.room.heard in
     let last : Moment = record { heard = c.attend_node.new.heard; desk = c.attend_node.new.desk } in
     record {
       opened = desk;
       desk = room.desk;
+      told_old = record { calls = None; latest = c.args.caller.clock.latest };
+      told_new = record { calls = None; latest = c.attend_node.new.outside.clock.latest };
+      began = c.requires;
       calls = ended.turns.0;
       called = ended.turns.1;
       last = last;
       turns = subst (λ (h : HeardView). Turns c.args.table.now (record { heard = h; desk = desk }) ended.turns.0 last) room.heard
-          (subst (λ (p : Site). Turns p (record { heard = c.in_ok-room.field-0.0; desk = desk }) ended.turns.0 last) c.layout.ensures.entries ended.turns.2);
+          (subst (λ (p : Site). Turns p (record { heard = heard; desk = desk }) ended.turns.0 last) c.layout.ensures.entries ended.turns.2);
       over = ended.over;
     }

@@ -8,5 +8,5 @@ returns-in-Err-clause-explains g c = λ one. no_table c.in-Err.failure c.in-Err.
 pub returns-in-Ok-open-clause-done : goal.returns-in-Ok-open-clause-done
 returns-in-Ok-open-clause-done g c = λ zero. (c.in-Ok.table, c.in-Ok.ensures.sound, c.in-Ok-open.ensures)
 
-pub returns-in-Err-open-clause-explains : goal.returns-in-Err-open-clause-explains
-returns-in-Err-open-clause-explains g c = λ one. no_panel c.in-Ok.table c.in-Ok.ensures.sound c.in-Err-open.failure c.tell-in-Err-open.ensures
+pub returns-clause-explains : goal.returns-clause-explains
+returns-clause-explains g c = λ one. no_panel c.in-Ok.table c.in-Ok.ensures.sound c.in-Err-open.failure c.tell-in-Err-open.ensures

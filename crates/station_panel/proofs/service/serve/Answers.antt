@@ -1,4 +1,4 @@
-use Rattle.std.proofs.Common.{◌≡◌, None, inl, inr, refl, subst}
+use Rattle.std.proofs.Common.{None, inl, inr, refl}
 use Rattle.station_panel.specs.DisturbedNetwork.{DisturbedView, disturbance}
 use Rattle.station_panel.specs.Turns.{Attended, CutShort, EndsSo}
 use Rattle.station_panel.proofs.Turn.{moved, stopped}

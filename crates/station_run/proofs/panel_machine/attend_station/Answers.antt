@@ -11,4 +11,4 @@ returns-in-Ok-clause-done g c = λ zero.
 
 -- the word of why it ended couldn't be written
 pub returns-in-Ok-clause-told : goal.returns-in-Ok-clause-told
-returns-in-Ok-clause-told g c = λ one. (Failed NotWritten, tt, 0, Appends-nil _)
+returns-in-Ok-clause-told g c = λ one. (Failed NotWritten, tt, (0, Appends-nil _))

@@ -1,5 +1,5 @@
 use Rattle.std.proofs.Common.{ℕ, Bool, List, ◌∙◌, ap, is_ok, map, refl, subst, sym}
-use Rattle.station_panel.specs.DisturbedNetwork.{DisturbedView, LateView, disturbance, late_of}
+use Rattle.station_panel.specs.DisturbedNetwork.{DisturbedView, disturbance, late_of}
 use Rattle.station_panel.specs.Inside.{Keeps}
 use Rattle.station_panel.proofs.DisturbedCalls.{keeps}
 use Rattle.station_panel.proofs.disturbed.Disturbed.keeps.Goals as goal
