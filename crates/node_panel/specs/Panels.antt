@@ -1,5 +1,5 @@
 -- What comes of a panel of an interlocking's node.
-use Rattle.std.specs.Prelude.{◌≡◌, ◌≤◌, ◌-◌, ◌^◌, ℕ, List, [], ◌∷◌, length, take, codes, Option, Some, None}
+use Rattle.std.specs.Prelude.{◌≡◌, ◌≤◌, ◌-◌, ◌^◌, ℕ, List, [], ◌∷◌, length, take, codes, Option, Some, unwrap_or}
 use Rattle.std.specs.Io.KnownBytes.{Appends}
 use Rattle.serde_json.specs.Read.{read}
 use Rattle.node_drive.specs.Calls.{Call, Calls, Told}
@@ -20,8 +20,7 @@ use Rattle.node_panel.specs.declared.failure.NodePanelFailure.TheVariants.{Addre
 
 -- up to which reading of its clock, in milliseconds; as far as the clock goes where nothing else was asked for
 abbrev pub until : Option ℕ → ℕ
-until (Some millis) = millis
-until None = 2 ^ 64 - 1
+until millis = unwrap_or millis (2 ^ 64 - 1)
 
 -- The desk of a layout and a page: it serves this page, and tells of the station what was asked. Its board is blank, with a place for
 -- each line, and no command waits.

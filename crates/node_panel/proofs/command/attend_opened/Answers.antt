@@ -1,4 +1,4 @@
-use Rattle.std.proofs.Common.{List, None, subst}
+use Rattle.std.proofs.Common.{◌≤◌, ℕ, List, None, subst}
 use Rattle.node_drive.specs.Calls.{Call}
 use Rattle.panel_desk.specs.node_lines.layout.Entries.{Site}
 use Rattle.node_panel.specs.Heard.{HeardView, pictured}
@@ -23,5 +23,5 @@ returns g c =
       last = last;
       turns = subst (λ (h : HeardView). Turns c.args.table.now (record { heard = h; desk = desk }) ended.turns.0 last) room.heard
           (subst (λ (p : Site). Turns p (record { heard = heard; desk = desk }) ended.turns.0 last) c.layout.ensures.entries ended.turns.2);
-      over = ended.over;
+      over = subst (λ (n : ℕ). n ≤ c.attend_node.new.outside.clock.latest) c.unwrap_or.ensures ended.over;
     }
