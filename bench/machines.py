@@ -453,7 +453,8 @@ def stopped(run, route):
         dark = hold(run, name, seconds)
         # a stop of 1 s is shorter than a link lives without a word
         back = is_back(run, behind) if seconds > 1 else True
-        print(f"stopped: {name} for {seconds} s; every lamp was at stop after {dark} s; the links {'came' if back else 'did NOT come'} back", flush=True)
+        lamps = "a lamp still shone" if dark is None else f"every lamp was at stop after {dark:.2f} s"
+        print(f"stopped: {name} for {seconds} s; {lamps}; the links {'came' if back else 'did NOT come'} back", flush=True)
         well &= back and (seconds == 1 or (dark is not None and dark <= 1.9))
     time.sleep(2)
     oldest, thrown = oldest_heard(run, "stopped")
