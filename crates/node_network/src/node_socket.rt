@@ -1,6 +1,6 @@
 //! The socket of a node.
 
-ghost use Rattle.std.specs.Prelude.{◌≡◌, ◌≤◌, ◌<◌, Err, IfOk, length, true};
+ghost use Rattle.std.specs.Prelude.{◌≡◌, ◌≤◌, Err, IfOk, length};
 ghost use Rattle.std.specs.Bool.{Decides};
 ghost use Rattle.node_drive.specs.Calls.{Came, datagram_heard};
 ghost use Rattle.node_network.specs.Places.{IsFromNode, IsNodeOf};
@@ -69,9 +69,7 @@ impl NodeSocket {
 
     /// Throws away datagrams that wait, until none waits, or as many as are thrown away in one go. It gives up where a call fails.
     pub(crate) fn throw_away(&self) -> ThrownAway
-        ensures most { result.count ≤ 4096 }
-        // Behind the most it isn't known whether none waits any more.
-        ensures empty { result.found_empty ≡ true → result.count < 4096 }
+        ensures { result.count ≤ 4096 }
     {
         for count in 0..MOST_THROWN_AWAY {
             match self.socket.recv_from(&mut [0u8; 1]) {
