@@ -11,8 +11,7 @@ use crate::heard::Heard;
 use crate::hearing::hear_lines;
 use node_drive::Outside;
 use panel_connections::{Connections, Listens};
-use panel_desk::node_lines::ixl_rules::control_table::layout::Layout;
-use panel_desk::{Desk, Pictured, show_lines};
+use panel_desk::{Desk, Layout, Pictured, show_lines};
 use std::alloc::{AllocError, Global};
 use std::random::RandomSource;
 
@@ -46,7 +45,7 @@ pub fn attend_node<O: Outside, R: RandomSource, L: Listens>(
     Err(AllocError)
 }
 
-/// What a turn does behind the answers to its requests.
+/// What a turn does after the answers to its requests.
 fn turn<O: Outside>(
     alloc: Global,
     layout: &Layout,
@@ -62,7 +61,7 @@ fn turn<O: Outside>(
     let commands = desk.take();
     desk.count();
     hear_lines(alloc, layout, outside, reading, heard, desk)?;
-    ask_each(alloc, layout, outside, reading, &commands, heard, desk)?;
+    ask_each(alloc, layout, outside, &commands, heard, desk)?;
     show(alloc, layout, heard, desk)
 }
 

@@ -11,8 +11,7 @@ use crate::failure::NodePanelFailure;
 use crate::heard::Heard;
 use node_network::{Caller, NodeClock};
 use panel_connections::{Loopback, tell_address};
-use panel_desk::node_lines::ixl_rules::control_table::Checked;
-use panel_desk::{Desk, PageAsked, Pictured, open_desk};
+use panel_desk::{Checked, Desk, PageAsked, Pictured, open_desk};
 use station_check::{table_of, tell};
 use std::alloc::Global;
 use std::io::Write;
@@ -22,7 +21,7 @@ use std::time::Clock as Timer;
 
 /// What a panel of a node is asked.
 #[derive(Clone, Copy, Debug)]
-pub struct Asked<'a> {
+pub struct NodePanelOptions<'a> {
     pub page: PageAsked<'a>,
     /// The path of a record. None is written: the node writes one.
     pub record: Option<&'a str>,
@@ -37,7 +36,7 @@ pub struct Asked<'a> {
 /// why.
 pub fn panel_of_node<R: Net + Timer + RandomSource + AllocGlobal, O: Write, E: Write>(
     rt: &R,
-    asked: &Asked<'_>,
+    asked: &NodePanelOptions<'_>,
     out: &mut O,
     err: &mut E,
 ) -> u8
@@ -50,10 +49,7 @@ pub fn panel_of_node<R: Net + Timer + RandomSource + AllocGlobal, O: Write, E: W
 {
     let table = match table_of(rt.alloc(), asked.page.layout) {
         Ok(table) => table,
-        Err(failure) => {
-            tell(&failure, err);
-            return 1;
-        }
+        Err(failure) => return tell(&failure, err),
     };
     match open(rt, asked, &table, out) {
         Ok(()) => 0,
@@ -67,7 +63,7 @@ pub fn panel_of_node<R: Net + Timer + RandomSource + AllocGlobal, O: Write, E: W
 /// Opens what the panel has outside.
 fn open<R: Net + Timer + RandomSource + AllocGlobal, O: Write>(
     rt: &R,
-    asked: &Asked<'_>,
+    asked: &NodePanelOptions<'_>,
     table: &Checked,
     out: &mut O,
 ) -> Result<(), NodePanelFailure>
@@ -92,7 +88,7 @@ fn open<R: Net + Timer + RandomSource + AllocGlobal, O: Write>(
 /// Opens the desk, tells where the page is, and attends the panel.
 fn attend_opened<R: Net + Timer + RandomSource + AllocGlobal, O: Write>(
     rt: &R,
-    asked: &Asked<'_>,
+    asked: &NodePanelOptions<'_>,
     table: &Checked,
     mut caller: Caller<'_, R>,
     mut listener: Loopback,

@@ -3,14 +3,14 @@
 ghost use Rattle.std.specs.Prelude.{◌≡◌, ◌++◌, [], IfOk, Some, codes, string_bytes};
 ghost use Rattle.std.specs.Fmt.{decimal};
 ghost use Rattle.serde_json.specs.Read.{read};
-ghost use Rattle.panel_board.specs.Lines.{blank};
-ghost use Rattle.panel_board.specs.State.{about};
+ghost use Rattle.panel_desk.specs.Lines.{blank};
+ghost use Rattle.panel_desk.specs.State.{about};
 ghost use Rattle.panel_desk.specs.Answers.{access_at};
 
-use crate::desk::Desk;
+use crate::desk::{Desk, OwnAccess};
+use crate::{About, Board, about_text};
 use bytes::Bytes;
-use node_lines::ixl_rules::control_table::Checked;
-use panel_board::{About, Board, about_text};
+use node_lines::Checked;
 use std::alloc::{AllocError, Global};
 use std::io;
 use std::random::RandomSource;
@@ -57,7 +57,12 @@ pub fn open_desk<R: RandomSource>(
     let station = told_once(alloc, name, asked, token.as_str())?;
     let board = Board::new(alloc, places)?;
     let page = Bytes::from_static(asked.page.as_bytes());
-    Ok(Desk::new(alloc, table, host, origin, token, page, station, board))
+    let access = OwnAccess {
+        host,
+        origin,
+        token,
+    };
+    Ok(Desk::new(alloc, table, access, page, station, board))
 }
 
 /// A token that nobody guesses.

@@ -7,7 +7,7 @@ use Rattle.control_table.specs.layout.Entries.{Site}
 use Rattle.std.specs.Result.{OnErr}
 use Rattle.std.proofs.lemmas.List.{map-append, take-append-le}
 use Rattle.simulator_event.specs.declared.event.Event.{Event}
-use Rattle.simulator_event.specs.declared.event.NodeId.{NodeId}
+use Rattle.simulator_event.specs.layout.declared.ids.NodeId.{NodeId}
 use Rattle.simulator_event.specs.refused.Refused.{Refused}
 use Rattle.simulator_event.specs.refused.Refused.TheVariants.{NoSuchNode, NeverSent, Drift, NotDriven, ClockLimit, OutOfMemory}
 use Rattle.simulator_event.specs.declared.reply.Reply.{Reply}
@@ -29,12 +29,12 @@ Grows-trans a None (Some z) xs ys p q = absurd q
 Grows-trans None (Some y) (Some z) xs ys p q = absurd p
 Grows-trans (Some x) (Some y) (Some z) xs ys p q = q ∙ ap (λ l. l ++ ys) p ∙ append_assoc x xs ys
 
--- calls behind others
+-- calls after others
 pub carried-on : {Net : Type 0} (carries : Net → Call → Net → Type 0) (a b c : Net) (xs ys : List Call) → Carried carries a b xs → Carried carries b c ys → Carried carries a c (xs ++ ys)
 carried-on carries a b c [] ys p q = subst (λ n. Carried carries n c ys) p q
 carried-on carries a b c (x ∷ xs) ys p q = (p.0, p.1, carried-on carries p.0 b c xs ys p.2 q)
 
--- ---- doings behind others
+-- ---- doings after others
 
 module _ {State : Type 0} (does : Behaviour State) where
   pub state_after-append : (p : State) (xs ys : List Doing) → state_after does p (xs ++ ys) ≡ state_after does (state_after does p xs) ys
@@ -71,7 +71,7 @@ module _ {State : Type 0} (does : Behaviour State) where
       let whole = length-append line (text_of does site (after_doing does p x) xs) in
       omega (arith, rest, part, whole)
 
-  -- all but the last line of doings behind others
+  -- all but the last line of doings after others
   lines_behind : (site : Site) (xs ys : List Doing) (a b : State) (count taken : ℕ) → b ≡ state_after does a xs
       → length (text_of does site b (take (count - 1) ys)) ≤ taken
       → length (text_of does site a (take (length xs + count - 1) (xs ++ ys))) ≤ length (text_of does site a xs) + taken
@@ -90,7 +90,7 @@ module _ {State : Type 0} (does : Behaviour State) where
       (sym (ap (λ (n : ℕ). take n (xs ++ ys)) counted ∙ take-append-add xs ys count))
       (omega (arith, few, both, joined))
 
--- ---- what was done, one behind another
+-- ---- what was done, one after another
 
 module _ {State Net : Type 0} {does : Behaviour State} {carries : Net → Call → Net → Type 0} {site : Site} where
   pub performs_none : (a : State) (ca : Net) (ta : Option (List ℕ)) → Performs does carries site [] a a ca ca ta ta
@@ -181,7 +181,7 @@ module _ {State Net : Type 0} {does : Behaviour State} {carries : Net → Call �
       → Performs does carries site xs a b ca cb ta tb → Stops does carries site ys b c cb cc tb tc → Stops does carries site (xs ++ ys) a c ca cc ta tc
   stops_then {xs} {ys} {a} {b} {c} {ca} {cb} {cc} {ta} {tb} {tc} first second = (stops_behind first second).0
 
-  -- given up before what is behind
+  -- given up before what is after
   pub stops_now : {xs : List Doing} {a b : State} {ca cb : Net} {ta tb : Option (List ℕ)} (ys : List Doing)
       → Performs does carries site xs a b ca cb ta tb → Stops does carries site (xs ++ ys) a b ca cb ta tb
   stops_now {xs} {a} {b} {ca} {cb} {ta} {tb} ys done = stops_before ys (stops_all done).0
@@ -197,7 +197,7 @@ module _ {State Net : Type 0} {does : Behaviour State} {carries : Net → Call �
     written = Appends-kept ta tb tc _ done.written kept;
   }
 
-  -- the same where the layout of what comes behind is the same, seen from there
+  -- the same where the layout of what comes after is the same, seen from there
   pub performs_next : {other : Site} {xs ys : List Doing} {a b c : State} {ca cb cc : Net} {ta tb tc : Option (List ℕ)}
       → other ≡ site → Performs does carries site xs a b ca cb ta tb → Performs does carries other ys b c cb cc tb tc → Performs does carries site (xs ++ ys) a c ca cc ta tc
   performs_next {other} {xs} {ys} {a} {b} {c} {ca} {cb} {cc} {ta} {tb} {tc} e first second =

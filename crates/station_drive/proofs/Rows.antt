@@ -7,7 +7,7 @@ use Rattle.std.specs.List.{AllByRecursion}
 use Rattle.control_table.specs.sci_telegram.declared.message.Side.{Side}
 use Rattle.simulator_event.specs.declared.event.Event.{Event}
 use Rattle.simulator_event.specs.declared.event.Event.TheVariants.{Deliver, Tick}
-use Rattle.simulator_event.specs.declared.event.NodeId.{NodeId}
+use Rattle.simulator_event.specs.layout.declared.ids.NodeId.{NodeId}
 use Rattle.station_drive.specs.declared.course.Drive.{Drive}
 use Rattle.station_drive.specs.Told.{Asks, Call, Datagram, Heard, Nothing, heard_of}
 use Rattle.station_drive.specs.Doings.{Doing, Asking, Applying}

@@ -1,4 +1,4 @@
--- Rounds behind others.
+-- Rounds after others.
 use Rattle.std.proofs.Common.{◌≡◌, ◌≤◌, length, ℕ, List, [], ◌∷◌, ◌++◌, map, Option, sym, ap, ◌∙◌, subst, append_assoc, append-nil}
 use Rattle.std.proofs.lemmas.List.{map-append}
 use Rattle.control_table.specs.layout.Entries.{Site}

@@ -18,7 +18,7 @@ pub record IsPlain (site : Site) (one : RoundHeard) : Type 0 where
   pub unasked : one.asked ≡ []
   pub unjammed : one.jammed ≡ []
 
--- After a first reading each further one made a round, up to and with the first that was `for_ms` or more behind it.
+-- After a first reading each further one made a round, up to and with the first that was `for_ms` or more after it.
 pub record Driven {State Net : Type 0} (does : Behaviour State) (carries : Net → Call → Net → Type 0) (site : Site) (script : List (ℕ × Event)) (for_ms : ℕ)
     (old new : State) (readings_old readings_new : Option (List ℕ)) (net_old net_new : Net) (text_old text_new : Option (List ℕ)) : Type 0 where
   pub first : ℕ
@@ -36,8 +36,8 @@ begun made None = made
 begun made (Some broken) = made ++ broken ∷ []
 
 -- The same drive, cut off by a fault. After a first reading each further one began a round. All rounds before the last were made
--- whole, and none of them was `for_ms` behind the first. What was done is a beginning of what these rounds do: what a node would hear
--- behind the cut doesn't count.
+-- whole, and none of them was `for_ms` after the first. What was done is a beginning of what these rounds do: what a node would hear
+-- after the cut doesn't count.
 pub record CutOff {State Net : Type 0} (does : Behaviour State) (carries : Net → Call → Net → Type 0) (site : Site) (script : List (ℕ × Event)) (for_ms : ℕ)
     (old new : State) (readings_old readings_new : Option (List ℕ)) (net_old net_new : Net) (text_old text_new : Option (List ℕ)) : Type 0 where
   pub first : ℕ

@@ -1,3 +1,4 @@
+pub mod Log
 pub mod Told
 pub mod Doings
 pub mod Rounds

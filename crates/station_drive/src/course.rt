@@ -3,10 +3,10 @@
 ghost use Rattle.std.specs.Prelude.{◌≡◌};
 
 use crate::waiting_lines::WaitingLines;
-use control_table::sci_telegram::Side;
+use control_table::Side;
 use std::marker::Model;
 
-/// A point was driven to one side at the ends of rounds, one behind another up to the last.
+/// A point was driven to one side at the ends of rounds, one after another up to the last.
 #[derive(Clone, Copy, Debug)]
 pub(crate) struct Drive {
     pub(crate) side: Side,

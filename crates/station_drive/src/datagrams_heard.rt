@@ -7,12 +7,11 @@ ghost use Rattle.station_drive.specs.Doings.{Applying, Performs, Stops};
 ghost use Rattle.station_drive.specs.Told.{Asks, Datagram, Heard};
 ghost use Rattle.station_drive.specs.Rounds.{Hearing, IsSilence, hearing_of, hearings};
 
-use crate::datagrams::{Datagrams, Received};
+use crate::Received;
+use crate::datagrams::Datagrams;
 use crate::events_performed::perform;
 use crate::fault::DriveFault;
-use crate::station::Station;
-use replay_lines::node_count;
-use simulator_event::{Event, NodeId, RawDatagram};
+use simulator_event::{Event, NodeId, RawDatagram, Station};
 use std::alloc::Global;
 use std::io::Write;
 
@@ -27,7 +26,7 @@ pub(crate) fn hear_all<S: Station, N: Datagrams, W: Write>(
     ensures stopped { OnErr result ((heard : List Hearing) × (length heard ≡ length (node_names (S.site station.old))) × Stops S.does N.carries (S.site station.old) (hearings 0 heard) (S.state station.old) (S.state station.new) (N.told net.old) (N.told net.new) (W.contents recorder.old) (W.contents recorder.new)) }
     ensures site { S.site station.new ≡ S.site station.old }
 {
-    for node in 0..node_count(station.table().layout()) {
+    for node in 0..station.table().layout().nodes() {
         hear(alloc, station, net, recorder, NodeId(node))?;
     }
     Ok(())

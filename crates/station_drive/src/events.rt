@@ -11,12 +11,9 @@ use crate::course::Drive;
 use crate::datagrams::Datagrams;
 use crate::events_performed::perform;
 use crate::fault::DriveFault;
-use crate::station::Station;
 use crate::waiting_lines::{WaitingLines, waits};
-use control_table::layout::PointId;
-use control_table::sci_telegram::{Position, Side};
-use replay_lines::node_count;
-use simulator_event::{ClockSteps, Event, NodeId};
+use control_table::{PointId, Position, Side};
+use simulator_event::{ClockSteps, Event, NodeId, Station};
 use std::alloc::Global;
 use std::io::Write;
 
@@ -35,7 +32,7 @@ pub(crate) fn pass<S: Station, N: Datagrams, W: Write>(
     ensures stopped { OnErr result (Stops S.does N.carries (S.site station.old) (Applying (Time elapsed (replicate (length (node_names (S.site station.old))) elapsed)) ∷ []) (S.state station.old) (S.state station.new) (N.told net.old) (N.told net.new) (W.contents recorder.old) (W.contents recorder.new)) }
     ensures site { S.site station.new ≡ S.site station.old }
 {
-    let nodes = node_count(station.table().layout());
+    let nodes = station.table().layout().nodes();
     let clocks = ClockSteps::of(vec![in alloc; elapsed; nodes]?);
     perform(
         alloc,
@@ -188,7 +185,7 @@ pub(crate) fn tick_all<S: Station, N: Datagrams, W: Write>(
     ensures stopped { OnErr result (Stops S.does N.carries (S.site station.old) (map Applying (ticks (length (node_names (S.site station.old))))) (S.state station.old) (S.state station.new) (N.told net.old) (N.told net.new) (W.contents recorder.old) (W.contents recorder.new)) }
     ensures site { S.site station.new ≡ S.site station.old }
 {
-    for node in 0..node_count(station.table().layout()) {
+    for node in 0..station.table().layout().nodes() {
         perform(alloc, station, net, recorder, &Event::Tick(NodeId(node)))?;
     }
     Ok(())

@@ -10,11 +10,10 @@ ghost use Rattle.station_drive.specs.Doings.{Applying, Performs, Stops, recorded
 
 use crate::datagrams::Datagrams;
 use crate::fault::DriveFault;
-use crate::station::Station;
 use control_table::Checked;
 use replay_lines::{AnswerText, recorded, write_event};
 use replay_words::write_as_taken;
-use simulator_event::{Answer, Event, Refused};
+use simulator_event::{Answer, Event, Refused, Station};
 use std::alloc::{AllocError, Global};
 use std::io::Write;
 

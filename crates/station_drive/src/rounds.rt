@@ -4,7 +4,7 @@ ghost use Rattle.std.specs.Prelude.{◌≡◌, ◌-◌, ◌/◌, IfOk, List, OnE
 ghost use Rattle.replay_lines.specs.Names.{node_names};
 ghost use Rattle.station_drive.specs.Doings.{Performs, Stops};
 ghost use Rattle.station_drive.specs.Drives.{CutOff, Driven, beginning};
-ghost use Rattle.station_drive.specs.Rounds.{Hearing, drive_after, drives_after, is_same, round, run_after};
+ghost use Rattle.station_drive.specs.Rounds.{Hearing, drive_after, drives_after, round, run_after};
 
 use crate::clock::Clock;
 use crate::course::{Course, Drive};
@@ -13,20 +13,16 @@ use crate::datagrams_heard::hear_all;
 use crate::events::{apply_asked, apply_due, pass, reach_all, tick_all};
 use crate::events_performed::flush;
 use crate::fault::DriveFault;
-use crate::station::Station;
 use crate::waiting_lines::WaitingLines;
-use control_table::layout::PointId;
-use control_table::sci_telegram::Side;
-use simulator_event::Event;
+use control_table::{PointId, Side};
+use replay_lines::MICROS;
+use simulator_event::{Event, Station};
 use std::alloc::{AllocError, Global};
 use std::io::Write;
 
-// How many microseconds a millisecond has.
-const MICROS: u64 = 1000;
-
 /// Drives a station for so many milliseconds by its clock. After a first reading of the clock each further one makes a round,
 /// up to and with the first that is so much later. The script's times are milliseconds since the first reading. A line that
-/// isn't due holds up none behind it.
+/// isn't due holds up none after it.
 pub fn drive<S: Station, N: Datagrams, C: Clock, W: Write>(
     alloc: Global,
     station: &mut S,
@@ -62,14 +58,14 @@ pub fn drive<S: Station, N: Datagrams, C: Clock, W: Write>(
     Err(DriveFault::WriteFailed)
 }
 
-/// How many microseconds a reading of the clock lies behind an earlier one.
+/// How many microseconds a reading of the clock lies after an earlier one.
 fn micros_since(earlier: u64, reading: u64) -> u64
     ensures { result ≡ reading - earlier }
 {
     reading.saturating_sub(earlier)
 }
 
-/// How many whole milliseconds a reading of the clock lies behind an earlier one.
+/// How many whole milliseconds a reading of the clock lies after an earlier one.
 fn millis_since(earlier: u64, reading: u64) -> u64
     ensures { result ≡ (reading - earlier) / 1000 }
 {
@@ -150,20 +146,11 @@ fn drive_after(reading: u64, driven: Option<Side>, before: Option<Drive>) -> Opt
     ensures { result ≡ drive_after reading driven before }
 {
     match (driven, before) {
-        (Some(side), Some(before)) if is_same(side, before.side) => Some(before),
+        (Some(side), Some(before)) if side == before.side => Some(before),
         (Some(side), _) => Some(Drive {
             side,
             since: reading,
         }),
         (None, _) => None,
-    }
-}
-
-fn is_same(one: Side, other: Side) -> bool
-    ensures { result ≡ is_same one other }
-{
-    match (one, other) {
-        (Side::Right, Side::Right) | (Side::Left, Side::Left) => true,
-        _ => false,
     }
 }

@@ -5,10 +5,10 @@ use Rattle.panel_desk.specs.Answers.{DeskView}
 use Rattle.panel_desk.specs.declared.panel_line.PanelLine.{PanelLine}
 use Rattle.panel_desk.specs.node_lines.layout.Entries.{Site}
 use Rattle.panel_desk.specs.node_lines.simulator_event.declared.event.Event.{Event}
-use Rattle.station_network.specs.station_drive.Doings.{Behaviour}
-use Rattle.station_network.specs.station_drive.Rounds.{Hearing, RunSoFar, round}
+use Rattle.station_drive.specs.Doings.{Behaviour}
+use Rattle.station_drive.specs.Rounds.{Hearing, RunSoFar, round}
 use Rattle.station_panel.specs.Asked.{events_asked, faults_after}
-use Rattle.station_network.specs.station_drive.Told.{Call}
+use Rattle.station_drive.specs.Told.{Call}
 use Rattle.station_panel.specs.DisturbedNetwork.{DisturbedView}
 use Rattle.station_panel.specs.Faults.{FaultsView}
 use Rattle.station_panel.specs.declared.ending.Ending.{Ending}

@@ -1,7 +1,7 @@
 -- What contracts inside the crate say of a disturbed network. No promise names any of it.
 use Rattle.std.specs.Prelude.{◌≡◌, ℕ, nat_le, Bool, true, false, List, [], ◌∷◌}
-use Rattle.panel_desk.specs.node_lines.simulator_event.declared.event.NodeId.{NodeId}
-use Rattle.station_network.specs.station_drive.Told.{Call, Sends}
+use Rattle.panel_desk.specs.node_lines.simulator_event.layout.declared.ids.NodeId.{NodeId}
+use Rattle.station_drive.specs.Told.{Call, Sends}
 use Rattle.station_panel.specs.DisturbedNetwork.{DisturbedView, LateView, Waits, comes_late, counted, is_cut_off, is_turn}
 
 -- whether it is lost, and what is counted: nothing where a node is cut off

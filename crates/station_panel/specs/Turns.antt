@@ -1,4 +1,4 @@
--- The turns of a panel: requests are answered, what was asked for happens in a round, and the desk shows what is seen behind it.
+-- The turns of a panel: requests are answered, what was asked for happens in a round, and the desk shows what is seen after it.
 -- A node hears in a round what the network answers it; what is sent is handed to the network, or is lost or late by what is disturbed.
 use Rattle.std.specs.Prelude.{◌≡◌, ◌≤◌, ◌-◌, ◌/◌, ℕ, List, [], ◌∷◌, ◌++◌, length, Option}
 use Rattle.panel_connections.specs.Served.{Serves}
@@ -6,10 +6,10 @@ use Rattle.panel_desk.specs.Answers.{Answered, DeskView}
 use Rattle.panel_desk.specs.declared.panel_line.PanelLine.{PanelLine}
 use Rattle.panel_desk.specs.node_lines.layout.Entries.{Site}
 use Rattle.panel_desk.specs.node_lines.replay_lines.Names.{node_names}
-use Rattle.station_network.specs.station_drive.Doings.{Behaviour, Doing, Performs, Stops}
-use Rattle.station_network.specs.station_drive.Drives.{beginning}
-use Rattle.station_network.specs.station_drive.Rounds.{Hearing, RunSoFar, round, run_after}
-use Rattle.station_network.specs.station_drive.Told.{Call, Grows}
+use Rattle.station_drive.specs.Doings.{Behaviour, Doing, Performs, Stops}
+use Rattle.station_drive.specs.Drives.{beginning}
+use Rattle.station_drive.specs.Rounds.{Hearing, RunSoFar, round, run_after}
+use Rattle.station_drive.specs.Told.{Call, Grows}
 use Rattle.station_panel.specs.Asked.{events_asked, faults_after}
 use Rattle.station_panel.specs.DisturbedNetwork.{DisturbedView, Passes, Released, heeded}
 use Rattle.station_panel.specs.Faults.{FaultsView, no_faults}
@@ -18,7 +18,7 @@ use Rattle.station_panel.specs.declared.ending.Ending.TheVariants.{TimeIsOver, M
 use Rattle.panel_desk.specs.Boards.{Notes, shown_anew}
 use Rattle.station_panel.specs.Shown.{fault_lines}
 
--- a panel whose time is over ends at a reading so many milliseconds behind the first, or more
+-- a panel whose time is over ends at a reading so many milliseconds after the first, or more
 abbrev pub IsOver : ℕ → ℕ → ℕ → Ending → Type 0
 IsOver for_ms first last TimeIsOver = for_ms ≤ (last - first) / 1000
 IsOver for_ms first last MemoryIsFull = Unit {0}
@@ -55,13 +55,13 @@ module _ {Station State Network Net : Type 0} (does : Behaviour State) (told : N
         jammed = (faults_after old.desk.waiting old.faults).jammed;
       })
 
-  -- What is disturbed is disturbed as was asked for, and what came late and is due goes on. Behind that there is a round at a reading.
+  -- What is disturbed is disturbed as was asked for, and what came late and is due goes on. After that there is a round at a reading.
   abbrev pub Begun : ℕ → Moment Station Network → DisturbedView Network → Type 0
   Begun reading old net = Released told carries (heeded (faults_after old.desk.waiting old.faults) reading old.net) net
 
   -- There was a round, in which each command that waited at the desk was taken once, in the order in which they came. In it each node
   -- heard what the network answered it, and what each event added was handed to the network, or was lost or late (`Passes`). The
-  -- desk shows the picture of the station behind it, and what is disturbed; then it noted lines in its log.
+  -- desk shows the picture of the station after it, and what is disturbed; then it noted lines in its log.
   pub record IsLived (limit reading : ℕ) (old new : Moment Station Network) : Type 0 where
     pub faults : new.faults ≡ faults_after old.desk.waiting old.faults
     pub heard : List Hearing
@@ -111,7 +111,7 @@ module _ {Station State Network Net : Type 0} (does : Behaviour State) (told : N
         → Performs does (Passes told carries) site (doings reading old heard) (state old.station) (state station) mid net old.text text
         → IsLivedShort reading old station net text
 
-  -- Why a panel ended before its time, behind turns that it made whole: nothing more happened, or a further turn ended so.
+  -- Why a panel ended before its time, after turns that it made whole: nothing more happened, or a further turn ended so.
   pub data CutShort (last : Moment Station Network) (station : Station) (net : DisturbedView Network) (text : Option (List ℕ)) : Type 0 where
     at_once : station ≡ last.station → net ≡ last.net → text ≡ last.text → CutShort last station net text
     in_a_turn : (reading : ℕ) (served : DeskView) → Serves Answered last.desk served

@@ -1,7 +1,7 @@
 //! A panel is attended.
 
 ghost use Rattle.std.specs.Prelude.{◌≡◌, List, ℕ, None, IfOk, OnErr, OnOk, length};
-ghost use Rattle.station_network.specs.station_drive.Told.{Grows};
+ghost use Rattle.station_drive.specs.Told.{Grows};
 ghost use Rattle.station_panel.specs.DisturbedNetwork.{disturbance};
 ghost use Rattle.station_panel.specs.Turns.{Attended, CutShort, EndsSo, IsLived, IsLivedShort, Moment, Turns};
 
@@ -10,18 +10,15 @@ use crate::ending::{Ending, Limits};
 use crate::noting::Noting;
 use crate::seat::Seat;
 use panel_connections::{Connections, Listens};
-use panel_desk::{Desk, Pictured};
-use station_network::station_drive::{Clock, Datagrams, DriveFault, Station};
+use panel_desk::{Desk, MICROS, Pictured};
+use station_drive::{Clock, Datagrams, DriveFault, Station};
 use std::alloc::Global;
 use std::io::Write;
 use std::random::RandomSource;
 
-/// How many microseconds a millisecond has.
-const MICROS: u64 = 1000;
-
 /// Attends a panel up to its limits. After a first reading of the clock each further one makes a turn: the requests that have
 /// come are answered, what the commands ask for happens in a round of the station, each once and in order, and the desk shows
-/// the picture behind it.
+/// the picture after it.
 pub fn attend<S: Station + Pictured, N: Datagrams, C: Clock, W: Write, R: RandomSource, L: Listens>(
     rt: &R,
     alloc: Global,
@@ -93,7 +90,7 @@ fn attend_on<S: Station + Pictured, N: Datagrams, C: Clock, W: Write, R: RandomS
     Err(DriveFault::WriteFailed)
 }
 
-/// What a turn does behind the answers to its requests.
+/// What a turn does after the answers to its requests.
 fn turn<S: Station + Pictured, N: Datagrams, W: Write>(
     alloc: Global,
     station: &mut Noting<S>,

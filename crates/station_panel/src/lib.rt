@@ -1,5 +1,5 @@
 //! The engine of a signaller's panel: rounds in which requests are answered, what was asked for happens to a station, and the
-//! desk shows the picture of the station behind the round.
+//! desk shows the picture of the station after the round.
 #![tactic(auto)]
 
 mod asked;
@@ -27,4 +27,4 @@ pub use panel_desk::node_lines::{Authority, Known, LinkState};
 pub use panel_desk::{Desk, Mode, PageAsked, PanelLine, Pictured, open_desk};
 
 // What crates above need of the crates below.
-pub use station_network;
+pub use station_drive;

@@ -3,12 +3,10 @@
 ghost use Rattle.std.specs.Prelude.{OnOk};
 ghost use Rattle.panel_desk.specs.Boards.{Notes};
 
-use panel_desk::node_lines::ixl_rules::Command;
-use panel_desk::node_lines::ixl_rules::control_table::Checked;
-use panel_desk::node_lines::ixl_rules::control_table::layout::Layout;
-use panel_desk::node_lines::replay_lines::{AnswerText, write_event};
-use panel_desk::node_lines::simulator_event::{Answer, Event, Refused};
-use panel_desk::{Desk, DisturbanceText, PanelCommand};
+use panel_desk::{
+    Answer, AnswerText, Checked, Command, Desk, DisturbanceText, Event, Layout, PanelCommand,
+    Refused, write_event,
+};
 use std::alloc::{AllocError, Global};
 
 /// Notes each cancel of all routes, and each disturbance.

@@ -5,10 +5,8 @@ ghost use Rattle.panel_desk.specs.Boards.{shown_anew};
 ghost use Rattle.station_panel.specs.Shown.{cut_lines, fault_lines, jam_lines};
 
 use crate::faults::Faults;
-use panel_desk::node_lines::ixl_rules::control_table::layout::PointId;
-use panel_desk::node_lines::simulator_event::NodeId;
-use panel_desk::{Desk, PanelLine, Pictured, show_lines};
-use station_network::station_drive::Station;
+use panel_desk::{Desk, NodeId, PanelLine, Pictured, PointId, show_lines};
+use station_drive::Station;
 use std::alloc::{AllocError, Global};
 
 /// Shows the picture of a station anew, with what is disturbed, and how much memory is taken.

@@ -2,9 +2,9 @@
 
 ghost use Rattle.std.specs.Prelude.{◌≡◌, ◌++◌, ◌-◌, ◌/◌, ◌≤◌, [], List, ℕ, Some, IfOk, OnErr, OnOk, length};
 ghost use Rattle.panel_desk.specs.node_lines.replay_lines.Names.{node_names};
-ghost use Rattle.station_network.specs.station_drive.Doings.{Performs, Stops};
-ghost use Rattle.station_network.specs.station_drive.Drives.{beginning};
-ghost use Rattle.station_network.specs.station_drive.Rounds.{Hearing, round, run_after};
+ghost use Rattle.station_drive.specs.Doings.{Performs, Stops};
+ghost use Rattle.station_drive.specs.Drives.{beginning};
+ghost use Rattle.station_drive.specs.Rounds.{Hearing, round, run_after};
 ghost use Rattle.station_panel.specs.Asked.{events_asked, faults_after};
 ghost use Rattle.station_panel.specs.DisturbedNetwork.{DisturbedView, Passes, Released, disturbance, heeded};
 ghost use Rattle.station_panel.specs.Faults.{no_faults};
@@ -22,15 +22,10 @@ use crate::log_lines::{is_all_cancelled, note_answers, note_commands};
 use crate::memory::Memory;
 use crate::noting::Noting;
 use crate::picture_shown::{add_fault_lines, show_picture};
-use panel_desk::node_lines::replay_lines::node_count;
-use panel_desk::node_lines::simulator_event::Event;
-use panel_desk::{Desk, PanelCommand, Pictured};
-use station_network::station_drive::{Course, Datagrams, DriveFault, Station, begin, round};
+use panel_desk::{Desk, Event, MICROS, PanelCommand, Pictured};
+use station_drive::{Course, Datagrams, DriveFault, Station, begin, round};
 use std::alloc::{AllocError, Global};
 use std::io::Write;
-
-/// How many microseconds a millisecond has.
-const MICROS: u64 = 1000;
 
 /// How many places a board needs for the picture of a station, with what is disturbed.
 pub fn places<S: Station + Pictured>(alloc: Global, station: &S) -> Result<usize, AllocError>
@@ -38,7 +33,7 @@ pub fn places<S: Station + Pictured>(alloc: Global, station: &S) -> Result<usize
 {
     let mut lines = station.picture(alloc)?;
     let layout = station.table().layout();
-    let faults = Faults::none(alloc, node_count(layout), layout.points().len())?;
+    let faults = Faults::none(alloc, layout.nodes(), layout.points().len())?;
     add_fault_lines(&mut lines, &faults, 0, 0)?;
     Ok(lines.len())
 }
@@ -68,7 +63,7 @@ impl<'a> Seat<'a> {
         ensures faults { IfOk result (λ seat. seat.faults ≡ no_faults (length (node_names (S.site station.now))) (length (S.site station.now).points)) }
     {
         let layout = station.table().layout();
-        let faults = Faults::none(alloc, node_count(layout), layout.points().len())?;
+        let faults = Faults::none(alloc, layout.nodes(), layout.points().len())?;
         let course = begin(alloc, station, &[], first)?;
         Ok(Seat {
             course,
@@ -147,7 +142,7 @@ impl<'a> Seat<'a> {
         )
     }
 
-    /// What is seen behind a round is shown, and what was asked for is noted in the log.
+    /// What is seen after a round is shown, and what was asked for is noted in the log.
     pub(crate) fn show<S: Station + Pictured>(
         &mut self,
         alloc: Global,
@@ -189,14 +184,14 @@ impl<'a> Seat<'a> {
         )
     }
 
-    /// How many milliseconds a reading of the clock lies behind the first.
+    /// How many milliseconds a reading of the clock lies after the first.
     fn millis(&self, reading: u64) -> u64
         ensures { result ≡ (reading - self.now.first) / 1000 }
     {
         reading.saturating_sub(self.first) / MICROS
     }
 
-    /// Why the panel ends behind a turn at a reading of the clock, if it does.
+    /// Why the panel ends after a turn at a reading of the clock, if it does.
     pub(crate) fn ending(&self, reading: u64, limits: Limits) -> Option<Ending>
         ensures { result ≡ Some ends.TimeIsOver → limits.for_ms ≤ (reading - self.now.first) / 1000 }
     {

@@ -13,7 +13,7 @@ use crate::noting::Noting;
 use crate::seat::places;
 use panel_connections::{Listens, tell_address};
 use panel_desk::{Desk, PageAsked, Pictured, open_desk};
-use station_network::station_drive::{Clock, Datagrams, Station};
+use station_drive::{Clock, Datagrams, Station};
 use std::alloc::Global;
 use std::io::Write;
 use std::random::RandomSource;
@@ -49,7 +49,7 @@ pub fn serve<
     out: &mut O,
 ) -> Result<Ending, PanelFault>
     ensures done { IfOk result (λ ending. (opened : DeskView) × IsOpened (S.site station) (S.lines station) (page_of page.now) opened × (last : Moment S N) × (told : Attended S.does N.told N.carries (S.site station) S.state S.lines limits.memory station (undisturbed (S.site station) net) opened (W.contents recorder.old) (C.readings clock.old) (C.readings clock.new) last) × EndsSo limits.for_ms told.first told.readings ending × (last.text ≡ W.contents recorder.new)) }
-    // No turn was begun, or the station and its network were left so behind the turns that were made whole.
+    // No turn was begun, or the station and its network were left so after the turns that were made whole.
     ensures stopped { OnErr result ((recorder.new ≡ recorder.old) ⊎ ((opened : DeskView) × IsOpened (S.site station) (S.lines station) (page_of page.now) opened × (last : Moment S N) × Attended S.does N.told N.carries (S.site station) S.state S.lines limits.memory station (undisturbed (S.site station) net) opened (W.contents recorder.old) (C.readings clock.old) None last × (left : S) × (left_net : DisturbedView N) × CutShort S.does N.told N.carries (S.site station) S.state S.lines last left left_net (W.contents recorder.new))) }
 {
     let mut room = open_room(rt, alloc, station, net, page)?;

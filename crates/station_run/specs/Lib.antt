@@ -1,5 +1,3 @@
-pub mod Worlds
-pub mod Failures
 pub mod Runs
 pub mod Panel
 pub mod Panels

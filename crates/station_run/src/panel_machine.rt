@@ -2,19 +2,17 @@
 
 ghost use Rattle.std.specs.Prelude.{◌≡◌, ◌≤◌, []};
 ghost use Rattle.station_panel.specs.Opened.{page_of};
-ghost use Rattle.station_run.specs.Failures.{Tells};
+ghost use Rattle.station_record.specs.replay.station_check.Failures.{Failed};
 ghost use Rattle.station_run.specs.Inside.{IsOfRun};
 ghost use Rattle.station_run.specs.Panels.{IsAttended, IsAttendedOverSockets, IsAttendedSomehow, IsPanel};
 ghost use Rattle.station_run.specs.Runs.{CanRun, Explains};
-ghost use Rattle.station_run.specs.declared.failure.RunFailure.{RunFailure as Why};
 
-use crate::failure::RunFailure;
-use crate::machine::{Machine, fail, open};
+use crate::machine::{Machine, open};
+use crate::pictured_world::PicturedWorld;
 use crate::prepared::{Prepared, prepare};
-use station_panel::station_network::Sockets;
-use station_panel::station_network::station_drive::{Clock, Datagrams};
+use station_panel::station_drive::{Clock, Datagrams, Sockets};
 use station_panel::{Ending, Limits, Listens, Loopback, PageAsked, PanelFault, serve};
-use station_record::replay::station_check::Failure;
+use station_record::{Failure, tell};
 use std::alloc::Global;
 use std::fs::Files;
 use std::io::Write;
@@ -24,7 +22,7 @@ use std::time::Clock as Timer;
 
 /// What `station panel` is asked.
 #[derive(Clone, Copy, Debug)]
-pub struct PanelAsked<'a> {
+pub struct PanelOptions<'a> {
     pub page: PageAsked<'a>,
     pub limits: Limits,
 }
@@ -35,7 +33,7 @@ pub struct PanelAsked<'a> {
 /// told why.
 pub fn panel<R: Files + Net + Timer + RandomSource + AllocGlobal, O: Write, E: Write>(
     rt: &R,
-    asked: &PanelAsked<'_>,
+    asked: &PanelOptions<'_>,
     out: &mut O,
     err: &mut E,
 ) -> u8
@@ -44,17 +42,17 @@ pub fn panel<R: Files + Net + Timer + RandomSource + AllocGlobal, O: Write, E: W
     ensures faulty { (CanRun asked.now.page.layout.now [] → ⊥) → (result ≡ 1) × (out.new ≡ out.old) }
     ensures silent { result ≡ 0 → err.new ≡ err.old }
     // Only a beginning of the line was told where a write to `err` failed.
-    ensures explains { result ≡ 1 → (failure : Why) × Explains asked.now.page.layout.now [] failure × Tells failure (E.contents err.old) (E.contents err.new) }
+    ensures explains { result ≡ 1 → Failed (Explains asked.now.page.layout.now []) result (E.contents err.old) (E.contents err.new) }
 {
     let prepared = match prepare(rt.alloc(), asked.page.layout, "") {
         Ok(prepared) => prepared,
-        Err(failure) => return fail(RunFailure::Failed(failure), err),
+        Err(failure) => return tell(&failure, err),
     };
     match open(rt, prepared.nodes(), asked.page.record) {
         Ok(machine) => attend_machine(rt, prepared, machine, asked, out, err),
         Err(failure) => {
             drop(prepared);
-            fail(failure, err)
+            tell(&failure, err)
         }
     }
 }
@@ -64,14 +62,14 @@ fn attend_machine<R: Files + Net + Timer + RandomSource + AllocGlobal, O: Write,
     rt: &R,
     prepared: Prepared,
     machine: Machine<'_, R>,
-    asked: &PanelAsked<'_>,
+    asked: &PanelOptions<'_>,
     out: &mut O,
     err: &mut E,
 ) -> u8
     ensures status { result ≤ 1 }
     ensures done { result ≡ 0 → IsAttendedSomehow (page_of asked.now.page) asked.now.limits prepared.station }
     ensures silent { result ≡ 0 → err.new ≡ err.old }
-    ensures told { result ≡ 1 → (failure : Why) × IsOfRun failure × Tells failure (E.contents err.old) (E.contents err.new) }
+    ensures told { result ≡ 1 → Failed IsOfRun result (E.contents err.old) (E.contents err.new) }
 {
     let Machine {
         sockets,
@@ -103,14 +101,14 @@ fn attend_browsers<R: Net + RandomSource, C: Clock, W: Write, O: Write, E: Write
     sockets: Sockets,
     clock: &mut C,
     recorder: &mut W,
-    asked: &PanelAsked<'_>,
+    asked: &PanelOptions<'_>,
     out: &mut O,
     err: &mut E,
 ) -> u8
     ensures status { result ≤ 1 }
     ensures done { result ≡ 0 → IsAttendedOverSockets (page_of asked.now.page) asked.now.limits prepared.station sockets (C.readings clock.old) (C.readings clock.new) (W.contents recorder.old) (W.contents recorder.new) }
     ensures silent { result ≡ 0 → err.new ≡ err.old }
-    ensures told { result ≡ 1 → (failure : Why) × IsOfRun failure × Tells failure (E.contents err.old) (E.contents err.new) }
+    ensures told { result ≡ 1 → Failed IsOfRun result (E.contents err.old) (E.contents err.new) }
 {
     match Loopback::open(rt, asked.page.port) {
         Ok(mut listener) => {
@@ -132,7 +130,7 @@ fn attend_browsers<R: Net + RandomSource, C: Clock, W: Write, O: Write, E: Write
         Err(_) => {
             drop(prepared);
             drop(sockets);
-            fail(RunFailure::CannotRun, err)
+            tell(&Failure::CannotRun, err)
         }
     }
 }
@@ -155,20 +153,20 @@ pub fn attend_station<
     clock: &mut C,
     recorder: &mut W,
     listener: &mut L,
-    asked: &PanelAsked<'_>,
+    asked: &PanelOptions<'_>,
     out: &mut O,
     err: &mut E,
 ) -> u8
     ensures status { result ≤ 1 }
     ensures done { result ≡ 0 → IsAttended N.told N.carries (page_of asked.now.page) asked.now.limits prepared.station net (C.readings clock.old) (C.readings clock.new) (W.contents recorder.old) (W.contents recorder.new) }
     ensures silent { result ≡ 0 → err.new ≡ err.old }
-    ensures told { result ≡ 1 → (failure : Why) × IsOfRun failure × Tells failure (E.contents err.old) (E.contents err.new) }
+    ensures told { result ≡ 1 → Failed IsOfRun result (E.contents err.old) (E.contents err.new) }
 {
     let Prepared { station, script: _ } = prepared;
     let ended = serve(
         rt,
         alloc,
-        station,
+        PicturedWorld(station),
         net,
         clock,
         recorder,
@@ -179,8 +177,8 @@ pub fn attend_station<
     );
     match ended {
         Ok(ending) => tell_ending(ending, out),
-        Err(PanelFault::OutOfMemory) => fail(RunFailure::Failed(Failure::OutOfMemory), err),
-        Err(PanelFault::CannotRun) => fail(RunFailure::CannotRun, err),
+        Err(PanelFault::OutOfMemory) => tell(&Failure::OutOfMemory, err),
+        Err(PanelFault::CannotRun) => tell(&Failure::CannotRun, err),
     }
 }
 

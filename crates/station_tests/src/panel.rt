@@ -3,9 +3,9 @@
 
 use crate::panel_bench::{Asks, Sevens, Visit, Visits, count, has, page};
 use crate::run_bench::{SMALL, is_same};
-use station_panel::station_network::{MemoryNetwork, SteppingClock};
+use station_panel::station_drive::{MemoryNetwork, SteppingClock};
 use station_panel::{Limits, Listens, Loopback};
-use station_run::{PanelAsked, attend_station, prepare};
+use station_run::{PanelOptions, attend_station, prepare};
 use std::alloc::Global;
 use std::cell::RefCell;
 use std::io::{Read, Write};
@@ -13,8 +13,8 @@ use std::net::{Net, TcpStream};
 use std::process::Abort;
 
 /// What a panel is asked in a test, at a port.
-fn asked<'a>(port: u16, for_ms: u64) -> PanelAsked<'a> {
-    PanelAsked {
+fn asked<'a>(port: u16, for_ms: u64) -> PanelOptions<'a> {
+    PanelOptions {
         page: page(port),
         limits: Limits {
             for_ms,
@@ -51,7 +51,7 @@ fn attend_small<L: Listens>(
     alloc: Global,
     listener: &mut L,
     record: &mut Vec<u8>,
-    asked: &PanelAsked<'_>,
+    asked: &PanelOptions<'_>,
 ) -> u8 {
     let prepared = prepare(alloc, SMALL, "").expect(rt, "a station");
     let (mut out, mut err) = (Vec::new(alloc), Vec::new(alloc));

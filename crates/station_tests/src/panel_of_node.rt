@@ -5,7 +5,7 @@ use crate::run_bench::SMALL;
 use node_network::MemoryOutside;
 use node_panel::{Heard, attend_node};
 use station_panel::{Desk, Pictured, open_desk};
-use station_run::station_record::replay::station_check::table_of;
+use station_run::table_of;
 use std::alloc::Global;
 use std::cell::RefCell;
 use std::process::Abort;

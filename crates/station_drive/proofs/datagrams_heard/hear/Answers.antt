@@ -5,7 +5,7 @@ use Rattle.station_drive.proofs.Composed.{performs_asking, performs_next, perfor
 use Rattle.station_drive.proofs.Rows.{comings-push}
 use Rattle.station_drive.proofs.datagrams_heard.hear.Goals as goal
 
--- what it hears behind the cut is nothing
+-- what it hears after the cut is nothing
 pub returns-in_err-deliver-clause-stopped : goal.returns-in_err-deliver-clause-stopped
 returns-in_err-deliver-clause-stopped g c =
     let before = c.loop.invariant in

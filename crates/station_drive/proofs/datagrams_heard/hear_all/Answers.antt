@@ -6,7 +6,7 @@ use Rattle.station_drive.proofs.Composed.{performs_next, stopped, stops_before, 
 use Rattle.station_drive.proofs.Rows.{hearings-push, silent_rest}
 use Rattle.station_drive.proofs.datagrams_heard.hear_all.Goals as goal
 
--- what the nodes hear behind the cut is nothing
+-- what the nodes hear after the cut is nothing
 pub returns-in_err-hear-clause-stopped : goal.returns-in_err-hear-clause-stopped
 returns-in_err-hear-clause-stopped g c =
     let s = g.S.Station in
@@ -17,7 +17,7 @@ returns-in_err-hear-clause-stopped g c =
     let count = before.1 in
     let more = length_push before.0 last.0 in
     let inside = c.loop-node-test.true in
-    let counted : c.node_count-node-end.result ≡ length (node_names site) = c.node_count-node-end.ensures ∙ ap (λ p. length (node_names p)) (c.layout.ensures.entries ∙ c.table.ensures) in
+    let counted : c.nodes-node-end.result ≡ length (node_names site) = c.nodes-node-end.ensures.names ∙ ap (λ p. length (node_names p)) (c.layout.ensures.entries ∙ c.table.ensures) in
     let few : length so_far ≤ length (node_names site) = omega (arith, count, more, inside, counted) in
     let all = silent_rest so_far (length (node_names site)) few in
     stopped c.from_residual.result (

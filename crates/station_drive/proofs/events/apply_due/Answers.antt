@@ -13,7 +13,7 @@ use Rattle.station_drive.proofs.events.apply_due.Goals.{then-passed-time+else-sc
 pub loop-place-init : goal.loop-place-init
 loop-place-init g c = ([], refl, performs_none _ _ _, refl)
 
--- in a script in order none is due behind a line that isn't
+-- in a script in order none is due after a line that isn't
 pub returns-then-script-clause-done : goal.returns-then-script-clause-done
 returns-then-script-clause-done g c =
     let lines = c.args.script.now.lines.now in

@@ -16,7 +16,7 @@ returns-in_err-perform-clause-stopped g c =
     let node = c.loop-node.node in
     let nodes : ℕ = length (node_names site) in
     let inside = c.loop-node-test.true in
-    let counted : c.node_count-node-end.result ≡ nodes = c.node_count-node-end.ensures ∙ ap (λ p. length (node_names p)) (c.layout.ensures.entries ∙ c.table.ensures) in
+    let counted : c.nodes-node-end.result ≡ nodes = c.nodes-node-end.ensures.names ∙ ap (λ p. length (node_names p)) (c.layout.ensures.entries ∙ c.table.ensures) in
     let behind = ticks_behind (node + 1) (nodes - (node + 1)) in
     let all : nodes - (node + 1) + (node + 1) ≡ nodes = omega (arith, inside, counted) in
     stopped c.from_residual.result
@@ -33,6 +33,6 @@ pub returns-clause-done : goal.returns-clause-done
 returns-clause-done g c =
     let s = g.S.Station in
     let site = s.site c.args.station.now in
-    let counted : c.node_count-node-end.result ≡ length (node_names site) = c.node_count-node-end.ensures ∙ ap (λ p. length (node_names p)) (c.layout.ensures.entries ∙ c.table.ensures) in
-    let reached : c.loop-node.node ≡ c.node_count-node-end.result = omega arith in
+    let counted : c.nodes-node-end.result ≡ length (node_names site) = c.nodes-node-end.ensures.names ∙ ap (λ p. length (node_names p)) (c.layout.ensures.entries ∙ c.table.ensures) in
+    let reached : c.loop-node.node ≡ c.nodes-node-end.result = omega arith in
     performs_same (ap (λ n. map Applying (ticks n)) (reached ∙ counted)) c.loop-node.invariant.0

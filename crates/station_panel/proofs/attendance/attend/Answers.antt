@@ -1,6 +1,6 @@
 use Rattle.std.proofs.Common.{◌∷◌, ℕ, [], length, refl, subst}
 use Rattle.panel_desk.specs.node_lines.replay_lines.Names.{node_names}
-use Rattle.station_network.specs.station_drive.Drives.{beginning}
+use Rattle.station_drive.specs.Drives.{beginning}
 use Rattle.station_panel.specs.DisturbedNetwork.{disturbance}
 use Rattle.station_panel.specs.Faults.{no_faults}
 use Rattle.station_panel.specs.Turns.{EndsSo, at_once, begins}

@@ -1,6 +1,6 @@
 use Rattle.std.proofs.Common.{◌≡◌, ◌∙◌, [], ◌∷◌, ◌++◌, length, refl, ap, subst}
 use Rattle.panel_desk.specs.node_lines.layout.Entries.{Site}
-use Rattle.station_network.specs.station_drive.Rounds.{RunSoFar}
+use Rattle.station_drive.specs.Rounds.{RunSoFar}
 use Rattle.station_panel.specs.DisturbedNetwork.{disturbance}
 use Rattle.station_panel.specs.Turns.{IsLived, IsLivedShort, Moment, at_once, begins, goes_on, in_a_turn}
 use Rattle.station_panel.proofs.Readings.{as_many, grows_none, grows_on}

@@ -1,5 +1,5 @@
 use Rattle.std.proofs.Common.{◌≡◌, ℕ, List, length}
-use Rattle.station_network.specs.station_drive.Told.{Grows}
+use Rattle.station_drive.specs.Told.{Grows}
 use Rattle.station_panel.specs.DisturbedNetwork.{disturbance}
 use Rattle.station_panel.specs.Turns.{Turns}
 use Rattle.station_panel.proofs.attendance.attend_on.Given as goal

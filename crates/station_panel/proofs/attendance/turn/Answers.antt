@@ -1,8 +1,8 @@
 use Rattle.std.proofs.Common.{◌∙◌, List, ◌++◌, length, refl, sym, ap, subst}
 use Rattle.panel_desk.specs.Answers.{DeskView}
 use Rattle.panel_desk.specs.node_lines.layout.Entries.{RouteEntry, Site}
-use Rattle.station_network.specs.station_drive.Doings.{Doing, Performs, Stops}
-use Rattle.station_network.specs.station_drive.Rounds.{RunSoFar, run_after}
+use Rattle.station_drive.specs.Doings.{Doing, Performs, Stops}
+use Rattle.station_drive.specs.Rounds.{RunSoFar, run_after}
 use Rattle.station_panel.specs.Faults.{FaultsView}
 use Rattle.panel_desk.specs.Boards.{Notes, shown_anew}
 use Rattle.station_panel.specs.Shown.{fault_lines}

@@ -1,6 +1,5 @@
 use Rattle.std.proofs.KnownBytes.{Appends-nil}
 use Rattle.station_record.specs.replay.station_check.declared.failure.Failure.TheVariants.{NotWritten}
-use Rattle.station_run.specs.declared.failure.RunFailure.TheVariants.{Failed}
 use Rattle.station_run.proofs.PanelWorlds.{turns_come}
 use Rattle.station_run.proofs.panel_machine.attend_station.Goals as goal
 
@@ -11,4 +10,4 @@ returns-in-Ok-clause-done g c = λ zero.
 
 -- the word of why it ended couldn't be written
 pub returns-in-Ok-clause-told : goal.returns-in-Ok-clause-told
-returns-in-Ok-clause-told g c = λ one. (Failed NotWritten, tt, (0, Appends-nil _))
+returns-in-Ok-clause-told g c = λ one. (NotWritten, (tt, one), (0, Appends-nil _))

@@ -1,0 +1,17 @@
+pub mod WorkFold
+pub mod WorkTurn
+pub mod WorkTalk
+pub mod WorkOpens
+pub mod WorkAsks
+pub mod WorkJoins
+pub mod WorkAnswered
+pub mod WorkNew
+pub mod WorkRun
+pub mod WorkFates
+pub mod WorkEarly
+pub mod WorkStays
+pub mod WorkSum
+pub mod WorkBridge
+pub mod WorkRecovers
+pub mod WorkGood
+pub mod WorkPassed

@@ -1,0 +1,6 @@
+pub mod FallsLists
+pub mod FallsCalls
+pub mod FallsGoes
+pub mod FallsEnters
+pub mod FallsEvents
+pub mod FallsAlways

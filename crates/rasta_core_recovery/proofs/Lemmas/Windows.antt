@@ -1,0 +1,10 @@
+pub mod WindowNumbers
+pub mod StaysIn
+pub mod Confirmed
+pub mod ConfirmingEvents
+pub mod ClientLeft
+pub mod ServerConfirmed
+pub mod ServerLeft
+pub mod ServerWindow
+pub mod Confirms
+pub mod ConfirmsAtOnce
