@@ -6,7 +6,7 @@ ghost use Rattle.node_panel.specs.Panels.{Explained, IsOpened, Stood, until};
 ghost use Rattle.panel_desk.specs.node_lines.layout.Entries.{Site};
 ghost use Rattle.station_check.specs.Report.{IsSound};
 
-use crate::attendance::attend_node;
+use crate::attendance::{Room, attend_node};
 use crate::failure::NodePanelFailure;
 use crate::heard::Heard;
 use node_network::{Caller, NodeClock};
@@ -102,35 +102,32 @@ fn attend_opened<R: Net + Timer + RandomSource + AllocGlobal, O: Write>(
     attend_node(
         rt,
         rt.alloc(),
-        table.layout(),
         &mut caller,
         &mut listener,
-        &mut room.heard,
-        &mut room.desk,
+        &mut room,
         asked.for_ms.unwrap_or(u64::MAX),
     )?;
     Ok(())
 }
 
-/// What was told, and the desk that shows it.
-#[derive(Drop)]
-struct Room {
-    heard: Heard,
-    desk: Desk,
-}
-
 /// Nothing was told yet, and a desk is opened that shows this.
-fn open_room<R: RandomSource>(
+fn open_room<'a, R: RandomSource>(
     rt: &R,
     alloc: Global,
-    table: &Checked,
+    table: &'a Checked,
     page: &PageAsked<'_>,
-) -> Result<Room, NodePanelFailure>
+) -> Result<Room<'a>, NodePanelFailure>
+    ensures layout { IfOk result (λ room. room.layout.now ≡ table.now) }
     ensures heard { IfOk result (λ room. room.heard ≡ unheard table.now) }
     ensures desk { IfOk result (λ room. IsOpened table.now page.now room.desk) }
 {
-    let heard = Heard::nothing(alloc, table.layout())?;
+    let layout = table.layout();
+    let heard = Heard::nothing(alloc, layout)?;
     let places = heard.picture(alloc)?.len();
     let desk = open_desk(rt, alloc, table.copy(alloc)?, places, page)?;
-    Ok(Room { heard, desk })
+    Ok(Room {
+        layout,
+        heard,
+        desk,
+    })
 }

@@ -1,5 +1,6 @@
 pub mod Lines
 pub mod State
+pub mod Abouts
 pub mod Pages
 pub mod Seen
 pub mod CommandLines

@@ -3,7 +3,7 @@
 ghost use Rattle.std.specs.Prelude.{◌≡◌, IfOk, Some, string_bytes};
 ghost use Rattle.serde_json.specs.Read.{read};
 ghost use Rattle.serde_json.specs.View.{view};
-ghost use Rattle.panel_desk.specs.State.{about};
+ghost use Rattle.panel_desk.specs.Abouts.{about_of};
 
 use serde_json::{Value, json};
 use std::alloc::{AllocError, Global};
@@ -29,7 +29,7 @@ pub struct About<'a> {
 
 /// What doesn't change while a panel runs, as JSON.
 pub fn about_text(alloc: Global, told: &About<'_>) -> Result<String, AllocError>
-    ensures { IfOk result (λ text. read (string_bytes text) ≡ Some (about told.now.kind.now told.now.layout.now told.now.name.now told.now.record.now told.now.plan.now told.now.token.now told.now.version.now)) }
+    ensures { IfOk result (λ text. read (string_bytes text) ≡ Some (about_of told.now)) }
 {
     let value = about_value(alloc, told)?;
     let text = value.to_string(alloc)?;
@@ -38,7 +38,7 @@ pub fn about_text(alloc: Global, told: &About<'_>) -> Result<String, AllocError>
 
 /// The same as a value.
 fn about_value(alloc: Global, told: &About<'_>) -> Result<Value, AllocError>
-    ensures { IfOk result (λ value. view value ≡ about told.now.kind.now told.now.layout.now told.now.name.now told.now.record.now told.now.plan.now told.now.token.now told.now.version.now) }
+    ensures { IfOk result (λ value. view value ≡ about_of told.now) }
 {
     let About {
         name,

@@ -3,8 +3,8 @@
 ghost use Rattle.std.specs.Prelude.{◌≡◌, ◌++◌, [], IfOk, Some, codes, string_bytes};
 ghost use Rattle.std.specs.Fmt.{decimal};
 ghost use Rattle.serde_json.specs.Read.{read};
+ghost use Rattle.panel_desk.specs.Abouts.{told_once};
 ghost use Rattle.panel_desk.specs.Lines.{blank};
-ghost use Rattle.panel_desk.specs.State.{about};
 ghost use Rattle.panel_desk.specs.Answers.{access_at};
 
 use crate::desk::{Desk, OwnAccess};
@@ -45,7 +45,7 @@ pub fn open_desk<R: RandomSource>(
     ensures site { IfOk result (λ desk. desk.site ≡ table) }
     ensures access { IfOk result (λ desk. desk.access ≡ access_at asked.now.port desk.access.token) }
     ensures page { IfOk result (λ desk. desk.page ≡ asked.now.page.now) }
-    ensures station { IfOk result (λ desk. read desk.station ≡ Some (about asked.now.kind.now asked.now.layout.now table.station.name asked.now.record.now asked.now.plan.now desk.access.token asked.now.version.now)) }
+    ensures station { IfOk result (λ desk. read desk.station ≡ Some (told_once asked.now table.station.name desk.access.token)) }
     ensures board { IfOk result (λ desk. desk.board ≡ blank places) }
     ensures waiting { IfOk result (λ desk. desk.waiting ≡ []) }
 {
@@ -85,7 +85,7 @@ fn told_once(
     asked: &PageAsked<'_>,
     token: &str,
 ) -> Result<Bytes, AllocError>
-    ensures { IfOk result (λ station. read station ≡ Some (about asked.now.kind.now asked.now.layout.now name.now asked.now.record.now asked.now.plan.now token.now asked.now.version.now)) }
+    ensures { IfOk result (λ station. read station ≡ Some (told_once asked.now name.now token.now)) }
 {
     let told = About {
         name,

@@ -23,6 +23,13 @@ recorded_line (Some line) answer = line ++ (codes " = " ++ (answer ++ codes "\n"
 
 -- ---- what comes of doings
 
+-- an engine, as far as it is known: the layout of its station, how the station is, what the network tells, and the text of the record
+pub record EngineState (State Net : Type 0) : Type 0 where
+  pub site : Site
+  pub state : State
+  pub net : Net
+  pub text : Option (List ℕ)
+
 module _ {State : Type 0} (does : Behaviour State) where
   abbrev pub after_doing : State → Doing → State
   after_doing state (Asking node heard) = state
@@ -55,20 +62,21 @@ module _ {State : Type 0} (does : Behaviour State) where
   text_of site state [] = []
   text_of site state (doing ∷ doings) = line_of_doing site state doing ++ text_of site (after_doing state doing) doings
 
-  -- These were done: the station, and what the network and the record tell, are as they come of it.
-  pub record Performs {Net : Type 0} (carries : Net → Call → Net → Type 0) (site : Site) (doings : List Doing) (old new : State) (net_old net_new : Net) (text_old text_new : Option (List ℕ)) : Type 0 where
-    pub state_is : new ≡ state_after old doings
-    pub called : Carried carries net_old net_new (calls_of old doings)
-    pub written : Appends text_old text_new (text_of site old doings)
+  -- An engine did these: its station, and what its network and its record tell, are as they come of it.
+  pub record Performs {Net : Type 0} (carries : Net → Call → Net → Type 0) (doings : List Doing) (old new : EngineState State Net) : Type 0 where
+    pub same_site : new.site ≡ old.site
+    pub state_is : new.state ≡ state_after old.state doings
+    pub called : Carried carries old.net new.net (calls_of old.state doings)
+    pub written : Appends old.text new.text (text_of old.site old.state doings)
 
-  -- A beginning of these was done, and then it was given up: the first `count` were done, and nothing after them. The station,
-  -- and what the network tells, are as they come of it. The record has the lines of all that was done, of the last perhaps only a
-  -- beginning.
-  pub record Stops {Net : Type 0} (carries : Net → Call → Net → Type 0) (site : Site) (doings : List Doing) (old new : State) (net_old net_new : Net) (text_old text_new : Option (List ℕ)) : Type 0 where
+  -- An engine did a beginning of these, and then it gave up: the first `count` were done, and nothing after them. The station, and what
+  -- the network tells, are as they come of it. The record has the lines of all that was done, of the last perhaps only a beginning.
+  pub record Stops {Net : Type 0} (carries : Net → Call → Net → Type 0) (doings : List Doing) (old new : EngineState State Net) : Type 0 where
+    pub same_site : new.site ≡ old.site
     pub count : ℕ
     pub within : count ≤ length doings
-    pub state_is : new ≡ state_after old (take count doings)
-    pub called : Carried carries net_old net_new (calls_of old (take count doings))
+    pub state_is : new.state ≡ state_after old.state (take count doings)
+    pub called : Carried carries old.net new.net (calls_of old.state (take count doings))
     pub taken : ℕ
-    pub written : Appends text_old text_new (take taken (text_of site old (take count doings)))
-    pub lines : length (text_of site old (take (count - 1) doings)) ≤ taken
+    pub written : Appends old.text new.text (take taken (text_of old.site old.state (take count doings)))
+    pub lines : length (text_of old.site old.state (take (count - 1) doings)) ≤ taken

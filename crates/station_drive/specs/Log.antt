@@ -1,6 +1,7 @@
 -- What networks tell of their calls.
-use Rattle.std.specs.Prelude.{List, [], ◌∷◌, Bool, true, false, Option, Some, None}
+use Rattle.std.specs.Prelude.{List, [], ◌∷◌, map, Bool, true, false, Option, Some, None}
 use Rattle.station_drive.specs.Told.{Call, Sends, Asks, Datagram, Grows, Nothing, Failed}
+use Rattle.station_drive.specs.declared.log.Log.{Log}
 use Rattle.station_drive.specs.declared.log.NetCall.{NetCall}
 use Rattle.station_drive.specs.declared.log.NetCall.TheVariants as call
 
@@ -14,6 +15,10 @@ call_of (call.Failed node) = Asks node Failed
 abbrev pub so_far : {A : Type 0} → Bool → List A → Option (List A)
 so_far true all = Some all
 so_far false all = None
+
+-- what a log tells
+abbrev pub told_by : Log → Option (List Call)
+told_by log = so_far log.tells (map call_of log.calls.items)
 
 -- what is told grows by a call
 abbrev pub grows_by : Option (List Call) → Call → Option (List Call) → Type 0

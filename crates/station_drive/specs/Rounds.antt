@@ -125,18 +125,20 @@ ticks (suc node) = ticks node ++ Tick (record { 0 = node }) ∷ []
 abbrev pub passed : RunSoFar → ℕ → ℕ
 passed so_far reading = (reading - so_far.first) / 1000
 
+-- time goes on, at equal rates
+abbrev pub time_passes : Site → ℕ → Event
+time_passes site elapsed = Time elapsed (replicate (length (node_names site)) elapsed)
+
 -- Time goes on at equal rates; each node hears; the lines of the script that are due; what was asked for; points reach their end
 -- positions; each node ticks.
 abbrev pub round : Site → RunSoFar → RoundHeard → List Doing
 round site so_far one =
-    let elapsed = one.reading - so_far.reading
-    in let nodes = length (node_names site)
-    in Applying (Time elapsed (replicate nodes elapsed))
+    Applying (time_passes site (one.reading - so_far.reading))
     ∷ (hearings 0 one.heard
     ++ (map Applying (due (passed so_far one.reading) so_far.left)
     ++ (map Applying one.asked
     ++ (map Applying (reaches one.jammed one.reading 0 so_far.drives)
-    ++ map Applying (ticks nodes)))))
+    ++ map Applying (ticks (length (node_names site)))))))
 
 -- how far a run has come after a round at this reading that left the station so
 abbrev pub run_after : {State : Type 0} → Behaviour State → State → RunSoFar → ℕ → RunSoFar

@@ -10,6 +10,7 @@ mod course;
 mod datagrams;
 mod datagrams_heard;
 mod datagrams_waiting;
+mod engine;
 mod events;
 mod events_performed;
 mod failures_counted;
@@ -28,13 +29,13 @@ pub use calls_told::calls_are_told_in_their_order;
 pub use clock::Clock;
 pub use course::Course;
 pub use datagrams::{Datagrams, NetFault};
+pub use engine::Engine;
 pub use fault::DriveFault;
 pub use laws::no_line_that_is_due_is_left;
 pub use log::NetCall;
 pub use memory_clock::SteppingClock;
 pub use network::MemoryNetwork;
 pub use round_clock::RoundClock;
-pub use rounds::{begin, drive, round};
 pub use sockets::{OpenFault, Sockets};
 
 // What crates above need of the crates below.

@@ -1,8 +1,8 @@
 //! What was asked of a network, and what it answered.
 
-ghost use Rattle.std.specs.Prelude.{◌≡◌, [], ◌∷◌, IfOk, map};
+ghost use Rattle.std.specs.Prelude.{◌≡◌, [], ◌∷◌, IfOk};
 ghost use Rattle.station_drive.specs.Told.{Call, Grows};
-ghost use Rattle.station_drive.specs.Log.{call_of, so_far};
+ghost use Rattle.station_drive.specs.Log.{call_of, told_by};
 
 use crate::simulator_event::NodeId;
 use std::alloc::AllocError;
@@ -31,7 +31,7 @@ pub(crate) struct Log {
 impl Log {
     /// Keeps a call, if memory was there for it.
     pub(crate) fn add(&mut self, call: Result<NetCall, AllocError>)
-        ensures { (one : Call) → IfOk call (λ kept. call_of kept ≡ one) → Grows (so_far self.old.tells (map call_of self.old.calls.items)) (so_far self.new.tells (map call_of self.new.calls.items)) (one ∷ []) }
+        ensures { (one : Call) → IfOk call (λ kept. call_of kept ≡ one) → Grows (told_by self.old) (told_by self.new) (one ∷ []) }
     {
         let Ok(call) = call else {
             self.tells = false;

@@ -1,8 +1,8 @@
 //! A network over memory.
 
-ghost use Rattle.std.specs.Prelude.{◌≡◌, [], IfOk, Some, map};
+ghost use Rattle.std.specs.Prelude.{◌≡◌, [], IfOk, Some};
 ghost use Rattle.station_drive.specs.Told.{Asks, Counts, Sends, heard_of};
-ghost use Rattle.station_drive.specs.Log.{call_of, so_far};
+ghost use Rattle.station_drive.specs.Log.{call_of, told_by};
 
 use crate::datagrams_waiting::Waiting;
 use crate::failures_counted::Counting;
@@ -34,7 +34,7 @@ impl Drop for MemoryNetwork {
 impl MemoryNetwork {
     /// A network that carries nothing yet. Its call of the number `failing` fails, counted from 1; none at 0.
     pub fn new(alloc: Global, failing: u64) -> MemoryNetwork
-        ensures { so_far result.log.tells (map call_of result.log.calls.items) ≡ Some [] }
+        ensures { told_by result.log ≡ Some [] }
     {
         MemoryNetwork {
             waiting: Waiting {
@@ -83,11 +83,11 @@ impl MemoryNetwork {
 impl Datagrams for MemoryNetwork {
     ghost use Rattle.std.specs.Prelude.{List, Option};
     ghost use Rattle.station_drive.specs.Told.{Call};
-    ghost use Rattle.station_drive.specs.Log.{grows_by};
+    ghost use Rattle.station_drive.specs.Log.{grows_by, told_by};
 
     ghost Told = { Option (List Call) };
 
-    ghost told = { λ network. so_far network.log.tells (map call_of network.log.calls.items) };
+    ghost told = { λ network. told_by network.log };
 
     ghost carries = { grows_by };
 

@@ -10,16 +10,15 @@ mod faults;
 mod log_lines;
 mod memory;
 mod noting;
+mod panel;
 mod picture_shown;
-mod seat;
 mod service;
 
-pub use attendance::attend;
 pub use disturbed::Disturbed;
 pub use ending::{Ending, Limits, PanelFault};
 pub use noting::Noting;
-pub use seat::places;
-pub use service::serve;
+pub use picture_shown::places;
+pub use service::{PanelOptions, Served, serve};
 
 // What a panel is made of.
 pub use panel_connections::{Listens, Loopback, tell_address};

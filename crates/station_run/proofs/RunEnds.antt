@@ -2,6 +2,7 @@
 use Rattle.std.proofs.Common.{◌≡◌, refl, rules, sym, subst, ℕ, List, Option, Result, Ok, Err}
 use Rattle.std.specs.Prelude.{IfErr, IsErrAnd, IsOk}
 use Rattle.station_record.specs.replay.simulator_event.declared.event.Event.{Event}
+use Rattle.station_panel.specs.station_drive.Doings.{EngineState}
 use Rattle.station_panel.specs.station_drive.Drives.{CutOff, Driven}
 use Rattle.station_panel.specs.station_drive.Told.{Call}
 use Rattle.station_panel.specs.station_drive.declared.fault.DriveFault.{DriveFault}
@@ -13,31 +14,27 @@ use Rattle.station_run.specs.Inside.{IsOfMachine, IsOfRun, of_drive}
 use Rattle.station_run.specs.Runs.{CanRun, EndsEarly, Explains, IsPrepared, cannot_run, lacks_memory, lacks_memory_at_its_end, not_told}
 use Rattle.station_record.specs.replay.World.{Played, worlds}
 
-module _ {Net : Type 0} {carries : Net → Call → Net → Type 0} {first : Played} {lines : List (ℕ × Event)} {for_ms : ℕ} {readings_old readings_new : Option (List ℕ)} {net_old net_new : Net} {text_old text_new : Option (List ℕ)} where
+module _ {Net : Type 0} {carries : Net → Call → Net → Type 0} {lines : List (ℕ × Event)} {for_ms : ℕ} {readings_old readings_new : Option (List ℕ)} {old new : EngineState Played Net} where
   -- a drive ended before its time
-  pub drive_ends : {last : Played} (fault : DriveFault)
-      → CutOff worlds carries first.sited.site lines for_ms first last readings_old readings_new net_old net_new text_old text_new
-      → EndsEarly carries first lines for_ms readings_old readings_new net_old net_new text_old text_new (of_drive fault)
+  pub drive_ends : (fault : DriveFault) → CutOff worlds carries lines for_ms readings_old readings_new old new → EndsEarly carries lines for_ms readings_old readings_new old new (of_drive fault)
   drive_ends drive.OutOfMemory cut = lacks_memory cut
   drive_ends drive.WriteFailed cut = cannot_run cut
 
   -- the picture wasn't told
-  pub picture_ends : {last : Played} (failure : Failure) → IsLate failure
-      → Driven worlds carries first.sited.site lines for_ms first last readings_old readings_new net_old net_new text_old text_new
-      → EndsEarly carries first lines for_ms readings_old readings_new net_old net_new text_old text_new failure
+  pub picture_ends : (failure : Failure) → IsLate failure → Driven worlds carries lines for_ms readings_old readings_new old new → EndsEarly carries lines for_ms readings_old readings_new old new failure
   picture_ends OutOfMemory late driven = lacks_memory_at_its_end driven
   picture_ends NotWritten late driven = not_told driven
   picture_ends other late driven = absurd late
 
   -- so it is where a call is answered with this failure
-  pub ended : {T W : Type 0} (tried : Result T Failure) (failure : Failure) (old new : W) → IsErrAnd tried (λ told. told ≡ failure)
-      → EndsEarly carries first lines for_ms readings_old readings_new net_old net_new text_old text_new failure → Leaves failure old new
-      → IfErr tried (λ why. EndsEarly carries first lines for_ms readings_old readings_new net_old net_new text_old text_new why × Leaves why old new)
-  ended (Ok answer) failure old new told ends leaves = absurd told
-  ended (Err other) failure old new told ends leaves =
-      subst (λ why. EndsEarly carries first lines for_ms readings_old readings_new net_old net_new text_old text_new why × Leaves why old new) (sym told) (ends, leaves)
+  pub ended : {T W : Type 0} (tried : Result T Failure) (failure : Failure) (out_old out_new : W) → IsErrAnd tried (λ told. told ≡ failure)
+      → EndsEarly carries lines for_ms readings_old readings_new old new failure → Leaves failure out_old out_new
+      → IfErr tried (λ why. EndsEarly carries lines for_ms readings_old readings_new old new why × Leaves why out_old out_new)
+  ended (Ok answer) failure out_old out_new told ends leaves = absurd told
+  ended (Err other) failure out_old out_new told ends leaves =
+      subst (λ why. EndsEarly carries lines for_ms readings_old readings_new old new why × Leaves why out_old out_new) (sym told) (ends, leaves)
 
-  pub early_is_of_run : {failure : Failure} → EndsEarly carries first lines for_ms readings_old readings_new net_old net_new text_old text_new failure → IsOfRun failure
+  pub early_is_of_run : {failure : Failure} → EndsEarly carries lines for_ms readings_old readings_new old new failure → IsOfRun failure
   early_is_of_run (cannot_run cut) = tt
   early_is_of_run (lacks_memory cut) = tt
   early_is_of_run (lacks_memory_at_its_end driven) = tt

@@ -1,4 +1,5 @@
 pub mod Runs
+pub mod StationRuns
 pub mod Panel
 pub mod Panels
 pub mod Inside

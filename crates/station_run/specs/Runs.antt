@@ -4,15 +4,18 @@ use Rattle.std.specs.Io.KnownBytes.{Appends}
 use Rattle.station_record.specs.replay.layout.Entries.{Site}
 use Rattle.station_record.specs.replay.replay_lines.Script.{script}
 use Rattle.station_record.specs.replay.simulator_event.declared.event.Event.{Event}
-use Rattle.station_record.specs.replay.simulator.World.{IsPicture}
 use Rattle.station_record.specs.replay.station_check.Report.{IsSound}
+use Rattle.station_record.specs.replay.simulator.World.{IsPicture, View}
+use Rattle.station_panel.specs.station_drive.declared.datagrams.Datagrams as networks
+use Rattle.station_panel.specs.station_drive.Doings.{EngineState}
 use Rattle.station_panel.specs.station_drive.Drives.{CutOff, Driven}
+use Rattle.station_panel.specs.station_drive.Engines.{EngineView}
 use Rattle.station_panel.specs.station_drive.Told.{Call}
-use Rattle.station_panel.specs.station_drive.Log.{anything}
+use Rattle.station_panel.specs.station_drive.Log.{Silent, anything}
 use Rattle.station_record.specs.replay.station_check.Failures.{ExplainsLines, ReadsLines}
 use Rattle.station_record.specs.replay.station_check.declared.failure.Failure.{Failure}
 use Rattle.station_record.specs.replay.station_check.declared.failure.Failure.TheVariants.{CannotRun, OutOfMemory, NotWritten}
-use Rattle.station_record.specs.replay.World.{AllSafe, IsFirst, Played, worlds}
+use Rattle.station_record.specs.replay.World.{AllSafe, IsFirst, Played, played, worlds}
 
 -- ---- the texts
 
@@ -35,28 +38,27 @@ ExplainsTexts layout text = ExplainsLines (λ site. script site text) layout
 
 -- ---- the run
 
+-- the engine of a world, as far as it is known
+abbrev pub state_of : {Network : Type 0} → (n : networks.Ghosts Network) → EngineView View Network → EngineState Played n.Told
+state_of n engine = record { site = engine.station.sited.site; state = played engine.station; net = n.told engine.net; text = engine.text }
+
 -- The station was driven for its time, and the picture of its last world was written. That world is safe.
-pub record IsRun {Net : Type 0} (carries : Net → Call → Net → Type 0) (first : Played) (lines : List (ℕ × Event)) (for_ms : ℕ) (readings_old readings_new : Option (List ℕ))
-    (net_old net_new : Net) (text_old text_new out_old out_new : Option (List ℕ)) : Type 0 where
-  pub last : Played
-  pub driven : Driven worlds carries first.sited.site lines for_ms first last readings_old readings_new net_old net_new text_old text_new
+pub record IsRun {Net : Type 0} (carries : Net → Call → Net → Type 0) (lines : List (ℕ × Event)) (for_ms : ℕ) (readings_old readings_new : Option (List ℕ))
+    (old new : EngineState Played Net) (out_old out_new : Option (List ℕ)) : Type 0 where
+  pub driven : Driven worlds carries lines for_ms readings_old readings_new old new
   pub picture : List ℕ
-  pub picture_is : IsPicture last.sited last.run picture
+  pub picture_is : IsPicture new.state.sited new.state.run picture
   pub written : Appends out_old out_new (picture ++ codes "\n")
 
 -- The station didn't run to its end.
-pub data EndsEarly {Net : Type 0} (carries : Net → Call → Net → Type 0) (first : Played) (lines : List (ℕ × Event)) (for_ms : ℕ) (readings_old readings_new : Option (List ℕ))
-    (net_old net_new : Net) (text_old text_new : Option (List ℕ)) : Failure → Type 0 where
+pub data EndsEarly {Net : Type 0} (carries : Net → Call → Net → Type 0) (lines : List (ℕ × Event)) (for_ms : ℕ) (readings_old readings_new : Option (List ℕ))
+    (old new : EngineState Played Net) : Failure → Type 0 where
   -- It was driven as for its time, but cut off, with a beginning of the record.
-  cannot_run : {last : Played} → CutOff worlds carries first.sited.site lines for_ms first last readings_old readings_new net_old net_new text_old text_new
-      → EndsEarly carries first lines for_ms readings_old readings_new net_old net_new text_old text_new CannotRun
-  lacks_memory : {last : Played} → CutOff worlds carries first.sited.site lines for_ms first last readings_old readings_new net_old net_new text_old text_new
-      → EndsEarly carries first lines for_ms readings_old readings_new net_old net_new text_old text_new OutOfMemory
+  cannot_run : CutOff worlds carries lines for_ms readings_old readings_new old new → EndsEarly carries lines for_ms readings_old readings_new old new CannotRun
+  lacks_memory : CutOff worlds carries lines for_ms readings_old readings_new old new → EndsEarly carries lines for_ms readings_old readings_new old new OutOfMemory
   -- It was driven for its time, but has no picture.
-  lacks_memory_at_its_end : {last : Played} → Driven worlds carries first.sited.site lines for_ms first last readings_old readings_new net_old net_new text_old text_new
-      → EndsEarly carries first lines for_ms readings_old readings_new net_old net_new text_old text_new OutOfMemory
-  not_told : {last : Played} → Driven worlds carries first.sited.site lines for_ms first last readings_old readings_new net_old net_new text_old text_new
-      → EndsEarly carries first lines for_ms readings_old readings_new net_old net_new text_old text_new NotWritten
+  lacks_memory_at_its_end : Driven worlds carries lines for_ms readings_old readings_new old new → EndsEarly carries lines for_ms readings_old readings_new old new OutOfMemory
+  not_told : Driven worlds carries lines for_ms readings_old readings_new old new → EndsEarly carries lines for_ms readings_old readings_new old new NotWritten
 
 -- ---- the whole
 
@@ -64,9 +66,9 @@ pub data EndsEarly {Net : Type 0} (carries : Net → Call → Net → Type 0) (f
 pub record RunsSomehow (first : Played) (lines : List (ℕ × Event)) (for_ms : ℕ) (out_old out_new : Option (List ℕ)) : Type 0 where
   pub readings_old : Option (List ℕ)
   pub readings_new : Option (List ℕ)
-  pub text_old : Option (List ℕ)
-  pub text_new : Option (List ℕ)
-  pub run : IsRun anything first lines for_ms readings_old readings_new tt tt text_old text_new out_old out_new
+  pub text : Option (List ℕ)
+  pub last : EngineState Played Silent
+  pub run : IsRun anything lines for_ms readings_old readings_new (record { site = first.sited.site; state = first; net = tt; text = text }) last out_old out_new
 
 -- Both texts are sound, and a station of them ran to its end.
 pub record IsWhole (layout text : List ℕ) (for_ms : ℕ) (out_old out_new : Option (List ℕ)) : Type 0 where

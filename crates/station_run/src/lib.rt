@@ -11,9 +11,9 @@ mod thing;
 mod watched;
 
 pub use machine::{RunOptions, run};
-pub use panel_machine::{PanelOptions, attend_station, panel};
-pub use prepared::{Prepared, prepare};
-pub use station_panel::{Limits, PageAsked};
+pub use panel_machine::{Attended, panel};
+pub use prepared::{Prepared, StationRun, prepare};
+pub use station_panel::{Limits, PageAsked, PanelOptions};
 
 // What crates above need of the crates below.
 pub use station_record;

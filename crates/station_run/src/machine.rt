@@ -7,9 +7,9 @@ ghost use Rattle.station_record.specs.replay.station_check.Failures.{Explained};
 ghost use Rattle.station_run.specs.Inside.{IsOfMachine, IsOfRun, IsOfSystem, of_opening};
 ghost use Rattle.station_run.specs.Runs.{CanRun, Explains, IsWhole, RunsSomehow};
 
-use crate::prepared::{Prepared, prepare};
+use crate::prepared::{StationRun, prepare};
 use crate::watched::Watched;
-use station_panel::station_drive::{OpenFault, RoundClock, Sockets};
+use station_panel::station_drive::{Clock, OpenFault, RoundClock, Sockets};
 use station_record::{Failure, tell};
 use std::fs::Files;
 use std::io::{BufWriter, Eprint, Write};
@@ -58,7 +58,17 @@ pub fn run<R: Files + Net + Timer + Eprint + AllocGlobal, O: Write, E: Write>(
         Err(failure) => return tell(&failure, err),
     };
     match open(rt, prepared.nodes(), asked.record) {
-        Ok(machine) => run_on(rt, prepared, machine, asked.for_ms, out, err, progress),
+        Ok(
+            Machine {
+                sockets,
+                recorder,
+                clock,
+            },
+        ) => {
+            let station = prepared.over(rt.alloc(), sockets, recorder);
+            let clock = Watched::new(clock, rt, progress);
+            run_watched(station, clock, asked.for_ms, out, err)
+        }
         Err(failure) => {
             drop(prepared);
             tell(&failure, err)
@@ -114,39 +124,22 @@ fn begin<'a, R: Files + Timer + AllocGlobal>(
     Ok((recorder, clock))
 }
 
-/// Drives a station by what was opened.
-fn run_on<R: Files + Timer + Eprint + AllocGlobal, O: Write, E: Write>(
-    rt: &R,
-    prepared: Prepared,
-    machine: Machine<'_, R>,
+/// Drives a station over sockets by a clock that is watched.
+fn run_watched<W: Write, C: Clock, P: Eprint, O: Write, E: Write>(
+    station: StationRun<Sockets, W>,
+    clock: Watched<'_, C, P>,
     for_ms: u64,
     out: &mut O,
     err: &mut E,
-    progress: bool,
 ) -> u8
     ensures status { result ≤ 1 }
-    ensures done { result ≡ 0 → RunsSomehow (played prepared.station) prepared.script.items for_ms (O.contents out.old) (O.contents out.new) }
+    ensures done { result ≡ 0 → RunsSomehow (played station.engine.station) station.script for_ms (O.contents out.old) (O.contents out.new) }
     ensures silent { result ≡ 0 → err.new ≡ err.old }
     ensures told { result ≡ 1 → Explained IsOfRun result out.old out.new (E.contents err.old) (E.contents err.new) }
 {
-    let Machine {
-        sockets,
-        recorder,
-        clock,
-    } = machine;
-    let (mut sockets, mut recorder) = (sockets, recorder);
-    let mut clock = Watched::new(clock, rt, progress);
-    let status = prepared.run(
-        rt.alloc(),
-        &mut sockets,
-        &mut clock,
-        for_ms,
-        &mut recorder,
-        out,
-        err,
-    );
+    let (mut station, mut clock) = (station, clock);
+    let status = station.run(&mut clock, for_ms, out, err);
     clock.end();
-    drop(sockets);
-    drop(recorder);
+    drop(station);
     status
 }

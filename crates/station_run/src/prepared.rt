@@ -6,14 +6,16 @@ ghost use Rattle.station_record.specs.replay.replay_lines.Names.{node_names};
 ghost use Rattle.station_record.specs.replay.simulator.World.{IsPicture};
 ghost use Rattle.station_record.specs.replay.station_check.Failures.{Explained, IsLate, Leaves};
 ghost use Rattle.station_run.specs.Inside.{of_drive};
-ghost use Rattle.station_run.specs.Runs.{CanRun, EndsEarly, ExplainsTexts, IsPrepared, IsRun};
+ghost use Rattle.station_run.specs.Runs.{CanRun, ExplainsTexts, IsPrepared};
+ghost use Rattle.station_run.specs.StationRuns.{HasEnded, HasRun};
 ghost use Rattle.station_record.specs.replay.World.{played};
 
-use station_panel::station_drive::{Clock, Datagrams, DriveFault, drive};
+use station_panel::station_drive::{Clock, Datagrams, DriveFault, Engine};
 use station_record::replay::{first_world, played_worlds_are_safe, read_script};
 use station_record::{Event, Failure, World, table_of, tell};
 use std::alloc::Global;
 use std::io::Write;
+use std::marker::Model;
 
 /// A station and its script, ready to run.
 #[derive(Drop)]
@@ -43,42 +45,83 @@ impl Prepared {
         self.station.table().layout().nodes()
     }
 
-    /// Drives the station for so many milliseconds of the clock, records its events with `recorder`, and writes its last
-    /// picture to `out`. The status is 0, or 1 where anything failed; `err` is then told why, unless the picture couldn't be
-    /// written.
-    pub fn run<N: Datagrams, C: Clock, W: Write, O: Write, E: Write>(
-        self,
-        alloc: Global,
-        net: &mut N,
+    /// The station over a network, with a record of its events.
+    pub fn over<N, W: Write>(self, alloc: Global, net: N, recorder: W) -> StationRun<N, W>
+        ensures { result ≡ record { engine = record { station = self.station; net = net; text = W.contents recorder }; script = self.script.items } }
+    {
+        let Prepared { station, script } = self;
+        let engine = Engine {
+            alloc,
+            station,
+            net,
+            recorder,
+        };
+        StationRun { engine, script }
+    }
+}
+
+/// A station with its script, over a network and with a record of its events.
+#[derive(Drop)]
+pub struct StationRun<N, W: Write> {
+    pub(crate) engine: Engine<World, N, W>,
+    pub(crate) script: Vec<(u64, Event)>,
+}
+
+impl<N, W: Write> Model for StationRun<N, W> {
+    ghost use Rattle.station_run.specs.StationRuns.{StationRunView};
+
+    ghost Value = { StationRunView N };
+
+    ghost view = { λ r. record { engine = r.engine; script = r.script.items } };
+}
+
+impl<N, W: Write> StationRun<N, W> {
+    /// Its network and its recorder, which are handed back.
+    pub fn into_outside(self) -> (N, W)
+        ensures net { result.0 ≡ self.engine.net }
+        ensures text { W.contents result.1 ≡ self.engine.text }
+    {
+        let StationRun { engine, script: _ } = self;
+        engine.into_outside()
+    }
+}
+
+impl<N: Datagrams, W: Write> StationRun<N, W> {
+    /// Drives the station for so many milliseconds of the clock, records its events, and writes its last picture to `out`. The
+    /// status is 0, or 1 where anything failed; `err` is then told why, unless the picture couldn't be written.
+    pub fn run<C: Clock, O: Write, E: Write>(
+        &mut self,
         clock: &mut C,
         for_ms: u64,
-        recorder: &mut W,
         out: &mut O,
         err: &mut E,
     ) -> u8
         ensures status { result ≤ 1 }
-        ensures done { result ≡ 0 → IsRun N.carries (played self.station) self.script.items for_ms (C.readings clock.old) (C.readings clock.new) (N.told net.old) (N.told net.new) (W.contents recorder.old) (W.contents recorder.new) (O.contents out.old) (O.contents out.new) }
+        ensures done { result ≡ 0 → HasRun N.Datagrams for_ms (C.readings clock.old) (C.readings clock.new) self.old self.new (O.contents out.old) (O.contents out.new) }
         ensures silent { result ≡ 0 → err.new ≡ err.old }
-        ensures told { result ≡ 1 → Explained (EndsEarly N.carries (played self.station) self.script.items for_ms (C.readings clock.old) (C.readings clock.new) (N.told net.old) (N.told net.new) (W.contents recorder.old) (W.contents recorder.new)) result out.old out.new (E.contents err.old) (E.contents err.new) }
+        ensures told { result ≡ 1 → Explained (HasEnded N.Datagrams for_ms (C.readings clock.old) (C.readings clock.new) self.old self.new) result out.old out.new (E.contents err.old) (E.contents err.new) }
     {
-        let Prepared { station, script } = self;
-        let mut station = station;
-        let gone = go(
-            alloc,
-            &mut station,
-            &script,
-            for_ms,
-            net,
-            clock,
-            recorder,
-            out,
-        );
-        drop(station);
-        drop(script);
-        match gone {
+        match self.go(clock, for_ms, out) {
             Ok(()) => 0,
             Err(failure) => tell(&failure, err),
         }
+    }
+
+    /// Drives the station, and writes its last picture.
+    fn go<C: Clock, O: Write>(
+        &mut self,
+        clock: &mut C,
+        for_ms: u64,
+        out: &mut O,
+    ) -> Result<(), Failure>
+        ensures done { OnOk result (HasRun N.Datagrams for_ms (C.readings clock.old) (C.readings clock.new) self.old self.new (O.contents out.old) (O.contents out.new)) }
+        ensures failed { IfErr result (λ failure. HasEnded N.Datagrams for_ms (C.readings clock.old) (C.readings clock.new) self.old self.new failure × Leaves failure out.old out.new) }
+    {
+        self.engine
+            .drive(clock, &self.script, for_ms)
+            .map_err(of_drive)?;
+        write_picture(self.engine.alloc, &self.engine.station, out)?;
+        Ok(())
     }
 }
 
@@ -90,25 +133,6 @@ fn of_drive(fault: DriveFault) -> Failure
         DriveFault::OutOfMemory => Failure::OutOfMemory,
         DriveFault::WriteFailed => Failure::CannotRun,
     }
-}
-
-/// Drives a station, and writes its last picture.
-fn go<N: Datagrams, C: Clock, W: Write, O: Write>(
-    alloc: Global,
-    station: &mut World,
-    script: &[(u64, Event)],
-    for_ms: u64,
-    net: &mut N,
-    clock: &mut C,
-    recorder: &mut W,
-    out: &mut O,
-) -> Result<(), Failure>
-    ensures done { OnOk result (IsRun N.carries (played station.old) script.now for_ms (C.readings clock.old) (C.readings clock.new) (N.told net.old) (N.told net.new) (W.contents recorder.old) (W.contents recorder.new) (O.contents out.old) (O.contents out.new)) }
-    ensures failed { IfErr result (λ failure. EndsEarly N.carries (played station.old) script.now for_ms (C.readings clock.old) (C.readings clock.new) (N.told net.old) (N.told net.new) (W.contents recorder.old) (W.contents recorder.new) failure × Leaves failure out.old out.new) }
-{
-    drive(alloc, station, net, clock, script, for_ms, recorder).map_err(of_drive)?;
-    write_picture(alloc, station, out)?;
-    Ok(())
 }
 
 /// Writes the picture of a station.

@@ -105,20 +105,19 @@ pub(crate) fn run_over_memory(rt: &impl Abort, alloc: Global, drive: Drive<'_>) 
         rt,
         "a station and its script",
     );
-    let mut net = MemoryNetwork::new(alloc, drive.failing);
+    let net = MemoryNetwork::new(alloc, drive.failing);
     let mut clock = HastyClock {
         latest: 0,
         steps: (0, drive.begins),
     };
-    let mut disk = Disk {
+    let disk = Disk {
         kept: Vec::new(alloc),
         left: drive.room,
     };
     let (mut out, mut err) = (Vec::new(alloc), Vec::new(alloc));
-    let for_ms = drive.for_ms;
-    let status = prepared.run(
-        alloc, &mut net, &mut clock, for_ms, &mut disk, &mut out, &mut err,
-    );
+    let mut station = prepared.over(alloc, net, disk);
+    let status = station.run(&mut clock, drive.for_ms, &mut out, &mut err);
+    let (net, disk) = station.into_outside();
     Left {
         status,
         record: disk.kept,

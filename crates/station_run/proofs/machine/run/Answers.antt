@@ -4,7 +4,7 @@ use Rattle.station_run.proofs.machine.run.Goals as goal
 
 pub returns-in-Ok-open-clause-explains : goal.returns-in-Ok-open-clause-explains
 returns-in-Ok-open-clause-explains g c = λ one.
-    let ended = c.run_on.ensures.told one
+    let ended = c.run_watched.ensures.told one
     in (ended.0, ((run_explains ended.0 (can_run c.in-Ok.ensures.prepared) ended.1.0.0, ended.1.0.1), ended.1.1), ended.2)
 
 pub returns-in-Err-open-clause-explains : goal.returns-in-Err-open-clause-explains

@@ -3,11 +3,11 @@ use Rattle.station_run.proofs.panel_machine.panel.Goals as goal
 
 pub returns-in-Ok-open-clause-done : goal.returns-in-Ok-open-clause-done
 returns-in-Ok-open-clause-done g c = λ zero.
-    record { first = c.in-Ok.prepared.station; lines = c.in-Ok.prepared.script.items; prepared = c.in-Ok.ensures.prepared; attended = c.attend_machine.ensures.done zero }
+    record { first = c.in-Ok.prepared.station; lines = c.in-Ok.prepared.script.items; prepared = c.in-Ok.ensures.prepared; attended = c.attend_browsers.ensures.done zero }
 
 pub returns-in-Ok-open-clause-explains : goal.returns-in-Ok-open-clause-explains
 returns-in-Ok-open-clause-explains g c = λ one.
-    let ended = c.attend_machine.ensures.told one
+    let ended = c.attend_browsers.ensures.told one
     in (ended.0, (run_explains ended.0 (can_run c.in-Ok.ensures.prepared) ended.1.0, ended.1.1), ended.2)
 
 pub returns-in-Err-open-clause-explains : goal.returns-in-Err-open-clause-explains
