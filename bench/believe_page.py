@@ -16,7 +16,7 @@ A contract is proved. What it says has to be read: its clauses, and the definiti
 
 WORLD = "crates/simulator/src/world.rt"
 NODE = "crates/station_node/src/process.rt"
-ORDER = "crates/node_safety/src/orders.rt"
+ORDER = "crates/node_theorem/src/orders.rt"
 
 # The parts of the page: a heading, what is said under it, and its clauses: a file, a function, and the names of clauses.
 PARTS = [

@@ -1,6 +1,7 @@
 //! What a step is made for, and what it answers.
 
-use ixl_state::{Command, Refusal, Verdict};
+use ixl_state::ixl_rules::rasta_core::Verdict;
+use ixl_state::ixl_rules::{Command, Refusal};
 
 /// What a step is made for.
 #[derive(Clone, Copy, Debug)]

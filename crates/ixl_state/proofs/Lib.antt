@@ -1,5 +1,4 @@
 pub mod Lists
-pub mod Keys
 pub mod Sections
 pub mod RouteChange
 pub mod LocksFreed

@@ -16,4 +16,3 @@ pub mod FaultDirectory
 pub mod Quiet
 pub mod Named
 pub mod Unknown
-pub mod NodePlaces

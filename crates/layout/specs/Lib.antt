@@ -1,5 +1,4 @@
 pub mod Entries
-pub mod Nodes
 pub mod Known
 pub mod Doubles
 pub mod NamesResolved

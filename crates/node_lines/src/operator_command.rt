@@ -4,7 +4,8 @@ ghost use Rattle.std.specs.Prelude.{◌≡◌};
 ghost use Rattle.replay_words.specs.Cut.{words};
 ghost use Rattle.node_lines.specs.Commands.{cancel, command_said, resume, set};
 
-use ixl_spec::{Command, Layout};
+use ixl_rules::Command;
+use ixl_rules::control_table::layout::Layout;
 use replay_lines::{route_named, route_word};
 use replay_words::{Fault, Words};
 use std::fmt;

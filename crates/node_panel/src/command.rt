@@ -6,12 +6,13 @@ ghost use Rattle.node_panel.specs.Panels.{Explained, IsOpened, Stood, until};
 ghost use Rattle.panel_desk.specs.node_lines.layout.Entries.{Site};
 ghost use Rattle.station_check.specs.Report.{IsSound};
 
-use crate::attendance::{Room, attend_node};
+use crate::attendance::attend_node;
 use crate::failure::NodePanelFailure;
 use crate::heard::Heard;
 use node_network::{Caller, NodeClock};
 use panel_connections::{Loopback, tell_address};
-use panel_desk::{Checked, Desk, PageAsked, Pictured, open_desk};
+use panel_desk::node_lines::ixl_rules::control_table::Checked;
+use panel_desk::{Desk, PageAsked, Pictured, open_desk};
 use station_check::{table_of, tell};
 use std::alloc::Global;
 use std::io::Write;
@@ -21,7 +22,7 @@ use std::time::Clock as Timer;
 
 /// What a panel of a node is asked.
 #[derive(Clone, Copy, Debug)]
-pub struct NodePanelOptions<'a> {
+pub struct Asked<'a> {
     pub page: PageAsked<'a>,
     /// The path of a record. None is written: the node writes one.
     pub record: Option<&'a str>,
@@ -36,7 +37,7 @@ pub struct NodePanelOptions<'a> {
 /// why.
 pub fn panel_of_node<R: Net + Timer + RandomSource + AllocGlobal, O: Write, E: Write>(
     rt: &R,
-    asked: &NodePanelOptions<'_>,
+    asked: &Asked<'_>,
     out: &mut O,
     err: &mut E,
 ) -> u8
@@ -49,7 +50,10 @@ pub fn panel_of_node<R: Net + Timer + RandomSource + AllocGlobal, O: Write, E: W
 {
     let table = match table_of(rt.alloc(), asked.page.layout) {
         Ok(table) => table,
-        Err(failure) => return tell(&failure, err),
+        Err(failure) => {
+            tell(&failure, err);
+            return 1;
+        }
     };
     match open(rt, asked, &table, out) {
         Ok(()) => 0,
@@ -63,7 +67,7 @@ pub fn panel_of_node<R: Net + Timer + RandomSource + AllocGlobal, O: Write, E: W
 /// Opens what the panel has outside.
 fn open<R: Net + Timer + RandomSource + AllocGlobal, O: Write>(
     rt: &R,
-    asked: &NodePanelOptions<'_>,
+    asked: &Asked<'_>,
     table: &Checked,
     out: &mut O,
 ) -> Result<(), NodePanelFailure>
@@ -88,7 +92,7 @@ fn open<R: Net + Timer + RandomSource + AllocGlobal, O: Write>(
 /// Opens the desk, tells where the page is, and attends the panel.
 fn attend_opened<R: Net + Timer + RandomSource + AllocGlobal, O: Write>(
     rt: &R,
-    asked: &NodePanelOptions<'_>,
+    asked: &Asked<'_>,
     table: &Checked,
     mut caller: Caller<'_, R>,
     mut listener: Loopback,
@@ -102,32 +106,35 @@ fn attend_opened<R: Net + Timer + RandomSource + AllocGlobal, O: Write>(
     attend_node(
         rt,
         rt.alloc(),
+        table.layout(),
         &mut caller,
         &mut listener,
-        &mut room,
+        &mut room.heard,
+        &mut room.desk,
         asked.for_ms.unwrap_or(u64::MAX),
     )?;
     Ok(())
 }
 
+/// What was told, and the desk that shows it.
+#[derive(Drop)]
+struct Room {
+    heard: Heard,
+    desk: Desk,
+}
+
 /// Nothing was told yet, and a desk is opened that shows this.
-fn open_room<'a, R: RandomSource>(
+fn open_room<R: RandomSource>(
     rt: &R,
     alloc: Global,
-    table: &'a Checked,
+    table: &Checked,
     page: &PageAsked<'_>,
-) -> Result<Room<'a>, NodePanelFailure>
-    ensures layout { IfOk result (λ room. room.layout.now ≡ table.now) }
+) -> Result<Room, NodePanelFailure>
     ensures heard { IfOk result (λ room. room.heard ≡ unheard table.now) }
     ensures desk { IfOk result (λ room. IsOpened table.now page.now room.desk) }
 {
-    let layout = table.layout();
-    let heard = Heard::nothing(alloc, layout)?;
+    let heard = Heard::nothing(alloc, table.layout())?;
     let places = heard.picture(alloc)?.len();
     let desk = open_desk(rt, alloc, table.copy(alloc)?, places, page)?;
-    Ok(Room {
-        layout,
-        heard,
-        desk,
-    })
+    Ok(Room { heard, desk })
 }

@@ -1,8 +1,8 @@
 //! An interlocking's end of a link and an object controller at the other, at one clock, and scripts of what both say.
 
 use crate::output::{Observed, Output};
-use object_host::{Hosted, Input, Parties, Sense};
-use rasta_core::{Inbox, Link, Millis, Outbox, Start};
+use object_host::{Hosted, Input, Sense};
+use rasta_core::{Inbox, Link, Millis, Outbox};
 use rasta_pdu::{Body, Datagram, Item, Items, Key};
 use sci_telegram::{Initialisation, Message, Name, Telegram, read, write};
 use std::alloc::Global;
@@ -110,18 +110,11 @@ fn telegram(rt: &impl Abort, sender: &str, receiver: &str, message: Message) -> 
 }
 
 fn hosted<C: Observed>(rt: &impl Abort, alloc: Global, object: C, version: u8) -> Hosted<C> {
-    let parties = Parties {
-        own: CONTROLLER,
-        partner: STATION,
-        own_name: name(rt, "OC1"),
-        peer_name: name(rt, "IXL1"),
-        key: KEY,
-    };
-    let start = Start {
-        first_sequence_number: 0,
-        now: MADE_AT,
-    };
-    let made = Hosted::new(alloc, parties, start, object, version);
+    let own = name(rt, "OC1");
+    let peer = name(rt, "IXL1");
+    let made = Hosted::new(
+        alloc, CONTROLLER, STATION, own, peer, KEY, 0, MADE_AT, object, version,
+    );
     made.expect(rt, "there is memory")
 }
 

@@ -1,11 +1,11 @@
-//! Nothing that an end sends in a connection falls after what it sent there before; and what it sent long ago is confirmed.
+//! Nothing that an end sends in a connection falls behind what it sent there before; and what it sent long ago is confirmed.
 
 ghost use Rattle.std.specs.Prelude.{List};
-ghost use Rattle.rasta_core_spec.specs.Each.{Each};
-ghost use Rattle.rasta_core_spec.specs.Events.{Event, May, MayRun, Start, happened, run, started};
-ghost use Rattle.rasta_core_spec.specs.Names.{AreNames, Names};
-ghost use Rattle.rasta_core_spec.specs.Run.{Ends, end_of};
-ghost use Rattle.rasta_core_spec.specs.identity.Role.{Role};
+ghost use Rattle.rasta_core_run.specs.Each.{Each};
+ghost use Rattle.rasta_core_run.specs.Events.{Event, May, MayRun, Start, happened, run, started};
+ghost use Rattle.rasta_core_run.specs.Names.{AreNames, Names};
+ghost use Rattle.rasta_core_run.specs.Run.{Ends, end_of};
+ghost use Rattle.rasta_core_run.specs.identity.Role.{Role};
 ghost use Rattle.rasta_core.specs.Invariant.{Timely};
 ghost use Rattle.rasta_core.specs.Ordered.{Ordered};
 ghost use Rattle.rasta_core_recovery.specs.Falls.{NothingFalls};
@@ -16,7 +16,7 @@ use rasta_core::{
     links_are_settled, one_connection, opening_is_new, outside_until_it_enters, own_connection,
     starts_in_time, what_is_taken,
 };
-use rasta_core_spec::{read_was_written, written_is_read};
+use rasta_core_run::{read_was_written, written_is_read};
 
 /// Nothing falls: while two ends are in a connection, neither the stamps of what each has sent in it, nor the counts that it confirms, nor
 /// the stamps that it returns fall from one of its datagrams to the next that may still be delivered; and each that its partner may still take
@@ -45,7 +45,7 @@ pub fn nothing_falls()
 }
 
 /// What waits was sent lately: of the PDUs that an end had sent 1800 ms ago or before, none has an item any more that waits to be confirmed, as long
-/// as both ends stay in the connection in which they were then. So it is after every list of events, and at both ends. For what waits is younger
+/// as both ends stay in the connection in which they were then. So it is behind every list of events, and at both ends. For what waits is younger
 /// than the own stamp that came back last: the PDU that returned that confirmed all that its sender had taken, and so what was sent before (*client*,
 /// *server*). An item that was asked for again counts from its last repetition. Where nothing was asked for again since, no more items wait than the
 /// end has given since: what it gave 1800 ms ago or before is confirmed (*given*).

@@ -1,12 +1,12 @@
 //! Recovery, for two ends that were just created and every list of events that may happen to them.
 
 ghost use Rattle.std.specs.Prelude.{◌≡◌, ℕ, suc, ◌+◌, ◌≤◌, ◌<◌, List, ◌++◌, drop, length};
-ghost use Rattle.rasta_core_spec.specs.Each.{Each};
-ghost use Rattle.rasta_core_spec.specs.Ends.{Sent};
-ghost use Rattle.rasta_core_spec.specs.Events.{Event, May, MayRun, Start, happened, run, started};
-ghost use Rattle.rasta_core_spec.specs.Names.{AreNames, Names};
-ghost use Rattle.rasta_core_spec.specs.Run.{Ends, later};
-ghost use Rattle.rasta_core_spec.specs.State.{confirmed_items};
+ghost use Rattle.rasta_core_run.specs.Each.{Each};
+ghost use Rattle.rasta_core_run.specs.Ends.{Sent};
+ghost use Rattle.rasta_core_run.specs.Events.{Event, May, MayRun, Start, happened, run, started};
+ghost use Rattle.rasta_core_run.specs.Names.{AreNames, Names};
+ghost use Rattle.rasta_core_run.specs.Run.{Ends, later};
+ghost use Rattle.rasta_core_run.specs.State.{confirmed_items};
 ghost use Rattle.rasta_core.specs.Invariant.{Timely};
 ghost use Rattle.rasta_core.specs.Ordered.{Ordered};
 ghost use Rattle.rasta_core_recovery.specs.Confirming.{Answers, AreIn, Confirming, FewLeft, FewWait, HasLeft, Owes};
@@ -22,10 +22,10 @@ use rasta_core::{
     links_are_settled, one_connection, opening_is_new, outside_until_it_enters, own_connection,
     starts_in_time, what_is_taken,
 };
-use rasta_core_spec::{read_was_written, written_is_read};
+use rasta_core_run::{read_was_written, written_is_read};
 
 /// Good rounds are events that may happen to two ends, one after another. So whatever is true after every list of events is true
-/// after good rounds.
+/// behind good rounds.
 pub fn good_rounds_may_happen()
     ensures may { (names : Names) (n : ℕ) (f : Flow) → MayRun names (events_of n f) f.ends }
     ensures lead { (n : ℕ) (f : Flow) → (good_rounds n f).ends ≡ run (events_of n f) f.ends }
@@ -55,7 +55,7 @@ pub fn two_ends_come_up()
 }
 
 /// And so they do whatever comes in the first of these rounds (`round_of`), of all that was sent by then: in any order, again and again,
-/// or never. Also what an end says as something comes to it may come in it at once. The good rounds after it are counted with it: after
+/// or never. Also what an end says as something comes to it may come in it at once. The good rounds behind it are counted with it: after
 /// each from the 1561st on both ends are up.
 pub fn two_ends_come_up_whatever_comes_first()
     ensures { (names : Names) (start : Start) (events : List Event) (due : List Sent) (n : ℕ) → AreNames names → MayRun names events (started names start)
@@ -79,7 +79,7 @@ pub fn two_ends_come_up_whatever_comes_first()
 
 /// Two ends that have come up are up again 6040 ms later at the latest, whenever one of them comes to the limit of PDUs in a
 /// connection: so from a good round from the 1561st on, till which no end came to it, each good round is one of two that are up,
-/// or has such a one at most 604 rounds after it.
+/// or has such a one at most 604 rounds behind it.
 pub fn gaps_are_short()
     ensures { (names : Names) (start : Start) (events : List Event) (passed m n : ℕ) → AreNames names → MayRun names events (started names start)
         → recovery_rounds ≤ m → StayBelowLimit m (flow_after names start events passed) → m ≤ n
@@ -101,7 +101,7 @@ pub fn gaps_are_short()
 }
 
 /// And gaps are rare. Where an end isn't up after a good round from the 1561st on, both are up after each round from 604 to
-/// 64,000,000,000 after it: for more than 20 years.
+/// 64,000,000,000 behind it: for more than 20 years.
 pub fn gaps_are_rare()
     ensures { (names : Names) (start : Start) (events : List Event) (passed m n k : ℕ) → AreNames names → MayRun names events (started names start)
         → recovery_rounds ≤ m → StayBelowLimit m (flow_after names start events passed) → m ≤ n
@@ -148,8 +148,8 @@ pub fn two_ends_at_work_come_up()
     connection_begins();
 }
 
-/// Two ends at work hand over what they are given: whatever has happened to them before, after each round at work from the 1561st
-/// on each end has taken all that the other had given after the round before, in the connection that both are in; and after that
+/// Two ends at work hand over what they are given: whatever has happened to them before, behind each round at work from the 1561st
+/// on each end has taken all that the other had given behind the round before, in the connection that both are in; and behind that
 /// one the client was up. So nothing that is given is lost or waits for long, as long as nothing closes an end and none comes
 /// to the limit of PDUs. In the first of these rounds the same may come.
 pub fn two_ends_at_work_hand_over()
@@ -176,7 +176,7 @@ pub fn two_ends_at_work_hand_over()
 }
 
 /// And what the other end has taken is confirmed to the client, where the server says something: whatever has happened to them before,
-/// where in a round at work from the 1562nd on the server accepts an item, then after the next round the client's link holds for
+/// where in a round at work from the 1562nd on the server accepts an item, then behind the next round the client's link holds for
 /// confirmed all that the server had taken as it accepted that.
 pub fn two_ends_at_work_confirm()
     ensures { (names : Names) (start : Start) (events : List Event) (passed : ℕ) (rounds : List (List Event)) (front : List Event) (item : List ℕ) (rest calls : List Event) → AreNames names
@@ -204,8 +204,8 @@ pub fn two_ends_at_work_confirm()
 }
 
 /// And what the client has taken is confirmed to the server, where the client says something: whatever has happened to them before,
-/// where in a round at work from the 1562nd on the client says something after some calls, then after the next round the server's link
-/// holds for confirmed all that the client had taken after those calls.
+/// where in a round at work from the 1562nd on the client says something behind some calls, then behind the next round the server's link
+/// holds for confirmed all that the client had taken behind those calls.
 pub fn clients_at_work_confirm()
     ensures { (names : Names) (start : Start) (events : List Event) (passed : ℕ) (rounds : List (List Event)) (front rest calls : List Event) → AreNames names
         → MayRun names events (started names start) → AreAtWork names rounds (flow_after names start events passed) → Each (Each LeavesOpen) rounds
@@ -231,7 +231,7 @@ pub fn clients_at_work_confirm()
     connection_begins();
 }
 
-/// And the client says something in each 30 rounds, so in each 300 ms: whatever has happened to them before, after a round at work from the
+/// And the client says something in each 30 rounds, so in each 300 ms: whatever has happened to them before, behind a round at work from the
 /// 1561st on and 30 more it has sent more PDUs in its connection than before these.
 pub fn clients_at_work_speak()
     ensures { (names : Names) (start : Start) (events : List Event) (passed : ℕ) (rounds more : List (List Event)) → AreNames names
@@ -258,8 +258,8 @@ pub fn clients_at_work_speak()
 }
 
 /// A client that is given nothing confirms all at once, by a heartbeat: where it says something in the second of two rounds at work, from the
-/// 1562nd on, and was given nothing in both, the server hears nothing in that round, and so holds no more for confirmed after it (*still*);
-/// and after the next it holds for confirmed all that the client had taken after that round (*all*).
+/// 1562nd on, and was given nothing in both, the server hears nothing in that round, and so holds no more for confirmed behind it (*still*);
+/// and behind the next it holds for confirmed all that the client had taken behind that round (*all*).
 pub fn quiet_clients_confirm_at_once()
     ensures still { (names : Names) (start : Start) (events : List Event) (passed : ℕ) (rounds : List (List Event)) (one two : List Event) → AreNames names
         → MayRun names events (started names start) → AreAtWork names rounds (flow_after names start events passed) → Each (Each LeavesOpen) rounds
@@ -306,7 +306,7 @@ pub fn wrong_clients_never_come_up()
 /// What an end takes confirms what its partner had taken when it gave that. So where a server never gives more items in its connection
 /// than it has taken and so many to spare, the items that wait of its client are no more than those that this has given beyond what it has
 /// taken, and as many to spare, while both are in the connection (*few*). It is so at the beginning (*starts*), and every event keeps
-/// it (*kept*), where the server keeps to that after the event. Where the server leaves and the client stays, all that the server gave
+/// it (*kept*), where the server keeps to that behind the event. Where the server leaves and the client stays, all that the server gave
 /// may still be taken: so what it gave and the client hadn't taken then, and as many to spare, bounds what waits from then on (*left*).
 pub fn what_is_taken_confirms()
     ensures starts { (names : Names) (start : Start) (spare : ℕ) → Confirming names spare (started names start) }
@@ -332,8 +332,8 @@ pub fn what_is_taken_confirms()
 
 /// What a server takes confirms what its client had taken when it gave that, too. So where a client never gives more items in its
 /// connection than it has taken and so many to spare, the items that wait of its server are no more than those that this has given beyond
-/// what it has taken, and as many to spare, while both are in the connection (*few*): at the beginning (*starts*), and after every event
-/// after which the client keeps to that (*kept*). Where the client leaves and the server stays, what the client gave and the server hadn't
+/// what it has taken, and as many to spare, while both are in the connection (*few*): at the beginning (*starts*), and behind every event
+/// behind which the client keeps to that (*kept*). Where the client leaves and the server stays, what the client gave and the server hadn't
 /// taken then, and as many to spare, bounds what waits from then on (*left*); and at every moment, also where the server has left (*ever*).
 pub fn what_a_server_takes_confirms()
     ensures starts { (names : Names) (start : Start) (spare : ℕ) → ServerConfirming names spare (started names start) }

@@ -1,10 +1,10 @@
 //! What a server takes and says in rounds at work tells.
 
 ghost use Rattle.std.specs.Prelude.{◌≤◌, ◌<◌, ℕ, List, ◌++◌, length};
-ghost use Rattle.rasta_core_spec.specs.Each.{Each};
-ghost use Rattle.rasta_core_spec.specs.Events.{Event, MayRun, Start, started};
-ghost use Rattle.rasta_core_spec.specs.Names.{AreNames, Names};
-ghost use Rattle.rasta_core_spec.specs.State.{confirmed_items};
+ghost use Rattle.rasta_core_run.specs.Each.{Each};
+ghost use Rattle.rasta_core_run.specs.Events.{Event, MayRun, Start, started};
+ghost use Rattle.rasta_core_run.specs.Names.{AreNames, Names};
+ghost use Rattle.rasta_core_run.specs.State.{confirmed_items};
 ghost use Rattle.rasta_core_recovery.specs.Replies.{StaysAtWork, in_round, speaking_rounds};
 ghost use Rattle.rasta_core_recovery.specs.Rounds.{flow_after};
 ghost use Rattle.rasta_core_recovery.specs.Work.{AreAtWork, LeavesOpen, StayBelow, recovery_rounds_at_work, work_round, work_rounds};
@@ -14,11 +14,11 @@ use rasta_core::{
     links_are_settled, one_connection, opening_is_new, outside_until_it_enters, own_connection,
     starts_in_time, what_is_taken,
 };
-use rasta_core_spec::{read_was_written, written_is_read};
+use rasta_core_run::{read_was_written, written_is_read};
 
 /// What a server takes in a round at work confirms what its client had taken by the end of the round before last, already in the midst of that
 /// round: whatever has happened to the two before, where the server has taken an item in the second of two rounds at work, from the 1562nd
-/// on, after some calls of it, then its link holds for confirmed after these all that the client had taken before the first.
+/// on, behind some calls of it, then its link holds for confirmed behind these all that the client had taken before the first.
 pub fn what_servers_take_at_work_confirms()
     ensures { (names : Names) (start : Start) (events : List Event) (passed : ℕ) (rounds : List (List Event)) (one front rest : List Event) → AreNames names
         → MayRun names events (started names start) → AreAtWork names rounds (flow_after names start events passed) → Each (Each LeavesOpen) rounds
@@ -45,7 +45,7 @@ pub fn what_servers_take_at_work_confirms()
     connection_begins();
 }
 
-/// A server says something in each 30 rounds, so in each 300 ms, as its client does: whatever has happened to the two before, after a round
+/// A server says something in each 30 rounds, so in each 300 ms, as its client does: whatever has happened to the two before, behind a round
 /// at work from the 1561st on and 30 more it has sent more PDUs in its connection than before these.
 pub fn servers_at_work_speak()
     ensures { (names : Names) (start : Start) (events : List Event) (passed : ℕ) (rounds more : List (List Event)) → AreNames names
@@ -72,7 +72,7 @@ pub fn servers_at_work_speak()
 }
 
 /// And what it says confirms what it has taken, whatever it is: whatever has happened to the two before, where the server says something in a
-/// round at work from the 1562nd on, then after the next round the client's link holds for confirmed all that the server had taken before.
+/// round at work from the 1562nd on, then behind the next round the client's link holds for confirmed all that the server had taken before.
 pub fn servers_at_work_confirm()
     ensures { (names : Names) (start : Start) (events : List Event) (passed : ℕ) (rounds : List (List Event)) (one two : List Event) → AreNames names
         → MayRun names events (started names start) → AreAtWork names rounds (flow_after names start events passed) → Each (Each LeavesOpen) rounds

@@ -1,3 +1,4 @@
+pub mod WorldAnswers
 pub mod Verdicts
 pub mod EventAnswers
 pub mod Noted

@@ -1,8 +1,3 @@
-mod Clocks
-mod Made
-mod Pairs
-mod Places
-mod DatagramsSent
 mod Below
 mod ContactReaches
 mod Few
@@ -15,4 +10,3 @@ mod Whole
 mod Within
 mod Promise
 mod AtRest
-mod WorldAnswers

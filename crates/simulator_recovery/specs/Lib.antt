@@ -32,4 +32,3 @@ pub mod UnheldPoints
 pub mod Answered
 pub mod OnceMoved
 pub mod Quiet
-pub mod inside

@@ -2,7 +2,8 @@
 
 use crate::layouts::SMALL;
 use crate::station::station;
-use simulator::{ClockSteps, Event, NodeId, World};
+use simulator::World;
+use simulator::simulator_run::simulator_event::{ClockSteps, Event, NodeId};
 use std::alloc::Global;
 use std::process::Abort;
 

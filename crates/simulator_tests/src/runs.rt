@@ -1,11 +1,12 @@
 //! Hostile runs of whole stations, each from its own seed.
 
-use crate::events::Hostile;
+use crate::events::{Hostile, node_count};
 use crate::layouts::{JUNCTION, LOOP, SMALL};
 use crate::station::station;
 use crate::tally::{Count, Tally};
 use crate::watch::Watch;
-use simulator::{Event, World};
+use simulator::World;
+use simulator::simulator_run::simulator_event::Event;
 use std::alloc::Global;
 use std::process::Abort;
 
@@ -32,7 +33,7 @@ fn begin_near_a_turn(
     watch: &mut Watch,
     tally: &mut Tally,
 ) {
-    for node in 0..world.table().layout().nodes() {
+    for node in 0..node_count(world.table().layout()) {
         apply(rt, world, &hostile.begin(node), watch, tally);
     }
 }

@@ -8,9 +8,8 @@ ghost use Rattle.station_decode.specs.inside.Spaced.{spaced};
 
 use crate::message::push_message;
 use crate::word_table::telegram_fault_words;
-use ixl_spec::Name;
-use ixl_spec::rasta_pdu::{Item, Items};
-use sci_telegram::{SciFault, Telegram, read};
+use ixl_rules::control_table::sci_telegram::{Name, SciFault, Telegram, read};
+use ixl_rules::rasta_pdu::{Item, Items};
 use std::alloc::{AllocError, Global};
 
 /// By which words a PDU calls its sender and its receiver.
@@ -37,7 +36,7 @@ pub(crate) fn push_items(
     push_others(alloc, text, ends, others)
 }
 
-/// Adds the items after the first.
+/// Adds the items behind the first.
 fn push_others(
     alloc: Global,
     text: &mut String,
@@ -52,7 +51,7 @@ fn push_others(
     Ok(())
 }
 
-/// Adds an item after others.
+/// Adds an item behind others.
 fn push_other(
     alloc: Global,
     text: &mut String,
@@ -112,7 +111,7 @@ fn push_telegram(text: &mut String, ends: Ends<'_>, telegram: &Telegram) -> Resu
     Ok(())
 }
 
-/// Adds a name after a word for it, where the PDU calls that end otherwise.
+/// Adds a name behind a word for it, where the PDU calls that end otherwise.
 fn push_name(text: &mut String, word: &str, called: &str, name: &Name) -> Result<(), AllocError>
     ensures { OnOk result (string_bytes text.new ≡ string_bytes text.old ++ spaced (name_words word.now called.now name.now)) }
 {

@@ -3,6 +3,7 @@
 
 mod datagram;
 mod decode;
+mod failure;
 mod item;
 mod laws;
 mod message;

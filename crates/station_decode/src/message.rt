@@ -2,12 +2,15 @@
 
 ghost use Rattle.std.specs.Prelude.{◌≡◌, ◌++◌, OnOk, string_bytes};
 ghost use Rattle.std.specs.List.{join_with_byte};
-ghost use Rattle.ixl_spec.specs.sci_telegram.declared.message.Message.TheVariants as says;
+ghost use Rattle.ixl_rules.specs.sci_telegram.declared.message.Message.TheVariants as says;
 ghost use Rattle.station_decode.specs.Telegrams.{message_words, step_words};
 
-use crate::word_table::{agreement_word, protocol_word};
-use ixl_spec::Protocol;
-use sci_telegram::{DetectionMessage, Initialisation, Message, PointMessage, SignalMessage};
+use crate::word_table::{
+    agreement_word, aspect_word, occupancy_word, position_word, protocol_word, side_word,
+};
+use ixl_rules::control_table::sci_telegram::{
+    DetectionMessage, Initialisation, Message, PointMessage, Protocol, SignalMessage,
+};
 use std::alloc::AllocError;
 
 /// Adds what a telegram says.
@@ -59,11 +62,11 @@ fn push_point(text: &mut String, message: &PointMessage) -> Result<(), AllocErro
 {
     match message {
         PointMessage::MovePoint(side) => {
-            let side = side.word();
+            let side = side_word(*side);
             write!(text, "move point {side}")
         }
         PointMessage::PointPosition(position) => {
-            let position = position.word();
+            let position = position_word(*position);
             write!(text, "point position {position}")
         }
         PointMessage::Timeout => text.push_str("point timeout"),
@@ -78,7 +81,7 @@ fn push_signal(text: &mut String, message: &SignalMessage) -> Result<(), AllocEr
         SignalMessage::IndicateAspect(aspect) => ("indicate aspect", aspect),
         SignalMessage::IndicatedAspect(aspect) => ("indicated aspect", aspect),
     };
-    let aspect = aspect.word();
+    let aspect = aspect_word(*aspect);
     write!(text, "{words} {aspect}")
 }
 
@@ -88,7 +91,7 @@ fn push_detection(text: &mut String, message: &DetectionMessage) -> Result<(), A
 {
     match message {
         DetectionMessage::OccupancyStatus(occupancy) => {
-            let occupancy = occupancy.word();
+            let occupancy = occupancy_word(*occupancy);
             write!(text, "occupancy status {occupancy}")
         }
     }

@@ -1,4 +1,3 @@
-pub mod InOrder
 pub mod Composed
 pub mod Rows
 pub mod Turns

@@ -3,7 +3,9 @@
 ghost use Rattle.std.specs.Prelude.{◌≡◌};
 ghost use Rattle.station_record.specs.Traffic.{sender};
 
-use replay::{NodeId, Role, receiver};
+use replay::receiver;
+use replay::simulator::NodeId;
+use replay::simulator::simulator_run::ixl_rules::rasta_core::Role;
 
 /// The node that sent on a link. Its partner would have sent to it.
 pub(crate) fn sender(who: Role, link: usize) -> NodeId

@@ -1,6 +1,9 @@
 //! What events say of a node.
 
-use station_record::{Event, MICROS, NodeId};
+use station_record::replay::simulator::{Event, NodeId};
+
+/// How many microseconds a millisecond has.
+const MICROS: u64 = 1000;
 
 /// With which clock and which number a node is made anew.
 #[derive(Clone, Copy)]

@@ -1,8 +1,11 @@
 //! What is asked of a world. None of these says what it answers.
 
 use crate::restarts::fault::Fault;
-use control_table::{Aspect, Checked, PointId, Side, SignalId};
-use station_record::{Answer, Event, RawDatagram, Refused, World, receiver};
+use control_table::Checked;
+use control_table::layout::{PointId, SignalId};
+use control_table::sci_telegram::{Aspect, Side};
+use station_record::replay::simulator::{Answer, Event, RawDatagram, Refused, World};
+use station_record::replay::{node_count, receiver};
 use std::alloc::{AllocError, Global};
 
 /// A new world.
@@ -10,7 +13,7 @@ pub(crate) fn new_world(alloc: Global, table: &Checked) -> Result<World, AllocEr
     World::new(alloc, table.copy(alloc)?)
 }
 
-/// Applies an event, and looks whether the station is safe after it.
+/// Applies an event, and looks whether the station is safe behind it.
 pub(crate) fn answer(world: &mut World, event: &Event) -> Result<Result<Answer, Refused>, Fault> {
     let reply = world.apply(event);
     if !world.safe() {
@@ -24,7 +27,7 @@ pub(crate) fn answer(world: &mut World, event: &Event) -> Result<Result<Answer, 
 
 /// How many nodes it has.
 pub(crate) fn nodes(world: &World) -> usize {
-    world.table().layout().nodes()
+    node_count(world.table().layout())
 }
 
 /// How many datagrams were sent.

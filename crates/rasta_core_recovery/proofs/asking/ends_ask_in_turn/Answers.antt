@@ -1,5 +1,5 @@
-use Rattle.rasta_core_recovery.proofs.Words.Links.{started}
-use Rattle.rasta_core_recovery.proofs.Lemmas.Asking.AsksEvents.{all_ask, asks_start, event_asks}
+use Rattle.rasta_core_run.specs.Events.{started}
+use Rattle.rasta_core_recovery.proofs.AsksEvents.{all_ask, asks_start, event_asks}
 use Rattle.rasta_core_recovery.proofs.asking.ends_ask_in_turn.Goals as goal
 
 pub returns-clause-starts : goal.returns-clause-starts

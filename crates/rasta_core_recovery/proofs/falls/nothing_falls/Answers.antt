@@ -1,6 +1,6 @@
-use Rattle.rasta_core_recovery.proofs.Words.Links.{started}
-use Rattle.rasta_core_recovery.proofs.Lemmas.Falling.FallsAlways.{all_rise, starts_rising}
-use Rattle.rasta_core_recovery.proofs.Lemmas.Falling.FallsEvents.{event_rises}
+use Rattle.rasta_core_run.specs.Events.{started}
+use Rattle.rasta_core_recovery.proofs.FallsAlways.{all_rise, starts_rising}
+use Rattle.rasta_core_recovery.proofs.FallsEvents.{event_rises}
 use Rattle.rasta_core_recovery.proofs.falls.nothing_falls.Goals as goal
 
 pub returns-clause-starts : goal.returns-clause-starts

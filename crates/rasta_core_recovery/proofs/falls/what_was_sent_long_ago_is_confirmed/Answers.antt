@@ -1,5 +1,5 @@
-use Rattle.rasta_core_recovery.proofs.Lemmas.Falling.FallsAlways.{starts_rising}
-use Rattle.rasta_core_recovery.proofs.Lemmas.Lasting.LongAgo.{client_since, given_since, server_since}
+use Rattle.rasta_core_recovery.proofs.FallsAlways.{starts_rising}
+use Rattle.rasta_core_recovery.proofs.LongAgo.{client_since, given_since, server_since}
 use Rattle.rasta_core_recovery.proofs.falls.what_was_sent_long_ago_is_confirmed.Goals as goal
 
 pub returns-clause-client : goal.returns-clause-client

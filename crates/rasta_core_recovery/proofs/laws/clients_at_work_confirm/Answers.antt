@@ -1,4 +1,4 @@
-use Rattle.rasta_core_recovery.proofs.Lemmas.Windows.Confirms.{clients_confirm}
+use Rattle.rasta_core_recovery.proofs.Confirms.{clients_confirm}
 use Rattle.rasta_core_recovery.proofs.laws.clients_at_work_confirm.Goals as goal
 
 pub returns : goal.returns

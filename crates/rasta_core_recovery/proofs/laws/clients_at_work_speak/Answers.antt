@@ -1,4 +1,4 @@
-use Rattle.rasta_core_recovery.proofs.Lemmas.Heartbeats.Heartbeats.{clients_speak}
+use Rattle.rasta_core_recovery.proofs.Heartbeats.{clients_speak}
 use Rattle.rasta_core_recovery.proofs.laws.clients_at_work_speak.Goals as goal
 
 pub returns : goal.returns

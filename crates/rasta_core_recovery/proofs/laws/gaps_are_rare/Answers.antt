@@ -1,4 +1,4 @@
-use Rattle.rasta_core_recovery.proofs.Lemmas.ComingUp.Recovers.{stays_calm}
+use Rattle.rasta_core_recovery.proofs.Recovers.{stays_calm}
 use Rattle.rasta_core_recovery.proofs.laws.gaps_are_rare.Goals as goal
 
 pub returns : goal.returns

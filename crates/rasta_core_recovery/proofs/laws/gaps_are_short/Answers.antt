@@ -1,4 +1,4 @@
-use Rattle.rasta_core_recovery.proofs.Lemmas.ComingUp.Recovers.{recovers_again}
+use Rattle.rasta_core_recovery.proofs.Recovers.{recovers_again}
 use Rattle.rasta_core_recovery.proofs.laws.gaps_are_short.Goals as goal
 
 pub returns : goal.returns

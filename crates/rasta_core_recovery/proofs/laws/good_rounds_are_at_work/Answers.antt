@@ -1,4 +1,4 @@
-use Rattle.rasta_core_recovery.proofs.Lemmas.AtWork.WorkGood.{good_is_at_work, good_is_work_round, good_leaves_open}
+use Rattle.rasta_core_recovery.proofs.WorkGood.{good_is_at_work, good_is_work_round, good_leaves_open}
 use Rattle.rasta_core_recovery.proofs.laws.good_rounds_are_at_work.Goals as goal
 
 pub returns-clause-work : goal.returns-clause-work

@@ -1,4 +1,4 @@
-use Rattle.rasta_core_recovery.proofs.Lemmas.Rounds.Happen.{rounds_lead, rounds_may_happen}
+use Rattle.rasta_core_recovery.proofs.Happen.{rounds_lead, rounds_may_happen}
 use Rattle.rasta_core_recovery.proofs.laws.good_rounds_may_happen.Goals as goal
 
 pub returns-clause-may : goal.returns-clause-may

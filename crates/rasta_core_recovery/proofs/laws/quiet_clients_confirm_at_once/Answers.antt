@@ -1,4 +1,4 @@
-use Rattle.rasta_core_recovery.proofs.Lemmas.Windows.ConfirmsAtOnce.{confirms_at_once, speaks_alone}
+use Rattle.rasta_core_recovery.proofs.ConfirmsAtOnce.{confirms_at_once, speaks_alone}
 use Rattle.rasta_core_recovery.proofs.laws.quiet_clients_confirm_at_once.Goals as goal
 
 pub returns-clause-still : goal.returns-clause-still

@@ -1,4 +1,4 @@
-use Rattle.rasta_core_recovery.proofs.Lemmas.FirstRound.AnyFirstWork.{recovers_at_work}
+use Rattle.rasta_core_recovery.proofs.AnyFirstWork.{recovers_at_work}
 use Rattle.rasta_core_recovery.proofs.laws.two_ends_at_work_come_up.Goals as goal
 
 pub returns : goal.returns

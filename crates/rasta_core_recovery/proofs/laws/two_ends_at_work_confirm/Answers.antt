@@ -1,4 +1,4 @@
-use Rattle.rasta_core_recovery.proofs.Lemmas.Heartbeats.Replies.{replies_confirm}
+use Rattle.rasta_core_recovery.proofs.Replies.{replies_confirm}
 use Rattle.rasta_core_recovery.proofs.laws.two_ends_at_work_confirm.Goals as goal
 
 pub returns : goal.returns

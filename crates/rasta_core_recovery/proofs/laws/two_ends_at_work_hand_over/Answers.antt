@@ -1,4 +1,4 @@
-use Rattle.rasta_core_recovery.proofs.Lemmas.ComingUp.HandOver.{hands_over}
+use Rattle.rasta_core_recovery.proofs.HandOver.{hands_over}
 use Rattle.rasta_core_recovery.proofs.laws.two_ends_at_work_hand_over.Goals as goal
 
 pub returns : goal.returns

@@ -1,4 +1,4 @@
-use Rattle.rasta_core_recovery.proofs.Lemmas.ComingUp.Recovers.{recovers}
+use Rattle.rasta_core_recovery.proofs.Recovers.{recovers}
 use Rattle.rasta_core_recovery.proofs.laws.two_ends_come_up.Goals as goal
 
 pub returns : goal.returns

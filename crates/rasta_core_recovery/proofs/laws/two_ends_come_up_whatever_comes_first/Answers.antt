@@ -1,4 +1,4 @@
-use Rattle.rasta_core_recovery.proofs.Lemmas.FirstRound.FirstUp.{recovers_whatever_comes}
+use Rattle.rasta_core_recovery.proofs.FirstUp.{recovers_whatever_comes}
 use Rattle.rasta_core_recovery.proofs.laws.two_ends_come_up_whatever_comes_first.Goals as goal
 
 pub returns : goal.returns

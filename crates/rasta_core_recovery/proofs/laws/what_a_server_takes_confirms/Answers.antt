@@ -1,8 +1,8 @@
-use Rattle.rasta_core_recovery.proofs.Words.Basics.{false≢true}
-use Rattle.rasta_core_recovery.proofs.Words.Links.{created}
-use Rattle.rasta_core_recovery.proofs.Lemmas.Windows.ServerConfirmed.{event_confirms_servers}
-use Rattle.rasta_core_recovery.proofs.Lemmas.Windows.ServerLeft.{event_left_servers}
-use Rattle.rasta_core_recovery.proofs.Lemmas.Windows.ServerWindow.{event_window}
+use Rattle.std.proofs.lemmas.Bool.{false≢true}
+use Rattle.rasta_core_run.specs.Calls.{created}
+use Rattle.rasta_core_recovery.proofs.ServerConfirmed.{event_confirms_servers}
+use Rattle.rasta_core_recovery.proofs.ServerLeft.{event_left_servers}
+use Rattle.rasta_core_recovery.proofs.ServerWindow.{event_window}
 use Rattle.rasta_core_recovery.proofs.laws.what_a_server_takes_confirms.Goals as goal
 
 pub returns-clause-starts : goal.returns-clause-starts

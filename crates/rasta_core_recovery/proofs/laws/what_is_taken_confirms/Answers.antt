@@ -1,7 +1,7 @@
-use Rattle.rasta_core_recovery.proofs.Words.Basics.{false≢true}
-use Rattle.rasta_core_recovery.proofs.Words.Links.{created}
-use Rattle.rasta_core_recovery.proofs.Lemmas.Windows.ClientLeft.{event_left}
-use Rattle.rasta_core_recovery.proofs.Lemmas.Windows.ConfirmingEvents.{event_confirms}
+use Rattle.std.proofs.lemmas.Bool.{false≢true}
+use Rattle.rasta_core_run.specs.Calls.{created}
+use Rattle.rasta_core_recovery.proofs.ClientLeft.{event_left}
+use Rattle.rasta_core_recovery.proofs.ConfirmingEvents.{event_confirms}
 use Rattle.rasta_core_recovery.proofs.laws.what_is_taken_confirms.Goals as goal
 
 pub returns-clause-starts : goal.returns-clause-starts

@@ -1,5 +1,5 @@
-use Rattle.rasta_core_recovery.proofs.Words.Recovery.{ends_at_limit}
-use Rattle.rasta_core_recovery.proofs.Lemmas.ComingUp.Wrong.{asks_for_nothing, rests_for_ever}
+use Rattle.rasta_core_recovery.specs.WrongRounds.{ends_at_limit}
+use Rattle.rasta_core_recovery.proofs.Wrong.{asks_for_nothing, rests_for_ever}
 use Rattle.rasta_core_recovery.proofs.laws.wrong_clients_never_come_up.Goals as goal
 
 pub returns-clause-once : goal.returns-clause-once

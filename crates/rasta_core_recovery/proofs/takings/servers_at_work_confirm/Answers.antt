@@ -1,4 +1,4 @@
-use Rattle.rasta_core_recovery.proofs.Lemmas.Heartbeats.WithdrawnServers.{servers_confirm}
+use Rattle.rasta_core_recovery.proofs.WithdrawnServers.{servers_confirm}
 use Rattle.rasta_core_recovery.proofs.takings.servers_at_work_confirm.Goals as goal
 
 pub returns : goal.returns

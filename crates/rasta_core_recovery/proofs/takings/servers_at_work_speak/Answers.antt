@@ -1,4 +1,4 @@
-use Rattle.rasta_core_recovery.proofs.Lemmas.Heartbeats.WithdrawnSpeaks.{servers_speak}
+use Rattle.rasta_core_recovery.proofs.WithdrawnSpeaks.{servers_speak}
 use Rattle.rasta_core_recovery.proofs.takings.servers_at_work_speak.Goals as goal
 
 pub returns : goal.returns

@@ -1,4 +1,4 @@
-use Rattle.rasta_core_recovery.proofs.Lemmas.Heartbeats.WithdrawnHears.{takings_confirm}
+use Rattle.rasta_core_recovery.proofs.WithdrawnHears.{takings_confirm}
 use Rattle.rasta_core_recovery.proofs.takings.what_servers_take_at_work_confirms.Goals as goal
 
 pub returns : goal.returns

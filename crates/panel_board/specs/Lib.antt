@@ -1,0 +1,3 @@
+pub mod Lines
+pub mod State
+pub mod Pages

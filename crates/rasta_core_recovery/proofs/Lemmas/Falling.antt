@@ -1,6 +1,0 @@
-pub mod FallsLists
-pub mod FallsCalls
-pub mod FallsGoes
-pub mod FallsEnters
-pub mod FallsEvents
-pub mod FallsAlways

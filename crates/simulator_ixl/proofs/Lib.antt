@@ -1,0 +1,6 @@
+mod Below
+mod Clocks
+mod Made
+mod Pairs
+mod Places
+mod DatagramsSent

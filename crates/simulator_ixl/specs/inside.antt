@@ -1,0 +1,2 @@
+-- How the connections are kept. No promise of `ClockedInterlocking` names any of it.
+pub mod Connections

@@ -1,0 +1,3 @@
+pub mod Ends
+pub mod Signal
+pub mod Point

@@ -1,0 +1,15 @@
+pub mod Rows
+pub mod Calls
+pub mod Telegrams
+pub mod Totals
+pub mod Link
+pub mod Nodes
+pub mod Sees
+pub mod Facts
+pub mod Step
+pub mod Made
+pub mod Fits
+pub mod MachineSoFar
+pub mod Behind
+pub mod Onward
+pub mod Course

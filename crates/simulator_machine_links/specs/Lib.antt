@@ -1,0 +1,5 @@
+pub mod Items
+pub mod EndsSeen
+pub mod LinkMoves
+pub mod Lawful
+pub mod Flows

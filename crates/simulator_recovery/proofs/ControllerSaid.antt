@@ -1,0 +1,90 @@
+-- What a controller of a station has given by its stage, behind each of its steps.
+use Rattle.std.proofs.Common.{◌≡◌, ℕ, ◌++◌, ◌∙◌, true, List, [], refl, sym, ap, subst}
+use Rattle.object_host_theorem.specs.World.{World, called_all, entering, host_of, stepped}
+use Rattle.object_host_theorem.specs.World.{step_of as world_step}
+use Rattle.simulator_run.specs.rasta_core.Clock.{settled}
+use Rattle.simulator_run.specs.rasta_core.Ends.{kept, reading_of}
+use Rattle.simulator_run.specs.rasta_core.Run.{Ends}
+use Rattle.simulator_run.specs.rasta_core.State.{LinkState, is_open}
+use Rattle.simulator_run.specs.object_host.Behaviour.{Behaviour}
+use Rattle.simulator_run.specs.object_host.Host.{HostSoFar, HostState, fallen, then_do}
+use Rattle.simulator_run.specs.object_host.Hosted.{IsNamedAs}
+use Rattle.simulator_run.specs.object_host.Made.{items_given}
+use Rattle.simulator_run.specs.object_host.Step.{beating, beginning, ending, given as given_in, host_step, most_owed, paying}
+use Rattle.simulator_run.specs.object_host.Told.{item_of}
+use Rattle.simulator_run.specs.object_host.declared.input.Input.{Input}
+use Rattle.simulator_run.specs.Controllers.{controller_after, step_of}
+use Rattle.simulator_run.specs.State.{ClockedControllerState}
+use Rattle.simulator_recovery.specs.Conversation.{IsSettled}
+use Rattle.simulator_recovery.specs.Counts.{HasCounted, HasSaidAt, HostHasSaid, HostStandsByCounts, StandsByWhatItSaid, TellsAsMany}
+use Rattle.simulator_recovery.proofs.HostStands.{WorldLaws}
+use Rattle.simulator_recovery.proofs.HostWorld.{step_said, with_link}
+use Rattle.simulator_recovery.proofs.LinkCounts.{settled_open, settled_twice}
+
+-- the laws of the hosts of a kind
+pub record KindLaws {Object : Type 0} (does : Behaviour Object) : Type 0 where
+  pub world : WorldLaws does
+  pub given : (input : Input) (connection : ℕ) (world : World Object) → (stepped does input connection world).ends.server.given
+      ≡ kept (entering input connection world.ends) world.ends.server.given ++ items_given (reading_of world.ends.server.clock) (world_step does input world).calls world.ends.server.link
+  pub names : (now : ℕ) (input : Input) (host : HostState Object) → IsNamedAs host (host_step does now input host).host
+
+module _ {Object : Type 0} (does : Behaviour Object) where
+  begins_settled : (now : ℕ) (host : HostState Object) → beginning does now (record host { link = settled now host.link }) ≡ beginning does now host
+  unfolding beginning
+  begins_settled now host = ap (λ (l : LinkState). record (fallen does (record host { link = l })) { object = does.after_tick now (fallen does (record host { link = l })).object }) (settled_twice now host.link)
+
+  step_settled : (now : ℕ) (input : Input) (host : HostState Object) → host_step does now input (record host { link = settled now host.link }) ≡ host_step does now input host
+  unfolding host_step
+  step_settled now input host = ap whole (begins_settled now host)
+    where
+      done : HostState Object → HostSoFar Object
+      done h = then_do (then_do (given_in does now input h) (paying does now most_owed)) (beating now input)
+
+      whole : HostState Object → HostSoFar Object
+      whole h = record (done h) { host = ending does (done h).host }
+
+  module _ (many : TellsAsMany does) (objects : ℕ) (kind : KindLaws does) (input : Input) (connection moment : ℕ) (c : ClockedControllerState Object) (ends : Ends)
+      (link_is : ends.server.link ≡ settled (reading_of c.clock) c.host.link) (clock_is : ends.server.clock ≡ c.clock) where
+    abbrev pub now : ℕ
+    now = reading_of c.clock
+
+    abbrev pub world : World Object
+    world = record { ends = ends; stage = c.host.stage; object = c.host.object; own_name = c.host.own_name; peer_name = c.host.peer_name; version = c.host.version; acted = []; told = [] }
+
+    pub same_step : world_step does input world ≡ step_of does input c
+    same_step = ap (λ (n : ℕ). host_step does n input (host_of world)) (ap reading_of clock_is)
+        ∙ ap (λ (l : LinkState). host_step does now input (record c.host { link = l })) link_is
+        ∙ step_settled now input c.host
+
+    pub settled_so : IsSettled world
+    settled_so = ap (λ (n : ℕ). settled n ends.server.link) (ap reading_of clock_is) ∙ ap (settled now) link_is ∙ settled_twice now c.host.link ∙ sym link_is
+
+    was_open : is_open ends.server.link.phase ≡ true → is_open (settled now c.host.link).phase ≡ true
+    was_open e = ap (λ (l : LinkState). is_open l.phase) (sym link_is) ∙ e
+
+    stands : HostStandsByCounts does objects c.host → HasSaidAt does c ends.server.given → StandsByWhatItSaid does objects world
+    stands counts said = record {
+      counts = with_link does objects c.host (host_of world) refl refl
+          (λ e. let so = settled_open now c.host.link (was_open e) in
+          (so.1, λ taken given has. subst (HasCounted taken given) (sym (link_is ∙ so.0)) (record { taken_is = has.taken_is; given_is = has.given_is; waiting = has.waiting })))
+          counts;
+      said = λ e. said (settled_open now c.host.link (was_open e)).1;
+    }
+
+    abbrev HasSaidBy : HostSoFar Object → Type 0
+    HasSaidBy done = is_open done.host.link.phase ≡ true → HostHasSaid does (item_of c.host) c.host.version done.host.stage (called_all connection done.calls ends).server.given
+
+    by_world : HostStandsByCounts does objects c.host → HasSaidAt does c ends.server.given → HasSaidBy (world_step does input world)
+    unfolding stepped
+    by_world counts said e = (step_said does many objects kind.world kind.given input connection world settled_so (stands counts said)).said (ap (λ (l : LinkState). is_open l.phase) (kind.world.link input connection world settled_so) ∙ e)
+
+    with_names : (old new : HostState Object) → IsNamedAs old new → (items : List (List ℕ)) → HostHasSaid does (item_of old) old.version new.stage items → HostHasSaid does (item_of new) new.version new.stage items
+    with_names old new named items has =
+        subst (λ (n : ℕ). HostHasSaid does (item_of new) n new.stage items) (sym named.version)
+        (subst (λ (n : List ℕ). HostHasSaid does (item_of (record new { own_name = n })) old.version new.stage items) (sym named.own_name)
+        (subst (λ (n : List ℕ). HostHasSaid does (item_of (record new { own_name = old.own_name; peer_name = n })) old.version new.stage items) (sym named.peer_name) has))
+
+    pub controller_said : HostStandsByCounts does objects c.host → HasSaidAt does c ends.server.given
+        → HasSaidAt does (controller_after (step_of does input c) connection moment c) (called_all connection (step_of does input c).calls ends).server.given
+    unfolding controller_after
+    controller_said counts said e = with_names c.host (step_of does input c).host (kind.names now input c.host) (called_all connection (step_of does input c).calls ends).server.given (subst HasSaidBy same_step (by_world counts said) e)

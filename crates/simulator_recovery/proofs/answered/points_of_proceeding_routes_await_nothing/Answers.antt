@@ -1,0 +1,15 @@
+use Rattle.std.proofs.Common.{◌∙◌, ◌<◌, refl, sym, ap, subst}
+use Rattle.std.proofs.lemmas.Bool.{false≢true}
+use Rattle.std.proofs.lemmas.Option.{same_Some}
+use Rattle.simulator_run.specs.ixl_client.Client.{is_available}
+use Rattle.simulator_run.specs.ixl_rules.Due.{HoldsPoint}
+use Rattle.simulator_run.specs.ixl_rules.State.{KnownPointState}
+use Rattle.simulator_run.specs.ixl_rules.View.{freed_sections, is_set}
+use Rattle.simulator_recovery.proofs.NothingDueStops.{holds_each}
+use Rattle.simulator_recovery.proofs.answered.points_of_proceeding_routes_await_nothing.Goals as goal
+
+pub returns : goal.returns
+returns c = λ site table world number row route need is_table reached is proceeds within ready awaits.
+    let holds : HoldsPoint row route.phase need.point need.side = (ap is_set proceeds, (need, within, refl, refl, subst (λ n. n < need.until) (sym (ap freed_sections proceeds)) (holds_each site table is_table number row need is.0 within)))
+    in let known = c.points_of_proceeding_routes_are_known.ensures site table world number row route need.point need.side need.side is_table reached is proceeds holds (number, row, route, is, holds) ready
+    in false≢true (ap is_available (sym awaits.2) ∙ (ap (λ (k : KnownPointState). is_available k.client.stage) (same_Some awaits.0 known.0 (sym awaits.1 ∙ known.1)) ∙ known.2.0))

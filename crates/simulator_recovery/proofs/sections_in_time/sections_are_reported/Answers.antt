@@ -1,0 +1,104 @@
+use Rattle.simulator_run.specs.rasta_core.identity.Role.TheVariants as role
+use Rattle.simulator_recovery.proofs.SectionsInTime.{known_in_time}
+use Rattle.simulator_recovery.proofs.sections_in_time.sections_are_reported.Goals as goal
+
+pub returns : goal.returns
+returns c = λ between later more flowing section reporter flow work works can reported long enough below leaves. known_in_time (record {
+  rounds = record {
+    sections = record {
+      expected = record {
+        talked = record {
+          links = record {
+            named = c.layouts_name_their_links.ensures;
+            exactly = c.events_are_those_of_the_links.ensures.exactly;
+            whole = c.events_are_those_of_the_links.ensures.whole;
+            begins = c.links_keep_time.ensures.starts;
+            time = c.links_keep_time.ensures.run;
+            first = c.a_station_begins_its_links.ensures;
+            standing = c.stations_have_links.ensures.first;
+          };
+          talk = record {
+            own = c.a_node_of_one_link_makes_a_step.ensures.own;
+            others = c.a_node_of_one_link_makes_a_step.ensures.ends;
+            steps = c.a_client_of_many_makes_a_step.ensures;
+            nodes = c.interlockings_call_their_nodes.ensures;
+          };
+          may_come = c.deliveries_may_come.ensures.links;
+        };
+        tell = record {
+          calls = record { own = c.a_node_of_one_link_makes_a_step.ensures.own; others = c.a_node_of_one_link_makes_a_step.ensures.ends; partner = c.a_node_makes_a_step.ensures.partner role.Client };
+          signals = record {
+            kind = record {
+              world = record { link = c.step_takes_and_gives.ensures.link; outside = c.step_takes_and_gives.ensures.outside };
+              given = c.step_takes_and_gives.ensures.given;
+              names = c.steps_keep_a_host.ensures.names;
+            };
+            taken = c.step_takes_and_gives.ensures.taken;
+            gives_none = c.step_takes_and_gives.ensures.gives_none;
+            takes_none = c.step_takes_and_gives.ensures.takes_none;
+            first = c.step_is_calls-2.ensures.first;
+          };
+          points = record {
+            kind = record {
+              world = record { link = c.step_takes_and_gives-2.ensures.link; outside = c.step_takes_and_gives-2.ensures.outside };
+              given = c.step_takes_and_gives-2.ensures.given;
+              names = c.steps_keep_a_host-2.ensures.names;
+            };
+            taken = c.step_takes_and_gives-2.ensures.taken;
+            gives_none = c.step_takes_and_gives-2.ensures.gives_none;
+            takes_none = c.step_takes_and_gives-2.ensures.takes_none;
+            first = c.step_is_calls-3.ensures.first;
+          };
+          detectors = record {
+            kind = record {
+              world = record { link = c.step_takes_and_gives-3.ensures.link; outside = c.step_takes_and_gives-3.ensures.outside };
+              given = c.step_takes_and_gives-3.ensures.given;
+              names = c.steps_keep_a_host-3.ensures.names;
+            };
+            taken = c.step_takes_and_gives-3.ensures.taken;
+            gives_none = c.step_takes_and_gives-3.ensures.gives_none;
+            takes_none = c.step_takes_and_gives-3.ensures.takes_none;
+            first = c.step_is_calls-4.ensures.first;
+          };
+        };
+        written = c.written_is_read.ensures.read;
+        safe = c.order_is_safe.ensures;
+        order_starts = c.links_keep_order.ensures.starts;
+        order_runs = c.links_keep_order.ensures.run;
+      };
+      clients = record { receipt = c.step_is_calls.ensures.receipt; tick = c.step_is_calls.ensures.tick; acts = c.step_hears_what_was_taken.ensures };
+      told = c.step_is_told_to_the_object.ensures;
+      connection = record { up = c.one_connection.ensures.up; some = c.one_connection.ensures.some };
+      counted = c.items_are_counted.ensures.counted;
+    };
+    ready = record {
+      up = record {
+        link = record {
+          times = record { reach = record { on = c.reached_worlds_are_safe.ensures.on }; standing = c.stations_have_links.ensures.run };
+          named = c.layouts_name_their_links.ensures;
+          exactly = c.events_are_those_of_the_links.ensures.exactly;
+          whole = c.events_are_those_of_the_links.ensures.whole;
+          time = c.links_keep_time.ensures.run;
+          sees = c.each_link_sees_its_events.ensures.run;
+          may = c.each_link_sees_its_events.ensures.may_run;
+        };
+        stays = record { reach = record { on = c.reached_worlds_are_safe.ensures.on }; closes = c.events_close_no_link.ensures };
+        arriving = record {
+          standing = c.stations_have_links.ensures.run;
+          are_links = c.layouts_name_their_links.ensures;
+          begins = c.links_keep_time.ensures.starts;
+          time = c.links_keep_time.ensures.run;
+        };
+        sees_one = c.each_link_sees_its_events.ensures.event;
+        runs = c.each_link_is_a_run.ensures.runs;
+        up = c.two_ends_at_work_come_up.ensures;
+      };
+      over = c.two_ends_at_work_hand_over.ensures;
+      stand = c.stations_stand_by_their_counts.ensures;
+    };
+  };
+  windows = record { told = c.step_is_told_to_the_object.ensures; stands = c.stations_have_links.ensures.run };
+  speak = c.clients_at_work_speak.ensures;
+  alone = c.quiet_clients_confirm_at_once.ensures.still;
+  at_once = c.quiet_clients_confirm_at_once.ensures.all;
+}) between flowing section reporter flow.once flow.station flow.table flow.reached work reported later more works can long enough below leaves

@@ -1,2 +1,0 @@
-pub mod FirstLinks
-pub mod LinksWith
