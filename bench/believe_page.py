@@ -9,14 +9,14 @@ PAGE = TOP / "docs" / "BELIEVE.md"
 
 HEAD = """# What has to be believed
 
-`python3 bench/pages.py` writes this page, by the files that it names.
+This page is written by `bench/pages.py`, by the files that it names.
 
 A contract is proved. What it says has to be read: its clauses, and the definitions that these name. This page lists them, for the promise of a station in one process and for that of nodes as processes. Under each clause stand the definitions that the clauses before it don't need, each with its line, files in the order in which one comes to them, from the clause on. No proof need be read. What stands in no list here is believed of nobody. Paths are below `crates/`. Words of the standard library (`List`, `Option`, sums) aren't listed.
 """
 
 WORLD = "crates/simulator/src/world.rt"
 NODE = "crates/station_node/src/process.rt"
-ORDER = "crates/node_theorem/src/orders.rt"
+ORDER = "crates/node_safety/src/orders.rt"
 
 # The parts of the page: a heading, what is said under it, and its clauses: a file, a function, and the names of clauses.
 PARTS = [

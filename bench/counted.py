@@ -170,12 +170,6 @@ def items(page, words, begin):
 # ---- lists of a page
 
 
-def column(page, head, at):
-    """The names in backticks of a column of the table that begins so."""
-    rows = read(page).split(f"\n{head}", 1)[1].split("\n\n")[0].splitlines()[2:]
-    return {name for row in rows for name in re.findall(r"`(\w+)`", row.split(" | ")[at])}
-
-
 def named(page, begin, end):
     """The names in backticks between two texts of a page."""
     return set(re.findall(r"`(\w+)`", read(page).split(begin, 1)[1].split(end, 1)[0]))
@@ -252,7 +246,6 @@ TOLD = {
 # of each page: what lists something, the list, and what it is to have
 LISTED = {
     MAP: [
-        ("the table of doors", lambda: column(MAP, "| Door |", 0), doors),
         ("the drawing", lambda: drawn(r"\w+"), crates_but_of_tests),
         ("what has a star in the drawing", lambda: drawn(r"(\w+)\*"), doors),
     ],

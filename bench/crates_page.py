@@ -9,10 +9,11 @@ PAGE = TOP / "docs" / "CRATES.md"
 
 HEAD = """# Crates
 
-`python3 bench/pages.py` writes this page, by `crates.txt` and the first words of each crate.
+This page is written by `bench/pages.py`, by `crates.txt` and the first words of each crate.
 
-Each crate stands on crates of earlier rows alone. *Code*, *definitions* and *proof* are the lines of its `src/`, `specs/` and `proofs/`. [MAP](MAP.md) has the drawing, doors and ways, and what the gate takes.
+Each crate stands on crates of earlier rows alone. What it stands on is bold where it passes that on as a whole. *Code*, *definitions* and *proof* are the lines of its `src/`, `specs/` and `proofs/`. [MAP](MAP.md) has the drawing, doors and ways.
 """
+PASSED_ON = re.compile(r"^pub use (\w+);", re.M)
 
 
 def first_words(crate):
@@ -29,8 +30,15 @@ def lines(crate, part):
     return sum(len(text_of(file).splitlines()) for file in sources(crate, [part]))
 
 
+def passed_on(crate):
+    """The crates that a door passes on as a whole."""
+    file = TOP / f"crates/{crate}/src/lib.rt"
+    return PASSED_ON.findall(text_of(file)) if file.is_file() else []
+
+
 def row(crate, below):
-    own = ", ".join(f"`{it}`" for it in below)
+    whole = passed_on(crate)
+    own = ", ".join(f"**`{it}`**" if it in whole else f"`{it}`" for it in below)
     sizes = " | ".join(f"{lines(crate, part):,}" if lines(crate, part) else "" for part in ("src", "specs", "proofs"))
     return f"| `{crate}` | {first_words(crate)} | {own} | {sizes} |\n"
 

@@ -64,7 +64,6 @@ STORED = "crates/stored_runs/stdout"
 COPIED = {
     "docs/INTERLOCKING.md": [("ok: 3 signals", STORED), ("table fault 6 FlankOpen", STORED)],
     "docs/PAIR.md": [("ok\naccepted\n", "crates/pair/stdout")],
-    "docs/STATIONS.md": [("| Route | Entry | Exit |", STORED)],
 }
 
 DEFINITION = re.compile(r"(?m)^(?:pub )?(?:abbrev|record|unfoldable|fn)\b")

@@ -11,7 +11,7 @@ PAGE = TOP / "docs" / "LAWS.md"
 
 HEAD = """# Laws
 
-`python3 bench/pages.py` writes this page, by the comments of the code.
+This page is written by `bench/pages.py`, by the comments of the code.
 
 A law is a public function that takes nothing and does nothing: what it says is its clauses, and its body names the laws on which it rests. Here stands what its comment says; its clauses stand below that comment. The last column tells by how many other laws and functions it is cited. {count} laws.
 """

@@ -1,5 +1,6 @@
 #!/usr/bin/env python3
-"""Writes the pages that are made of the tree: docs/BELIEVE.md, docs/CRATES.md, docs/LAWS.md and docs/WRONG_BODIES.md.
+"""Writes the pages that are made of the tree: docs/BELIEVE.md, docs/CRATES.md, docs/LAWS.md, docs/TABLES.md and
+docs/WRONG_BODIES.md.
 
     python3 bench/pages.py            writes them
     python3 bench/pages.py --check    tells, each on a line, what keeps a page from being made whole, and which page is another; it
@@ -11,10 +12,11 @@ import sys
 import believe_page
 import crates_page
 import laws_page
+import tables_page
 import wrong_bodies_page
 from tree import TOP
 
-PAGES = [believe_page, crates_page, laws_page, wrong_bodies_page]
+PAGES = [believe_page, crates_page, laws_page, tables_page, wrong_bodies_page]
 
 
 def faults():

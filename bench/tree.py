@@ -141,7 +141,7 @@ def commands():
     words = {name: word for name, word in re.findall(r'const (\w+): &str = "([a-z]+)";', table)}
     found = {}
     for command, arguments in re.findall(r"(?s)word: (\w+),(.*?)\n    },", table):
-        options = re.findall(r"Argument\(\s*(\w+),\s*Kind::(?:Option|Number|Switch)", arguments)
+        options = re.findall(r"Argument\(\s*(\w+),\s*Kind::(?:Word|Number|Switch)", arguments)
         found[words[command]] = {f"--{words[it]}" for it in options}
     return found
 

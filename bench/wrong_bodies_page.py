@@ -9,7 +9,7 @@ PAGE = TOP / "docs" / "WRONG_BODIES.md"
 
 HEAD = """# Wrong bodies
 
-`python3 bench/pages.py` writes this page, by the files that it tells of.
+This page is written by `bench/pages.py`, by the files that it tells of.
 
 A wrong body is a change of a crate's code that the proof has to refuse, at the function that it changes. It stands in a file of the crate, `must-fail/NAME.edit` or `by-hand/NAME.edit`; its name, here in words, says what the code does wrong with it. The gate tries those in `must-fail/`, {gate} of {all}. `python3 bench/wrong_bodies.py CRATE` tries the other {hand}.
 

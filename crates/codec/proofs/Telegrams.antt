@@ -31,7 +31,7 @@ pub parts_short : (t : Telegram) (protocol kind : ℕ) (sender receiver given : 
 parts_short t protocol kind sender receiver given of is item =
     (rw is.sender_is of.sender.most, rw is.receiver_is of.receiver.most, rw is.payload_is (omega (arith, item.most, length-writing t, length-name_field t.sender of.sender.most, length-name_field t.receiver of.receiver.most)))
 
--- a name, and behind it what is left of a field that it doesn't fill
+-- a name, and after it what is left of a field that it doesn't fill
 pub put_padding : (old name after padded padding : List ℕ) → after ≡ old ++ name → padded ≡ after ++ padding → padding ≡ drop (length name) (replicate 20 95) → padded ≡ old ++ name_field name
 put_padding old name after padded padding first second rest =
     second ∙ ap (λ (a : List ℕ). a ++ padding) first ∙ append_assoc old name padding ∙ ap (λ (p : List ℕ). old ++ (name ++ p)) (rest ∙ drop-replicate {X = ℕ} (length name) 20 95)

@@ -36,7 +36,7 @@ pub record IsWrittenSo (telegram : Telegram) (protocol kind : ℕ) (sender recei
   pub receiver_is : receiver ≡ telegram.receiver
   pub payload_is : given ≡ payload telegram.message
 
--- protocol, type and names, and behind them the payload
+-- protocol, type and names, and after them the payload
 unfoldable pub spelled : ℕ → ℕ → List ℕ → List ℕ → List ℕ → List ℕ
 spelled protocol kind sender receiver payload =
     (protocol ∷ []) ++ to_le_bytes w16 kind ++ name_field sender ++ name_field receiver ++ payload

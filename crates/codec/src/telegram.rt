@@ -19,7 +19,7 @@ const LONGEST_NAME: usize = 20;
 /// The most bytes that a payload has.
 const LONGEST: usize = 18;
 
-/// What stands behind a name in its field.
+/// What stands after a name in its field.
 const PADDING: [u8; LONGEST_NAME] = [b'_'; LONGEST_NAME];
 
 /// The bytes of a telegram, of which there are at most 61.

@@ -33,3 +33,8 @@ pub use bit_row;
 pub use layout;
 pub use layout::{BorderId, DetectorId, PointId, RouteId, SectionId, SignalId, TrackId};
 pub use sci_telegram;
+
+// The everyday items of the crates below.
+pub use bit_row::BitRow;
+pub use layout::{Layout, Node, NodeId};
+pub use sci_telegram::{Aspect, Name, Occupancy, Position, Side};

@@ -3,13 +3,13 @@ use Rattle.std.proofs.Common.{◌≡◌, ℕ, zero, suc, ◌+◌, ◌<◌, Bool,
 use Rattle.std.specs.Prelude.{◌&&◌, nat_eq, not, slice_get}
 use Rattle.std.proofs.lemmas.Bool.{eqb-false, eqb-true, false≢true}
 use Rattle.ixl_state.specs.rasta_core.Outbox.{OutboxState}
-use Rattle.ixl_state.specs.ixl_rules.Table.{Row, Table}
-use Rattle.ixl_state.specs.ixl_rules.State.{IxlState, RouteState}
-use Rattle.ixl_state.specs.ixl_rules.View.{all_clear, all_known, is_at_known_stop, is_held_with_authority, is_known, is_point_available, is_signal_ready}
-use Rattle.ixl_state.specs.ixl_rules.StepSoFar.{StepSoFar, at_route, giving_aspect, giving_move, over, with_one, with_route}
-use Rattle.ixl_state.specs.ixl_rules.Rules.{authorised, come_to, count, ending_authority, freed, freeing_by_cancel, freeing_by_passage, freeing_next, frees_cancelled, frees_next, is_over_clear, is_unmoved, is_waiting, is_withdrawn, moving, moving_one, one_freed, proceeding, ruled, withdrawing}
-use Rattle.ixl_state.specs.ixl_rules.declared.phase.Phase.{Phase}
-use Rattle.ixl_state.specs.ixl_rules.declared.phase.Phase.TheVariants as phase
+use Rattle.ixl_state.specs.ixl_spec.Table.{Row, Table}
+use Rattle.ixl_state.specs.ixl_spec.State.{IxlState, RouteState}
+use Rattle.ixl_state.specs.ixl_spec.View.{all_clear, all_known, is_at_known_stop, is_held_with_authority, is_known, is_point_available, is_signal_ready}
+use Rattle.ixl_state.specs.ixl_spec.StepSoFar.{StepSoFar, at_route, giving_aspect, giving_move, over, with_one, with_route}
+use Rattle.ixl_state.specs.ixl_spec.Rules.{authorised, come_to, count, ending_authority, freed, freeing_by_cancel, freeing_by_passage, freeing_next, frees_cancelled, frees_next, is_over_clear, is_unmoved, is_waiting, is_withdrawn, moving, moving_one, one_freed, proceeding, ruled, withdrawing}
+use Rattle.ixl_state.specs.ixl_spec.declared.phase.Phase.{Phase}
+use Rattle.ixl_state.specs.ixl_spec.declared.phase.Phase.TheVariants as phase
 use Rattle.ixl_state.specs.ixl_table.Locks.{IsKeptRoute}
 use Rattle.ixl_state.specs.State.{AtRoute, Goes, StateView}
 use Rattle.ixl.specs.inside.RoutesAtRest.{AllRest, rests}
@@ -87,7 +87,7 @@ none_proceeds now old rest number less = rest_still old number _ rest less (λ r
     && is_signal_ready part.ixl row.entry && is_at_known_stop now part.ixl row.entry
     then giving_aspect now row.entry row.aspect (with_route number (authorised old.sited.table part.ixl row) part) else part) ≡ part) refl refl route.phase at_rest)
 
--- the rules behind the first
+-- the rules after the first
 abbrev others : ℕ → Table → StepSoFar → StepSoFar
 others now table part = over (proceeding now table) (count table) (over (moving now table) (count table)
     (over (freeing_by_cancel now table) (count table) (over (freeing_by_passage table) (count table) (over (ending_authority now table) (count table) part))))

@@ -3,12 +3,12 @@ use Rattle.std.proofs.Common.{◌≡◌, ℕ, zero, suc, ◌<◌, Bool, true, fa
 use Rattle.std.specs.Prelude.{◌&&◌, ◌||◌, Option, Some, None, slice_get}
 use Rattle.std.specs.List.{list_all}
 use Rattle.std.proofs.lemmas.Bool.{true≢false, false≢true}
-use Rattle.ixl_state.specs.ixl_rules.Commands.{cancel_refusal, conflict_told, first_failing, is_point_wanting, locking_refusal, refused_where, request_refusal}
-use Rattle.ixl_state.specs.ixl_rules.State.{IxlState, RouteState}
-use Rattle.ixl_state.specs.ixl_rules.Table.{Need, Row, Table}
-use Rattle.ixl_state.specs.ixl_rules.View.{first_blocking, is_at_known_stop, is_holding, is_occupied, is_set, is_signal_ready, is_unknown}
-use Rattle.ixl_state.specs.ixl_rules.declared.command.Refusal.{Refusal}
-use Rattle.ixl_state.specs.ixl_rules.declared.command.Refusal.TheVariants as refusals
+use Rattle.ixl_state.specs.ixl_spec.Commands.{cancel_refusal, conflict_told, first_failing, is_point_wanting, locking_refusal, refused_where, request_refusal}
+use Rattle.ixl_state.specs.ixl_spec.State.{IxlState, RouteState}
+use Rattle.ixl_state.specs.ixl_spec.Table.{Need, Row, Table}
+use Rattle.ixl_state.specs.ixl_spec.View.{first_blocking, is_at_known_stop, is_holding, is_occupied, is_set, is_signal_ready, is_unknown}
+use Rattle.ixl_state.specs.ixl_spec.declared.command.Refusal.{Refusal}
+use Rattle.ixl_state.specs.ixl_spec.declared.command.Refusal.TheVariants as refusals
 use Rattle.ixl.specs.inside.Parts.{first_where}
 
 abbrev is_there : {A : Type 0} → Option A → Bool
@@ -177,3 +177,29 @@ request_told now table ixl number found_row found row route set is_row is over r
     ap (λ b. refused_where b refusals.AlreadySet (locking_refusal now table ixl number row)) (sym phase_is)
     ∙ passed_to (is_holding now ixl) (not ixl.resumed) refusals.Holding refusals.NotResumed (refused_where (is_set route.phase) refusals.AlreadySet (locking_refusal now table ixl number row)) over (ap not resumed)
     ∙ ap (λ f. request_refusal now table ixl number f (Some route)) (sym is_row) ∙ ap (request_refusal now table ixl number found_row) (sym is)
+
+-- ---- what refuses every command for a route
+
+abbrev of_any : Bool → Bool → Option Refusal → Option Refusal
+of_any holding resumed rest = refused_where holding refusals.Holding (refused_where (not resumed) refusals.NotResumed rest)
+
+any_refuses : (holding resumed : Bool) (cause : Refusal) (rest : Option Refusal) → Some cause ≡ of_any holding resumed None → Some cause ≡ of_any holding resumed rest
+any_refuses true resumed cause rest is = is
+any_refuses false false cause rest is = is
+any_refuses false true cause rest is = absurd (none_refused is)
+
+pub any_allows : (holding resumed : Bool) → None ≡ of_any holding resumed None → (holding ≡ false) × (resumed ≡ true)
+any_allows true resumed is = absurd (none_some is)
+any_allows false false is = absurd (none_some is)
+any_allows false true is = (refl, refl)
+
+pub any_request_refused : (now : ℕ) (table : Table) (ixl : IxlState) (number : ℕ) (found_row : Option Row) (found : Option RouteState) (row : Row) (route : RouteState) (cause : Refusal) → found_row ≡ Some row → found ≡ Some route →
+    Some cause ≡ of_any (is_holding now ixl) ixl.resumed None → Some cause ≡ request_refusal now table ixl number found_row found
+any_request_refused now table ixl number found_row found row route cause is_row is told =
+    any_refuses (is_holding now ixl) ixl.resumed cause (refused_where (is_set route.phase) refusals.AlreadySet (locking_refusal now table ixl number row)) told
+    ∙ ap (λ f. request_refusal now table ixl number f (Some route)) (sym is_row) ∙ ap (request_refusal now table ixl number found_row) (sym is)
+
+pub any_cancel_refused : (now : ℕ) (ixl : IxlState) (found : Option RouteState) (route : RouteState) (cause : Refusal) → found ≡ Some route →
+    Some cause ≡ of_any (is_holding now ixl) ixl.resumed None → Some cause ≡ cancel_refusal now ixl found
+any_cancel_refused now ixl found route cause is told =
+    any_refuses (is_holding now ixl) ixl.resumed cause (refused_where (not (is_set route.phase)) refusals.NotSet None) told ∙ ap (cancel_refusal now ixl) (sym is)

@@ -3,15 +3,15 @@ use Rattle.std.proofs.Common.{◌≡◌, false, ℕ, ◌<◌, length, arith, ref
 use Rattle.std.specs.Prelude.{Some, None, slice_get}
 use Rattle.std.proofs.lemmas.List.Elements.{All-map}
 use Rattle.ixl_state.specs.rasta_pdu.declared.key.Key.{Key}
-use Rattle.ixl_state.specs.ixl_rules.Commands.{obeyed, refusal, unmoved_for}
-use Rattle.ixl_state.specs.ixl_rules.State.{RouteState, KnownPointState}
-use Rattle.ixl_state.specs.ixl_rules.Step.{Commands, given}
-use Rattle.ixl_state.specs.ixl_rules.Table.{Row, Table}
-use Rattle.ixl_state.specs.ixl_rules.declared.command.Command.{Command}
-use Rattle.ixl_state.specs.ixl_rules.declared.command.Command.TheVariants as commands
-use Rattle.ixl_state.specs.ixl_rules.declared.command.Refusal.{Refusal}
+use Rattle.ixl_state.specs.ixl_spec.Commands.{obeyed, refusal, unmoved_for}
+use Rattle.ixl_state.specs.ixl_spec.State.{RouteState, KnownPointState}
+use Rattle.ixl_state.specs.ixl_spec.Step.{Commands, given}
+use Rattle.ixl_state.specs.ixl_spec.Table.{Row, Table}
+use Rattle.ixl_state.specs.ixl_spec.declared.command.Command.{Command}
+use Rattle.ixl_state.specs.ixl_spec.declared.command.Command.TheVariants as commands
+use Rattle.ixl_state.specs.ixl_spec.declared.command.Refusal.{Refusal}
 use Rattle.ixl_state.specs.layout.declared.ids.RouteId.{RouteId}
-use Rattle.ixl_state.specs.ixl_rules.View.{first_blocking, is_set}
+use Rattle.ixl_state.specs.ixl_spec.View.{first_blocking, is_set}
 use Rattle.ixl_state.specs.State.{AllAt, AtRoute, Goes, StateView}
 use Rattle.ixl.specs.inside.Parts.{Passes}
 use Rattle.ixl.proofs.Causes.{MaySet, cancel_passed, get_inside, request_passed, same_route, same_row}

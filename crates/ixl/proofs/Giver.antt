@@ -2,9 +2,9 @@
 use Rattle.std.proofs.Common.{◌≡◌, ◌∙◌, ℕ, zero, suc, ◌+◌, ◌≤◌, Bool, true, false, if◌then◌else◌, List, [], ◌∷◌, length, drop, add-one, ap, sym}
 use Rattle.std.specs.Prelude.{◌==◌, ◌&&◌, Some, None, slice_get}
 use Rattle.std.proofs.lemmas.List.{drop_all}
-use Rattle.ixl_state.specs.ixl_rules.State.{RouteState}
-use Rattle.ixl_state.specs.ixl_rules.Table.{Row}
-use Rattle.ixl_state.specs.ixl_rules.View.{authority_from, has_authority}
+use Rattle.ixl_state.specs.ixl_spec.State.{RouteState}
+use Rattle.ixl_state.specs.ixl_spec.Table.{Row}
+use Rattle.ixl_state.specs.ixl_spec.View.{authority_from, has_authority}
 
 drop_at : {A : Type 0} (list : List A) (place : ℕ) (one : A) → slice_get list place ≡ Some one → drop place list ≡ one ∷ drop (suc place) list
 drop_at [] place one is = cc

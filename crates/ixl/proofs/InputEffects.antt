@@ -6,9 +6,9 @@ use Rattle.ixl_state.specs.rasta_pdu.PduRead.{reading}
 use Rattle.ixl_state.specs.rasta_pdu.declared.fault.PduFault.{PduFault}
 use Rattle.ixl_state.specs.rasta_pdu.declared.key.Key.{Key}
 use Rattle.ixl_state.specs.rasta_pdu.declared.pdu.Pdu.{Pdu}
-use Rattle.ixl_state.specs.ixl_rules.Step.{Commands, Datagram, Tick, given, ticked}
-use Rattle.ixl_state.specs.ixl_rules.Table.{Table}
-use Rattle.ixl_state.specs.ixl_rules.declared.command.Command.{Command}
+use Rattle.ixl_state.specs.ixl_spec.Step.{Commands, Datagram, Tick, given, ticked}
+use Rattle.ixl_state.specs.ixl_spec.Table.{Table}
+use Rattle.ixl_state.specs.ixl_spec.declared.command.Command.{Command}
 use Rattle.ixl.specs.Interlocking.{meant}
 use Rattle.ixl.specs.declared.input.Input.{Input as GivenInput}
 use Rattle.ixl.specs.declared.input.Input.TheVariants as inputs

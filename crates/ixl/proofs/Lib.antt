@@ -7,6 +7,8 @@ pub mod Giver
 pub mod Causes
 pub mod StepParts
 pub mod InputEffects
+pub mod Unread
+pub mod Judged
 pub mod Looks
 pub mod CommandEffects
 pub mod Views

@@ -1,14 +1,14 @@
 -- What routes see of their approaches.
 use Rattle.std.proofs.Common.{◌≡◌, ℕ, zero, suc, Bool, true, false, not, if◌then◌else◌, List, [], ◌∷◌, refl, ap, sym, ◌∙◌}
 use Rattle.std.specs.Prelude.{◌||◌}
-use Rattle.ixl_state.specs.ixl_rules.StepSoFar.{with_route}
-use Rattle.ixl_state.specs.ixl_rules.Rules.{is_proceeding, is_withdrawn}
-use Rattle.ixl_state.specs.ixl_rules.State.{RouteState, changed}
-use Rattle.ixl_state.specs.ixl_rules.Step.{watching}
-use Rattle.ixl_state.specs.ixl_rules.Table.{Row, Table}
-use Rattle.ixl_state.specs.ixl_rules.View.{has_authority, is_approach_clear}
-use Rattle.ixl_state.specs.ixl_rules.declared.phase.Phase.{Phase}
-use Rattle.ixl_state.specs.ixl_rules.declared.phase.Phase.TheVariants as phase
+use Rattle.ixl_state.specs.ixl_spec.StepSoFar.{with_route}
+use Rattle.ixl_state.specs.ixl_spec.Rules.{is_proceeding, is_withdrawn}
+use Rattle.ixl_state.specs.ixl_spec.State.{RouteState, changed}
+use Rattle.ixl_state.specs.ixl_spec.Step.{watching}
+use Rattle.ixl_state.specs.ixl_spec.Table.{Row, Table}
+use Rattle.ixl_state.specs.ixl_spec.View.{has_authority, is_approach_clear}
+use Rattle.ixl_state.specs.ixl_spec.declared.phase.Phase.{Phase}
+use Rattle.ixl_state.specs.ixl_spec.declared.phase.Phase.TheVariants as phase
 use Rattle.ixl_state.specs.ixl_table.Locks.{IsKeptRoute}
 use Rattle.ixl_state.specs.State.{AllAt, StateView, route_changed}
 use Rattle.ixl.specs.inside.Parts.{Passes}

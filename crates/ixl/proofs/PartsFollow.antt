@@ -1,10 +1,10 @@
 -- How parts of a step follow one another.
 use Rattle.std.proofs.Common.{◌≡◌, ℕ, ◌+◌, ◌*◌, ◌≤◌, length, arith, add-one, refl, ap, sym, ◌∙◌, subst}
 use Rattle.ixl_state.specs.rasta_core.Outbox.{OutboxState}
-use Rattle.ixl_state.specs.ixl_rules.Table.{Row, Table}
-use Rattle.ixl_state.specs.ixl_rules.State.{IxlState, RouteState}
-use Rattle.ixl_state.specs.ixl_rules.StepSoFar.{Leads, StepSoFar, at_route, over, with_route}
-use Rattle.ixl_state.specs.ixl_rules.Rules.{count}
+use Rattle.ixl_state.specs.ixl_spec.Table.{Row, Table}
+use Rattle.ixl_state.specs.ixl_spec.State.{IxlState, RouteState}
+use Rattle.ixl_state.specs.ixl_spec.StepSoFar.{Leads, StepSoFar, at_route, over, with_route}
+use Rattle.ixl_state.specs.ixl_spec.Rules.{count}
 use Rattle.ixl_state.specs.ixl_table.Locks.{IsKeptRoute}
 use Rattle.ixl_state.specs.ixl_table.Table.{SitedTable}
 use Rattle.ixl_state.specs.State.{AllAt, Goes, StateView, route_changed}

@@ -10,12 +10,12 @@ use Rattle.ixl_state.specs.bit_row.Places.{Has, IsPart, Places}
 use Rattle.ixl_state.specs.sci_telegram.declared.message.Side.{Side}
 use Rattle.ixl_state.specs.sci_telegram.declared.message.Side.TheVariants as sides
 use Rattle.ixl_state.specs.release.Passage.{PassageState, is_freeable}
-use Rattle.ixl_state.specs.ixl_rules.declared.phase.Phase.TheVariants as phase
-use Rattle.ixl_state.specs.ixl_rules.Table.{Need, Row, Table, at, passes}
-use Rattle.ixl_state.specs.ixl_rules.State.{IxlState, RouteState}
-use Rattle.ixl_state.specs.ixl_rules.Rules.{frees_next, is_over_clear, none_seen}
-use Rattle.ixl_state.specs.ixl_rules.View.{all_known, freed_sections, is_clear, is_known, is_set}
-use Rattle.ixl_state.specs.ixl_field.Field.{FieldState, Rest, kept}
+use Rattle.ixl_state.specs.ixl_spec.declared.phase.Phase.TheVariants as phase
+use Rattle.ixl_state.specs.ixl_spec.Table.{Need, Row, Table, at, passes}
+use Rattle.ixl_state.specs.ixl_spec.State.{IxlState, RouteState}
+use Rattle.ixl_state.specs.ixl_spec.Rules.{frees_next, is_over_clear, none_seen}
+use Rattle.ixl_state.specs.ixl_spec.View.{all_known, freed_sections, is_clear, is_known, is_set}
+use Rattle.ixl_state.specs.ixl_known.Field.{FieldState, Rest, kept}
 use Rattle.ixl_state.specs.State.{AtRoute, HasRoute, StateView, field_of, rest_of}
 use Rattle.ixl_state.specs.ixl_table.Table.{AreNeededAt, IsSetOf, as_point, required}
 

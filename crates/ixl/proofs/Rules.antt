@@ -9,13 +9,13 @@ use Rattle.ixl_state.specs.sci_telegram.declared.message.Aspect.{Aspect}
 use Rattle.ixl_state.specs.sci_telegram.declared.message.Side.{Side}
 use Rattle.ixl_state.specs.sci_telegram.declared.message.Aspect.TheVariants as aspects
 use Rattle.ixl_state.specs.release.Passage.{passage_after}
-use Rattle.ixl_state.specs.ixl_rules.Table.{Need, Row, Table}
-use Rattle.ixl_state.specs.ixl_rules.State.{IxlState, RouteState}
-use Rattle.ixl_state.specs.ixl_rules.View.{all_known, is_approach_clear, is_at_known_stop, is_held_with_authority, is_known, is_point_available, is_signal_ready}
-use Rattle.ixl_state.specs.ixl_rules.StepSoFar.{StepSoFar, along, at_route, giving_aspect, giving_move, over, with_route}
-use Rattle.ixl_state.specs.ixl_rules.Rules.{come_to, count, ending_authority, freed, freeing_by_cancel, freeing_by_passage, freeing_next, frees_cancelled, frees_next, is_move_due, is_over_clear, is_proceed_due, is_proceeding, is_stop_due, is_unmoved, is_waiting, is_withdrawn, moving, moving_one, one_freed, proceeding, repeated, ruled, withdrawing}
-use Rattle.ixl_state.specs.ixl_rules.declared.phase.Phase.{Phase}
-use Rattle.ixl_state.specs.ixl_rules.declared.phase.Phase.TheVariants as phase
+use Rattle.ixl_state.specs.ixl_spec.Table.{Need, Row, Table}
+use Rattle.ixl_state.specs.ixl_spec.State.{IxlState, RouteState}
+use Rattle.ixl_state.specs.ixl_spec.View.{all_known, is_approach_clear, is_at_known_stop, is_held_with_authority, is_known, is_point_available, is_signal_ready}
+use Rattle.ixl_state.specs.ixl_spec.StepSoFar.{StepSoFar, along, at_route, giving_aspect, giving_move, over, with_route}
+use Rattle.ixl_state.specs.ixl_spec.Rules.{come_to, count, ending_authority, freed, freeing_by_cancel, freeing_by_passage, freeing_next, frees_cancelled, frees_next, is_move_due, is_over_clear, is_proceed_due, is_proceeding, is_stop_due, is_unmoved, is_waiting, is_withdrawn, moving, moving_one, one_freed, proceeding, repeated, ruled, withdrawing}
+use Rattle.ixl_state.specs.ixl_spec.declared.phase.Phase.{Phase}
+use Rattle.ixl_state.specs.ixl_spec.declared.phase.Phase.TheVariants as phase
 use Rattle.ixl_state.specs.ixl_table.Locks.{IsKeptRoute}
 use Rattle.ixl_state.specs.ixl_table.Table.{SitedTable}
 use Rattle.ixl_state.specs.State.{AllAt, AtRoute, Goes, HasRoute, StateView, route_changed}

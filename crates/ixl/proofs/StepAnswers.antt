@@ -2,12 +2,12 @@
 use Rattle.std.proofs.Common.{◌≡◌, ◌∙◌, ℕ, ◌≤◌, arith, refl, ap, sym}
 use Rattle.std.specs.Prelude.{Option, Some, None}
 use Rattle.ixl_state.specs.rasta_pdu.declared.key.Key.{Key}
-use Rattle.ixl_state.specs.ixl_rules.Commands.{refusal}
-use Rattle.ixl_state.specs.ixl_rules.State.{IxlState}
-use Rattle.ixl_state.specs.ixl_rules.Step.{Accepted, Commands, Refused, Reply, all_clocked, answer_by, reply}
-use Rattle.ixl_state.specs.ixl_rules.Table.{Table}
-use Rattle.ixl_state.specs.ixl_rules.declared.command.Command.{Command}
-use Rattle.ixl_state.specs.ixl_rules.declared.command.Refusal.{Refusal}
+use Rattle.ixl_state.specs.ixl_spec.Commands.{refusal}
+use Rattle.ixl_state.specs.ixl_spec.State.{IxlState}
+use Rattle.ixl_state.specs.ixl_spec.Step.{Accepted, Commands, Refused, Reply, all_clocked, answer_by, reply}
+use Rattle.ixl_state.specs.ixl_spec.Table.{Table}
+use Rattle.ixl_state.specs.ixl_spec.declared.command.Command.{Command}
+use Rattle.ixl_state.specs.ixl_spec.declared.command.Refusal.{Refusal}
 use Rattle.ixl_state.specs.State.{AllAt, MayStepAll, StateView}
 
 answer_accepts : (found : Option Refusal) → answer_by found ≡ Accepted → found ≡ None

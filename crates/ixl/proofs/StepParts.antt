@@ -2,9 +2,9 @@
 use Rattle.std.proofs.Common.{◌≡◌, ℕ, ◌+◌, ◌≤◌, List, [], arith, add-one, refl, sym, ◌∙◌, subst}
 use Rattle.ixl_state.specs.rasta_core.Outbox.{OutboxState}
 use Rattle.ixl_state.specs.ixl_client.ClientSoFar.{LinkCall}
-use Rattle.ixl_state.specs.ixl_rules.StepSoFar.{Leads, Node, StepSoFar, at_route, over, with_route}
-use Rattle.ixl_state.specs.ixl_rules.State.{IxlState, RouteState, changed}
-use Rattle.ixl_state.specs.ixl_rules.Table.{Row, Table}
+use Rattle.ixl_state.specs.ixl_spec.StepSoFar.{Leads, Node, StepSoFar, at_route, over, with_route}
+use Rattle.ixl_state.specs.ixl_spec.State.{IxlState, RouteState, changed}
+use Rattle.ixl_state.specs.ixl_spec.Table.{Row, Table}
 use Rattle.ixl_state.specs.ixl_table.Locks.{IsKeptRoute}
 use Rattle.ixl_state.specs.ixl_table.Table.{SitedTable}
 use Rattle.ixl_state.specs.State.{AllAt, Goes, StateView, route_changed}

@@ -1,10 +1,10 @@
 -- What the controllers tell, as facts of all that is kept.
-use Rattle.std.proofs.Common.{◌≡◌, ◌∙◌, ℕ, zero, suc, ◌<◌, Bool, true, false, not, List, [], ◌∷◌, length, get_or, refl, ap, sym, subst, arith}
+use Rattle.std.proofs.Common.{◌≡◌, ◌∙◌, ℕ, zero, suc, Bool, true, false, not, List, [], ◌∷◌, get_or, refl, ap, sym, subst}
 use Rattle.std.specs.Prelude.{◌&&◌, Some, slice_get}
-use Rattle.ixl_state.specs.ixl_rules.State.{IxlState}
-use Rattle.ixl_state.specs.ixl_rules.Table.{Row, Table}
+use Rattle.ixl_state.specs.ixl_spec.State.{IxlState}
+use Rattle.ixl_state.specs.ixl_spec.Table.{Row, Table}
 use Rattle.ixl_state.specs.ixl_table.Table.{SitedTable}
-use Rattle.ixl_state.specs.ixl_field.Field.{FieldState, Rest, kept}
+use Rattle.ixl_state.specs.ixl_known.Field.{FieldState, Rest, kept}
 use Rattle.ixl_state.specs.State.{StateView, field_of, rest_of}
 
 pub in_state : (holds : Table → IxlState → Type 0) (state : StateView) (field : FieldState) → field ≡ field_of state →

@@ -2,11 +2,11 @@
 use Rattle.std.proofs.Common.{◌≡◌, ℕ, ◌+◌, arith, refl, sym, ◌∙◌, subst}
 use Rattle.ixl_state.specs.rasta_pdu.declared.key.Key.{Key}
 use Rattle.ixl_state.specs.rasta_core.Outbox.{OutboxState}
-use Rattle.ixl_state.specs.ixl_rules.StepSoFar.{StepSoFar, begun_with, empty_outbox, over}
-use Rattle.ixl_state.specs.ixl_rules.Rules.{count, ruled}
-use Rattle.ixl_state.specs.ixl_rules.State.{IxlState}
-use Rattle.ixl_state.specs.ixl_rules.Step.{Commands, Datagram, Input, Reply, Tick, all_clocked, given, reply, stepped, ticked, watching}
-use Rattle.ixl_state.specs.ixl_rules.Table.{Table}
+use Rattle.ixl_state.specs.ixl_spec.StepSoFar.{StepSoFar, begun_with, empty_outbox, over}
+use Rattle.ixl_state.specs.ixl_spec.Rules.{count, ruled}
+use Rattle.ixl_state.specs.ixl_spec.State.{IxlState}
+use Rattle.ixl_state.specs.ixl_spec.Step.{Commands, Datagram, Input, Reply, Tick, all_clocked, given, reply, stepped, ticked, watching}
+use Rattle.ixl_state.specs.ixl_spec.Table.{Table}
 use Rattle.ixl_state.specs.ixl_table.Table.{SitedTable}
 use Rattle.ixl_state.specs.First.{key_of}
 use Rattle.ixl.specs.Interlocking.{HasStepped, InterlockingState, step_of}

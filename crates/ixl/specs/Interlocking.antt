@@ -1,9 +1,9 @@
 -- An interlocking: what it keeps, and the datagrams of its last step.
 use Rattle.std.specs.Prelude.{◌≡◌, ℕ}
 use Rattle.ixl_state.specs.rasta_core.Outbox.{OutboxState}
-use Rattle.ixl_state.specs.ixl_rules.StepSoFar.{StepSoFar, begun_with, empty_outbox}
-use Rattle.ixl_state.specs.ixl_rules.Step.{Input, Reply, reply, stepped}
-use Rattle.ixl_state.specs.ixl_rules.Step as step
+use Rattle.ixl_state.specs.ixl_spec.StepSoFar.{StepSoFar, begun_with, empty_outbox}
+use Rattle.ixl_state.specs.ixl_spec.Step.{Input, Reply, reply, stepped}
+use Rattle.ixl_state.specs.ixl_spec.Step as step
 use Rattle.ixl_state.specs.First.{key_of}
 use Rattle.ixl_state.specs.State.{AllAt, StateView}
 use Rattle.ixl.specs.declared.input.Input.{Input as GivenInput}
@@ -20,7 +20,7 @@ abbrev pub step_of : ℕ → Input → StateView → StepSoFar
 step_of now input state =
     stepped now state.sited.table (key_of state.sited.site) input (begun_with state.ixl empty_outbox)
 
--- A step was made at a clock reading: what is kept is as behind it, the outbox has its datagrams alone, and this was
+-- A step was made at a clock reading: what is kept is as after it, the outbox has its datagrams alone, and this was
 -- answered.
 pub record HasStepped (now : ℕ) (input : Input) (old new : InterlockingState) (answer : Reply) : Type 0 where
   pub sited : new.state.sited ≡ old.state.sited

@@ -1,15 +1,14 @@
 //! Routes with authority watch their approaches.
 
 ghost use Rattle.std.specs.Prelude.{◌≡◌, ◌<◌, length};
-ghost use Rattle.ixl_state.specs.ixl_rules.StepSoFar.{over};
-ghost use Rattle.ixl_state.specs.ixl_rules.Rules.{count};
-ghost use Rattle.ixl_state.specs.ixl_rules.Step.{watching};
+ghost use Rattle.ixl_state.specs.ixl_spec.StepSoFar.{over};
+ghost use Rattle.ixl_state.specs.ixl_spec.Rules.{count};
+ghost use Rattle.ixl_state.specs.ixl_spec.Step.{watching};
 ghost use Rattle.ixl_state.specs.State.{AllAt};
 ghost use Rattle.ixl.specs.inside.Parts.{Passes};
 
 use crate::is_approach_clear;
-use ixl_state::State;
-use ixl_state::ixl_rules::rasta_core::Millis;
+use ixl_state::{Millis, State};
 
 /// A route that has authority watches its approach.
 fn watch_by(state: &mut State, now: Millis, number: usize)

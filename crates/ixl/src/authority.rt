@@ -1,7 +1,7 @@
 //! Which route has authority from a signal.
 
 ghost use Rattle.std.specs.Prelude.{◌≡◌, ◌==◌, ◌&&◌, ◌<◌, length};
-ghost use Rattle.ixl_state.specs.ixl_rules.View.{authority_from, has_authority};
+ghost use Rattle.ixl_state.specs.ixl_spec.View.{authority_from, has_authority};
 ghost use Rattle.ixl_state.specs.State.{AtRoute};
 
 use ixl_state::State;

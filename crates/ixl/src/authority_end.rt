@@ -1,16 +1,14 @@
 //! The second rule: the authority of a withdrawn route ends once its signal is known to show stop.
 
 ghost use Rattle.std.specs.Prelude.{◌≡◌, ◌<◌, ◌&&◌, length};
-ghost use Rattle.ixl_state.specs.ixl_rules.StepSoFar.{over};
-ghost use Rattle.ixl_state.specs.ixl_rules.Rules.{count, ending_authority, is_withdrawn};
-ghost use Rattle.ixl_state.specs.ixl_rules.View.{is_at_known_stop};
+ghost use Rattle.ixl_state.specs.ixl_spec.StepSoFar.{over};
+ghost use Rattle.ixl_state.specs.ixl_spec.Rules.{count, ending_authority, is_withdrawn};
+ghost use Rattle.ixl_state.specs.ixl_spec.View.{is_at_known_stop};
 ghost use Rattle.ixl_state.specs.State.{AtRoute};
 ghost use Rattle.ixl.specs.inside.Changes.{Changes};
 
 use crate::field_known::is_at_known_stop;
-use ixl_state::State;
-use ixl_state::ixl_rules::Phase;
-use ixl_state::ixl_rules::rasta_core::Millis;
+use ixl_state::{Millis, Phase, State};
 
 /// Whether a route was withdrawn, and its signal is at known stop.
 fn is_end_due(state: &State, now: Millis, number: usize) -> bool

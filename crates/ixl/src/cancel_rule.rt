@@ -1,15 +1,13 @@
 //! The fourth rule: a cancelled route is freed.
 
 ghost use Rattle.std.specs.Prelude.{◌≡◌, ◌<◌, ◌&&◌, length};
-ghost use Rattle.ixl_state.specs.ixl_rules.StepSoFar.{over};
-ghost use Rattle.ixl_state.specs.ixl_rules.Rules.{count, freeing_by_cancel, frees_cancelled, none_seen};
+ghost use Rattle.ixl_state.specs.ixl_spec.StepSoFar.{over};
+ghost use Rattle.ixl_state.specs.ixl_spec.Rules.{count, freeing_by_cancel, frees_cancelled, none_seen};
 ghost use Rattle.ixl_state.specs.State.{AtRoute};
 ghost use Rattle.ixl.specs.inside.Changes.{Changes};
 
 use crate::field_known::{are_sections_clear, is_at_known_stop};
-use ixl_state::State;
-use ixl_state::ixl_rules::Phase;
-use ixl_state::ixl_rules::rasta_core::Millis;
+use ixl_state::{Millis, Phase, State};
 
 /// Whether no section of a route was reported occupied since authority was given.
 fn was_none_seen(state: &State, number: usize) -> bool

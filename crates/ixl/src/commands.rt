@@ -2,16 +2,14 @@
 
 ghost use Rattle.std.specs.Prelude.{◌≡◌, None};
 ghost use Rattle.ixl_state.specs.rasta_core.Outbox.{OutboxState};
-ghost use Rattle.ixl_state.specs.ixl_rules.Commands.{obeyed, refusal};
-ghost use Rattle.ixl_state.specs.ixl_rules.Step.{Commands, given};
+ghost use Rattle.ixl_state.specs.ixl_spec.Commands.{obeyed, refusal};
+ghost use Rattle.ixl_state.specs.ixl_spec.Step.{Commands, given};
 ghost use Rattle.ixl_state.specs.rasta_pdu.declared.key.Key.{Key};
 ghost use Rattle.ixl_state.specs.State.{AllAt};
 ghost use Rattle.ixl.specs.inside.Parts.{Passes};
 
 use crate::refusals::refusal;
-use ixl_state::State;
-use ixl_state::ixl_rules::rasta_core::Millis;
-use ixl_state::ixl_rules::{Command, Refusal};
+use ixl_state::{Command, Millis, Refusal, State};
 
 /// A command that isn't refused is obeyed.
 fn obey(state: &mut State, now: Millis, command: Command)

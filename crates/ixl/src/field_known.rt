@@ -2,14 +2,12 @@
 //! due for it.
 
 ghost use Rattle.std.specs.Prelude.{◌≡◌, ◌<◌, Some, length, slice_get};
-ghost use Rattle.ixl_state.specs.ixl_rules.Rules.{is_over_clear, is_unmoved};
-ghost use Rattle.ixl_state.specs.ixl_rules.View.{all_clear, all_known, is_approach_clear, is_at_known_stop, is_clear, is_known, is_point_available, is_signal_ready};
+ghost use Rattle.ixl_state.specs.ixl_spec.Rules.{is_over_clear, is_unmoved};
+ghost use Rattle.ixl_state.specs.ixl_spec.View.{all_clear, all_known, is_approach_clear, is_at_known_stop, is_clear, is_known, is_point_available, is_signal_ready};
 ghost use Rattle.ixl_state.specs.State.{AtRoute};
 
-use ixl_state::State;
-use ixl_state::ixl_rules::control_table::sci_telegram::{Aspect, Side};
-use ixl_state::ixl_rules::rasta_core::Millis;
 use ixl_state::ixl_table::Row;
+use ixl_state::{Aspect, Millis, Side, State};
 
 /// The row of a route.
 pub(crate) fn row_of(state: &State, number: usize) -> &Row

@@ -4,8 +4,7 @@ ghost use Rattle.std.specs.Prelude.{◌≡◌, ◌<◌, length, IsTrue};
 ghost use Rattle.ixl_state.specs.State.{AtRoute};
 ghost use Rattle.ixl.specs.inside.RoutesAtRest.{AllRest, rests};
 
-use ixl_state::State;
-use ixl_state::ixl_rules::Phase;
+use ixl_state::{Phase, State};
 
 /// Whether a route rests.
 fn rests(state: &State, number: usize) -> bool

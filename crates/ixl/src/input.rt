@@ -1,7 +1,6 @@
 //! What a step is made for, and what it answers.
 
-use ixl_state::ixl_rules::rasta_core::Verdict;
-use ixl_state::ixl_rules::{Command, Refusal};
+use ixl_state::{Command, Refusal, Verdict};
 
 /// What a step is made for.
 #[derive(Clone, Copy, Debug)]

@@ -1,28 +1,27 @@
 //! The interlocking of a station.
 
-ghost use Rattle.std.specs.Prelude.{◌≡◌, ◌<◌, ◌≤◌, ◌↔◌, ℕ, [], drop, length, slice_get, IsTrue, IfOk, OnErr, OnOk};
+ghost use Rattle.std.specs.Prelude.{◌≡◌, ◌<◌, ◌≤◌, ◌↔◌, ℕ, [], drop, length, not, slice_get, IsTrue, IfOk, None, OnErr, OnOk};
 ghost use Rattle.std.specs.Option.{option_map};
 ghost use Rattle.ixl_state.specs.bit_row.Places.{Has};
 ghost use Rattle.ixl_state.specs.layout.declared.ids.RouteId.{RouteId};
-ghost use Rattle.ixl_state.specs.ixl_rules.Due.{HoldsSection};
-ghost use Rattle.ixl_state.specs.ixl_rules.View.{authority_from, indicated, is_holding, is_set};
+ghost use Rattle.ixl_state.specs.ixl_spec.Commands.{refusal, refused_where};
+ghost use Rattle.ixl_state.specs.ixl_spec.Due.{HoldsSection};
+ghost use Rattle.ixl_state.specs.ixl_spec.View.{authority_from, indicated, is_holding, is_set};
+ghost use Rattle.ixl_state.specs.ixl_spec.declared.command.Refusal.TheVariants as refusals;
 ghost use Rattle.ixl_state.specs.State.{AtRoute, MayStepAll};
-ghost use Rattle.ixl_state.specs.ixl_rules.StepSoFar.{empty_outbox};
+ghost use Rattle.ixl_state.specs.ixl_spec.StepSoFar.{empty_outbox};
 ghost use Rattle.ixl.specs.Interlocking.{HasStepped, meant, told};
 ghost use Rattle.ixl_state.specs.First.{new_ixl};
 
 use crate::authority::authority;
 use crate::input::{Input, Reply};
-use crate::refusals::is_holding;
+use crate::refusals::{is_holding, refusal, refusal_of_any};
 use crate::step::step;
-use ixl_state::ixl_rules::control_table::Checked;
-use ixl_state::ixl_rules::control_table::bit_row::BitRow;
-use ixl_state::ixl_rules::control_table::layout::{RouteId, SignalId};
-use ixl_state::ixl_rules::control_table::sci_telegram::Aspect;
-use ixl_state::ixl_rules::rasta_core::{Millis, Outbox};
-use ixl_state::ixl_rules::rasta_pdu::{Datagram, Key};
 use ixl_state::ixl_table::Table;
-use ixl_state::{State, key_of};
+use ixl_state::{
+    Aspect, BitRow, Checked, Command, Datagram, Key, Millis, Outbox, Refusal, RouteId, SignalId,
+    State, key_of,
+};
 use std::alloc::{AllocError, Global};
 use std::marker::Model;
 
@@ -74,32 +73,37 @@ fn empty(outbox: &mut Outbox)
 
 impl Interlocking {
     /// The interlocking of a table that was checked. No route is set, and every link is in no connection: it numbers its
-    /// PDUs from `first_sn` on, and `now` is its clock.
+    /// PDUs from `first_sequence_number` on, and `now` is its clock.
     pub fn new(
         alloc: Global,
         checked: Checked,
-        first_sn: u32,
+        first_sequence_number: u32,
         now: Millis,
     ) -> Result<Interlocking, AllocError>
         ensures site { IfOk result (λ i. i.state.sited.site ≡ checked) }
-        ensures ixl { IfOk result (λ i. i.state.ixl ≡ new_ixl i.state.sited.site i.state.sited.table (record { clock = now; first = first_sn })) }
+        ensures ixl { IfOk result (λ i. i.state.ixl ≡ new_ixl i.state.sited.site i.state.sited.table (record { clock = now; first = first_sequence_number })) }
         ensures outbox { IfOk result (λ i. i.outbox ≡ empty_outbox) }
     {
         let key = key_of(checked.layout());
-        let state = State::new(alloc, checked, first_sn, now)?;
+        let state = State::new(alloc, checked, first_sequence_number, now)?;
         let outbox = Outbox::for_links(alloc, ALL_LINKS)?;
         Ok(Interlocking { state, key, outbox })
     }
 
     /// All but the table is made anew, as `new` makes it: no route is set, and every link is in no connection. The outbox is
     /// empty then. Where there is no memory for that, nothing changes.
-    pub fn restart(&mut self, alloc: Global, first_sn: u32, now: Millis) -> Result<(), AllocError>
+    pub fn restart(
+        &mut self,
+        alloc: Global,
+        first_sequence_number: u32,
+        now: Millis,
+    ) -> Result<(), AllocError>
         ensures sited { self.new.state.sited ≡ self.old.state.sited }
-        ensures ixl { OnOk result (self.new.state.ixl ≡ new_ixl self.old.state.sited.site self.old.state.sited.table (record { clock = now; first = first_sn })) }
+        ensures ixl { OnOk result (self.new.state.ixl ≡ new_ixl self.old.state.sited.site self.old.state.sited.table (record { clock = now; first = first_sequence_number })) }
         ensures outbox { OnOk result (self.new.outbox ≡ empty_outbox) }
         ensures unchanged { OnErr result (self.new ≡ self.old) }
     {
-        self.state.restart(alloc, first_sn, now)?;
+        self.state.restart(alloc, first_sequence_number, now)?;
         empty(&mut self.outbox);
         Ok(())
     }
@@ -115,7 +119,7 @@ impl Interlocking {
     /// each for all routes in table order, and on a tick the heartbeats and openings of the links. The outbox then has the
     /// datagrams of this step alone.
     ///
-    /// What the rules come to at each route of the table, in the state that the step has reached there, `ixl_rules` says:
+    /// What the rules come to at each route of the table, in the state that the step has reached there, `ixl_spec` says:
     /// `stop_is_given_where_due`, `authority_ends_at_known_stop`, `section_is_freed_where_passage_lets_it_go`,
     /// `passage_frees_all_that_it_may`, `route_is_freed_where_cancel_lets_it_go`, `move_is_given_where_due` and
     /// `proceed_is_given_where_due`. Of requests `requests_are_accepted_where_admissible` says it here.
@@ -159,6 +163,21 @@ impl Interlocking {
         ensures { result.now ≡ self.now.state }
     {
         &self.state
+    }
+
+    /// Why a command is refused, if it is: the first cause in their order.
+    pub fn refusal(&self, now: Millis, command: Command) -> Option<Refusal>
+        ensures { result ≡ refusal now self.now.state.sited.table command self.now.state.ixl }
+    {
+        refusal(&self.state, now, command)
+    }
+
+    /// Why each command for a route of the table is refused, whatever it is: nothing is set or cancelled in the hold, nor
+    /// before it was told to resume.
+    pub fn refusal_of_any(&self, now: Millis) -> Option<Refusal>
+        ensures { result ≡ refused_where (is_holding now self.now.state.ixl) refusals.Holding (refused_where (not self.now.state.ixl.resumed) refusals.NotResumed None) }
+    {
+        refusal_of_any(&self.state, now)
     }
 
     /// Whether the hold after the creation isn't over: nothing is set then.

@@ -2,15 +2,15 @@
 
 ghost use Rattle.std.specs.Prelude.{◌≡◌, ◌↔◌, ◌≤◌, ℕ};
 ghost use Rattle.ixl_state.specs.layout.declared.ids.RouteId.{RouteId};
-ghost use Rattle.ixl_state.specs.ixl_rules.Due.{Admissible};
-ghost use Rattle.ixl_state.specs.ixl_rules.Step.{Accepted, Commands, Refused, Reply, all_clocked};
-ghost use Rattle.ixl_state.specs.ixl_rules.declared.command.Command.TheVariants as commands;
-ghost use Rattle.ixl_state.specs.ixl_rules.declared.command.Refusal.{Refusal};
-ghost use Rattle.ixl_state.specs.ixl_rules.Refusals.{IsRequestRefused};
+ghost use Rattle.ixl_state.specs.ixl_spec.Due.{Admissible};
+ghost use Rattle.ixl_state.specs.ixl_spec.Step.{Accepted, Commands, Refused, Reply, all_clocked};
+ghost use Rattle.ixl_state.specs.ixl_spec.declared.command.Command.TheVariants as commands;
+ghost use Rattle.ixl_state.specs.ixl_spec.declared.command.Refusal.{Refusal};
+ghost use Rattle.ixl_state.specs.ixl_spec.Refusals.{IsRequestRefused};
 ghost use Rattle.ixl.specs.Interlocking.{HasStepped, InterlockingState};
 ghost use Rattle.ixl_state.specs.State.{AllAt, MayStepAll, StateView};
 
-use ixl_state::ixl_rules::request_is_accepted_where_admissible;
+use ixl_state::ixl_spec::request_is_accepted_where_admissible;
 
 /// A request is accepted exactly where it is admissible once the clock has acted, and refused for the first cause that is
 /// given.
@@ -23,7 +23,7 @@ pub fn requests_are_accepted_where_admissible()
     request_is_accepted_where_admissible();
 }
 
-/// Behind a step at a clock reading a step may be made at any that isn't earlier.
+/// After a step at a clock reading a step may be made at any that isn't earlier.
 pub fn steps_may_follow_at_later_clocks()
     ensures { (now later : ℕ) (state : StateView) → AllAt now state → now ≤ later → MayStepAll later state }
 {}

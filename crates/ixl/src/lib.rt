@@ -23,6 +23,6 @@ mod withdrawal;
 pub use field_known::is_approach_clear;
 pub use input::{Input, Reply};
 pub use interlocking::Interlocking;
-pub use ixl_state::ixl_rules::{Command, Refusal};
+pub use ixl_state::ixl_spec::{Command, Refusal};
 pub use laws::{requests_are_accepted_where_admissible, steps_may_follow_at_later_clocks};
 pub use six_rules::apply_rules;

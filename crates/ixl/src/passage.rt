@@ -1,14 +1,13 @@
 //! The third rule: the passage of a train frees the sections of a route, one after another.
 
 ghost use Rattle.std.specs.Prelude.{◌≡◌, ◌<◌, length};
-ghost use Rattle.ixl_state.specs.ixl_rules.StepSoFar.{over};
-ghost use Rattle.ixl_state.specs.ixl_rules.Rules.{count, freeing_by_passage, frees_next};
+ghost use Rattle.ixl_state.specs.ixl_spec.StepSoFar.{over};
+ghost use Rattle.ixl_state.specs.ixl_spec.Rules.{count, freeing_by_passage, frees_next};
 ghost use Rattle.ixl_state.specs.State.{AtRoute};
 ghost use Rattle.ixl.specs.inside.Changes.{Changes};
 
 use crate::field_known::{is_section_clear, row_of};
-use ixl_state::State;
-use ixl_state::ixl_rules::Phase;
+use ixl_state::{Phase, State};
 
 /// Whether the first section of a route that isn't freed may be.
 fn is_next_freeable(state: &State, number: usize) -> bool

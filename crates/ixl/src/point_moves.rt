@@ -2,18 +2,16 @@
 
 ghost use Rattle.std.specs.Prelude.{◌≡◌, ◌<◌, ◌≤◌, ◌+◌, ◌&&◌, not, length};
 ghost use Rattle.ixl_state.specs.rasta_core.Outbox.{HasRoomFor};
-ghost use Rattle.ixl_state.specs.ixl_rules.StepSoFar.{over};
-ghost use Rattle.ixl_state.specs.ixl_rules.Rules.{count, is_move_due, is_waiting, moving, moving_one};
-ghost use Rattle.ixl_state.specs.ixl_rules.View.{all_known};
+ghost use Rattle.ixl_state.specs.ixl_spec.StepSoFar.{over};
+ghost use Rattle.ixl_state.specs.ixl_spec.Rules.{count, is_move_due, is_waiting, moving, moving_one};
+ghost use Rattle.ixl_state.specs.ixl_spec.View.{all_known};
 ghost use Rattle.ixl_state.specs.State.{AllAt, AtRoute, Goes};
 
 use crate::field_known::{
     are_points_known, is_over_clear, is_point_available, is_point_known, is_point_unmoved, row_of,
 };
-use ixl_state::State;
-use ixl_state::ixl_rules::Phase;
-use ixl_state::ixl_rules::rasta_core::{Millis, Outbox};
 use ixl_state::ixl_table::Need;
+use ixl_state::{Millis, Outbox, Phase, State};
 
 /// Whether a route is set, isn't cancelled and had no authority.
 fn waits(state: &State, number: usize) -> bool

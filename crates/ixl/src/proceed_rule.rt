@@ -2,17 +2,15 @@
 
 ghost use Rattle.std.specs.Prelude.{◌≡◌, ◌<◌, ◌+◌, length};
 ghost use Rattle.ixl_state.specs.rasta_core.Outbox.{HasRoomFor};
-ghost use Rattle.ixl_state.specs.ixl_rules.StepSoFar.{over};
-ghost use Rattle.ixl_state.specs.ixl_rules.Rules.{count, is_proceed_due, proceeding};
+ghost use Rattle.ixl_state.specs.ixl_spec.StepSoFar.{over};
+ghost use Rattle.ixl_state.specs.ixl_spec.Rules.{count, is_proceed_due, proceeding};
 ghost use Rattle.ixl_state.specs.State.{AllAt, AtRoute, Goes};
 
 use crate::field_known::{
     are_points_known, are_sections_clear, aspect, entry, is_approach_clear, is_at_known_stop,
     is_signal_ready,
 };
-use ixl_state::State;
-use ixl_state::ixl_rules::Phase;
-use ixl_state::ixl_rules::rasta_core::{Millis, Outbox};
+use ixl_state::{Millis, Outbox, Phase, State};
 
 /// Whether a route is to be given authority.
 fn is_proceed_due(state: &State, now: Millis, number: usize) -> bool

@@ -2,20 +2,14 @@
 
 ghost use Rattle.std.specs.Prelude.{None, ◌≡◌, ◌<◌, ◌&&◌, ◌||◌, not, false, length, slice_get};
 ghost use Rattle.std.specs.List.{list_all};
-ghost use Rattle.ixl_state.specs.ixl_rules.Commands.{cancel_refusal, is_point_wanting, locking_refusal, refusal, refused_where, request_refusal};
-ghost use Rattle.ixl_state.specs.ixl_rules.declared.command.Refusal.TheVariants as refusals;
-ghost use Rattle.ixl_state.specs.ixl_rules.View.{is_at_known_stop, is_holding, is_occupied, is_set, is_signal_ready, is_unknown};
+ghost use Rattle.ixl_state.specs.ixl_spec.Commands.{cancel_refusal, is_point_wanting, locking_refusal, refusal, refused_where, request_refusal};
+ghost use Rattle.ixl_state.specs.ixl_spec.declared.command.Refusal.TheVariants as refusals;
+ghost use Rattle.ixl_state.specs.ixl_spec.View.{is_at_known_stop, is_holding, is_occupied, is_set, is_signal_ready, is_unknown};
 ghost use Rattle.ixl_state.specs.State.{AtRoute};
 ghost use Rattle.ixl.specs.inside.Parts.{first_where};
 
-use ixl_state::State;
-use ixl_state::ixl_rules::control_table::layout::{PointId, RouteId, SectionId};
-use ixl_state::ixl_rules::rasta_core::Millis;
-use ixl_state::ixl_rules::{Command, Refusal};
 use ixl_state::ixl_table::Need;
-
-/// How long an interlocking holds after its creation, in ms of its clock.
-const HOLD_TIME: Millis = 6000;
+use ixl_state::{Command, HOLD_TIME, Millis, PointId, Refusal, RouteId, SectionId, State};
 
 /// Whether the hold after the creation isn't over.
 pub(crate) fn is_holding(state: &State, now: Millis) -> bool
@@ -113,6 +107,19 @@ fn locking_refusal(state: &State, now: Millis, number: usize) -> Option<Refusal>
     }
 }
 
+/// Why each command for a route of the table is refused, whatever it is.
+pub(crate) fn refusal_of_any(state: &State, now: Millis) -> Option<Refusal>
+    ensures { result ≡ refused_where (is_holding now state.now.ixl) refusals.Holding (refused_where (not state.now.ixl.resumed) refusals.NotResumed None) }
+{
+    if is_holding(state, now) {
+        return Some(Refusal::Holding);
+    }
+    if !state.is_resumed() {
+        return Some(Refusal::NotResumed);
+    }
+    None
+}
+
 /// Why a request is refused.
 fn request_refusal(state: &State, now: Millis, number: usize) -> Option<Refusal>
     ensures { result ≡ request_refusal now state.now.sited.table state.now.ixl number (slice_get state.now.sited.table.rows number) (slice_get state.now.ixl.routes number) }
@@ -120,11 +127,8 @@ fn request_refusal(state: &State, now: Millis, number: usize) -> Option<Refusal>
     if number >= state.table().rows().len() {
         return Some(Refusal::UnknownRoute);
     }
-    if is_holding(state, now) {
-        return Some(Refusal::Holding);
-    }
-    if !state.is_resumed() {
-        return Some(Refusal::NotResumed);
+    if let Some(cause) = refusal_of_any(state, now) {
+        return Some(cause);
     }
     if state.route(number).is_set() {
         return Some(Refusal::AlreadySet);
@@ -139,11 +143,8 @@ fn cancel_refusal(state: &State, now: Millis, number: usize) -> Option<Refusal>
     if number >= state.table().rows().len() {
         return Some(Refusal::UnknownRoute);
     }
-    if is_holding(state, now) {
-        return Some(Refusal::Holding);
-    }
-    if !state.is_resumed() {
-        return Some(Refusal::NotResumed);
+    if let Some(cause) = refusal_of_any(state, now) {
+        return Some(cause);
     }
     if !state.route(number).is_set() {
         return Some(Refusal::NotSet);

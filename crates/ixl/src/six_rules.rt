@@ -2,7 +2,7 @@
 
 ghost use Rattle.std.specs.Prelude.{◌+◌};
 ghost use Rattle.ixl_state.specs.rasta_core.Outbox.{HasRoomFor};
-ghost use Rattle.ixl_state.specs.ixl_rules.Rules.{ruled};
+ghost use Rattle.ixl_state.specs.ixl_spec.Rules.{ruled};
 ghost use Rattle.ixl_state.specs.State.{AllAt, Goes};
 
 use crate::authority_end::end_authorities;
@@ -12,8 +12,7 @@ use crate::passage::free_routes_by_passage;
 use crate::point_moves::move_points_of_routes;
 use crate::proceed_rule::give_authority;
 use crate::withdrawal::withdraw_routes;
-use ixl_state::State;
-use ixl_state::ixl_rules::rasta_core::{Millis, Outbox};
+use ixl_state::{Millis, Outbox, State};
 
 /// The six rules, each for all routes in table order, and then the next. Two datagrams are handed out at most for each of
 /// 64 stops, for each of 32 moves of 64 routes, and for each of 64 aspects.

@@ -2,9 +2,11 @@
 
 ghost use Rattle.std.specs.Prelude.{◌≡◌, ◌+◌};
 ghost use Rattle.ixl_state.specs.rasta_core.Outbox.{HasRoomFor};
-ghost use Rattle.ixl_state.specs.ixl_rules.Step.{given, reply, stepped, ticked};
+ghost use Rattle.ixl_state.specs.ixl_spec.Step.{given, reply, stepped, ticked};
+ghost use Rattle.ixl_state.specs.First.{key_of};
 ghost use Rattle.ixl_state.specs.State.{AllAt, Goes, MayStepAll};
 ghost use Rattle.ixl.specs.Interlocking.{meant, told};
+ghost use Rattle.ixl.specs.inside.Judged.{IsClocked};
 ghost use Rattle.ixl.specs.inside.Parts.{answer_in};
 
 use crate::apply_rules;
@@ -12,13 +14,13 @@ use crate::approaches_seen::watch;
 use crate::commands::command;
 use crate::datagrams_heard::hear;
 use crate::input::{Input, Reply};
-use ixl_state::State;
-use ixl_state::ixl_rules::rasta_core::{Millis, Outbox};
-use ixl_state::ixl_rules::rasta_pdu::Key;
+use ixl_state::{Key, Millis, Outbox, State};
 
 /// What the step is made for.
 fn give(state: &mut State, now: Millis, key: &Key, input: &Input, outbox: &mut Outbox) -> Reply
     requires clock { AllAt now state.old }
+    requires clocked { IsClocked now state.old.ixl }
+    requires under { key.now ≡ key_of state.old.sited.site }
     requires room { HasRoomFor 56 outbox.old }
     ensures goes { Goes now 30 (given now state.old.sited.table key.now (meant input.now)) state.old outbox.old state.new outbox.new }
     ensures answer { told result ≡ answer_in now state.old.sited.table key.now (meant input.now) state.old.ixl }
@@ -54,6 +56,7 @@ pub(crate) fn step(
     outbox: &mut Outbox,
 ) -> Reply
     requires clock { MayStepAll now state.old }
+    requires under { key.now ≡ key_of state.old.sited.site }
     requires room { HasRoomFor (30 + 4352 + 160 + 24) outbox.old }
     ensures goes { Goes now (30 + 4352 + 160) (stepped now state.old.sited.table key.now (meant input.now)) state.old outbox.old state.new outbox.new }
     ensures answer { told result ≡ reply now state.old.sited.table key.now (meant input.now) state.old.ixl }

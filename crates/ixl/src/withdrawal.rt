@@ -2,15 +2,12 @@
 
 ghost use Rattle.std.specs.Prelude.{◌≡◌, ◌<◌, ◌+◌, length};
 ghost use Rattle.ixl_state.specs.rasta_core.Outbox.{HasRoomFor};
-ghost use Rattle.ixl_state.specs.ixl_rules.StepSoFar.{over};
-ghost use Rattle.ixl_state.specs.ixl_rules.Rules.{count, is_stop_due, withdrawing};
+ghost use Rattle.ixl_state.specs.ixl_spec.StepSoFar.{over};
+ghost use Rattle.ixl_state.specs.ixl_spec.Rules.{count, is_stop_due, withdrawing};
 ghost use Rattle.ixl_state.specs.State.{AllAt, AtRoute, Goes};
 
 use crate::field_known::{are_points_known, are_sections_clear, entry, is_signal_ready};
-use ixl_state::State;
-use ixl_state::ixl_rules::Phase;
-use ixl_state::ixl_rules::control_table::sci_telegram::Aspect;
-use ixl_state::ixl_rules::rasta_core::{Millis, Outbox};
+use ixl_state::{Aspect, Millis, Outbox, Phase, State};
 
 /// Whether the aspect of a route was given, and what it rests on holds no longer: the will of the operator, a point, a
 /// section, or the signal's link.

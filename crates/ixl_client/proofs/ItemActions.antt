@@ -84,7 +84,7 @@ fallen_link client = cases (is_up client.link.phase) where
   cases true = refl
   cases false = refl
 
--- the client is outside behind a part that left its link so
+-- the client is outside after a part that left its link so
 pub falls : (now most : ℕ) (does : ClientSoFar → ClientSoFar) (a b : Seen) (new : ClientState) → Goes now most does a b → new ≡ fallen b.client →
     Goes now most (λ part. ending (does part)) a (record { client = new; outbox = b.outbox; heard = b.heard })
 falls now most does a b new way is =

@@ -48,7 +48,7 @@ sent_joined (Ticks ∷ others) more = sent_joined others more
 sent_joined (Closes why ∷ others) more = sent_joined others more
 sent_joined (Receives bytes ∷ others) more = sent_joined others more
 
--- a part of a step says what leads from its stage to the next; the link may be closed behind it
+-- a part of a step says what leads from its stage to the next; the link may be closed after it
 record Says (a b : ClientSoFar) : Type 0 where
   calls : List LinkCall
   made : b.calls ≡ a.calls ++ calls

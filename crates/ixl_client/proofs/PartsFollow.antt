@@ -126,7 +126,7 @@ pub says : (now : ℕ) (initialisation : Initialisation) (a b : Seen) → Goes n
 says now initialisation a b way =
     going_as now 2 2 (posting now (message.Initialisation a.client.peer.protocol initialisation)) (saying now initialisation) a b (omega arith) (λ calls acted. refl) way
 
--- the stage is set behind a part
+-- the stage is set after a part
 pub staged : (now most : ℕ) (does : ClientSoFar → ClientSoFar) (to : Stage) (a : Seen) (old new : ClientState) (box : OutboxState) (heard : List Indication) →
     Goes now most does a (record { client = old; outbox = box; heard = heard }) → new ≡ record old { stage = to } →
     Goes now most (λ part. at_stage to (does part)) a (record { client = new; outbox = box; heard = heard })

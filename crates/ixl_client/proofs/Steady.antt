@@ -189,7 +189,7 @@ commanded_inside (commands.Move side) stage.AwaitsReport inside = refl
 
 -- ---- the step
 
--- the client behind a part is outside exactly where its link isn't up
+-- the client after a part is outside exactly where its link isn't up
 abbrev pub Rests : ClientSoFar → Type 0
 Rests part = is_outside part.client.stage ≡ not (is_up part.client.link.phase)
 

@@ -67,6 +67,6 @@ pub record Seen : Type 0 where
 abbrev pub seen : ClientSoFar → Seen
 seen part = record { client = part.client; outbox = part.outbox; heard = part.heard }
 
--- A part of a step leads from what is seen before it to what is seen behind it, whatever was called and acted on before.
+-- A part of a step leads from what is seen before it to what is seen after it, whatever was called and acted on before.
 abbrev pub Leads : (ClientSoFar → ClientSoFar) → Seen → Seen → Type 0
 Leads does before after = (part : ClientSoFar) → seen part ≡ before → seen (does part) ≡ after

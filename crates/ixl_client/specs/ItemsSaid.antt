@@ -35,11 +35,11 @@ items_sent (Ticks ∷ others) = items_sent others
 items_sent (Closes why ∷ others) = items_sent others
 items_sent (Receives bytes ∷ others) = items_sent others
 
--- In a step the client sent these items, and is in the connection behind it.
+-- In a step the client sent these items, and is in the connection after it.
 abbrev pub WhereInside : ClientSoFar → Type 0 → Type 0
 WhereInside after fact = is_outside after.client.stage ≡ false → fact
 
--- What it has said behind a step is what it had said before and what it sent in the step.
+-- What it has said after a step is what it had said before and what it sent in the step.
 pub record SaysInOrder (before after : ClientSoFar) : Type 0 where
   pub calls : List LinkCall
   pub made : after.calls ≡ before.calls ++ calls

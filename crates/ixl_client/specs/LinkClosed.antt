@@ -24,7 +24,7 @@ pub record ClosesForWindow (item : List ℕ) (before after : ClientSoFar) : Type
 pub record SendsAlone (item : List ℕ) (before after : ClientSoFar) : Type 0 where
   pub calls : after.calls ≡ before.calls ++ Sends item ∷ []
 
--- The link was closed with a reason, and nothing else was done. What stands behind is dropped.
+-- The link was closed with a reason, and nothing else was done. What stands after is dropped.
 pub record ClosesWith (now : ℕ) (why : Reason) (before after : ClientSoFar) : Type 0 where
   pub calls : after.calls ≡ before.calls ++ Closes why ∷ []
   pub closed : is_open after.client.link.phase ≡ false

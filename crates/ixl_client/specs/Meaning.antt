@@ -12,6 +12,7 @@ use Rattle.sci_telegram.specs.declared.message.Initialisation.TheVariants.{Start
 use Rattle.sci_telegram.specs.declared.message.Message.{Message}
 use Rattle.sci_telegram.specs.declared.message.Message.TheVariants as message
 use Rattle.sci_telegram.specs.declared.message.PointMessage.TheVariants.{PointPosition, Timeout}
+use Rattle.sci_telegram.specs.declared.message.TheConstants.{SLOW_SINCE}
 use Rattle.sci_telegram.specs.declared.message.Protocol.{Protocol}
 use Rattle.sci_telegram.specs.declared.message.Protocol.TheVariants as protocols
 use Rattle.sci_telegram.specs.declared.message.SignalMessage.TheVariants.{IndicatedAspect}
@@ -40,7 +41,7 @@ is_status _ = true
 
 -- version 1 of the telegrams doesn't have the aspect slow
 abbrev pub is_in_version : ℕ → ObjectState → Bool
-is_in_version version (states.Aspect Slow) = nat_le 2 version
+is_in_version version (states.Aspect Slow) = nat_le SLOW_SINCE version
 is_in_version version _ = true
 
 -- a point tells where it lies only in the initialisation and when a move has ended

@@ -92,7 +92,7 @@ meaning_of_item peer stage (Err fault) = meanings.Violates
 unfoldable pub acting : ℕ → List ℕ → ClientSoFar → ClientSoFar
 acting now item part = following now item (meaning_of_item part.client.peer part.client.stage (reading item)) part
 
--- the items of a datagram, one after another; those behind one that closed the link are dropped
+-- the items of a datagram, one after another; those after one that closed the link are dropped
 unfoldable pub acting_all : ℕ → List (List ℕ) → ClientSoFar → ClientSoFar
 acting_all now [] part = part
 acting_all now (item ∷ others) part =

@@ -15,7 +15,7 @@ use crate::end::End;
 use crate::indication::Indications;
 use crate::peer::Peer;
 use crate::stage::Stage;
-use rasta_core::{Inbox, Link, Millis, Outbox, Verdict};
+use rasta_core::{Inbox, Link, Millis, Outbox, Start, Verdict};
 use rasta_pdu::Key;
 use std::alloc::{AllocError, Global};
 use std::marker::Model;
@@ -47,8 +47,7 @@ impl Model for Client {
 impl Client {
     ghost use Rattle.ixl_client.specs.Client.{IsClient, is_available, is_ready, new_client};
 
-    /// The client `own` of the controller `partner`, with a link that isn't in a connection. Its PDUs are numbered from
-    /// `first_sequence_number` on, and `now` is its clock.
+    /// The client `own` of the controller `partner`, with a link that isn't in a connection and begins so.
     #[tactic(auto, unfolding(crate::specs::Client::new_client))]
     pub fn new(
         alloc: Global,
@@ -56,11 +55,14 @@ impl Client {
         partner: u32,
         key: Key,
         peer: Peer,
-        first_sequence_number: u32,
-        now: Millis,
+        start: Start,
     ) -> Result<Client, AllocError>
-        ensures { IfOk result (λ client. client ≡ new_client (record { role = role.Client; own = own; partner = partner; key = key }) peer first_sequence_number now) }
+        ensures { IfOk result (λ client. client ≡ new_client (record { role = role.Client; own = own; partner = partner; key = key }) peer start.first_sequence_number start.now) }
     {
+        let Start {
+            first_sequence_number,
+            now,
+        } = start;
         let link = Link::client(alloc, own, partner, key, first_sequence_number, now)?;
         let stage = Stage::Outside;
         Ok(Client {

@@ -137,7 +137,7 @@ impl End {
         self.follow(now, meaning, outbox, heard);
     }
 
-    /// The items of a datagram. Those behind one that closed the link are dropped.
+    /// The items of a datagram. Those after one that closed the link are dropped.
     pub(crate) fn act_all(
         &mut self,
         now: Millis,

@@ -8,11 +8,8 @@ use crate::peer::Peer;
 use crate::stage::Stage;
 use sci_telegram::{
     Agreement, Aspect, DetectionMessage, Initialisation, Message, PointMessage, Protocol,
-    SignalMessage, Telegram,
+    SLOW_SINCE, SignalMessage, Telegram,
 };
-
-/// The version of the telegrams that first has the aspect slow.
-const SLOW_SINCE: u8 = 2;
 
 /// What a telegram is to a connection, by what it says and how far the connection has come.
 #[derive(Clone, Copy, Debug)]

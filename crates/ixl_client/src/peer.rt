@@ -2,7 +2,7 @@
 
 ghost use Rattle.std.specs.Prelude.{◌≡◌, ◌<◌, Some, IfSome};
 ghost use Rattle.std.specs.Option.{option_map};
-ghost use Rattle.ixl_client.specs.Meaning.{is_for_client, is_same_protocol, place_of};
+ghost use Rattle.ixl_client.specs.Meaning.{is_for_client, place_of};
 ghost use Rattle.sci_telegram.specs.declared.message.Message.TheVariants as message;
 ghost use Rattle.ixl_client.specs.Step.{telegram_to};
 
@@ -56,7 +56,7 @@ impl Peer {
     pub(crate) fn is_for_client(&self, telegram: &Telegram) -> bool
         ensures { result ≡ is_for_client self.now telegram.now }
     {
-        is_same(telegram.message.protocol(), self.protocol)
+        telegram.message.protocol() == self.protocol
             && telegram.receiver.bytes() == self.own_name.bytes()
     }
 
@@ -68,15 +68,4 @@ impl Peer {
             .iter()
             .position(|name| name.bytes() == sender.bytes())
     }
-}
-
-fn is_same(protocol: Protocol, other: Protocol) -> bool
-    ensures { result ≡ is_same_protocol protocol other }
-{
-    matches!(
-        (protocol, other),
-        (Protocol::TrainDetection, Protocol::TrainDetection)
-            | (Protocol::LightSignal, Protocol::LightSignal)
-            | (Protocol::Point, Protocol::Point)
-    )
 }

@@ -22,7 +22,7 @@ pub fn refusals_by_the_window_close_the_link()
     ensures sent { (now : ℕ) (command : Command) (part : ClientSoFar) → (answer_to_send now part.client.link ≡ Err WindowFull → ⊥) → SendsAlone (telegram_of command part) part (commanding now command part) }
 {}
 
-/// Behind a tick the link isn't down: one that was down asks for a connection. It is the same client's.
+/// After a tick the link isn't down: one that was down asks for a connection. It is the same client's.
 #[tactic(auto, using(crate::proofs::LinkOpened::none_down, crate::proofs::LinkOpened::down_asks, crate::proofs::LinkOpened::tick_keeps))]
 pub fn ticks_open_links_that_are_down()
     ensures opened { (now : ℕ) (part : ClientSoFar) → is_client part.client.link.identity.role ≡ true → IsNotDown now (ticking now part).client.link }
@@ -41,7 +41,7 @@ pub fn initialisations_go_out_in_order()
 {}
 
 /// Each item that comes is acted on or closes the link: an answer to the version check that tells another version with
-/// reason 4, and what comes out of the order of the initialisation with reason 1. What stands behind it in the datagram is
+/// reason 4, and what comes out of the order of the initialisation with reason 1. What stands after it in the datagram is
 /// dropped. What is acted on is what the stage of the connection expects.
 #[tactic(auto, using(crate::proofs::Deviation::items_have_fates, crate::proofs::Deviation::expected_alone))]
 pub fn deviations_close_the_link()

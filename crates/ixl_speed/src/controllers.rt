@@ -1,11 +1,9 @@
 // The controllers of a station.
 
-use ixl_state::ixl_rules::control_table::Checked;
-use ixl_state::ixl_rules::control_table::sci_telegram::{Occupancy, Position};
-use ixl_state::ixl_rules::rasta_core::Millis;
-use ixl_state::ixl_rules::rasta_pdu::{Datagram, Key, Pdu};
+use ixl_state::{Checked, Datagram, Key, Millis, Occupancy, Position};
 use object_host::{Controller, Hosted, Input, Sense};
 use point_ctl::Point;
+use rasta_pdu::Pdu;
 use signal_ctl::Signal;
 use simulator_field::{new_detector, new_point, new_signal};
 use std::alloc::{AllocError, Global};
@@ -50,7 +48,7 @@ fn step_each<C: Controller>(
 
 /// The PDU in a datagram.
 fn pdu_in(key: &Key, datagram: &Datagram) -> Option<Pdu> {
-    match ixl_state::ixl_rules::rasta_pdu::read(key, datagram.as_slice()) {
+    match ixl_state::ixl_spec::rasta_pdu::read(key, datagram.as_slice()) {
         Ok(pdu) => Some(pdu),
         Err(_) => None,
     }

@@ -14,15 +14,15 @@ mod station;
 
 use crate::station::{Station, Work};
 use anyhow::{Context, bail};
-use ixl_state::ixl_rules::control_table::layout::Layout;
-use ixl_state::ixl_rules::control_table::{Checked, check};
+use control_table::check;
+use ixl_state::{Checked, Layout};
 use std::alloc::Global;
 use std::{env, fs};
 
 const USAGE: &str =
     "usage: ixl_speed LAYOUT ROUTES WORK TIMES, where WORK is tick, report, read or write";
 
-/// How much of which work is done, behind how many routes that show proceed.
+/// How much of which work is done, after how many routes that show proceed.
 #[derive(Clone, Copy)]
 struct Asked {
     routes: usize,

@@ -3,15 +3,15 @@
 ghost use Rattle.ixl_state.specs.State.{MayStepAll};
 
 use ixl::{Input, Interlocking, Reply, steps_may_follow_at_later_clocks};
-use ixl_state::ixl_rules::rasta_core::{Millis, Verdict};
-use ixl_state::ixl_rules::rasta_pdu::{Datagram, Key, Pdu};
+use ixl_state::{Datagram, Key, Millis, Verdict};
+use rasta_pdu::Pdu;
 
 /// Two reports follow each other before the same one has its turn again.
 const TURN: u32 = 2;
 
 /// A report is written, and gets its next number.
 fn written(key: &Key, report: &mut Pdu) -> Datagram {
-    let datagram = ixl_state::ixl_rules::rasta_pdu::write(key, report);
+    let datagram = ixl_state::ixl_spec::rasta_pdu::write(key, report);
     report.sequence_number = report.sequence_number.wrapping_add(TURN);
     datagram
 }
@@ -60,7 +60,7 @@ pub fn read(key: &Key, reports: &mut Vec<Pdu>, times: u32) -> u32 {
     for _pass in 0..times {
         for place in 0..reports.len() {
             let datagram = written(key, &mut reports[place]);
-            if ixl_state::ixl_rules::rasta_pdu::read(key, datagram.as_slice()).is_ok() {
+            if ixl_state::ixl_spec::rasta_pdu::read(key, datagram.as_slice()).is_ok() {
                 done = done.wrapping_add(1);
             }
         }

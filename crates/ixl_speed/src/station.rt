@@ -4,12 +4,9 @@
 use crate::controllers::Controllers;
 use crate::passes::{read, report, tick, write};
 use ixl::{Command, Input as StationInput, Interlocking};
-use ixl_state::ixl_rules::control_table::Checked;
-use ixl_state::ixl_rules::control_table::layout::{RouteId, SignalId};
-use ixl_state::ixl_rules::key_of;
-use ixl_state::ixl_rules::rasta_core::Millis;
-use ixl_state::ixl_rules::rasta_pdu::{Datagram, Key, Pdu};
+use ixl_state::{Checked, Datagram, Key, Millis, RouteId, SignalId, key_of};
 use object_host::Input;
+use rasta_pdu::Pdu;
 use std::alloc::{AllocError, Global};
 
 /// How long a round takes.

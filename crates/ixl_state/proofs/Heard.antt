@@ -2,25 +2,25 @@
 use Rattle.std.proofs.Common.{◌≡◌, ℕ, zero, suc, ◌<◌, Bool, true, false, not, if◌then◌else◌, List, [], ◌∷◌, ◌++◌, length, arith, refl, ap, sym, ◌∙◌, subst}
 use Rattle.std.specs.Prelude.{Option, Some, None, slice_get, IfSome}
 use Rattle.std.specs.FinSet.{empty}
-use Rattle.ixl_rules.specs.bit_row.Places.{Places}
-use Rattle.ixl_rules.specs.rasta_core.Calls.{receiving}
-use Rattle.ixl_rules.specs.rasta_core.Outbox.{OutboxState}
-use Rattle.ixl_rules.specs.rasta_core.verdict.Verdict.{Verdict}
-use Rattle.ixl_rules.specs.rasta_core.verdict.Verdict.TheVariants as verdicts
-use Rattle.ixl_rules.specs.ixl_client.Client.{ClientState, is_outside, is_ready}
-use Rattle.ixl_rules.specs.ixl_client.ClientSoFar.{begun}
-use Rattle.ixl_rules.specs.ixl_client.ClientSoFar as client
-use Rattle.ixl_rules.specs.ixl_client.Step.{hearing}
-use Rattle.ixl_rules.specs.ixl_client.declared.indication.Indication.{Indication}
-use Rattle.ixl_rules.specs.StepSoFar.{Node, Signal, Point, Detector, StepSoFar, along, detector_after}
-use Rattle.ixl_rules.specs.State.{KnownDetectorState, IxlState, KnownSignalState, KnownPointState, changed}
-use Rattle.ixl_rules.specs.Step.{client_at, client_of, detector_hearing, known_signal_hearing, looking, looks, node_hearing, node_of, occupied_heard, known_point_hearing, told_before, told_now, verdict_at}
-use Rattle.ixl_rules.specs.Table.{Table}
-use Rattle.ixl_field.specs.Field.{detector_hearing_alone, node_at}
-use Rattle.ixl_field.specs.declared.node.Node.{Node as NamedNode}
-use Rattle.ixl_field.specs.declared.node.Node.TheVariants as nodes
+use Rattle.ixl_spec.specs.bit_row.Places.{Places}
+use Rattle.ixl_spec.specs.rasta_core.Calls.{receiving}
+use Rattle.ixl_spec.specs.rasta_core.Outbox.{OutboxState}
+use Rattle.ixl_spec.specs.rasta_core.verdict.Verdict.{Verdict}
+use Rattle.ixl_spec.specs.rasta_core.verdict.Verdict.TheVariants as verdicts
+use Rattle.ixl_spec.specs.ixl_client.Client.{ClientState, is_outside, is_ready}
+use Rattle.ixl_spec.specs.ixl_client.ClientSoFar.{begun}
+use Rattle.ixl_spec.specs.ixl_client.ClientSoFar as client
+use Rattle.ixl_spec.specs.ixl_client.Step.{hearing}
+use Rattle.ixl_spec.specs.ixl_client.declared.indication.Indication.{Indication}
+use Rattle.ixl_spec.specs.StepSoFar.{Node, Signal, Point, Detector, StepSoFar, along, detector_after}
+use Rattle.ixl_spec.specs.State.{KnownDetectorState, IxlState, KnownSignalState, KnownPointState, changed}
+use Rattle.ixl_spec.specs.Step.{client_at, client_of, detector_hearing, known_signal_hearing, looking, looks, node_hearing, node_of, occupied_heard, known_point_hearing, told_before, told_now, verdict_at}
+use Rattle.ixl_spec.specs.Table.{Table}
+use Rattle.ixl_known.specs.Field.{detector_hearing_alone, node_at}
+use Rattle.ixl_known.specs.declared.node.Node.{Node as NamedNode}
+use Rattle.ixl_known.specs.declared.node.Node.TheVariants as nodes
 use Rattle.ixl_state.specs.State.{AllAt, Goes, StateView}
-use Rattle.ixl_field.specs.Nodes.{AreHeardBy}
+use Rattle.ixl_known.specs.Nodes.{AreHeardBy}
 use Rattle.ixl_table.specs.Table.{SitedTable}
 use Rattle.ixl_state.specs.inside.DetectorHeard.{Passes, told_since}
 use Rattle.ixl_state.specs.State.{heard_from}

@@ -1,4 +1,5 @@
 pub mod Lists
+pub mod Keys
 pub mod Sections
 pub mod RouteChange
 pub mod LocksFreed

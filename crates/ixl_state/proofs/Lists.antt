@@ -4,7 +4,7 @@ use Rattle.std.specs.Prelude.{slice_get}
 use Rattle.std.specs.List.{AllPairs, Contains}
 use Rattle.std.proofs.lemmas.List.{get_or-drop}
 use Rattle.std.proofs.lemmas.Option.{get_or_from_slice_get, none-some, same_Some}
-use Rattle.ixl_rules.specs.State.{changed}
+use Rattle.ixl_spec.specs.State.{changed}
 
 pub changed-is-set : {A : Type 0} (change : A → A) (xs : List A) (n : ℕ) (x y : A) → slice_get xs n ≡ Some x → y ≡ change x → slice_set xs n y ≡ changed change n xs
 changed-is-set change [] n x y at is = absurd (none-some x at)
@@ -43,14 +43,14 @@ drop-at [] n x at = absurd (none-some x at)
 drop-at (w ∷ xs) zero x at = ap (λ z. z ∷ xs) (same_Some w x at)
 drop-at (w ∷ xs) (suc n) x at = drop-at xs n x at
 
--- in a list in which nothing stands twice, nothing stands at a place and behind it
+-- in a list in which nothing stands twice, nothing stands at a place and after it
 pub apart-after : {A : Type 0} (xs : List A) (n : ℕ) (x y : A) → AllPairs (λ a b. a ≢ b) xs → slice_get xs n ≡ Some x → Contains (drop (suc n) xs) y → y ≢ x
 apart-after xs n x y apart at (k, lt, stands) same =
     let bound = length-drop (suc n) xs in
     let later : get_or xs (suc n + k) y ≡ y = sym (get_or-drop (suc n) xs k y) ∙ stands in
     apart n (suc n + k) y (omega arith) (omega (arith, lt, bound)) (get_or_from_slice_get xs n x y at ∙ sym same ∙ sym later)
 
--- what stands from a place on, but for what stands there, is what stands behind it
+-- what stands from a place on, but for what stands there, is what stands after it
 pub rest-after : {A : Type 0} (xs : List A) (n : ℕ) (x y : A) → slice_get xs n ≡ Some x → Contains (drop n xs) y → y ≢ x → Contains (drop (suc n) xs) y
 rest-after {A} xs n x y at h other =
     let F : List A → Type 0 = λ zs. Contains zs y in

@@ -12,20 +12,20 @@ use Rattle.std.proofs.lemmas.Bool.{eqb-true, eq-eqb, false≢true}
 use Rattle.std.proofs.lemmas.Bool.Decides.{Decides-and, Decides-not}
 use Rattle.std.proofs.lemmas.List.{length-map}
 use Rattle.std.proofs.lemmas.Option.{same_Some, slice_get-map}
-use Rattle.ixl_rules.specs.layout.declared.ids.RouteId.{RouteId}
-use Rattle.ixl_rules.specs.layout.declared.ids.SectionId.{SectionId}
-use Rattle.ixl_rules.specs.layout.Entries.{Site}
-use Rattle.ixl_rules.specs.bit_row.Places.{Has, Places}
-use Rattle.ixl_rules.specs.control_table.Table.{AreSections, LeadsOver}
+use Rattle.ixl_spec.specs.layout.declared.ids.RouteId.{RouteId}
+use Rattle.ixl_spec.specs.layout.declared.ids.SectionId.{SectionId}
+use Rattle.ixl_spec.specs.layout.Entries.{Site}
+use Rattle.ixl_spec.specs.bit_row.Places.{Has, Places}
+use Rattle.ixl_spec.specs.control_table.Table.{AreSections, LeadsOver}
 use Rattle.route_lock.specs.declared.locks.LockFault.{LockFault}
 use Rattle.route_lock.specs.declared.locks.LockFault.TheVariants.{Conflict, PointHeld}
 use Rattle.route_lock.specs.Locks.{AreAllSections, Blocks, IsFault, IsSection, LockState, LocksAt, locked_by}
-use Rattle.ixl_rules.specs.Due.{HoldsSection}
-use Rattle.ixl_rules.specs.Rules.{come_to, freed, one_freed}
-use Rattle.ixl_rules.specs.State.{RouteState}
-use Rattle.ixl_rules.specs.Table.{Row}
-use Rattle.ixl_rules.specs.declared.phase.Phase.{Phase}
-use Rattle.ixl_rules.specs.declared.phase.Phase.TheVariants as phase
+use Rattle.ixl_spec.specs.Due.{HoldsSection}
+use Rattle.ixl_spec.specs.Rules.{come_to, freed, one_freed}
+use Rattle.ixl_spec.specs.State.{RouteState}
+use Rattle.ixl_spec.specs.Table.{Row}
+use Rattle.ixl_spec.specs.declared.phase.Phase.{Phase}
+use Rattle.ixl_spec.specs.declared.phase.Phase.TheVariants as phase
 use Rattle.ixl_table.specs.Locks.{AreLocksOf, IsKeptRoute}
 use Rattle.ixl_table.specs.Table.{IsRowOf, IsTableOf, SitedTable, as_route, as_section}
 use Rattle.ixl_state.proofs.Lists.{after-rest, apart-after, drop-at, get-below, contains-here, rest-after}

@@ -4,13 +4,13 @@ use Rattle.std.specs.Prelude.{◌++◌, Option, Some, None, slice_get, IfSome}
 use Rattle.std.specs.FinSet.{contains}
 use Rattle.std.proofs.Math.Seq.{drop-cons}
 use Rattle.std.proofs.lemmas.List.{drop_all}
-use Rattle.ixl_rules.specs.bit_row.Places.{Places}
-use Rattle.ixl_rules.specs.ixl_client.declared.indication.Indication.{Indication}
-use Rattle.ixl_rules.specs.StepSoFar.{StepSoFar, along, with_route}
-use Rattle.ixl_rules.specs.State.{RouteState}
-use Rattle.ixl_rules.specs.Step.{is_told_occupied, looking, looking_by, route_looks, told_before, told_now}
-use Rattle.ixl_rules.specs.Table.{Row, Table}
-use Rattle.ixl_rules.specs.View.{was_authorised}
+use Rattle.ixl_spec.specs.bit_row.Places.{Places}
+use Rattle.ixl_spec.specs.ixl_client.declared.indication.Indication.{Indication}
+use Rattle.ixl_spec.specs.StepSoFar.{StepSoFar, along, with_route}
+use Rattle.ixl_spec.specs.State.{RouteState}
+use Rattle.ixl_spec.specs.Step.{is_told_occupied, looking, looking_by, route_looks, told_before, told_now}
+use Rattle.ixl_spec.specs.Table.{Row, Table}
+use Rattle.ixl_spec.specs.View.{was_authorised}
 use Rattle.ixl_table.specs.Locks.{IsKeptRoute}
 use Rattle.ixl_table.specs.Table.{SitedTable}
 use Rattle.ixl_state.specs.State.{AllAt, StateView, route_changed}

@@ -8,21 +8,21 @@ use Rattle.std.specs.Ordering.{nat_cmp}
 use Rattle.std.proofs.lemmas.Bool.{false≢true}
 use Rattle.std.proofs.lemmas.List.{length-map, map_more, take_all}
 use Rattle.std.proofs.lemmas.Option.{same_Some, slice_get-get_or, slice_get-map}
-use Rattle.ixl_rules.specs.sci_telegram.declared.message.Protocol.{Protocol}
-use Rattle.ixl_rules.specs.layout.declared.ids.RouteId.{RouteId}
-use Rattle.ixl_rules.specs.layout.declared.ids.SectionId.{SectionId}
-use Rattle.ixl_rules.specs.layout.Entries.{DetectorEntry, Site}
-use Rattle.ixl_rules.specs.layout.Station.{IsDetectorOf, IsStation}
+use Rattle.ixl_spec.specs.sci_telegram.declared.message.Protocol.{Protocol}
+use Rattle.ixl_spec.specs.layout.declared.ids.RouteId.{RouteId}
+use Rattle.ixl_spec.specs.layout.declared.ids.SectionId.{SectionId}
+use Rattle.ixl_spec.specs.layout.Entries.{DetectorEntry, Site}
+use Rattle.ixl_spec.specs.layout.Station.{IsDetectorOf, IsStation}
 use Rattle.release.specs.Passage.{passage_after}
 use Rattle.route_lock.specs.Locks.{IsSet, LockState}
-use Rattle.ixl_rules.specs.ixl_client.Client.{new_client}
-use Rattle.ixl_rules.specs.State.{RouteState}
-use Rattle.ixl_rules.specs.Table.{Row, Table}
-use Rattle.ixl_rules.specs.View.{is_set}
+use Rattle.ixl_spec.specs.ixl_client.Client.{new_client}
+use Rattle.ixl_spec.specs.State.{RouteState}
+use Rattle.ixl_spec.specs.Table.{Row, Table}
+use Rattle.ixl_spec.specs.View.{is_set}
 use Rattle.ixl_table.specs.Locks.{AreLocksOf, IsKeptRoute}
 use Rattle.ixl_table.specs.Table.{IsTableThere, SitedTable, as_route}
-use Rattle.ixl_field.specs.Field.{FieldState, kept}
-use Rattle.ixl_rules.specs.First.{Beginning, client_of, new_detector_of, new_ixl, new_known_signal_of, new_route_of, new_known_point_of}
+use Rattle.ixl_known.specs.Field.{FieldState, kept}
+use Rattle.ixl_spec.specs.First.{Beginning, client_of, new_detector_of, new_ixl, new_known_signal_of, new_route_of, new_known_point_of}
 use Rattle.ixl_state.specs.inside.Kept.{AreRoutesOf, IsPassageOf}
 
 -- one more of a list is made

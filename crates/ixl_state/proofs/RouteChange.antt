@@ -5,21 +5,23 @@ use Rattle.std.specs.List.{Contains}
 use Rattle.std.specs.FinSet.{empty}
 use Rattle.std.proofs.lemmas.List.{get_or-set_other, get_or-set_same, length-map, length-set}
 use Rattle.std.proofs.lemmas.Option.{same_Some, slice_get_read, slice_get_within}
-use Rattle.ixl_rules.specs.bit_row.Places.{Has, Places}
+use Rattle.ixl_spec.specs.bit_row.Places.{Has, Places}
 use Rattle.route_lock.specs.Locks.{LockState, locked_by, locking}
-use Rattle.ixl_rules.specs.layout.Entries.{Site}
-use Rattle.ixl_rules.specs.Commands.{unmoved_for}
-use Rattle.ixl_rules.specs.Due.{HoldsSection}
-use Rattle.ixl_rules.specs.State.{RouteState}
-use Rattle.ixl_rules.specs.Table.{Row}
-use Rattle.ixl_rules.specs.View.{freed_sections, is_set}
-use Rattle.ixl_rules.specs.declared.phase.Phase.{Phase}
+use Rattle.ixl_spec.specs.layout.Entries.{Site}
+use Rattle.ixl_spec.specs.Commands.{unmoved_for}
+use Rattle.ixl_spec.specs.Due.{HoldsSection}
+use Rattle.ixl_spec.specs.State.{RouteState}
+use Rattle.ixl_spec.specs.Table.{Row}
+use Rattle.ixl_spec.specs.View.{freed_sections, is_set}
+use Rattle.ixl_spec.specs.declared.phase.Phase.{Phase}
 use Rattle.ixl_table.specs.Locks.{AreLocksOf, IsKeptRoute}
 use Rattle.ixl_table.specs.Table.{IsTableOf, SitedTable, as_route}
-use Rattle.ixl_field.specs.Field.{FieldState, kept}
+use Rattle.ixl_known.specs.Field.{FieldState, kept}
 use Rattle.ixl_state.specs.State.{AtRoute, StateView, route_changed}
 use Rattle.ixl_state.specs.inside.Kept.{AreRoutesOf, HoldsAlike, IsPassageOf, IsState}
 use Rattle.ixl_state.proofs.Lists.{changed-is-set, get-below, set-cases}
+use Rattle.ixl_spec.specs.First.{key_of}
+use Rattle.ixl_state.proofs.Keys.{unmoved-under}
 
 abbrev pub view_of : SitedTable → FieldState → List RouteState → ℕ → Bool → StateView
 view_of sited field routes created resumed = record { sited = sited; ixl = kept field (record { routes = routes; created = created; resumed = resumed }) }
@@ -150,6 +152,7 @@ unmoved-state sited field new routes locks number same is = subst (λ (f : Field
     known_signals = is.field_is.known_signals;
     known_points = length-map field.known_points (unmoved_for number) ∙ is.field_is.known_points;
     detectors = is.field_is.detectors;
+    keys = unmoved-under number (key_of sited.site) field is.field_is.keys;
   };
   routes_are = is.routes_are;
   locks_are = is.locks_are;

@@ -5,11 +5,11 @@ use Rattle.std.specs.Bool.{Decides}
 use Rattle.std.proofs.lemmas.Bool.{cases_lt, false≢true}
 use Rattle.std.proofs.lemmas.Bool.Decides.{Decides-and}
 use Rattle.std.proofs.lemmas.Option.{none-some, same_Some, slice_get_read, slice_get_within}
-use Rattle.ixl_rules.specs.sci_telegram.declared.message.Side.{Side}
+use Rattle.ixl_spec.specs.sci_telegram.declared.message.Side.{Side}
 use Rattle.route_lock.specs.Locks.{Holds, LockState}
-use Rattle.ixl_rules.specs.State.{RouteState}
-use Rattle.ixl_rules.specs.Table.{Row}
-use Rattle.ixl_rules.specs.View.{holds_point, some_route, was_authorised}
+use Rattle.ixl_spec.specs.State.{RouteState}
+use Rattle.ixl_spec.specs.Table.{Row}
+use Rattle.ixl_spec.specs.View.{holds_point, some_route, was_authorised}
 use Rattle.ixl_table.specs.Locks.{IsKeptRoute}
 use Rattle.ixl_table.specs.Table.{SitedTable, as_point, as_route}
 use Rattle.ixl_state.specs.inside.Kept.{HoldsWithAuthority, SomeHoldsWithAuthority}

@@ -8,12 +8,12 @@ use Rattle.std.specs.FinSet.{contains, insert, contains-insert}
 use Rattle.std.proofs.lemmas.Bool.{eqb-true, eq-eqb}
 use Rattle.std.proofs.lemmas.Bool.Decides.{Decides-or}
 use Rattle.std.proofs.lemmas.List.Quantifiers.{position-Some}
-use Rattle.ixl_rules.specs.bit_row.Places.{Has, Places}
+use Rattle.ixl_spec.specs.bit_row.Places.{Has, Places}
 use Rattle.release.specs.Passage.{PassageState, after_look}
-use Rattle.ixl_rules.specs.State.{RouteState}
-use Rattle.ixl_rules.specs.Step.{route_looks}
-use Rattle.ixl_rules.specs.Table.{Row}
-use Rattle.ixl_rules.specs.View.{place_in}
+use Rattle.ixl_spec.specs.State.{RouteState}
+use Rattle.ixl_spec.specs.Step.{route_looks}
+use Rattle.ixl_spec.specs.Table.{Row}
+use Rattle.ixl_spec.specs.View.{place_in}
 use Rattle.ixl_state.specs.inside.Kept.{HoldsAlike, IsPassageOf}
 
 place-below : (section : ℕ) (sections : List ℕ) (k : ℕ) → place_in section sections ≡ Some k → k < length sections

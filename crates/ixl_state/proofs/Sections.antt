@@ -2,14 +2,14 @@
 use Rattle.std.proofs.Common.{◌≡◌, ◌≢◌, ◌∙◌, List, [], ◌∷◌, map, refl, sym, ap, subst}
 use Rattle.std.specs.List.{AllPairs, dedup, filter_map}
 use Rattle.std.proofs.lemmas.Option.{same_Some}
-use Rattle.ixl_rules.specs.layout.declared.ids.RouteId.{RouteId}
-use Rattle.ixl_rules.specs.layout.declared.ids.SectionId.{SectionId}
-use Rattle.ixl_rules.specs.layout.declared.port.Element.{Element}
-use Rattle.ixl_rules.specs.layout.declared.port.Port.{Port}
-use Rattle.ixl_rules.specs.layout.Entries.{Site, RouteEntry}
-use Rattle.ixl_rules.specs.control_table.Path.{Passage, elements, same_section}
-use Rattle.ixl_rules.specs.control_table.Table.{AreSections}
-use Rattle.ixl_rules.specs.control_table.Topology.{section_of}
+use Rattle.ixl_spec.specs.layout.declared.ids.RouteId.{RouteId}
+use Rattle.ixl_spec.specs.layout.declared.ids.SectionId.{SectionId}
+use Rattle.ixl_spec.specs.layout.declared.port.Element.{Element}
+use Rattle.ixl_spec.specs.layout.declared.port.Port.{Port}
+use Rattle.ixl_spec.specs.layout.Entries.{Site, RouteEntry}
+use Rattle.ixl_spec.specs.control_table.Path.{Passage, elements, same_section}
+use Rattle.ixl_spec.specs.control_table.Table.{AreSections}
+use Rattle.ixl_spec.specs.control_table.Topology.{section_of}
 
 -- the ports by which the elements are left tell them
 elements-by-ports : (path : List Passage) → elements path ≡ map (λ (p : Port). p.element) (map (λ (g : Passage). g.left) path)

@@ -1,10 +1,10 @@
 -- Parts of a step, one after another.
 use Rattle.std.proofs.Common.{◌≡◌, ℕ, ◌+◌, ◌≤◌, List, [], ◌∷◌, ◌++◌, arith, add-one, refl, sym, ◌∙◌, subst}
-use Rattle.ixl_rules.specs.rasta_core.Outbox.{OutboxState}
-use Rattle.ixl_rules.specs.ixl_client.ClientSoFar.{LinkCall}
-use Rattle.ixl_rules.specs.StepSoFar.{Leads, Node, StepSoFar, along, at_route, over, with_route}
-use Rattle.ixl_rules.specs.State.{IxlState, RouteState, changed}
-use Rattle.ixl_rules.specs.Table.{Row, Table}
+use Rattle.ixl_spec.specs.rasta_core.Outbox.{OutboxState}
+use Rattle.ixl_spec.specs.ixl_client.ClientSoFar.{LinkCall}
+use Rattle.ixl_spec.specs.StepSoFar.{Leads, Node, StepSoFar, along, at_route, over, with_route}
+use Rattle.ixl_spec.specs.State.{IxlState, RouteState, changed}
+use Rattle.ixl_spec.specs.Table.{Row, Table}
 use Rattle.ixl_table.specs.Locks.{IsKeptRoute}
 use Rattle.ixl_table.specs.Table.{SitedTable}
 use Rattle.ixl_state.specs.State.{AllAt, Goes, StateView, route_changed}

@@ -1,17 +1,19 @@
 -- What the controllers' turns make of a state.
 use Rattle.std.proofs.Common.{◌≡◌, ◌∙◌, ℕ, ◌≤◌, List, length, refl, sym, ap, subst, arith}
 use Rattle.std.proofs.lemmas.List.{length-map}
-use Rattle.ixl_rules.specs.rasta_core.Outbox.{OutboxState}
-use Rattle.ixl_rules.specs.layout.Station.{IsStation}
+use Rattle.ixl_spec.specs.rasta_core.Outbox.{OutboxState}
+use Rattle.ixl_spec.specs.layout.Station.{IsStation}
 use Rattle.route_lock.specs.Locks.{LockState}
-use Rattle.ixl_rules.specs.StepSoFar.{StepSoFar}
-use Rattle.ixl_rules.specs.State.{RouteState}
-use Rattle.ixl_rules.specs.Step.{all_clocked, clocked_detector, clocked_known_signal, clocked_known_point}
+use Rattle.ixl_spec.specs.First.{key_of}
+use Rattle.ixl_spec.specs.StepSoFar.{StepSoFar}
+use Rattle.ixl_spec.specs.State.{RouteState}
+use Rattle.ixl_spec.specs.Step.{all_clocked, clocked_detector, clocked_known_signal, clocked_known_point}
 use Rattle.ixl_table.specs.Table.{SitedTable}
-use Rattle.ixl_field.specs.Field as field
-use Rattle.ixl_field.specs.Field.{FieldGoes, FieldState, Rest, field_clocked}
-use Rattle.ixl_state.specs.State.{AllAt, Goes, MayStepAll, StateView}
+use Rattle.ixl_known.specs.Field as field
+use Rattle.ixl_known.specs.Field.{AllUnder, FieldGoes, FieldState, Rest, field_clocked}
+use Rattle.ixl_state.specs.State.{AllAt, Goes, MayStepAll, StateView, field_of}
 use Rattle.ixl_state.specs.inside.Kept.{IsFieldOf, IsState}
+use Rattle.ixl_state.proofs.Keys.{clocked-under}
 use Rattle.ixl_state.proofs.RouteChange.{view_of}
 
 -- how many controllers there are
@@ -41,6 +43,11 @@ module _ (sited : SitedTable) (rest : Rest) where
   pub field-at : (now : ℕ) (f : FieldState) → field.AllAt now f → AllAt now (with f)
   field-at now f all = record { known_signals = all.known_signals; known_points = all.known_points; detectors = all.detectors }
 
+  pub field-under : (f : FieldState) (view : StateView) → with f ≡ view → AllUnder (key_of sited.site) f → AllUnder (key_of view.sited.site) (field_of view)
+  field-under f view is all =
+      let under : AllUnder (key_of sited.site) (field_of (with f)) = record { known_signals = all.known_signals; known_points = all.known_points; detectors = all.detectors }
+      in subst (λ (v : StateView). AllUnder (key_of v.sited.site) (field_of v)) is under
+
   -- ---- a turn of the field is one of the state
 
   pub goes-of : (now most : ℕ) (does : StepSoFar → StepSoFar) (old : FieldState) (view : StateView) (box : OutboxState) (new : FieldState) (out : OutboxState) → with old ≡ view
@@ -64,6 +71,7 @@ module _ (sited : SitedTable) (rest : Rest) where
       known_signals = goes.known_signals ∙ is.field_is.known_signals;
       known_points = goes.known_points ∙ is.field_is.known_points;
       detectors = goes.detectors ∙ is.field_is.detectors;
+      keys = goes.keys (key_of sited.site) is.field_is.keys;
     };
     routes_are = is.routes_are;
     locks_are = is.locks_are;
@@ -78,6 +86,7 @@ module _ (sited : SitedTable) (rest : Rest) where
       known_signals = length-map old.known_signals (clocked_known_signal now) ∙ is.field_is.known_signals;
       known_points = length-map old.known_points (clocked_known_point now) ∙ is.field_is.known_points;
       detectors = length-map old.detectors (clocked_detector now) ∙ is.field_is.detectors;
+      keys = clocked-under now (key_of sited.site) old is.field_is.keys;
     };
     routes_are = is.routes_are;
     locks_are = is.locks_are;

@@ -1,14 +1,14 @@
 -- The state of an interlocking, beside the control table that it was made from.
 use Rattle.std.specs.Prelude.{◌≡◌, ℕ, ◌+◌, ◌≤◌, List, length}
-use Rattle.ixl_rules.specs.rasta_core.Outbox.{OutboxState}
-use Rattle.ixl_rules.specs.StepSoFar.{Leads, StepSoFar, with_one}
-use Rattle.ixl_rules.specs.State.{IxlState, RouteState, changed}
-use Rattle.ixl_rules.specs.Step.{node_hearing, node_of}
-use Rattle.ixl_rules.specs.Table.{Row, Table}
+use Rattle.ixl_spec.specs.rasta_core.Outbox.{OutboxState}
+use Rattle.ixl_spec.specs.StepSoFar.{Leads, StepSoFar, with_one}
+use Rattle.ixl_spec.specs.State.{IxlState, RouteState, changed}
+use Rattle.ixl_spec.specs.Step.{node_hearing, node_of}
+use Rattle.ixl_spec.specs.Table.{Row, Table}
 use Rattle.ixl_table.specs.Locks.{IsKeptRoute}
 use Rattle.ixl_table.specs.Table.{SitedTable}
-use Rattle.ixl_field.specs.Field as field
-use Rattle.ixl_field.specs.Field.{FieldState, Rest}
+use Rattle.ixl_known.specs.Field as field
+use Rattle.ixl_known.specs.Field.{FieldState, Rest}
 
 pub record StateView : Type 0 where
   pub sited : SitedTable

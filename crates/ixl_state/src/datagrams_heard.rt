@@ -1,19 +1,18 @@
 //! What becomes of a datagram, and of what a detector tells in it.
 
 ghost use Rattle.std.specs.Prelude.{◌≡◌, ◌<◌, ◌∷◌, [], length, IfSome, slice_get};
-ghost use Rattle.ixl_rules.specs.rasta_core.Calls.{receiving};
-ghost use Rattle.ixl_rules.specs.rasta_core.Outbox.{HasRoomFor};
-ghost use Rattle.ixl_rules.specs.StepSoFar.{along};
-ghost use Rattle.ixl_rules.specs.Step.{client_at, client_of, detector_hearing, looking, looking_by, node_hearing, node_of, told_before, told_now, verdict_at};
-ghost use Rattle.ixl_field.specs.Field.{IsThere, node_at};
+ghost use Rattle.ixl_spec.specs.rasta_core.Calls.{receiving};
+ghost use Rattle.ixl_spec.specs.rasta_core.Outbox.{HasRoomFor};
+ghost use Rattle.ixl_spec.specs.StepSoFar.{along};
+ghost use Rattle.ixl_spec.specs.Step.{client_at, client_of, detector_hearing, looking, looking_by, node_hearing, node_of, told_before, told_now, verdict_at};
+ghost use Rattle.ixl_known.specs.Field.{IsThere, node_at};
 ghost use Rattle.ixl_state.specs.State.{AllAt, Goes, field_of, heard_from};
 ghost use Rattle.ixl_state.specs.inside.DetectorHeard.{Passes, told_since};
 
 use crate::state::State;
-use ixl_field::{Node, is_told_occupied};
-use ixl_rules::control_table::bit_row::BitRow;
-use ixl_rules::ixl_client::{Indication, Indications};
-use ixl_rules::rasta_core::{Millis, Outbox, Verdict};
+use ixl_known::{Node, is_told_occupied};
+use ixl_spec::ixl_client::{Indication, Indications};
+use ixl_spec::{BitRow, Millis, Outbox, Verdict};
 
 /// A route looks at a section.
 fn look_by(state: &mut State, now: Millis, number: usize, section: usize, occupied: bool)
@@ -120,24 +119,29 @@ fn hear_detector(
     verdict
 }
 
-/// A datagram has come from a controller.
-fn hear(state: &mut State, now: Millis, node: Node, datagram: &[u8], outbox: &mut Outbox) -> Verdict
-    requires there { IsThere (field_of state.old) node }
-    requires clock { AllAt now state.old }
-    requires room { HasRoomFor 56 outbox.old }
-    ensures goes { Goes now 30 (node_hearing now state.old.sited.table datagram.now (node_at node)) state.old outbox.old state.new outbox.new }
-    ensures verdict { result ≡ verdict_at now datagram.now (client_at (node_at node) state.old.ixl) }
-{
-    match node {
-        Node::Signal(place) => state.hear_signal(now, place, datagram, outbox),
-        Node::Point(place) => state.hear_point(now, place, datagram, outbox),
-        Node::Detector(place) => hear_detector(state, now, place, datagram, outbox),
-    }
-}
-
 impl State {
-    /// A datagram has come from the controller with this identity. What a detector tells is looked at by all routes, once
-    /// its link is ready. Of another sender nothing is heard.
+    /// A datagram has come from a controller. What a detector tells is looked at by all routes, once its link is ready.
+    pub fn hear_at(
+        &mut self,
+        now: Millis,
+        node: Node,
+        datagram: &[u8],
+        outbox: &mut Outbox,
+    ) -> Verdict
+        requires there { IsThere (field_of self.old) node }
+        requires clock { AllAt now self.old }
+        requires room { HasRoomFor 56 outbox.old }
+        ensures goes { Goes now 30 (node_hearing now self.old.sited.table datagram.now (node_at node)) self.old outbox.old self.new outbox.new }
+        ensures verdict { result ≡ verdict_at now datagram.now (client_at (node_at node) self.old.ixl) }
+    {
+        match node {
+            Node::Signal(place) => self.hear_signal(now, place, datagram, outbox),
+            Node::Point(place) => self.hear_point(now, place, datagram, outbox),
+            Node::Detector(place) => hear_detector(self, now, place, datagram, outbox),
+        }
+    }
+
+    /// A datagram has come from the controller with this identity. Of another sender nothing is heard.
     pub fn hear_from(
         &mut self,
         now: Millis,
@@ -151,7 +155,7 @@ impl State {
         ensures verdict { result ≡ verdict_at now datagram.now (client_of (node_of id self.old.ixl) self.old.ixl) }
     {
         match self.field().node_of(id) {
-            Some(node) => hear(self, now, node, datagram, outbox),
+            Some(node) => self.hear_at(now, node, datagram, outbox),
             None => Verdict::WrongSender,
         }
     }

@@ -1,18 +1,17 @@
 //! The clock, what is given to the controllers, and what is heard of them: each link's.
 
 ghost use Rattle.std.specs.Prelude.{◌≡◌, ◌↔◌, ◌+◌, ◌<◌, length, slice_get, IfSome, IsTrue};
-ghost use Rattle.ixl_rules.specs.rasta_core.Calls.{receiving};
-ghost use Rattle.ixl_rules.specs.rasta_core.Outbox.{HasRoomFor};
-ghost use Rattle.ixl_rules.specs.StepSoFar.{giving_aspect, giving_move};
-ghost use Rattle.ixl_rules.specs.Step.{Tick, all_clocked, known_signal_hearing, known_point_hearing, ticked};
-ghost use Rattle.ixl_field.specs.Nodes.{AreHeardBy};
-ghost use Rattle.ixl_field.specs.Field.{detector_hearing_alone};
+ghost use Rattle.ixl_spec.specs.rasta_core.Calls.{receiving};
+ghost use Rattle.ixl_spec.specs.rasta_core.Outbox.{HasRoomFor};
+ghost use Rattle.ixl_spec.specs.StepSoFar.{giving_aspect, giving_move};
+ghost use Rattle.ixl_spec.specs.Step.{Tick, all_clocked, known_signal_hearing, known_point_hearing, ticked};
+ghost use Rattle.ixl_known.specs.Nodes.{AreHeardBy};
+ghost use Rattle.ixl_known.specs.Field.{detector_hearing_alone};
 ghost use Rattle.ixl_state.specs.State.{AllAt, Goes, MayStepAll};
 
 use crate::state::State;
-use ixl_rules::control_table::sci_telegram::{Aspect, Side};
-use ixl_rules::ixl_client::Indications;
-use ixl_rules::rasta_core::{Millis, Outbox, Verdict};
+use ixl_spec::ixl_client::Indications;
+use ixl_spec::{Aspect, Millis, Outbox, Side, Verdict};
 
 impl State {
     /// Whether a step at this clock reading may be made: the clock of no link has fallen.

@@ -2,45 +2,45 @@
 
 ghost use Rattle.std.specs.Prelude.{◌≡◌, ◌<◌, ◌≤◌, ◌∷◌, [], false, length, map, IfOk, OnErr, OnOk, slice_index_or};
 ghost use Rattle.std.specs.List.{All};
-ghost use Rattle.ixl_rules.specs.layout.declared.ids.SectionId.{SectionId as Section};
-ghost use Rattle.ixl_rules.specs.sci_telegram.declared.message.Protocol.TheVariants as protocols;
-ghost use Rattle.ixl_rules.specs.Table.{Row as RowAt};
-ghost use Rattle.ixl_field.specs.Field.{kept};
-ghost use Rattle.ixl_rules.specs.First.{Beginning, client_of, new_detector_of, new_ixl, new_known_signal_of, new_route_of, new_known_point_of};
+ghost use Rattle.ixl_spec.specs.layout.declared.ids.SectionId.{SectionId as Section};
+ghost use Rattle.ixl_spec.specs.sci_telegram.declared.message.Protocol.TheVariants as protocols;
+ghost use Rattle.ixl_spec.specs.Table.{Row as RowAt};
+ghost use Rattle.ixl_known.specs.Field.{kept};
+ghost use Rattle.ixl_spec.specs.First.{Beginning, client_of, new_detector_of, new_ixl, new_known_signal_of, new_route_of, new_known_point_of};
 ghost use Rattle.ixl_state.specs.inside.Kept.{IsState};
 
 use crate::route::Route;
 use crate::state::State;
-use ixl_field::{Field, KnownDetector, KnownPoint, KnownSignal};
-use ixl_rules::control_table::Checked;
-use ixl_rules::control_table::layout::{Layout, SectionId};
-use ixl_rules::control_table::sci_telegram::{Name, Protocol};
-use ixl_rules::ixl_client::{Client, Peer};
-use ixl_rules::key_of;
-use ixl_rules::rasta_core::Millis;
+use ixl_known::{Field, KnownDetector, KnownPoint, KnownSignal};
+use ixl_spec::ixl_client::{Client, Peer};
+use ixl_spec::{Checked, Layout, Millis, Name, Protocol, SectionId, Start, key_of};
 use ixl_table::{Row, Table};
 use route_lock::Locks;
 use std::alloc::{AllocError, Global};
 
-/// With which numbers of their first PDUs and at which clock the links of a station are made.
-#[derive(Clone, Copy, Debug)]
-struct Makes {
-    first: u32,
-    now: Millis,
-}
-
-/// The client of the controller under a name and an identity, which tells of these objects.
-fn client_of(
-    alloc: Global,
-    table: &Checked,
-    makes: Makes,
+/// A controller: the protocol that it speaks, its name and identity, and the names of the objects that it tells of.
+struct Controller {
     protocol: Protocol,
     name: Name,
     id: u32,
     objects: Vec<Name>,
+}
+
+/// The client of a controller.
+fn client_of(
+    alloc: Global,
+    table: &Checked,
+    start: Start,
+    controller: Controller,
 ) -> Result<Client, AllocError>
-    ensures { IfOk result (λ client. client ≡ client_of protocol table.now (record { clock = makes.now; first = makes.first }) name id objects.items) }
+    ensures { IfOk result (λ client. client ≡ client_of controller.protocol table.now (record { clock = start.now; first = start.first_sequence_number }) controller.name controller.id controller.objects.items) }
 {
+    let Controller {
+        protocol,
+        name,
+        id,
+        objects,
+    } = controller;
     let station = table.layout().station();
     let peer = Peer {
         protocol,
@@ -50,7 +50,7 @@ fn client_of(
         objects,
     };
     let key = key_of(table.layout());
-    Client::new(alloc, station.id, id, key, peer, makes.first, makes.now)
+    Client::new(alloc, station.id, id, key, peer, start)
 }
 
 /// A list of one name.
@@ -66,9 +66,9 @@ fn alone(alloc: Global, name: Name) -> Result<Vec<Name>, AllocError>
 fn known_signals_of(
     alloc: Global,
     table: &Checked,
-    makes: Makes,
+    start: Start,
 ) -> Result<Vec<KnownSignal>, AllocError>
-    ensures { IfOk result (λ v. v.items ≡ map (new_known_signal_of table.now (record { clock = makes.now; first = makes.first })) table.now.signals) }
+    ensures { IfOk result (λ v. v.items ≡ map (new_known_signal_of table.now (record { clock = start.now; first = start.first_sequence_number })) table.now.signals) }
 {
     let mut known_signals = Vec::new(alloc);
     for signal in table.layout().signals() {
@@ -76,11 +76,13 @@ fn known_signals_of(
         let client = client_of(
             alloc,
             table,
-            makes,
-            Protocol::LightSignal,
-            signal.name,
-            signal.id,
-            objects,
+            start,
+            Controller {
+                protocol: Protocol::LightSignal,
+                name: signal.name,
+                id: signal.id,
+                objects,
+            },
         )?;
         known_signals.push(KnownSignal::new(client))?;
     }
@@ -91,9 +93,9 @@ fn known_signals_of(
 fn known_points_of(
     alloc: Global,
     table: &Checked,
-    makes: Makes,
+    start: Start,
 ) -> Result<Vec<KnownPoint>, AllocError>
-    ensures { IfOk result (λ v. v.items ≡ map (new_known_point_of table.now (record { clock = makes.now; first = makes.first })) table.now.points) }
+    ensures { IfOk result (λ v. v.items ≡ map (new_known_point_of table.now (record { clock = start.now; first = start.first_sequence_number })) table.now.points) }
 {
     let mut known_points = Vec::new(alloc);
     for point in table.layout().points() {
@@ -101,11 +103,13 @@ fn known_points_of(
         let client = client_of(
             alloc,
             table,
-            makes,
-            Protocol::Point,
-            point.name,
-            point.id,
-            objects,
+            start,
+            Controller {
+                protocol: Protocol::Point,
+                name: point.name,
+                id: point.id,
+                objects,
+            },
         )?;
         known_points.push(KnownPoint::new(client))?;
     }
@@ -128,9 +132,9 @@ fn names_of(alloc: Global, layout: &Layout, sections: &[SectionId]) -> Result<Ve
 fn detectors_of(
     alloc: Global,
     table: &Checked,
-    makes: Makes,
+    start: Start,
 ) -> Result<Vec<KnownDetector>, AllocError>
-    ensures { IfOk result (λ v. v.items ≡ map (new_detector_of table.now (record { clock = makes.now; first = makes.first })) table.now.detectors) }
+    ensures { IfOk result (λ v. v.items ≡ map (new_detector_of table.now (record { clock = start.now; first = start.first_sequence_number })) table.now.detectors) }
 {
     let layout = table.layout();
     let mut detectors = Vec::new(alloc);
@@ -139,11 +143,13 @@ fn detectors_of(
         let client = client_of(
             alloc,
             table,
-            makes,
-            Protocol::TrainDetection,
-            *detector.name(),
-            detector.id(),
-            objects,
+            start,
+            Controller {
+                protocol: Protocol::TrainDetection,
+                name: *detector.name(),
+                id: detector.id(),
+                objects,
+            },
         )?;
         detectors.push(KnownDetector::new(client))?;
     }
@@ -171,15 +177,15 @@ struct Begun {
 }
 
 /// What is kept where no route is set and every link is in no connection.
-fn begun_of(alloc: Global, table: &Table, makes: Makes) -> Result<Begun, AllocError>
-    ensures ixl { IfOk result (λ b. kept b.field (record { routes = b.routes.items; created = makes.now; resumed = false }) ≡ new_ixl table.now.site table.now.table (record { clock = makes.now; first = makes.first })) }
+fn begun_of(alloc: Global, table: &Table, start: Start) -> Result<Begun, AllocError>
+    ensures ixl { IfOk result (λ b. kept b.field (record { routes = b.routes.items; created = start.now; resumed = false }) ≡ new_ixl table.now.site table.now.table (record { clock = start.now; first = start.first_sequence_number })) }
     ensures whole { IfOk result (λ b. IsState table.now b.field b.routes.items b.locks) }
 {
     let checked = table.checked();
     let locks = Locks::new(alloc, checked)?;
-    let known_signals = known_signals_of(alloc, checked, makes)?;
-    let known_points = known_points_of(alloc, checked, makes)?;
-    let detectors = detectors_of(alloc, checked, makes)?;
+    let known_signals = known_signals_of(alloc, checked, start)?;
+    let known_points = known_points_of(alloc, checked, start)?;
+    let detectors = detectors_of(alloc, checked, start)?;
     let routes = routes_of(alloc, table.rows())?;
     let reporters = Vec::from_slice(alloc, table.reporters())?;
     let field = Field::new(known_signals, known_points, detectors, reporters);
@@ -195,18 +201,18 @@ impl State {
     pub fn new(
         alloc: Global,
         checked: Checked,
-        first_sn: u32,
+        first_sequence_number: u32,
         now: Millis,
     ) -> Result<State, AllocError>
         ensures site { IfOk result (λ s. s.sited.site ≡ checked) }
-        ensures ixl { IfOk result (λ s. s.ixl ≡ new_ixl s.sited.site s.sited.table (record { clock = now; first = first_sn })) }
+        ensures ixl { IfOk result (λ s. s.ixl ≡ new_ixl s.sited.site s.sited.table (record { clock = now; first = first_sequence_number })) }
     {
-        let makes = Makes {
-            first: first_sn,
+        let start = Start {
+            first_sequence_number,
             now,
         };
         let table = Table::new(alloc, checked)?;
-        let begun = begun_of(alloc, &table, makes)?;
+        let begun = begun_of(alloc, &table, start)?;
         Ok(State {
             table,
             field: begun.field,
@@ -218,16 +224,21 @@ impl State {
     }
 
     /// All but the table is made anew. Where there is no memory for that, nothing changes.
-    pub fn restart(&mut self, alloc: Global, first_sn: u32, now: Millis) -> Result<(), AllocError>
+    pub fn restart(
+        &mut self,
+        alloc: Global,
+        first_sequence_number: u32,
+        now: Millis,
+    ) -> Result<(), AllocError>
         ensures sited { self.new.sited ≡ self.old.sited }
-        ensures ixl { OnOk result (self.new.ixl ≡ new_ixl self.old.sited.site self.old.sited.table (record { clock = now; first = first_sn })) }
+        ensures ixl { OnOk result (self.new.ixl ≡ new_ixl self.old.sited.site self.old.sited.table (record { clock = now; first = first_sequence_number })) }
         ensures unchanged { OnErr result (self.new ≡ self.old) }
     {
-        let makes = Makes {
-            first: first_sn,
+        let start = Start {
+            first_sequence_number,
             now,
         };
-        let begun = begun_of(alloc, &self.table, makes)?;
+        let begun = begun_of(alloc, &self.table, start)?;
         self.field = begun.field;
         self.locks = begun.locks;
         self.routes = begun.routes;

@@ -9,12 +9,21 @@ mod route;
 mod route_locks;
 mod state;
 
-pub use ixl_rules::key_of;
+pub use ixl_spec::key_of;
 pub use route::Route;
 pub use state::State;
 
 // What crates above need of the crates below.
-pub use ixl_field;
-pub use ixl_rules;
+pub use ixl_known;
+pub use ixl_spec;
 pub use ixl_table;
 pub use release;
+
+// The everyday items of the crates below.
+pub use ixl_spec::{
+    Aspect, BitRow, BorderId, CLOCK_LIMIT, Checked, Command, Datagram, Detector, DetectorId,
+    HOLD_TIME, Key, LATEST_CLOCK, LIFETIME, LIFETIME_MICROS, LONGEST_DATAGRAM, Layout, MICROS,
+    Millis, Name, Node, NodeId, Occupancy, Outbox, Phase, Point, PointId, Position, Protocol,
+    QUIET_TIME, ROUND, ROUND_MICROS, Refusal, Role, RouteId, SectionId, Side, Signal, SignalId,
+    Start, Verdict, is_intact, is_request, receiver_of, sender_of,
+};

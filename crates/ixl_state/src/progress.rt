@@ -2,21 +2,19 @@
 
 ghost use Rattle.std.specs.Prelude.{◌≡◌, ℕ, ◌+◌, ◌<◌, ◌||◌, not, true, false, [], None, length};
 ghost use Rattle.release.specs.Passage.{passage_after};
-ghost use Rattle.ixl_rules.specs.Commands.{route_set};
-ghost use Rattle.ixl_rules.specs.Rules.{come_to, freed, one_freed};
-ghost use Rattle.ixl_rules.specs.State.{RouteState};
-ghost use Rattle.ixl_rules.specs.Step.{route_looks};
-ghost use Rattle.ixl_rules.specs.View.{first_blocking, is_set, place_in};
-ghost use Rattle.ixl_rules.specs.declared.phase.Phase.TheVariants as phase;
+ghost use Rattle.ixl_spec.specs.Commands.{route_set};
+ghost use Rattle.ixl_spec.specs.Rules.{come_to, freed, one_freed};
+ghost use Rattle.ixl_spec.specs.State.{RouteState};
+ghost use Rattle.ixl_spec.specs.Step.{route_looks};
+ghost use Rattle.ixl_spec.specs.View.{first_blocking, is_set, place_in};
+ghost use Rattle.ixl_spec.specs.declared.phase.Phase.TheVariants as phase;
 ghost use Rattle.ixl_state.specs.State.{AtRoute, route_changed};
 ghost use Rattle.ixl_state.specs.inside.Kept.{HoldsAlike, IsPassageOf};
 
 use crate::route::Route;
 use crate::state::State;
-use ixl_rules::Phase;
-use ixl_rules::control_table::a_route_leads_over_its_sections_alone;
-use ixl_rules::control_table::layout::RouteId;
-use ixl_rules::rasta_core::Millis;
+use ixl_spec::control_table::a_route_leads_over_its_sections_alone;
+use ixl_spec::{Millis, Phase, RouteId};
 use ixl_table::{Row, set_routes_lock_sections, the_first_blocking_route_is_told_by_phase};
 use route_lock::Locks;
 

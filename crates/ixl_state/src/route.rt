@@ -2,14 +2,14 @@
 
 ghost use Rattle.std.specs.Prelude.{◌≡◌, ℕ, ◌<◌, ◌≤◌, ◌||◌, not, true, false, [], IfSome};
 ghost use Rattle.release.specs.Passage.{passage_after};
-ghost use Rattle.ixl_rules.specs.Commands.{set_anew};
-ghost use Rattle.ixl_rules.specs.Rules.{come_to, freed};
-ghost use Rattle.ixl_rules.specs.Step.{route_looks};
-ghost use Rattle.ixl_rules.specs.Table.{Row};
-ghost use Rattle.ixl_rules.specs.View.{has_authority, is_set, place_in, was_authorised};
-ghost use Rattle.ixl_rules.specs.declared.phase.Phase.TheVariants as phase;
+ghost use Rattle.ixl_spec.specs.Commands.{set_anew};
+ghost use Rattle.ixl_spec.specs.Rules.{come_to, freed};
+ghost use Rattle.ixl_spec.specs.Step.{route_looks};
+ghost use Rattle.ixl_spec.specs.Table.{Row};
+ghost use Rattle.ixl_spec.specs.View.{has_authority, is_set, place_in, was_authorised};
+ghost use Rattle.ixl_spec.specs.declared.phase.Phase.TheVariants as phase;
 
-use ixl_rules::Phase;
+use ixl_spec::Phase;
 use release::{Approach, Passage};
 use std::marker::Model;
 
@@ -24,8 +24,8 @@ pub struct Route {
 
 impl Model for Route {
     ghost use Rattle.std.specs.Coded.{codes};
-    ghost use Rattle.ixl_rules.specs.bit_row.Places.{places_code};
-    ghost use Rattle.ixl_rules.specs.State.{RouteState};
+    ghost use Rattle.ixl_spec.specs.bit_row.Places.{places_code};
+    ghost use Rattle.ixl_spec.specs.State.{RouteState};
 
     ghost Value = { RouteState };
 

@@ -1,17 +1,15 @@
 //! What the set routes lock.
 
 ghost use Rattle.std.specs.Prelude.{◌≡◌, ◌↔◌, ℕ, ◌<◌, ◌≤◌, false, length, IsTrue};
-ghost use Rattle.ixl_rules.specs.bit_row.Places.{Has};
-ghost use Rattle.ixl_rules.specs.Due.{HoldsSection};
-ghost use Rattle.ixl_rules.specs.View.{first_blocking, is_held_at, is_held_with_authority, is_set};
+ghost use Rattle.ixl_spec.specs.bit_row.Places.{Has};
+ghost use Rattle.ixl_spec.specs.Due.{HoldsSection};
+ghost use Rattle.ixl_spec.specs.View.{first_blocking, is_held_at, is_held_with_authority, is_set};
 ghost use Rattle.ixl_state.specs.State.{AtRoute};
 ghost use Rattle.ixl_state.specs.inside.Kept.{HoldsWithAuthority, SomeHoldsWithAuthority};
 
 use crate::route::Route;
 use crate::state::State;
-use ixl_rules::control_table::bit_row::BitRow;
-use ixl_rules::control_table::layout::{PointId, RouteId};
-use ixl_rules::control_table::sci_telegram::Side;
+use ixl_spec::{BitRow, PointId, RouteId, Side};
 use ixl_table::{
     points_are_held_by_phase_at_a_side, points_are_held_by_some_phase, set_routes_lock_sections,
     the_first_blocking_route_is_told_by_phase,

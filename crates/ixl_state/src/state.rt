@@ -1,13 +1,15 @@
 //! All that an interlocking keeps.
 
 ghost use Rattle.std.specs.Prelude.{◌≡◌, ℕ, ◌<◌, ◌≤◌, length, IsTrue};
-ghost use Rattle.ixl_rules.specs.bit_row.Places.{Has};
-ghost use Rattle.ixl_rules.specs.View.{freed_sections, is_set};
+ghost use Rattle.ixl_spec.specs.bit_row.Places.{Has};
+ghost use Rattle.ixl_spec.specs.First.{key_of};
+ghost use Rattle.ixl_spec.specs.View.{freed_sections, is_set};
+ghost use Rattle.ixl_known.specs.Field.{AllUnder};
 ghost use Rattle.ixl_state.specs.State.{AtRoute, HasRoute, field_of};
 
 use crate::route::Route;
-use ixl_field::Field;
-use ixl_rules::rasta_core::Millis;
+use ixl_known::Field;
+use ixl_spec::Millis;
 use ixl_table::Table;
 use route_lock::Locks;
 use std::marker::Model;
@@ -40,8 +42,8 @@ impl Drop for State {
 
 impl Model for State {
     ghost use Rattle.std.specs.Coded.{codes};
-    ghost use Rattle.ixl_rules.specs.bit_row.Places.{places_code};
-    ghost use Rattle.ixl_field.specs.Field.{kept};
+    ghost use Rattle.ixl_spec.specs.bit_row.Places.{places_code};
+    ghost use Rattle.ixl_known.specs.Field.{kept};
     ghost use Rattle.ixl_state.specs.State.{StateView};
     ghost use Rattle.ixl_state.specs.inside.Kept.{IsState};
 
@@ -83,6 +85,13 @@ impl State {
         ensures { length self.now.ixl.detectors ≡ length self.now.sited.table.detectors }
     {
         self.table();
+    }
+
+    /// Every link is under the key of the station's network.
+    pub fn keeps_its_key(&self)
+        ensures { AllUnder (key_of self.now.sited.site) (field_of self.now) }
+    {
+        let _ = &self.field;
     }
 
     /// A route of the table is kept, with a passage over its own sections. Where it is set not all of them are freed.

@@ -3,15 +3,15 @@ use Rattle.std.proofs.Common.{◌≡◌, ◌∙◌, ◌⊎◌, Bool, true, false
 use Rattle.std.specs.Prelude.{slice_get, ◌↔◌, IsTrue}
 use Rattle.std.specs.List.{Contains}
 use Rattle.std.proofs.lemmas.Bool.{cases_lt, false≢true}
-use Rattle.ixl_rules.specs.sci_telegram.declared.message.Side.{Side}
-use Rattle.ixl_rules.specs.layout.declared.ids.SectionId.{SectionId}
-use Rattle.ixl_rules.specs.layout.declared.ids.RouteId.{RouteId}
-use Rattle.ixl_rules.specs.bit_row.Places.{Has}
-use Rattle.ixl_rules.specs.control_table.Table.{AreSections, LeadsOver}
+use Rattle.ixl_spec.specs.sci_telegram.declared.message.Side.{Side}
+use Rattle.ixl_spec.specs.layout.declared.ids.SectionId.{SectionId}
+use Rattle.ixl_spec.specs.layout.declared.ids.RouteId.{RouteId}
+use Rattle.ixl_spec.specs.bit_row.Places.{Has}
+use Rattle.ixl_spec.specs.control_table.Table.{AreSections, LeadsOver}
 use Rattle.route_lock.specs.Locks.{Blocks, FirstBlocks, Holds, LockState, locked_by}
-use Rattle.ixl_rules.specs.Table.{Row}
-use Rattle.ixl_rules.specs.State.{IxlState, RouteState}
-use Rattle.ixl_rules.specs.View.{blocks, first_blocking, holds_point_at, is_held_at, some_route}
+use Rattle.ixl_spec.specs.Table.{Row}
+use Rattle.ixl_spec.specs.State.{IxlState, RouteState}
+use Rattle.ixl_spec.specs.View.{blocks, first_blocking, holds_point_at, is_held_at, some_route}
 use Rattle.ixl_table.specs.Table.{IsTableOf, SitedTable, as_point, as_route}
 use Rattle.ixl_table.specs.Locks.{AreLocksOf, HaveSectionsLeft, IsKeptRoute}
 use Rattle.ixl_table.proofs.Lists.{get-below, none-some, some-injective}

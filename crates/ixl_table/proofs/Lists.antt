@@ -8,7 +8,7 @@ use Rattle.std.specs.FinSet.{contains, empty, insert, contains-empty, contains-i
 use Rattle.std.proofs.Math.Seq.{take-suc}
 use Rattle.std.proofs.lemmas.Bool.{false≢true}
 use Rattle.std.proofs.lemmas.List.{map-append}
-use Rattle.ixl_rules.specs.bit_row.Places.{Has, Places}
+use Rattle.ixl_spec.specs.bit_row.Places.{Has, Places}
 
 pub some-injective : {A : Type 0} (x y : A) → Some x ≡ Some y → x ≡ y
 some-injective {A} x y e = let unwrap : Option A → A = λ o. elim o [ None ↦ x | Some z ↦ z ] in ap unwrap e

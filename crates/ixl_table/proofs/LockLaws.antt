@@ -6,21 +6,21 @@ use Rattle.std.specs.Bool.{Decides}
 use Rattle.std.proofs.lemmas.Bool.{eqb-true, eq-eqb, false≢true, ltb-true, lt-ltb}
 use Rattle.std.proofs.lemmas.Bool.Decides.{Decides-and, Decides-like, Decides-not, Decides-or}
 use Rattle.std.proofs.lemmas.List.Elements.{All-contains}
-use Rattle.ixl_rules.specs.sci_telegram.declared.message.Side.{Side}
-use Rattle.ixl_rules.specs.sci_telegram.declared.message.Side.TheVariants as side
-use Rattle.ixl_rules.specs.layout.declared.ids.SectionId.{SectionId}
-use Rattle.ixl_rules.specs.layout.declared.ids.PointId.{PointId}
-use Rattle.ixl_rules.specs.layout.declared.ids.RouteId.{RouteId}
-use Rattle.ixl_rules.specs.layout.declared.ids.SignalId.{SignalId}
-use Rattle.ixl_rules.specs.layout.Entries.{Site, RouteEntry}
-use Rattle.ixl_rules.specs.control_table.AwaitedSections.{Awaits}
-use Rattle.ixl_rules.specs.control_table.Table.{AreSections, LeadsOver, Lists, RouteRequires, SameEntry}
+use Rattle.ixl_spec.specs.sci_telegram.declared.message.Side.{Side}
+use Rattle.ixl_spec.specs.sci_telegram.declared.message.Side.TheVariants as side
+use Rattle.ixl_spec.specs.layout.declared.ids.SectionId.{SectionId}
+use Rattle.ixl_spec.specs.layout.declared.ids.PointId.{PointId}
+use Rattle.ixl_spec.specs.layout.declared.ids.RouteId.{RouteId}
+use Rattle.ixl_spec.specs.layout.declared.ids.SignalId.{SignalId}
+use Rattle.ixl_spec.specs.layout.Entries.{Site, RouteEntry}
+use Rattle.ixl_spec.specs.control_table.AwaitedSections.{Awaits}
+use Rattle.ixl_spec.specs.control_table.Table.{AreSections, LeadsOver, Lists, RouteRequires, SameEntry}
 use Rattle.route_lock.specs.Locks.{Blocks, Clashes, Holds, HoldsAgainst, IsSet, LockState, LocksSection}
-use Rattle.ixl_rules.specs.Table.{Need, Row, is_same_side}
-use Rattle.ixl_rules.specs.State.{RouteState}
-use Rattle.ixl_rules.specs.View.{blocks, freed_sections, holds_need, holds_point, holds_point_at, holds_point_elsewhere, holds_section, is_set}
-use Rattle.ixl_rules.specs.Due.{HoldsSection}
-use Rattle.ixl_rules.specs.declared.phase.Phase.{Phase}
+use Rattle.ixl_spec.specs.Table.{Need, Row, is_same_side}
+use Rattle.ixl_spec.specs.State.{RouteState}
+use Rattle.ixl_spec.specs.View.{blocks, freed_sections, holds_need, holds_point, holds_point_at, holds_point_elsewhere, holds_section, is_set}
+use Rattle.ixl_spec.specs.Due.{HoldsSection}
+use Rattle.ixl_spec.specs.declared.phase.Phase.{Phase}
 use Rattle.ixl_table.specs.Table.{IsHeldUntil, IsRowOf, IsTableOf, SitedTable, as_point, as_route, as_section}
 use Rattle.ixl_table.specs.Locks.{AreLocksOf, HaveSectionsLeft, IsKeptRoute}
 use Rattle.ixl_table.proofs.Lists.{contains-cases, contains-get, contains-here, contains-map, contains-none, contains-there, get-below, get-contains, map-contains, none-some, some-injective}

@@ -9,18 +9,18 @@ use Rattle.std.specs.FinSet.{contains, empty, insert}
 use Rattle.std.proofs.lemmas.Bool.{eqb-true, eq-eqb}
 use Rattle.std.proofs.lemmas.Bool.Decides.{Decides-at, Decides-or}
 use Rattle.std.proofs.lemmas.List.Elements.{All-contains, All-push, Contains-append_cases, Contains-get_or}
-use Rattle.ixl_rules.specs.sci_telegram.declared.message.Side.{Side}
-use Rattle.ixl_rules.specs.sci_telegram.declared.message.Side.TheVariants as side
-use Rattle.ixl_rules.specs.layout.declared.ids.SectionId.{SectionId}
-use Rattle.ixl_rules.specs.layout.declared.ids.PointId.{PointId}
-use Rattle.ixl_rules.specs.layout.declared.ids.RouteId.{RouteId}
-use Rattle.ixl_rules.specs.layout.Entries.{DetectorEntry, Site, RouteEntry}
-use Rattle.ixl_rules.specs.layout.Station.{HasPoint, HasSection, IsDetectorOf, IsRouteOf, IsStation}
-use Rattle.ixl_rules.specs.bit_row.Places.{Has, Places}
-use Rattle.ixl_rules.specs.control_table.Topology.{IsRoute}
-use Rattle.ixl_rules.specs.control_table.AwaitedSections.{Awaits}
-use Rattle.ixl_rules.specs.control_table.Table.{AreRequired, AreSections, InLayoutOrder, LeadsOver, RouteRequires}
-use Rattle.ixl_rules.specs.Table.{Need, Row, Table}
+use Rattle.ixl_spec.specs.sci_telegram.declared.message.Side.{Side}
+use Rattle.ixl_spec.specs.sci_telegram.declared.message.Side.TheVariants as side
+use Rattle.ixl_spec.specs.layout.declared.ids.SectionId.{SectionId}
+use Rattle.ixl_spec.specs.layout.declared.ids.PointId.{PointId}
+use Rattle.ixl_spec.specs.layout.declared.ids.RouteId.{RouteId}
+use Rattle.ixl_spec.specs.layout.Entries.{DetectorEntry, Site, RouteEntry}
+use Rattle.ixl_spec.specs.layout.Station.{HasPoint, HasSection, IsDetectorOf, IsRouteOf, IsStation}
+use Rattle.ixl_spec.specs.bit_row.Places.{Has, Places}
+use Rattle.ixl_spec.specs.control_table.Topology.{IsRoute}
+use Rattle.ixl_spec.specs.control_table.AwaitedSections.{Awaits}
+use Rattle.ixl_spec.specs.control_table.Table.{AreRequired, AreSections, InLayoutOrder, LeadsOver, RouteRequires}
+use Rattle.ixl_spec.specs.Table.{Need, Row, Table}
 use Rattle.ixl_table.specs.Table.{AreNeededAt, IsHeldUntil, IsReportedIn, IsRowOf, IsRowThere, IsSetOf, IsTableOf, IsTableThere, as_point, as_route, as_section, required}
 use Rattle.ixl_table.specs.inside.Made.{AreNeedsOf, AreReportersUpTo, AreRowsUpTo, IsPastAwaited, IsPastLast, NoneReports}
 use Rattle.ixl_table.proofs.Lists.{contains-before, contains-end, contains-get, contains-here, contains-last, contains-there, contains-map, contains-none, get-before, get-contains, get-end, get-inside, get-last, get-map, has-none, length-last, map-contains, map-get, map-length, mapped-more, none-some, put, some-injective, taken}

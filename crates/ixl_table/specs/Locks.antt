@@ -1,11 +1,11 @@
 -- What the set routes lock, as the phases of the routes give it.
 use Rattle.std.specs.Prelude.{◌≡◌, ◌↔◌, ℕ, ◌<◌, ◌≤◌, List, length, Some, slice_get, IsTrue}
-use Rattle.ixl_rules.specs.bit_row.Places.{Has}
+use Rattle.ixl_spec.specs.bit_row.Places.{Has}
 use Rattle.route_lock.specs.Locks.{LockState, locked_by}
-use Rattle.ixl_rules.specs.Table.{Row, Table}
-use Rattle.ixl_rules.specs.State.{RouteState}
-use Rattle.ixl_rules.specs.View.{freed_sections, is_set}
-use Rattle.ixl_rules.specs.Due.{HoldsSection}
+use Rattle.ixl_spec.specs.Table.{Row, Table}
+use Rattle.ixl_spec.specs.State.{RouteState}
+use Rattle.ixl_spec.specs.View.{freed_sections, is_set}
+use Rattle.ixl_spec.specs.Due.{HoldsSection}
 use Rattle.ixl_table.specs.Table.{SitedTable, as_route}
 
 -- A route of a table, and what is kept of it.

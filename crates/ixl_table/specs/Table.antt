@@ -1,17 +1,17 @@
 -- That what the rules read is the control table of a site.
 use Rattle.std.specs.Prelude.{◌≡◌, ◌↔◌, ℕ, suc, ◌<◌, ◌≤◌, List, length, map, Some, slice_get}
 use Rattle.std.specs.List.{All, Contains}
-use Rattle.ixl_rules.specs.sci_telegram.declared.message.Side.{Side}
-use Rattle.ixl_rules.specs.layout.declared.ids.SectionId.{SectionId}
-use Rattle.ixl_rules.specs.layout.declared.ids.PointId.{PointId}
-use Rattle.ixl_rules.specs.layout.declared.ids.RouteId.{RouteId}
-use Rattle.ixl_rules.specs.layout.Entries.{DetectorEntry, Site, RouteEntry}
-use Rattle.ixl_rules.specs.bit_row.Places.{Has, Places}
-use Rattle.ixl_rules.specs.control_table.Topology.{IsRoute}
-use Rattle.ixl_rules.specs.control_table.AwaitedSections.{Awaits}
-use Rattle.ixl_rules.specs.control_table.Table.{AreRequired, AreSections, HasAspect}
-use Rattle.ixl_rules.specs.Table.{Need, Row, Table}
-pub use Rattle.ixl_rules.specs.Table.{SitedTable}
+use Rattle.ixl_spec.specs.sci_telegram.declared.message.Side.{Side}
+use Rattle.ixl_spec.specs.layout.declared.ids.SectionId.{SectionId}
+use Rattle.ixl_spec.specs.layout.declared.ids.PointId.{PointId}
+use Rattle.ixl_spec.specs.layout.declared.ids.RouteId.{RouteId}
+use Rattle.ixl_spec.specs.layout.Entries.{DetectorEntry, Site, RouteEntry}
+use Rattle.ixl_spec.specs.bit_row.Places.{Has, Places}
+use Rattle.ixl_spec.specs.control_table.Topology.{IsRoute}
+use Rattle.ixl_spec.specs.control_table.AwaitedSections.{Awaits}
+use Rattle.ixl_spec.specs.control_table.Table.{AreRequired, AreSections, HasAspect}
+use Rattle.ixl_spec.specs.Table.{Need, Row, Table}
+pub use Rattle.ixl_spec.specs.Table.{SitedTable}
 
 -- ---- numbers and what they name
 

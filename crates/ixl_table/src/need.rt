@@ -1,15 +1,12 @@
 //! The points that a route requires.
 
 ghost use Rattle.std.specs.Prelude.{◌≡◌, ◌<◌, IfOk, length};
-ghost use Rattle.ixl_rules.specs.bit_row.Places.{Has};
-ghost use Rattle.ixl_rules.specs.control_table.Table.{AreRequired};
+ghost use Rattle.ixl_spec.specs.bit_row.Places.{Has};
+ghost use Rattle.ixl_spec.specs.control_table.Table.{AreRequired};
 ghost use Rattle.ixl_table.specs.inside.Made.{AreNeedsOf, IsPastAwaited, IsPastLast};
 ghost use Rattle.ixl_table.specs.Table.{required};
 
-use ixl_rules::control_table::Checked;
-use ixl_rules::control_table::bit_row::BitRow;
-use ixl_rules::control_table::layout::{PointId, RouteId};
-use ixl_rules::control_table::sci_telegram::Side;
+use ixl_spec::{BitRow, Checked, PointId, RouteId, Side};
 use std::alloc::{AllocError, Global};
 use std::marker::Model;
 
@@ -22,7 +19,7 @@ pub struct Need {
 }
 
 impl Model for Need {
-    ghost use Rattle.ixl_rules.specs.Table.{Need};
+    ghost use Rattle.ixl_spec.specs.Table.{Need};
 
     ghost Value = { Need };
 

@@ -2,13 +2,12 @@
 
 ghost use Rattle.std.specs.Prelude.{◌≡◌, ◌<◌, IfNone, IfOk, IfSome, Some, length, map, slice_get};
 ghost use Rattle.std.specs.List.{Contains};
-ghost use Rattle.ixl_rules.specs.layout.Entries.{DetectorEntry};
+ghost use Rattle.ixl_spec.specs.layout.Entries.{DetectorEntry};
 ghost use Rattle.ixl_table.specs.Table.{AreReporters, IsReportedIn, as_section};
 ghost use Rattle.ixl_table.specs.inside.Made.{NoneReports};
 
 use crate::row::section_numbers;
-use ixl_rules::control_table::Checked;
-use ixl_rules::control_table::layout::{Detector, Point, SectionId};
+use ixl_spec::{Checked, Detector, Point, SectionId};
 use std::alloc::{AllocError, Global};
 
 /// The place of a section in a list.

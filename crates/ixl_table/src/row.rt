@@ -2,16 +2,14 @@
 
 ghost use Rattle.std.specs.Prelude.{◌≡◌, ◌<◌, IfOk, length, map};
 ghost use Rattle.std.specs.List.{All};
-ghost use Rattle.ixl_rules.specs.sci_telegram.declared.message.Side.TheVariants as at;
+ghost use Rattle.ixl_spec.specs.sci_telegram.declared.message.Side.TheVariants as at;
 ghost use Rattle.ixl_table.specs.Table.{AreNeededAt, IsRowOf, IsSetOf, as_route, as_section};
 
 use crate::need::{Need, needs_of};
-use ixl_rules::control_table::bit_row::BitRow;
-use ixl_rules::control_table::layout::{RouteId, SectionId};
-use ixl_rules::control_table::sci_telegram::Aspect;
-use ixl_rules::control_table::{
-    Checked, a_route_leads_over_its_sections_alone, required_points_await_a_section_of_the_route,
+use ixl_spec::control_table::{
+    a_route_leads_over_its_sections_alone, required_points_await_a_section_of_the_route,
 };
+use ixl_spec::{Aspect, BitRow, Checked, RouteId, SectionId};
 use std::alloc::{AllocError, Global};
 use std::marker::Model;
 
@@ -31,7 +29,7 @@ pub struct Row {
 }
 
 impl Model for Row {
-    ghost use Rattle.ixl_rules.specs.Table.{Row};
+    ghost use Rattle.ixl_spec.specs.Table.{Row};
     ghost use Rattle.ixl_table.specs.inside.Made.{AreItsRows};
 
     ghost Value = { Row };

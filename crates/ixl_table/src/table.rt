@@ -1,17 +1,17 @@
 //! The table of a station.
 
 ghost use Rattle.std.specs.Prelude.{◌≡◌, ◌<◌, IfOk, Some, length, slice_get};
-ghost use Rattle.ixl_rules.specs.layout.Once.{Once};
-ghost use Rattle.ixl_rules.specs.layout.Station.{IsStation};
-ghost use Rattle.ixl_rules.specs.control_table.Table.{Sound};
+ghost use Rattle.ixl_spec.specs.layout.Once.{Once};
+ghost use Rattle.ixl_spec.specs.layout.Station.{IsStation};
+ghost use Rattle.ixl_spec.specs.control_table.Table.{Sound};
 ghost use Rattle.ixl_table.specs.Table.{AreRows, IsTableOf, IsTableThere};
 
 use crate::reporters::{reported_by, reporters_of, sections_of};
 use crate::row::{Row, row_of};
-use ixl_rules::control_table::layout::RouteId;
-use ixl_rules::control_table::{
-    Checked, a_route_leads_over_sections_that_are_there, required_points_are_there,
+use ixl_spec::control_table::{
+    a_route_leads_over_sections_that_are_there, required_points_are_there,
 };
+use ixl_spec::{Checked, RouteId};
 use std::alloc::{AllocError, Global};
 use std::marker::Model;
 

@@ -22,6 +22,6 @@ ends name sort entries place old whole past so = sym (append-nil old) ∙ ap (λ
 pub listed : {A : Type 0} (name : A → List ℕ) (sort : Sort) (entries table : List A) (old new : List Row) → entries ≡ table → new ≡ old ++ numbered name sort 0 entries → new ≡ old ++ numbered name sort 0 table
 listed name sort entries table old new same push = push ∙ ap (λ those. old ++ numbered name sort 0 those) same
 
--- some, and others behind them
+-- some, and others after them
 pub behind : (old mid new one other : List Row) → mid ≡ old ++ one → new ≡ mid ++ other → new ≡ old ++ (one ++ other)
 behind old mid new one other first second = second ∙ ap (λ rows. rows ++ other) first ∙ append_assoc old one other

@@ -88,7 +88,7 @@ contains-flat f (x ∷ xs) y c =
     ⊎_elim (λ here. (x, contains-here x xs, here))
     (λ later. let found = contains-flat f xs y later in (found.0, contains-there x found.0 xs found.1, found.2)) (Contains-append_cases (f x) (flat_map f xs) y c)
 
--- ---- what stands before the first dot of an identity, and behind it
+-- ---- what stands before the first dot of an identity, and after it
 
 abbrev before_dot : List ℕ → List ℕ
 before_dot [] = []

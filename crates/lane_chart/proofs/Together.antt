@@ -1,4 +1,4 @@
--- Lists put one behind the other.
+-- Lists put one after the other.
 use Rattle.std.proofs.Common.{◌≡◌, ◌∙◌, List, [], ◌∷◌, ◌++◌, ap}
 use Rattle.std.proofs.lemmas.List.{append_assoc}
 

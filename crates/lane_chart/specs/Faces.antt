@@ -3,8 +3,7 @@ use Rattle.std.specs.Prelude.{ℕ, ◌+◌, ◌/◌, ◌==◌, ◌&&◌, ◌^◌
 use Rattle.std.specs.Fmt.{decimal}
 use Rattle.std.specs.List.{flat_map}
 use Rattle.control_table.specs.layout.Entries.{Site}
-use Rattle.control_table.specs.sci_telegram.declared.message.Aspect.TheVariants as aspect
-use Rattle.control_table.specs.sci_telegram.declared.message.Occupancy.TheVariants as occupancy
+use Rattle.control_table.specs.sci_telegram.Words.{aspect_word, occupancy_word, position_word}
 use Rattle.control_table.specs.sci_telegram.declared.message.Position.TheVariants as position
 use Rattle.control_table.specs.sci_telegram.declared.message.Side.TheVariants as side
 use Rattle.drawing.specs.declared.picture.Group.{Group}
@@ -41,21 +40,18 @@ readiness_text readiness.Up = codes "up"
 readiness_text readiness.Ready = codes "ready"
 
 abbrev pub state_text : Seen → List ℕ
-state_text (seen.Aspect (Some aspect.Stop)) = codes "stop"
-state_text (seen.Aspect (Some aspect.Proceed)) = codes "proceed"
-state_text (seen.Aspect (Some aspect.Slow)) = codes "slow"
+state_text (seen.Aspect (Some aspect)) = aspect_word aspect
 state_text (seen.Aspect None) = codes "none"
 state_text (seen.Authority (Some route)) = codes "held"
 state_text (seen.Authority None) = codes "none"
-state_text (seen.Position (Some position.Left)) = codes "left"
-state_text (seen.Position (Some position.Right)) = codes "right"
 state_text (seen.Position (Some position.NoEndPosition)) = codes "moving"
+state_text (seen.Position (Some position.Right)) = position_word position.Right
+state_text (seen.Position (Some position.Left)) = position_word position.Left
 state_text (seen.Position None) = codes "none"
 state_text (seen.Drive (Some side.Left)) = codes "driven-left"
 state_text (seen.Drive (Some side.Right)) = codes "driven-right"
 state_text (seen.Drive None) = codes "none"
-state_text (seen.Section (Some occupancy.Clear)) = codes "clear"
-state_text (seen.Section (Some occupancy.Occupied)) = codes "occupied"
+state_text (seen.Section (Some occupancy)) = occupancy_word occupancy
 state_text (seen.Section None) = codes "none"
 state_text (seen.Route (Some progress)) = progress_text progress
 state_text (seen.Route None) = codes "none"
@@ -63,7 +59,7 @@ state_text (seen.Link readiness) = readiness_text readiness
 
 -- ---- bands
 
--- Where the line of a span ends: where the next span begins, and one unit behind its own beginning at the earliest.
+-- Where the line of a span ends: where the next span begins, and one unit after its own beginning at the earliest.
 abbrev pub span_end : Span → ℤ
 span_end span = on_paper (max (min span.right 1380) (min span.left 1380 + 1))
 
@@ -89,7 +85,7 @@ capped n = min n (2 ^ 64 - 1)
 abbrev pub nodes_of : Site → Nodes
 nodes_of l = record { signals = length l.signals; points = length l.points }
 
--- the node of a row: the interlocking is 0, behind it come signals, points and detectors
+-- the node of a row: the interlocking is 0, after it come signals, points and detectors
 abbrev pub node_at : Nodes → Sort → ℕ → Option ℕ
 node_at nodes sort.Interlocking behind = Some 0
 node_at nodes sort.SignalNode behind = Some behind

@@ -9,11 +9,11 @@ use Rattle.drawing.specs.declared.shape.Spot.{Spot}
 
 -- ---- where it lies
 
--- so many units behind where the bands begin
+-- so many units after where the bands begin
 abbrev pub on_paper : ℕ → ℤ
 on_paper units = pos (190 + units)
 
--- a unit of the chart; what lies behind the last one lies there
+-- a unit of the chart; what lies after the last one lies there
 abbrev pub place_of : ℕ → ℤ
 place_of unit = on_paper (min unit 1380)
 

@@ -1,8 +1,9 @@
 //! The axis of true time.
 
 use crate::marks::Marks;
-use crate::scale::{LEFT, MICROS, RIGHT, Window};
+use crate::scale::{LEFT, RIGHT, Window};
 use drawing::{Anchor, Spot};
+use rasta_core_link::MICROS;
 use std::alloc::AllocError;
 
 /// Where the axis lies.

@@ -7,7 +7,7 @@ use crate::lane::{Lane, Seen};
 pub struct Change {
     /// The line of the session whose event changed it, counted from 1; 0 for what it shows at first.
     pub line: usize,
-    /// True time behind the event, in microseconds.
+    /// True time after the event, in microseconds.
     pub time: u64,
     /// The lane.
     pub lane: Lane,

@@ -9,7 +9,7 @@ use crate::row_list::rows;
 use crate::scale::Window;
 use crate::spans::{Span, spans_of};
 use crate::subject::{Row, Sort};
-use control_table::layout::Layout;
+use control_table::Layout;
 use std::alloc::{AllocError, Global};
 
 /// A row with the spans of its bands.

@@ -8,8 +8,9 @@ ghost use Rattle.lane_chart.specs.Strokes.{named, strokes};
 use crate::change::Happening;
 use crate::marks::Marks;
 use crate::row_marks::width;
-use crate::scale::{MICROS, Window};
+use crate::scale::Window;
 use drawing::{Anchor, Group, Spot};
+use rasta_core_link::MICROS;
 use std::alloc::{AllocError, Global};
 
 /// How many lines of text stand above each other.

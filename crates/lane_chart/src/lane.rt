@@ -1,7 +1,6 @@
 //! What is followed through a session, and what is seen of it.
 
-use control_table::layout::RouteId;
-use control_table::sci_telegram::{Aspect, Occupancy, Position, Side};
+use control_table::{Aspect, Occupancy, Position, RouteId, Side};
 
 /// What is followed of signals, points, sections, routes and links.
 #[derive(Clone, Copy)]

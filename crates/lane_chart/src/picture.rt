@@ -12,12 +12,13 @@ use crate::happening_marks::{add_group, add_happenings};
 use crate::legend::{HEIGHT, draw_legend};
 use crate::marks::Marks;
 use crate::row_marks::{draw_row, height};
-use crate::scale::{MICROS, Window};
+use crate::scale::Window;
 use crate::scene::{Nodes, Scene};
 use crate::style::STYLE;
 use crate::subject::{Sort, kind_word};
-use control_table::layout::Layout;
+use control_table::Layout;
 use drawing::{Anchor, Frame, Group, Picture, Spot};
+use rasta_core_link::MICROS;
 use std::alloc::{AllocError, Global};
 
 /// How wide the paper is.

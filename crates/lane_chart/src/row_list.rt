@@ -4,8 +4,8 @@ ghost use Rattle.std.specs.Prelude.{◌≡◌, ◌++◌, ◌∷◌, [], OnOk, If
 ghost use Rattle.lane_chart.specs.Subjects.{numbered, row_of, rows_of};
 
 use crate::subject::{Row, Sort, Subject};
-use control_table::layout::{Detector, Layout, Point, Route, Signal};
-use control_table::sci_telegram::Name;
+use control_table::layout::{Detector, Point, Route, Signal};
+use control_table::{Layout, Name};
 use std::alloc::{AllocError, Global};
 
 /// An entry of a table of the layout, which goes by a name.

@@ -14,8 +14,8 @@ use crate::scene::Scene;
 use crate::spans::Span;
 use crate::subject::{Row, Sort};
 use crate::words::{label, state_word};
+use control_table::Position;
 use control_table::layout::Route;
-use control_table::sci_telegram::Position;
 use drawing::{Anchor, Spot};
 use std::alloc::AllocError;
 
@@ -55,7 +55,7 @@ pub(crate) fn width(words: &str) -> i32 {
     i32::try_from(letters).unwrap_or(i32::MAX)
 }
 
-/// Where the line of a span ends: one unit behind its beginning at the earliest.
+/// Where the line of a span ends: one unit after its beginning at the earliest.
 fn span_end(span: Span) -> i32
     ensures { result ≡ span_end span }
 {

@@ -10,8 +10,6 @@ pub(crate) const LEFT: i32 = 190;
 pub(crate) const WIDTH: u64 = 1380;
 /// Where the bands end.
 pub(crate) const RIGHT: i32 = 1570;
-/// How many microseconds a millisecond has.
-pub(crate) const MICROS: u64 = 1000;
 
 /// The part of true time that is drawn, in microseconds.
 #[derive(Clone, Copy)]
@@ -56,14 +54,14 @@ impl Window {
     }
 }
 
-/// Where a unit lies on the paper. What lies behind the last one lies there.
+/// Where a unit lies on the paper. What lies after the last one lies there.
 pub(crate) fn place_of(unit: u64) -> i32
     ensures { result ≡ place_of unit }
 {
     on_paper(unit.min(WIDTH))
 }
 
-/// Where something lies on the paper, so many units behind where the bands begin.
+/// Where something lies on the paper, so many units after where the bands begin.
 pub(crate) fn on_paper(units: u64) -> i32
     requires { units ≤ 1381 }
     ensures { result ≡ on_paper units }

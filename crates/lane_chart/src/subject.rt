@@ -3,7 +3,7 @@
 ghost use Rattle.std.specs.Prelude.{◌≡◌};
 ghost use Rattle.lane_chart.specs.Subjects.{kind_text};
 
-use control_table::sci_telegram::Name;
+use control_table::Name;
 
 /// What a row of a chart is for.
 #[derive(Clone, Copy)]

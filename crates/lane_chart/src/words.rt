@@ -4,8 +4,8 @@ ghost use Rattle.std.specs.Prelude.{◌≡◌};
 ghost use Rattle.lane_chart.specs.Faces.{progress_text, readiness_text, state_text};
 
 use crate::lane::{Progress, Readiness, Seen};
-use control_table::layout::{Route, RouteId};
-use control_table::sci_telegram::{Aspect, Occupancy, Position, Side};
+use control_table::layout::Route;
+use control_table::{Position, RouteId, Side};
 use std::alloc::{AllocError, Global};
 
 /// The word of a route's state, by which a style knows it.
@@ -37,17 +37,14 @@ pub(crate) fn state_word(seen: Seen) -> &'static str
     ensures { result.now ≡ state_text seen }
 {
     match seen {
-        Seen::Aspect(Some(Aspect::Stop)) => "stop",
-        Seen::Aspect(Some(Aspect::Proceed)) => "proceed",
-        Seen::Aspect(Some(Aspect::Slow)) => "slow",
+        Seen::Aspect(Some(aspect)) => aspect.word(),
         Seen::Authority(Some(_)) => "held",
-        Seen::Position(Some(Position::Left)) => "left",
-        Seen::Position(Some(Position::Right)) => "right",
+        // A point lies at no end while it moves: a style draws that, and none where nothing is known.
         Seen::Position(Some(Position::NoEndPosition)) => "moving",
+        Seen::Position(Some(position)) => position.word(),
         Seen::Drive(Some(Side::Left)) => "driven-left",
         Seen::Drive(Some(Side::Right)) => "driven-right",
-        Seen::Section(Some(Occupancy::Clear)) => "clear",
-        Seen::Section(Some(Occupancy::Occupied)) => "occupied",
+        Seen::Section(Some(occupancy)) => occupancy.word(),
         Seen::Route(Some(progress)) => progress_word(progress),
         Seen::Link(readiness) => readiness_word(readiness),
         _ => "none",

@@ -16,3 +16,4 @@ pub mod FaultDirectory
 pub mod Quiet
 pub mod Named
 pub mod Unknown
+pub mod NodePlaces

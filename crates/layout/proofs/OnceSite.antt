@@ -29,7 +29,7 @@ names_in text =
 unfoldable pub ids_in : LayoutText → List ℕ
 ids_in text = text.station.id ∷ (map (λ p. p.id) text.points ++ (map (λ s. s.id) text.signals ++ map (λ d. d.id) text.detectors))
 
--- lists that were put behind one another one by one
+-- lists that were put after one another one by one
 grouped : {K : Type 0} (k : K) (a b c d : List K) → (((k ∷ []) ++ a) ++ b) ++ c ++ d ≡ k ∷ (a ++ (b ++ (c ++ d)))
 grouped k a b c d = append_assoc ((k ∷ a) ++ b) c d ∙ append_assoc (k ∷ a) b (c ++ d)
 

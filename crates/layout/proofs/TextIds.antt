@@ -1,10 +1,12 @@
 -- The identities that a text writes are those of nodes, and no route of it has the aspect stop.
 use Rattle.std.proofs.Common.{◌≡◌, ◌≢◌, bytes_eq, ℕ, ◌&&◌, Bool, true, false, ℤ, pos, negsuc, List, map, All, codes, Option, Some, None, nat_le, Ok, Err, if◌then◌else◌, sym, ap, subst, rules}
+use Rattle.std.specs.Option.{ok_or}
 use Rattle.std.proofs.lemmas.Bool.{false≢true}
 use Rattle.std.proofs.lemmas.Bool.Decides.{Decides-and}
 use Rattle.std.proofs.lemmas.List.Elements.{All-cons, All-append, All-map}
 use Rattle.sci_telegram.specs.declared.message.Aspect.{Aspect}
 use Rattle.sci_telegram.specs.declared.message.Aspect.TheVariants.{Stop, Proceed, Slow}
+use Rattle.sci_telegram.specs.Words.{aspect_of_word}
 use Rattle.toml.specs.Data.{Data, Members, as_integer, get_member}
 use Rattle.layout_text.specs.declared.fault.LayoutFault.TheVariants.{WrongKind}
 use Rattle.layout_text.specs.declared.fault.Place.{Place}
@@ -15,7 +17,7 @@ use Rattle.layout_text.specs.declared.entries.WrittenPoint.{WrittenPoint}
 use Rattle.layout_text.specs.declared.entries.WrittenSignal.{WrittenSignal}
 use Rattle.layout_text.specs.Written.{DetectorText, RouteText, LayoutText}
 use Rattle.layout_text.specs.FirstFault.{Read}
-use Rattle.layout_text.specs.Values.{field_at, text_at, table_at, name_at, id_of, aspect_at}
+use Rattle.layout_text.specs.Values.{field_at, text_at, table_at, name_at, id_of, aspect_at, route_aspect}
 use Rattle.layout_text.specs.Text.{key_place, name_field, id_field, port_field, names_field, ports_field, sides_field, names_at, sides_at, list_or_empty, aspect_or_proceed, key_or_none, station_at, track_at, point_at, joint_at, signal_at, detector_at, route_at, items_at, entries_at, station_in, text_of}
 use Rattle.layout.specs.Station.{IsNodeId}
 use Rattle.layout.proofs.OnceLemmas.{came_from, same_ok}
@@ -99,12 +101,13 @@ aspect-at-goes : (place : Place) (d : Data) (a : Aspect) → aspect_at place d �
 unfolding aspect_at
 aspect-at-goes place d a h =
     let word = came_from (text_at place d) _ a h in
-    word-goes (bytes_eq word.0 (codes "proceed")) (bytes_eq word.0 (codes "slow")) word.2
+    word-goes (aspect_of_word word.0) word.2
   where
-    word-goes : (p s : Bool) → (if p then Ok Proceed else if s then Ok Slow else Err (WrongKind place)) ≡ Ok a → a ≢ Stop
-    word-goes true s h = subst (λ a. a ≢ Stop) (same_ok Proceed a h) proceed-goes
-    word-goes false true h = subst (λ a. a ≢ Stop) (same_ok Slow a h) slow-goes
-    word-goes false false h = search rules
+    word-goes : (o : Option Aspect) → ok_or (route_aspect o) (WrongKind place) ≡ Ok a → a ≢ Stop
+    word-goes None h = search rules
+    word-goes (Some Stop) h = search rules
+    word-goes (Some Proceed) h = subst (λ a. a ≢ Stop) (same_ok Proceed a h) proceed-goes
+    word-goes (Some Slow) h = subst (λ a. a ≢ Stop) (same_ok Slow a h) slow-goes
 
 aspect-goes : (place : Place) (o : Option Data) (a : Aspect) → aspect_or_proceed place o ≡ Ok a → a ≢ Stop
 aspect-goes place None a h = subst (λ a. a ≢ Stop) (same_ok Proceed a h) proceed-goes

@@ -1,4 +1,5 @@
 pub mod Entries
+pub mod Nodes
 pub mod Known
 pub mod Doubles
 pub mod NamesResolved

@@ -27,3 +27,8 @@ pub struct DetectorId(pub usize);
 /// A route.
 #[derive(Clone, Copy, Debug, PartialEq, Eq, Hash)]
 pub struct RouteId(pub usize);
+
+/// A node, by its place among all: the interlocking is 0, then come the signals, the points and the
+/// detectors, each in layout order.
+#[derive(Clone, Copy, Debug, PartialEq, Eq)]
+pub struct NodeId(pub usize);

@@ -10,7 +10,7 @@ pub enum Element {
     Track(TrackId),
     /// A point.
     Point(PointId),
-    /// A border, behind which the layout ends.
+    /// A border, after which the layout ends.
     Border(BorderId),
 }
 

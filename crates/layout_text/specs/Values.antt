@@ -8,14 +8,14 @@ use Rattle.std.specs.List.{list_all, list_any, before_first, after_first}
 use Rattle.std.specs.Str.{bytes_eq}
 use Rattle.toml.specs.Data.{Data, Items, no_items, item, Members, get_member, as_str, as_array, as_table, as_integer}
 use Rattle.sci_telegram.specs.Names.{is_name_byte}
+use Rattle.sci_telegram.specs.Words.{aspect_of_word, side_of_word}
 use Rattle.layout_text.specs.declared.fault.LayoutFault.TheVariants.{MissingKey, WrongKind}
 use Rattle.layout_text.specs.declared.fault.Place.{Place}
 use Rattle.layout_text.specs.declared.entries.End.{End}
 use Rattle.layout_text.specs.declared.entries.End.TheVariants as end
 use Rattle.sci_telegram.specs.declared.message.Aspect.{Aspect}
-use Rattle.sci_telegram.specs.declared.message.Aspect.TheVariants.{Proceed, Slow}
+use Rattle.sci_telegram.specs.declared.message.Aspect.TheVariants.{Stop, Proceed, Slow}
 use Rattle.sci_telegram.specs.declared.message.Side.{Side}
-use Rattle.sci_telegram.specs.declared.message.Side.TheVariants.{Left, Right}
 use Rattle.layout_text.specs.declared.entries.PortName.{PortName}
 use Rattle.layout_text.specs.FirstFault.{Read, ◌>>=◌}
 
@@ -90,17 +90,19 @@ port_at place d = text_at place d >>= λ text. port_of place text
 unfoldable pub side_at : Place → Data → Read Side
 side_at place d = do
   word ← text_at place d
-  if bytes_eq word (codes "left") then Ok Left
-      else if bytes_eq word (codes "right") then Ok Right
-      else Err (WrongKind place)
+  ok_or (side_of_word word) (WrongKind place)
 
--- the aspect of a route is the word `proceed` or `slow`
+-- the aspect of a route is the word `proceed` or `slow`: no route leads to a stop
+abbrev pub route_aspect : Option Aspect → Option Aspect
+route_aspect None = None
+route_aspect (Some Stop) = None
+route_aspect (Some Proceed) = Some Proceed
+route_aspect (Some Slow) = Some Slow
+
 unfoldable pub aspect_at : Place → Data → Read Aspect
 aspect_at place d = do
   word ← text_at place d
-  if bytes_eq word (codes "proceed") then Ok Proceed
-      else if bytes_eq word (codes "slow") then Ok Slow
-      else Err (WrongKind place)
+  ok_or (route_aspect (aspect_of_word word)) (WrongKind place)
 
 -- a key is 32 hexadecimal digits: four registers, each with its low-order byte first
 abbrev pub register : List ℕ → ℕ → ℕ

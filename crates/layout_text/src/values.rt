@@ -133,14 +133,7 @@ pub(crate) fn port(value: &Value, place: Place) -> Result<PortName, LayoutFault>
 pub(crate) fn side(value: &Value, place: Place) -> Result<Side, LayoutFault>
     ensures { Gives (λ s. s) result (side_at place (view value.now)) }
 {
-    let word = text(value, place)?;
-    if word == "left" {
-        Ok(Side::Left)
-    } else if word == "right" {
-        Ok(Side::Right)
-    } else {
-        Err(LayoutFault::WrongKind(place))
-    }
+    Side::of_word(text(value, place)?).ok_or(LayoutFault::WrongKind(place))
 }
 
 /// The aspect of a route: `proceed` or `slow`.
@@ -148,13 +141,9 @@ pub(crate) fn side(value: &Value, place: Place) -> Result<Side, LayoutFault>
 pub(crate) fn aspect(value: &Value, place: Place) -> Result<Aspect, LayoutFault>
     ensures { Gives (λ a. a) result (aspect_at place (view value.now)) }
 {
-    let word = text(value, place)?;
-    if word == "proceed" {
-        Ok(Aspect::Proceed)
-    } else if word == "slow" {
-        Ok(Aspect::Slow)
-    } else {
-        Err(LayoutFault::WrongKind(place))
+    match Aspect::of_word(text(value, place)?) {
+        None | Some(Aspect::Stop) => Err(LayoutFault::WrongKind(place)),
+        Some(aspect) => Ok(aspect),
     }
 }
 

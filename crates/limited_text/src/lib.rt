@@ -8,5 +8,5 @@ mod readers;
 
 pub use fault::TextFault;
 pub use files::file_text;
-pub use limits::{Content, STREAM};
-pub use readers::text_up_to;
+pub use limits::Content;
+pub use readers::{input_text, text_up_to};

@@ -7,7 +7,7 @@ ghost use Rattle.limited_text.specs.Limits.{longest};
 const LAYOUT: u64 = 1_048_576;
 
 /// The most bytes of what is no regular file: 64 MiB. A device, a pipe or a terminal may never end, and tells no length.
-pub const STREAM: u64 = 67_108_864;
+const STREAM: u64 = 67_108_864;
 
 /// The most bytes of a regular file: 4 GiB. A recorded session may be long.
 const FILE: u64 = 4_294_967_296;

@@ -1,10 +1,12 @@
 //! The texts of readers.
 
-ghost use Rattle.std.specs.Prelude.{◌≡◌, ◌<◌, ◌≤◌, ◌+◌, ◌++◌, ℕ, List, Ok, true, IfErr, IfOk, IfSome, length, string_bytes, string_len, take};
+ghost use Rattle.std.specs.Prelude.{◌≡◌, ◌<◌, ◌≤◌, ◌+◌, ◌++◌, ℕ, List, Ok, false, true, IfErr, IfOk, IfSome, length, string_bytes, string_len, take};
 ghost use Rattle.std.specs.Io.KnownBytes.{Consumes, IsAtEnd};
+ghost use Rattle.limited_text.specs.Limits.{longest};
 ghost use Rattle.limited_text.specs.Texts.{Explains, IsOfMachine};
 
-use crate::TextFault;
+use crate::limits::longest;
+use crate::{Content, TextFault};
 use std::alloc::Global;
 use std::io;
 use std::io::Read;
@@ -29,6 +31,19 @@ pub fn text_up_to<R: Read>(alloc: Global, reader: &mut R, limit: u64) -> Result<
         Ok(text) => Ok(text),
         Err(_) => Err(TextFault::NotUtf8),
     }
+}
+
+/// The text of standard input or of another reader that may never end, if it isn't too long for what it is to have.
+pub fn input_text<R: Read>(
+    alloc: Global,
+    reader: &mut R,
+    content: Content,
+) -> Result<String, TextFault>
+    ensures text { IfOk result (λ text. IfSome (R.remaining reader.old) (λ bytes. string_bytes text ≡ bytes)) }
+    ensures limited { IfOk result (λ text. string_len text ≤ longest content false) }
+    ensures refused { IfErr result (Explains (longest content false) (R.remaining reader.old)) }
+{
+    text_up_to(alloc, reader, longest(content, false))
 }
 
 /// The bytes of a reader, or the first `count` of them.

@@ -6,8 +6,8 @@ use Rattle.std.proofs.lemmas.List.Elements.{Contains-get_or}
 use Rattle.std.proofs.lemmas.List.Quantifiers.{all_pairs_push}
 use Rattle.std.proofs.lemmas.Option.{same_Some, slice_get_within}
 use Rattle.toml.specs.Data.{Members}
-use Rattle.ixl_rules.specs.layout.Entries.{Site}
-use Rattle.ixl_rules.specs.layout.Once.{Distinct}
+use Rattle.control_table.specs.layout.Entries.{Site}
+use Rattle.control_table.specs.layout.Once.{Distinct}
 use Rattle.replay_lines.specs.Names.{node_names}
 use Rattle.node_addresses.specs.Addresses.{AreOfNodes, StandUnder, StandsUnder}
 
@@ -34,7 +34,7 @@ stand_more document names addresses name address each next stands place found at
 pub once_more : {A : Type 0} (xs : List A) (x : A) → Distinct xs → (Contains xs x → ⊥) → Distinct (xs ++ x ∷ [])
 once_more {A} xs x once none = all_pairs_push (λ y z. y ≡ z → ⊥) xs x once (λ k d within e. none (subst (λ (y : A). Contains xs y) e (Contains-get_or xs k d within)))
 
--- a place at which nothing stands lies behind the list
+-- a place at which nothing stands lies after the list
 pub past : {A : Type 0} (xs : List A) (k : ℕ) → slice_get xs k ≡ None → length xs ≤ k
 past [] k e = omega arith
 past (x ∷ xs) zero e = absurd (cc)

@@ -3,7 +3,7 @@ use Rattle.std.proofs.Common.{◌≡◌, ℕ, List, length, None, Some, slice_ge
 use Rattle.std.specs.declared.net.socket_addr.SocketAddr.{SocketAddr}
 use Rattle.toml.specs.Data.{Members}
 use Rattle.toml.specs.Parse.{parse_document}
-use Rattle.ixl_rules.specs.layout.Entries.{Site}
+use Rattle.control_table.specs.layout.Entries.{Site}
 use Rattle.replay_lines.specs.Names.{node_names}
 use Rattle.node_addresses.specs.declared.fault.AddressesFault.{AddressesFault}
 use Rattle.node_addresses.specs.declared.fault.AddressesFault.TheVariants.{Toml, MissingNode, WrongAddress, DoubleAddress, UnknownNode, WrongName, OutOfMemory}

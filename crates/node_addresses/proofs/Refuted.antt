@@ -7,7 +7,7 @@ use Rattle.std.specs.declared.net.socket_addr.SocketAddr.{SocketAddr}
 use Rattle.std.proofs.NetLemmas.Theorems.{IsSocketText_unique}
 use Rattle.std.proofs.lemmas.Option.{get_or_from_slice_get, same_Some, slice_get-get_or, slice_get_within}
 use Rattle.toml.specs.Data.{Data, Members, as_str}
-use Rattle.ixl_rules.specs.layout.Entries.{Site}
+use Rattle.control_table.specs.layout.Entries.{Site}
 use Rattle.replay_lines.specs.Names.{node_names}
 use Rattle.node_addresses.specs.declared.fault.AddressesFault.{AddressesFault}
 use Rattle.node_addresses.specs.declared.fault.AddressesFault.TheVariants.{Toml, MissingNode, WrongAddress, DoubleAddress, UnknownNode, WrongName, OutOfMemory}

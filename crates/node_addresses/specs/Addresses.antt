@@ -7,9 +7,9 @@ use Rattle.std.specs.declared.net.socket_addr.SocketAddr.{SocketAddr}
 use Rattle.toml.specs.Data.{Data, Members, no_members, member, get_member, as_str}
 use Rattle.toml.specs.Parse.{parse_document}
 use Rattle.replay_words.specs.declared.fault.Fault.{Fault}
-use Rattle.ixl_rules.specs.layout.Entries.{Site}
-use Rattle.ixl_rules.specs.layout.Once.{Distinct}
-use Rattle.simulator_event.specs.declared.event.NodeId.{NodeId}
+use Rattle.control_table.specs.layout.Entries.{Site}
+use Rattle.control_table.specs.layout.Once.{Distinct}
+use Rattle.control_table.specs.layout.declared.ids.NodeId.{NodeId}
 use Rattle.replay_lines.specs.Names.{node_named, node_names}
 use Rattle.node_addresses.specs.Keys.{is_name}
 use Rattle.node_addresses.specs.declared.fault.AddressesFault.{AddressesFault}

@@ -9,7 +9,7 @@ ghost use Rattle.toml.specs.View.{view, table_view};
 ghost use Rattle.node_addresses.specs.Addresses.{GivesAddress, HasNone, StandsUnder, WritesAddress};
 
 use crate::fault::AddressesFault;
-use ixl_rules::control_table::sci_telegram::Name;
+use control_table::Name;
 use std::net::SocketAddr;
 use toml::{Table, Value};
 

@@ -4,7 +4,7 @@ ghost use Rattle.std.specs.Prelude.{◌≡◌, Some};
 ghost use Rattle.node_addresses.specs.Messages.{node_of, title};
 ghost use Rattle.node_addresses.specs.declared.fault.AddressesFault.TheVariants.{OutOfMemory};
 
-use ixl_rules::control_table::sci_telegram::Name;
+use control_table::Name;
 use std::alloc::{AllocError, AllocFailed};
 use std::error::Error;
 use std::fmt;

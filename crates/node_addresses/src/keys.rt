@@ -5,8 +5,7 @@ ghost use Rattle.toml.specs.View.{table_view};
 ghost use Rattle.node_addresses.specs.Addresses.{unknown, unknown_key};
 
 use crate::fault::AddressesFault;
-use ixl_rules::control_table::layout::Layout;
-use ixl_rules::control_table::sci_telegram::Name;
+use control_table::{Layout, Name};
 use replay_lines::node_named;
 use toml::Table;
 

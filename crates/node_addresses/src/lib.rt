@@ -8,3 +8,6 @@ mod text;
 
 pub use fault::AddressesFault;
 pub use text::read_addresses;
+
+// What crates above need of the crates below.
+pub use replay_lines::SessionFault;

@@ -10,9 +10,7 @@ ghost use Rattle.node_addresses.specs.declared.fault.AddressesFault.TheVariants.
 use crate::address_read::next_address;
 use crate::fault::AddressesFault;
 use crate::keys::check_keys;
-use ixl_rules::control_table::layout::Layout;
-use replay_lines::{node_count, node_name};
-use simulator_event::NodeId;
+use control_table::{Layout, NodeId};
 use std::alloc::Global;
 use std::net::SocketAddr;
 use toml::Table;
@@ -55,7 +53,7 @@ fn addresses_of(
     ensures fault { IfErr result (λ fault. UnlessMemory fault (StopsAtNode layout.now (table_view document.now) fault)) }
 {
     let mut addresses = Vec::new(alloc);
-    while let Some(name) = node_name(layout, NodeId(addresses.len())) {
+    while let Some(name) = layout.node_name(NodeId(addresses.len())) {
         let address = next_address(document, &name, &addresses)?;
         addresses.push(address)?;
     }

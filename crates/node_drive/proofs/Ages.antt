@@ -1,7 +1,7 @@
 -- What a process saw is what its calls tell, so what it hears has waited briefly.
 use Rattle.std.proofs.Common.{◌≡◌, ◌∙◌, ◌&&◌, ℕ, nat_le, Bool, true, false, cond, List, [], ◌∷◌, ◌++◌, map, Option, Some, None, refl, sym, ap, subst, append_assoc, append-nil, arith}
 use Rattle.std.proofs.lemmas.Bool.Decides.{nat_tests}
-use Rattle.node_lines.specs.simulator_event.declared.event.NodeId.{NodeId}
+use Rattle.node_lines.specs.simulator_event.layout.declared.ids.NodeId.{NodeId}
 use Rattle.node_lines.specs.declared.order.Order.{Order}
 use Rattle.node_lines.specs.replay_words.declared.fault.Fault.TheVariants.{Number}
 use Rattle.node_drive.specs.Ages.{FindsEmpty, WaitedBriefly, WasEmptyBehind}
@@ -149,7 +149,7 @@ empty_grows (Some reading) calls more p = record {
       ∙ ap (λ l. p.before ++ Reads reading ∷ l) (append_assoc p.between (p.found ∷ p.after) more);
 }
 
--- a call finds the socket empty behind the latest reading
+-- a call finds the socket empty after the latest reading
 found_behind : (reading : Option ℕ) (calls : List Call) (found : Call) → FindsEmpty found → ReadIn reading calls → EmptyIn reading (calls ++ found ∷ [])
 found_behind None calls found finds p = tt
 found_behind (Some reading) calls found finds p = record {

@@ -1,7 +1,7 @@
--- Calls one behind another, and cuts of them.
+-- Calls one after another, and cuts of them.
 use Rattle.std.proofs.Common.{◌≡◌, ◌≤◌, ℕ, List, [], ◌∷◌, ◌++◌, Option, Some, None, Result, Ok, Err, refl, sym, ap, ◌∙◌, subst, append_assoc, append-nil, arith}
 use Rattle.std.specs.Result.{OnErr, OnOk}
-use Rattle.node_lines.specs.simulator_event.declared.event.NodeId.{NodeId}
+use Rattle.node_lines.specs.simulator_event.layout.declared.ids.NodeId.{NodeId}
 use Rattle.node_drive.specs.Calls.{BreaksOff, Call, Calls, CallsCut, Grows, IsBroken, between, within, Reads, Rises, Sends, Told, Writes}
 
 Grows-nil : {A : Type 0} (told : Option (List A)) → Grows told told []

@@ -1,4 +1,4 @@
--- What comes, one behind another.
+-- What comes, one after another.
 use Rattle.std.proofs.Common.{◌≡◌, ℕ, List, [], ◌∷◌, ◌++◌, refl, sym, ap, ◌∙◌, subst, append_assoc, append-nil}
 use Rattle.node_drive.specs.Calls.{Calls, CallsCut, Told}
 use Rattle.node_drive.specs.Drives.{Performs, Stops}
@@ -18,7 +18,7 @@ module _ {State In : Type 0} (kind : Kind State In) where
       ap (λ l. (asked x.0 x.1 ++ next.0) ++ l) (come-calls xs ys next.1)
       ∙ sym (append_assoc (asked x.0 x.1 ++ next.0) (all_come kind xs next.1).0 (all_come kind ys (all_come kind xs next.1).1).0)
 
-  -- the same where a standing is known to be the one behind the first
+  -- the same where a standing is known to be the one after the first
   joined : (xs ys : List (ℕ × Coming)) (a b : Standing State) → b ≡ (all_come kind xs a).1 → (all_come kind xs a).0 ++ (all_come kind ys b).0 ≡ (all_come kind (xs ++ ys) a).0
   joined xs ys a b e = ap (λ s. (all_come kind xs a).0 ++ (all_come kind ys s).0) e ∙ sym (come-calls xs ys a)
 

@@ -5,7 +5,7 @@ use Rattle.node_drive.specs.Rounds.{CourseState, read_for, released, sent, with_
 use Rattle.node_drive.specs.Waiting.{Addressed, Waiting, leaving, none_waits, waiting_of, waiting_on}
 use Rattle.node_drive.proofs.Calls.{calls_none, calls_same, calls_then}
 
--- those of a step wait behind the others
+-- those of a step wait after the others
 pub added_is : (old seen : CourseState) → seen ≡ old → (now : ℕ) (handed : List Addressed) (waiting : List Waiting) → waiting ≡ seen.waiting ++ waiting_of seen.written now handed
     → record seen { waiting = waiting } ≡ with_datagrams now handed old
 added_is old seen e now handed waiting f = ap (λ (w : List Waiting). record seen { waiting = w }) f ∙ ap (with_datagrams now handed) e

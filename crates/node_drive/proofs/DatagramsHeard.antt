@@ -1,7 +1,7 @@
 -- The datagrams of a round, one after another.
 use Rattle.std.proofs.Common.{◌≡◌, ◌<◌, ◌≤◌, ℕ, nat_lt, Bool, true, false, cond, List, [], ◌∷◌, ◌++◌, map, Option, refl, sym, subst, ap, ◌∙◌, append-nil, arith}
 use Rattle.std.proofs.lemmas.Bool.Decides.{nat_tests}
-use Rattle.node_lines.specs.simulator_event.declared.event.NodeId.{NodeId}
+use Rattle.node_lines.specs.simulator_event.layout.declared.ids.NodeId.{NodeId}
 use Rattle.node_drive.specs.Calls.{Arrival, AsksDatagram, Calls, CallsCut, Came, DatagramHeard, Empty, Failed, Reads, ThrowsAway, Told}
 use Rattle.node_drive.specs.Drives.{AreHeard, EndsDatagrams, full, silent, Performs, Stops, Timed, datagram_in}
 use Rattle.node_drive.specs.Inside.{OneDatagram}
@@ -67,7 +67,7 @@ module _ {State In : Type 0} {kind : Kind State In} where
   pub full_datagrams : {a b : Standing State} {ta tb : Told} (datagrams : List (Timed Arrival)) → Performs kind (map datagram_in datagrams) a b ta tb → Performs kind (map datagram_in datagrams ++ []) a b ta tb
   full_datagrams datagrams p = performs_same (sym (append-nil (map datagram_in datagrams))) p
 
-  -- how they end, by what was seen behind them
+  -- how they end, by what was seen after them
   pub ends_behind : {a b : Standing State} {ta tb : Told} (datagrams : List (Timed Arrival)) (taken : ℕ) (ends : List (ℕ × Coming)) → Performs kind (map datagram_in datagrams) a b ta tb → EndsDatagrams b.course.seen taken ends
       → EndsDatagrams (all_come kind (map datagram_in datagrams) a).1.course.seen taken ends
   ends_behind {a} {b} datagrams taken ends p e = subst (λ (s : Standing State). EndsDatagrams s.course.seen taken ends) p.standing_is e

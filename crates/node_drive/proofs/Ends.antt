@@ -12,7 +12,7 @@ full_is : (taken : ℕ) (v : Bool) → nat_lt taken 64 ≡ v → 64 ≤ taken �
 full_is taken false e few = refl
 full_is taken true e few = absurd (let f : ⊥ = grind (arith, nat_tests, e, few) in f)
 
--- fewer than the most: behind them there was none
+-- fewer than the most: after them there was none
 pub ends_few : (taken : ℕ) → taken < 64 → lines_end taken ≡ (0, NoLine) ∷ []
 ends_few taken few = ap (λ (v : Bool). cond v ((0, NoLine) ∷ []) []) (few_is taken (nat_lt taken 64) refl few)
 

@@ -1,4 +1,4 @@
--- The inputs of a line, one after another, and what is performed behind each.
+-- The inputs of a line, one after another, and what is performed after each.
 use Rattle.std.proofs.Common.{◌≡◌, ◌<◌, ◌≤◌, ℕ, Bool, true, List, [], ◌∷◌, ◌++◌, length, refl, sym, ap, subst, ◌∙◌, append_assoc, append-nil, arith}
 use Rattle.node_drive.specs.Calls.{Calls, CallsCut, Told}
 use Rattle.node_drive.specs.Inside.{StepsOn, standing_of}
@@ -8,7 +8,7 @@ use Rattle.node_drive.proofs.Calls.{calls_none, calls_same, calls_then, cuts_bef
 use Rattle.node_drive.proofs.Stepped.{step_calls, step_cut, step_reached, step_standing}
 use Rattle.node_drive.proofs.Steps.{calls_more, calls_split, step_more, steps-calls}
 
--- the inputs that came, and behind them what is left
+-- the inputs that came, and after them what is left
 pub record CameSoFar {State In : Type 0} (kind : Kind State In) (now : ℕ) (all : List In) (start : Standing State) (ta tb : Told) (node : NodeState State In) (course : CourseState) : Type 0 where
   pub done : List In
   pub all_are : done ++ node.left ≡ all

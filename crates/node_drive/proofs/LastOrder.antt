@@ -10,8 +10,9 @@ use Rattle.node_drive.specs.Kinds.{Kind, Meaning, InForce, Comes, Faulty}
 use Rattle.node_drive.specs.Rounds.{Coming, RoundBegins, Listened, Line, NoLine, LinesEnd, Datagram, NoDatagram, FailedDatagram, Tick, CourseState, Done, Standing, all_come, comes, counted, datagram, having_called, heard_one, is_taken, last_order, later, new_order, not_heard, step, steps, then_released, told}
 use Rattle.node_drive.specs.Seen.{is_heard}
 use Rattle.node_drive.specs.declared.outside.ThrownAway.{ThrownAway}
-use Rattle.node_lines.specs.simulator_event.declared.event.NodeId.{NodeId}
-use Rattle.node_drive.specs.Same.{is_same_order, is_same_side}
+use Rattle.node_lines.specs.simulator_event.layout.declared.ids.NodeId.{NodeId}
+use Rattle.node_lines.specs.ixl_spec.Table.{is_same_side}
+use Rattle.node_drive.specs.Same.{is_same_order}
 use Rattle.node_lines.specs.replay_words.declared.fault.Fault.TheVariants.{Number}
 
 same_side : (one other : Side) → is_same_side one other ≡ true → one ≡ other

@@ -54,7 +54,7 @@ module _ {State In : Type 0} (kind : Kind State In) (now : ℕ) (text : List ℕ
 
 -- ---- what the code does with a line
 
--- the course and the node behind the line
+-- the course and the node after the line
 module _ {State In : Type 0} (kind : Kind State In) (now : ℕ) (text : List ℕ) (course next : CourseState) (counted : next ≡ record course { heard = suc course.heard }) (old mid : NodeState State In) (rest : mid ≡ record old { said = mid.said; left = mid.left }) where
   same_state : mid.state ≡ old.state
   same_state = ap (λ (n : NodeState State In). n.state) rest

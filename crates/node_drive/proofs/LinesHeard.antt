@@ -22,7 +22,7 @@ module _ {State In : Type 0} {kind : Kind State In} where
       → Performs kind (map line_in (lines ++ one ∷ [])) a c ta tc
   more_lines lines one p q = performs_same (sym (map_push line_in lines one)) (performs_then p q)
 
-  -- and none behind them
+  -- and none after them
   pub none_more : {a b c : Standing State} {ta tb tc : Told} (lines : List (Timed (List ℕ))) → Performs kind (map line_in lines) a b ta tb → Performs kind ((0, NoLine) ∷ []) b c tb tc → length lines < 64
       → Performs kind (map line_in lines ++ lines_end (length lines)) a c ta tc
   none_more lines p q few = performs_same (ap (λ l. map line_in lines ++ l) (sym (ends_few (length lines) few))) (performs_then p q)

@@ -13,7 +13,7 @@ pub none_left : {A : Type 0} (xs : List A) → None ≡ slice_get xs 0 → xs �
 none_left [] e = refl
 none_left (x ∷ xs) e = absurd (none_some e)
 
--- what was taken so far, and behind it what is left
+-- what was taken so far, and after it what is left
 pub first_taken : {A : Type 0} (done all xs : List A) (x : A) → Some x ≡ slice_get xs 0 → done ++ xs ≡ all → (done ++ x ∷ []) ++ drop 1 xs ≡ all
 first_taken done all [] x e h = absurd (none_some (sym e))
 first_taken done all (w ∷ xs) x e h = append_assoc done (x ∷ []) xs ∙ ap (λ o. done ++ o ∷ xs) (same_some e) ∙ h

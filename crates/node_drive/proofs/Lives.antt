@@ -1,6 +1,6 @@
 -- A node by the inputs that came to it.
 use Rattle.std.proofs.Common.{◌≡◌, ◌∙◌, ◌&&◌, ℕ, List, [], ◌∷◌, ◌++◌, map, Option, Bool, true, false, cond, refl, sym, ap}
-use Rattle.node_lines.specs.simulator_event.declared.event.NodeId.{NodeId}
+use Rattle.node_lines.specs.simulator_event.layout.declared.ids.NodeId.{NodeId}
 use Rattle.node_drive.specs.Kinds.{Kind, Meaning, InForce, Comes, Faulty}
 use Rattle.node_drive.specs.Lives.{came, inputs_of, inputs_told, state_after}
 use Rattle.node_drive.specs.Rounds.{Coming, RoundBegins, Listened, Line, NoLine, LinesEnd, Datagram, NoDatagram, FailedDatagram, Tick, Standing, all_come, comes, counted, having_called, is_taken, not_heard, step, steps, then_released, told}

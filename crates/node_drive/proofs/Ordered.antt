@@ -29,7 +29,7 @@ module _ (now : ℕ) (course : CourseState) (new : Option Order) where
   pub none_course : None ≡ new → course ≡ with_order new course
   none_course e = ap (λ (o : Option Order). with_order o course) e
 
-  -- an order, behind so many
+  -- an order, after so many
   pub some_calls : {ta tb : Told} (order : Order) (written : ℕ) → written ≡ course.written → Some order ≡ new → Calls ta tb (line_of (suc written) now (Some order)) → Calls ta tb (line_of (count new course.written) now new)
   some_calls order written f e p =
       calls_same (ap (λ (n : ℕ). line_of (suc n) now (Some order)) f ∙ ap (λ (o : Option Order). line_of (count o course.written) now o) e) p

@@ -6,7 +6,7 @@ use Rattle.node_drive.specs.Rounds.{CourseState, count, line_of, new_order, perf
 use Rattle.node_drive.specs.Waiting.{Addressed}
 use Rattle.node_drive.proofs.Calls.{calls_same, calls_then, cuts_before, cuts_same, cuts_then}
 
--- the line of an order behind a course
+-- the line of an order after a course
 abbrev pub order_line : ℕ → Option Order → CourseState → List Call
 order_line now order course = line_of (count (new_order course.order order) course.written) now (new_order course.order order)
 

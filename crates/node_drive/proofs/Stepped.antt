@@ -1,6 +1,6 @@
--- A step of the node, and what is performed behind it.
+-- A step of the node, and what is performed after it.
 use Rattle.std.proofs.Common.{◌≡◌, ℕ, Bool, true, false, cond, List, [], ◌∷◌, Option, map, sym, ap, ◌∙◌, append-nil}
-use Rattle.node_lines.specs.simulator_event.declared.event.NodeId.{NodeId}
+use Rattle.node_lines.specs.simulator_event.layout.declared.ids.NodeId.{NodeId}
 use Rattle.node_drive.specs.Calls.{AsksListener, Call, Calls, CallsCut, Reads, Rests, Told, Writes}
 use Rattle.node_drive.specs.Drives.{Performs, Stops, opening}
 use Rattle.node_drive.specs.Inside.{standing_of}

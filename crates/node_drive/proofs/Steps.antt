@@ -1,4 +1,4 @@
--- Steps of a line, one behind another.
+-- Steps of a line, one after another.
 use Rattle.std.proofs.Common.{◌≡◌, ℕ, List, [], ◌∷◌, ◌++◌, refl, sym, ap, ◌∙◌, append_assoc, append-nil}
 use Rattle.node_drive.specs.Kinds.{Kind}
 use Rattle.node_drive.specs.Rounds.{Standing, step, steps}

@@ -1,4 +1,4 @@
--- Rounds one behind another, and a round that is broken off.
+-- Rounds one after another, and a round that is broken off.
 use Rattle.std.proofs.Common.{◌≡◌, ◌≤◌, ℕ, Bool, true, false, List, [], ◌∷◌, ◌++◌, length, map, refl, sym, ap, ◌∙◌, subst, append_assoc, append-nil, arith}
 use Rattle.node_drive.specs.Calls.{Arrival, Told}
 use Rattle.node_drive.specs.Drives.{AreHeard, AreRounds, EndsDatagrams, GoesOn, is_over, silent, IsRound, Performs, Round, Stops, Timed, behind_lines, datagram_in, in_round, in_rounds, line_in, lines_end, opening}
@@ -26,7 +26,7 @@ pub are_more : {State In : Type 0} {kind : Kind State In} {start here : Standing
     → round.closed ≡ false → AreRounds kind (made ++ round ∷ []) start
 are_more {State} {In} {kind} {start} made round are performs is whole = are-push kind made round start are (subst (λ (s : Standing State). IsRound kind s round) performs.standing_is is) whole
 
--- it goes on behind one more
+-- it goes on after one more
 goes-push : {State In : Type 0} (kind : Kind State In) (for_ms first : ℕ) (made : List Round) (round : Round) (start : Standing State) → GoesOn kind for_ms first made start
     → is_over kind for_ms first round.ticks (all_come kind (in_rounds (made ++ round ∷ [])) start).1 ≡ false → GoesOn kind for_ms first (made ++ round ∷ []) start
 goes-push kind for_ms first [] round start goes on = (ap (λ l. is_over kind for_ms first round.ticks (all_come kind l start).1) (sym (append-nil (in_round round))) ∙ on, tt)
@@ -53,7 +53,7 @@ module _ {State In : Type 0} {kind : Kind State In} where
 
 -- ---- a round that is broken off
 
--- where nothing more came behind its lines
+-- where nothing more came after its lines
 abbrev pub cut_in_lines : ℕ → Bool → List (Timed (List ℕ)) → Bool → Round
 cut_in_lines begins listened lines closed = record {
   begins = begins;
@@ -66,7 +66,7 @@ cut_in_lines begins listened lines closed = record {
   leaves = 0;
 }
 
--- or behind its datagrams
+-- or after its datagrams
 abbrev pub whole_round : ℕ → Bool → List (Timed (List ℕ)) → List (Timed Arrival) → List (ℕ × Coming) → ℕ → ℕ → Round
 whole_round begins listened lines datagrams ends ticks leaves = record {
   begins = begins;
@@ -99,7 +99,7 @@ module _ {State In : Type 0} (kind : Kind State In) where
     ends = subst (λ (s : Standing State). EndsDatagrams (all_come kind (map datagram_in datagrams) s).1.course.seen (length datagrams) ends) performs.standing_is end;
   }
 
--- the lines of a round and what stands behind them
+-- the lines of a round and what stands after them
 behind-lines : (round : Round) (closed : Bool) → (rest : List (ℕ × Coming)) × (behind_lines round closed ≡ closed_end closed ++ rest)
 behind-lines round true = ([], refl)
 behind-lines round false = (behind_lines round false, refl)

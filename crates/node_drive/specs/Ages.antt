@@ -16,7 +16,7 @@ FindsEmpty (AsksDatagram Empty) = Unit {0}
 FindsEmpty (ThrowsAway count true) = Unit {0}
 FindsEmpty call = ⊥
 
--- One of these calls found the socket empty, and stands behind this reading.
+-- One of these calls found the socket empty, and stands after this reading.
 pub record WasEmptyBehind (reading : ℕ) (calls : List Call) : Type 0 where
   pub before : List Call
   pub between : List Call
@@ -55,7 +55,7 @@ module _ {State Input : Type 0} (kind : Kind State Input) where
   abbrev pub to_leave : List (ℕ × Coming) → Standing State → List (ℕ × Addressed)
   to_leave comings standing = map (λ (one : Waiting). (one.since, one.datagram)) standing.course.waiting ++ handed_by (came kind comings standing) standing.state
 
-  -- A datagram that is sent behind a reading is that of a step less than 500 ms before it.
+  -- A datagram that is sent after a reading is that of a step less than 500 ms before it.
   pub record SentInTime (comings : List (ℕ × Coming)) (standing : Standing State) (now : ℕ) (datagram : Addressed) : Type 0 where
     pub since : ℕ
     pub in_time : now < since + 500

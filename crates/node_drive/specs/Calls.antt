@@ -1,7 +1,7 @@
 -- What the process of a node calls outside, one after another, with what was answered.
 use Rattle.std.specs.Prelude.{◌≡◌, ◌≤◌, ℕ, Bool, List, [], ◌∷◌, ◌++◌, Option, Some, None, string_bytes}
 use Rattle.node_lines.specs.replay_words.declared.fault.Fault.{Fault}
-use Rattle.node_lines.specs.simulator_event.declared.event.NodeId.{NodeId}
+use Rattle.node_lines.specs.simulator_event.layout.declared.ids.NodeId.{NodeId}
 use Rattle.node_drive.specs.declared.outside.NextLine.{NextLine}
 use Rattle.node_drive.specs.declared.outside.NextLine.TheVariants as next
 use Rattle.node_drive.specs.declared.outside.NextDatagram.{NextDatagram}
@@ -72,7 +72,7 @@ pub record Calls (old new : Told) (calls : List Call) : Type 0 where
   pub grows : Grows old.calls new.calls calls
   pub rises : Rises old.latest calls new.latest
 
--- Of what is behind a cut nothing was called, but that a line may have been broken off there.
+-- Of what is after a cut nothing was called, but that a line may have been broken off there.
 pub data IsBroken : List Call → List Call → Type 0 where
   between : {behind : List Call} → IsBroken behind []
   within : {text : List ℕ} {behind : List Call} → IsBroken (Writes text ∷ behind) (BreaksOff text ∷ [])
@@ -86,7 +86,7 @@ pub record IsCut (whole calls : List Call) : Type 0 where
   pub broken : IsBroken behind last
   pub calls_are : calls ≡ front ++ last
 
--- A beginning of these was called, and nothing behind it.
+-- A beginning of these was called, and nothing after it.
 pub record CallsCut (old new : Told) (whole : List Call) : Type 0 where
   pub calls : List Call
   pub cut : IsCut whole calls

@@ -1,6 +1,6 @@
 -- A node's process that ran for some time.
 use Rattle.std.specs.Prelude.{◌≡◌, ◌<◌, ◌≤◌, ◌-◌, ℕ, nat_le, nat_lt, ◌&&◌, ◌||◌, if◌then◌else◌, Bool, true, false, List, [], ◌∷◌, ◌++◌, length, map, Option, Some, None}
-use Rattle.node_lines.specs.simulator_event.declared.event.NodeId.{NodeId}
+use Rattle.node_lines.specs.simulator_event.layout.declared.ids.NodeId.{NodeId}
 use Rattle.node_drive.specs.Calls.{Arrival, Calls, CallsCut, Told}
 use Rattle.node_drive.specs.Kinds.{Kind}
 use Rattle.node_drive.specs.Rounds.{Coming, RoundBegins, Listened, Line, NoLine, LinesEnd, Datagram, NoDatagram, FailedDatagram, Tick, CourseState, Standing, all_come, comes}
@@ -14,7 +14,7 @@ use Rattle.node_drive.specs.declared.socket_seen.SocketSeen.{SocketSeen}
 abbrev pub most_in_a_round : ℕ
 most_in_a_round = 64
 
--- An input, the reading that was taken once it had come, and that at which what waits leaves behind it.
+-- An input, the reading that was taken once it had come, and that at which what waits leaves after it.
 pub record Timed (In : Type 0) : Type 0 where
   pub now : ℕ
   pub input : In
@@ -32,26 +32,26 @@ pub record Round : Type 0 where
   -- the datagrams that were heard, and how they ended
   pub datagrams : List (Timed Arrival)
   pub datagrams_end : List (ℕ × Coming)
-  -- the reading of the tick, which comes last, and that at which what waits leaves behind it
+  -- the reading of the tick, which comes last, and that at which what waits leaves after it
   pub ticks : ℕ
   pub leaves : ℕ
 
 abbrev pub line_in : Timed (List ℕ) → ℕ × Coming
 line_in one = (one.now, Line one.input one.leaves)
 
--- nothing is thrown away behind one that is heard
+-- nothing is thrown away after one that is heard
 abbrev pub nothing_thrown : ThrownAway
 nothing_thrown = record { count = 0; found_empty = false }
 
 abbrev pub datagram_in : Timed Arrival → ℕ × Coming
 datagram_in one = (one.now, Datagram one.input.0 one.input.1 nothing_thrown one.leaves)
 
--- fewer than the most, behind which there was none
+-- fewer than the most, after which there was none
 abbrev pub lines_end : ℕ → List (ℕ × Coming)
 lines_end taken = if nat_lt taken most_in_a_round then (0, NoLine) ∷ [] else []
 
--- The most datagrams that are taken; fewer, behind which the socket was empty, or the call failed; or fewer, and one that isn't heard.
--- What waits behind that one is thrown away.
+-- The most datagrams that are taken; fewer, after which the socket was empty, or the call failed; or fewer, and one that isn't heard.
+-- What waits after that one is thrown away.
 pub data EndsDatagrams (seen : SocketSeen) (taken : ℕ) : List (ℕ × Coming) → Type 0 where
   full : taken ≡ most_in_a_round → EndsDatagrams seen taken []
   silent : taken < most_in_a_round → EndsDatagrams seen taken ((0, NoDatagram) ∷ [])
@@ -91,7 +91,7 @@ module _ {State Input : Type 0} (kind : Kind State Input) where
     pub heard : AreHeard round.datagrams (all_come kind (before_datagrams round) standing).1
     pub ends : EndsDatagrams (all_come kind (map datagram_in round.datagrams) (all_come kind (before_datagrams round) standing).1).1.course.seen (length round.datagrams) round.datagrams_end
 
-  -- ---- one behind another
+  -- ---- one after another
 
   -- none of which is closed
   abbrev pub AreRounds : List Round → Standing State → Type 0
@@ -118,19 +118,19 @@ abbrev pub is_settled : CourseState → Bool
 is_settled course = nat_le course.written course.in_force
 
 module _ {State Input : Type 0} (kind : Kind State Input) (for_ms first : ℕ) where
-  -- A process ends behind a round that ticks `for_ms` or more behind its first reading, and where its node has nothing more to do and
+  -- A process ends after a round that ticks `for_ms` or more after its first reading, and where its node has nothing more to do and
   -- its last order is in force.
   abbrev pub is_over : ℕ → Standing State → Bool
   is_over ticks standing = nat_le for_ms (ticks - first) || (kind.is_done standing.state && is_settled standing.course)
 
-  -- it doesn't end behind any of these
+  -- it doesn't end after any of these
   abbrev pub GoesOn : List Round → Standing State → Type 0
   GoesOn [] standing = Unit {0}
   GoesOn (round ∷ rounds) standing =
       let after = (all_come kind (in_round round) standing).1
       in (is_over round.ticks after ≡ false) × GoesOn rounds after
 
--- Behind a first reading rounds were made, up to and with the first behind which the process ends.
+-- After a first reading rounds were made, up to and with the first after which the process ends.
 pub record Ran {State Input : Type 0} (kind : Kind State Input) (for_ms first ticks : ℕ) (old new : Standing State) (told_old told_new : Told) : Type 0 where
   pub earlier : List Round
   pub last : Round
@@ -150,7 +150,7 @@ IsBrokenRound kind standing None = Unit {0}
 IsBrokenRound kind standing (Some round) = IsRound kind standing round
 
 -- The same process, cut off by a closed input, a failed write or want of memory: what was called is a beginning of what its rounds
--- do. Of the last line perhaps only a beginning was written; then nothing behind it was called.
+-- do. Of the last line perhaps only a beginning was written; then nothing after it was called.
 pub record CutOff {State Input : Type 0} (kind : Kind State Input) (for_ms first : ℕ) (old : Standing State) (told_old told_new : Told) : Type 0 where
   pub made : List Round
   pub broken : Option Round

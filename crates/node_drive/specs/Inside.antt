@@ -31,7 +31,7 @@ abbrev pub OneLine : {State Input : Type 0} → Kind State Input → Bool → St
 OneLine kind true old new told_old told_new = (one : Timed (List ℕ)) × Performs kind (line_in one ∷ []) old new told_old told_new
 OneLine kind false old new told_old told_new = Performs kind ((0, NoLine) ∷ []) old new told_old told_new
 
--- It was cut off before a line, within one, or behind the last.
+-- It was cut off before a line, within one, or after the last.
 abbrev pub OneLineCut : {State Input : Type 0} → Kind State Input → Standing State → Told → Told → Type 0
 OneLineCut kind old told_old told_new = (lines : List (Timed (List ℕ))) × (closed : Bool) × (length lines ≤ 1) × Stops kind (map line_in lines ++ closed_end closed) old told_old told_new
 

@@ -1,7 +1,7 @@
 -- What the engine has to know of a kind of node.
 use Rattle.std.specs.Prelude.{ℕ, Bool, List, Option}
 use Rattle.node_lines.specs.replay_words.declared.fault.Fault.{Fault}
-use Rattle.node_lines.specs.simulator_event.declared.event.NodeId.{NodeId}
+use Rattle.node_lines.specs.simulator_event.layout.declared.ids.NodeId.{NodeId}
 use Rattle.node_lines.specs.declared.order.Order.{Order}
 use Rattle.node_drive.specs.Waiting.{Addressed}
 use Rattle.node_drive.specs.declared.node.LineMeaning.{LineMeaning}
@@ -21,7 +21,7 @@ pub record Kind (State Input : Type 0) : Type 0 where
   -- how it is after an input at a reading of its clock, and the datagrams that it hands out then
   pub after : ℕ → Input → State → State
   pub hands : ℕ → Input → State → List Addressed
-  -- the lines that are told behind a step
+  -- the lines that are told after a step
   pub says : ℕ → Input → State → List (List ℕ)
   -- the input when the clock goes on, and that when bytes come
   pub tick : Input

@@ -1,7 +1,7 @@
 -- What the process of a node does with what comes, one after another.
 use Rattle.std.specs.Prelude.{ℕ, suc, nat_le, nat_lt, if◌then◌else◌, Bool, true, false, List, [], ◌∷◌, ◌++◌, map, min, ◌+◌, Option, Some, None}
 use Rattle.node_lines.specs.replay_words.declared.fault.Fault.TheVariants.{Number}
-use Rattle.node_lines.specs.simulator_event.declared.event.NodeId.{NodeId}
+use Rattle.node_lines.specs.simulator_event.layout.declared.ids.NodeId.{NodeId}
 use Rattle.node_lines.specs.Orders.{order_text}
 use Rattle.node_lines.specs.declared.order.Order.{Order}
 use Rattle.node_drive.specs.Same.{is_same_order}
@@ -121,13 +121,13 @@ pub data Coming : Type 0 where
   Line : (text : List ℕ) (leaves : ℕ) → Coming
   NoLine : Coming
   LinesEnd : Coming
-  -- A datagram, and what was thrown away behind it where it isn't heard; that the socket was found empty; or that the call failed.
+  -- A datagram, and what was thrown away after it where it isn't heard; that the socket was found empty; or that the call failed.
   Datagram : (from : Option NodeId) (bytes : List ℕ) (thrown : ThrownAway) (leaves : ℕ) → Coming
   NoDatagram : Coming
   FailedDatagram : Coming
   Tick : (leaves : ℕ) → Coming
 
--- Behind which calls it comes. The clock is read once an input has come.
+-- After which calls it comes. The clock is read once an input has come.
 abbrev pub asked : ℕ → Coming → List Call
 asked now RoundBegins = Rests ∷ Reads now ∷ []
 asked now (Listened began) = AsksListener began ∷ []
@@ -156,7 +156,7 @@ module _ {State : Type 0} where
   abbrev pub having_called : List Call → Standing State → Standing State
   having_called calls standing = record standing { course = with_calls calls standing.course }
 
-  -- A datagram that may be too old isn't heard. It is counted, with those that wait behind it, which are thrown away.
+  -- A datagram that may be too old isn't heard. It is counted, with those that wait after it, which are thrown away.
   abbrev pub not_heard : ThrownAway → Standing State → Done (Standing State)
   not_heard thrown standing =
       let throws = ThrowsAway thrown.count thrown.found_empty ∷ []

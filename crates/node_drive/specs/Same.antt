@@ -1,14 +1,8 @@
 -- Whether two orders are one.
 use Rattle.std.specs.Prelude.{◌==◌, ◌&&◌, Bool, true, false}
-use Rattle.node_lines.specs.sci_telegram.declared.message.Side.{Side}
-use Rattle.node_lines.specs.sci_telegram.declared.message.Side.TheVariants as side
+use Rattle.node_lines.specs.ixl_spec.Table.{is_same_side}
 use Rattle.node_lines.specs.declared.order.Order.{Order}
 use Rattle.node_lines.specs.declared.order.Order.TheVariants.{ShowStop, ShowProceed, ShowSlow, DriveNone, Drive}
-
-abbrev pub is_same_side : Side → Side → Bool
-is_same_side side.Right side.Right = true
-is_same_side side.Left side.Left = true
-is_same_side _ _ = false
 
 abbrev pub is_same_order : Order → Order → Bool
 is_same_order ShowStop ShowStop = true

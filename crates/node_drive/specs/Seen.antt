@@ -8,7 +8,7 @@ use Rattle.node_drive.specs.declared.socket_seen.SocketSeen.{SocketSeen}
 abbrev pub nothing_seen : SocketSeen
 nothing_seen = record { latest = None; empty = None }
 
--- A call that finds the socket empty does so behind the latest reading. One that fails tells nothing of the socket.
+-- A call that finds the socket empty does so after the latest reading. One that fails tells nothing of the socket.
 abbrev pub seen_with : Call → SocketSeen → SocketSeen
 seen_with (Reads reading) seen = record seen { latest = Some reading }
 seen_with (AsksDatagram Empty) seen = record seen { empty = seen.latest }

@@ -1,6 +1,6 @@
 -- Datagrams that wait until the line of their step is in force.
 use Rattle.std.specs.Prelude.{ℕ, ◌+◌, ◌&&◌, nat_le, nat_lt, not, if◌then◌else◌, Bool, true, false, List, [], ◌∷◌, ◌++◌, map}
-use Rattle.node_lines.specs.simulator_event.declared.event.NodeId.{NodeId}
+use Rattle.node_lines.specs.simulator_event.layout.declared.ids.NodeId.{NodeId}
 use Rattle.node_drive.specs.Budget.{at_sender}
 
 -- a datagram, and the node to which it goes
@@ -29,7 +29,7 @@ none_waits (one ∷ others) = false
 abbrev pub is_fresh : ℕ → Waiting → Bool
 is_fresh now one = nat_lt now (one.since + at_sender)
 
--- the line of its step is in force, or one behind that
+-- the line of its step is in force, or one after that
 abbrev pub is_free : ℕ → Waiting → Bool
 is_free in_force one = nat_le one.behind in_force
 
@@ -42,7 +42,7 @@ abbrev pub unless_stale : ℕ → Waiting → List Waiting
 unless_stale now one = if is_fresh now one then one ∷ [] else []
 
 -- Those that leave at a reading, where this line is in force, and those that are left. They go in their order: the first that
--- waits on holds up all behind it.
+-- waits on holds up all after it.
 abbrev pub leaving : ℕ → ℕ → List Waiting → List Waiting
 leaving now in_force [] = []
 leaving now in_force (one ∷ others) = if waits_on now in_force one then [] else unless_stale now one ++ leaving now in_force others

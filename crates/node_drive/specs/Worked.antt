@@ -5,7 +5,7 @@ use Rattle.node_lines.specs.replay_words.Read.{decimal}
 use Rattle.node_lines.specs.replay_words.declared.fault.Fault.{Fault}
 use Rattle.node_lines.specs.replay_words.declared.fault.Fault.TheVariants.{Number}
 use Rattle.node_lines.specs.declared.order.Order.TheVariants.{ShowStop, ShowProceed}
-use Rattle.node_lines.specs.simulator_event.declared.event.NodeId.{NodeId}
+use Rattle.node_lines.specs.simulator_event.layout.declared.ids.NodeId.{NodeId}
 use Rattle.node_drive.specs.Beginning.{first_course}
 use Rattle.node_drive.specs.Calls.{Arrival, Call, Rests, Reads, AsksListener, AsksLine, AsksDatagram, ThrowsAway, Writes, Sends, Complains, Nothing, Came, Empty}
 use Rattle.node_drive.specs.Drives.{Round, Timed, in_rounds}
@@ -50,7 +50,7 @@ counting = record {
   is_done = λ n. false;
 }
 
--- its first order is in force, and its socket was found empty behind the reading 0
+-- its first order is in force, and its socket was found empty after the reading 0
 abbrev pub at_first : Standing ℕ
 at_first = record { state = 0; course = record first_course { heard = 1; written = 1; order = Some ShowStop; in_force = 1; seen = record { latest = Some 0; empty = Some 0 } } }
 
@@ -101,7 +101,7 @@ fails_at time = record (quiet_at time) { datagrams_end = (0, FailedDatagram) ∷
 abbrev pub strange_at : ℕ → Round
 strange_at time = record (quiet_at time) { datagrams = (record { now = time; input = (None, 7 ∷ []); leaves = time }) ∷ (record { now = time; input = (Some (record { 0 = 1 }), 7 ∷ []); leaves = time }) ∷ [] }
 
--- one that isn't heard, with what is thrown away behind it
+-- one that isn't heard, with what is thrown away after it
 abbrev pub late_at : ℕ → ThrownAway → Round
 late_at time thrown = record (quiet_at time) { datagrams_end = (time, Datagram (Some partner) (7 ∷ []) thrown 0) ∷ [] }
 
@@ -135,7 +135,7 @@ pub record Worked : Type 0 where
   -- what may be too old is thrown away, with all that wait
   pub late : calls (late_at 401 (record { count = 2; found_empty = true }) ∷ []) ≡ Rests ∷ Reads 401 ∷ AsksListener false ∷ AsksLine Nothing
       ∷ AsksDatagram (Came (Some partner, 7 ∷ [])) ∷ Reads 401 ∷ ThrowsAway 2 true ∷ Reads 401 ∷ []
-  -- what came 400 ms behind the reading before the socket was empty is heard, and later none is
+  -- what came 400 ms after the reading before the socket was empty is heard, and later none is
   pub recent : heard_from at_first (hears_at 400 ∷ []) ≡ (1, 0)
   pub too_old : heard_from at_first (hears_at 401 ∷ []) ≡ (0, 1)
   -- nothing is heard before the socket was found empty, and a call that fails hasn't found it so

@@ -11,9 +11,7 @@ ghost use Rattle.node_drive.specs.Waiting.{none_waits};
 use crate::order_changes::new_order;
 use crate::outside::ThrownAway;
 use crate::socket_seen::SocketSeen;
-use node_lines::Order;
-use node_lines::ixl_rules::rasta_pdu::Datagram;
-use node_lines::simulator_event::NodeId;
+use node_lines::{Datagram, NodeId, Order};
 use std::alloc::Global;
 use std::collections::VecDeque;
 use std::marker::Model;
@@ -194,7 +192,7 @@ impl Course {
         self.seen.is_heard(reading)
     }
 
-    /// A datagram wasn't heard, and these were thrown away behind it.
+    /// A datagram wasn't heard, and these were thrown away after it.
     pub(crate) fn note_thrown_away(&mut self, thrown: ThrownAway)
         ensures { self.new ≡ record (with_calls (ThrowsAway thrown.count thrown.found_empty ∷ []) self.old) { too_old = many_more thrown.count (one_more self.old.too_old) } }
     {

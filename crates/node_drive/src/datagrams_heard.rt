@@ -9,18 +9,18 @@ ghost use Rattle.node_drive.specs.Rounds.{Coming, all_come, datagram, is_taken};
 use crate::course::Course;
 use crate::datagrams_sent::release;
 use crate::fault::NodeFault;
-use crate::node::Node;
+use crate::node::NodeMachine;
 use crate::outside::{Arrived, NextDatagram, Outside};
 use crate::step::perform;
-use node_lines::simulator_event::NodeId;
+use node_lines::NodeId;
 use std::alloc::Global;
 
 /// How many datagrams a round takes at most.
 const MOST_DATAGRAMS: usize = 64;
 
 /// The datagrams that have come, each at a reading taken after it came. Where one may be too old, it is thrown away with those that
-/// wait behind it.
-pub(crate) fn hear_datagrams<N: Node, O: Outside>(
+/// wait after it.
+pub(crate) fn hear_datagrams<N: NodeMachine, O: Outside>(
     alloc: Global,
     node: &mut N,
     course: &mut Course,
@@ -40,7 +40,7 @@ pub(crate) fn hear_datagrams<N: Node, O: Outside>(
 }
 
 /// The next datagram. It answers whether there was one that is heard.
-fn hear_next<N: Node, O: Outside>(
+fn hear_next<N: NodeMachine, O: Outside>(
     alloc: Global,
     node: &mut N,
     course: &mut Course,
@@ -73,7 +73,7 @@ fn hear_next<N: Node, O: Outside>(
 }
 
 /// A datagram from the address of a partner comes to the node. All others are dropped, and counted.
-fn hear_datagram<N: Node, O: Outside>(
+fn hear_datagram<N: NodeMachine, O: Outside>(
     alloc: Global,
     node: &mut N,
     course: &mut Course,
@@ -96,7 +96,7 @@ fn hear_datagram<N: Node, O: Outside>(
 }
 
 /// Whether what comes from there is taken.
-fn is_taken<N: Node>(node: &N, from: Option<NodeId>) -> bool
+fn is_taken<N: NodeMachine>(node: &N, from: Option<NodeId>) -> bool
     ensures { result ≡ is_taken N.does from }
 {
     match from {

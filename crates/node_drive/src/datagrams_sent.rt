@@ -9,12 +9,12 @@ ghost use Rattle.node_drive.specs.Waiting.{is_free, is_fresh, leaving, unless_st
 use crate::budget::LONGEST_WAIT;
 use crate::course::{Course, Delayed};
 use crate::fault::NodeFault;
-use crate::node::Node;
+use crate::node::NodeMachine;
 use crate::outside::Outside;
 use std::collections::VecDeque;
 
-/// The datagrams that a node hands out wait behind the last line.
-pub(crate) fn take_datagrams<N: Node>(
+/// The datagrams that a node hands out wait after the last line.
+pub(crate) fn take_datagrams<N: NodeMachine>(
     node: &mut N,
     course: &mut Course,
     reading: u64,
@@ -26,7 +26,7 @@ pub(crate) fn take_datagrams<N: Node>(
     add_datagrams(node, &mut course.waiting, behind, reading)
 }
 
-fn add_datagrams<N: Node>(
+fn add_datagrams<N: NodeMachine>(
     node: &mut N,
     waiting: &mut VecDeque<Delayed>,
     behind: u64,

@@ -11,8 +11,9 @@ ghost use Rattle.node_drive.specs.Seen.{all_seen, nothing_seen};
 ghost use Rattle.node_drive.specs.Waiting.{Waiting, leaving};
 ghost use Rattle.node_drive.specs.Worked.{Worked};
 ghost use Rattle.node_drive.specs.declared.outside.ThrownAway.{ThrownAway};
-ghost use Rattle.node_lines.specs.ixl_rules.rasta_core.Bag.{lifetime};
-ghost use Rattle.node_lines.specs.simulator_event.declared.event.NodeId.{NodeId};
+ghost use Rattle.node_lines.specs.ixl_spec.rasta_core.Bag.{lifetime};
+ghost use Rattle.node_lines.specs.ixl_spec.rasta_core.time.TheConstants.{LIFETIME};
+ghost use Rattle.node_lines.specs.simulator_event.layout.declared.ids.NodeId.{NodeId};
 
 /// How a kind of node behaves, for the laws. It has no code.
 pub trait Behaves {
@@ -35,7 +36,7 @@ pub fn a_node_is_what_came_to_it<B: Behaves>()
     ensures { (comings : List (ℕ × Coming)) (standing : Standing B.State) → (all_come B.does comings standing).1.state ≡ state_after B.does (came B.does comings standing) standing.state }
 {}
 
-/// The last order that was written is what the node's equipment has to do, behind all that came to it, where its equipment always
+/// The last order that was written is what the node's equipment has to do, after all that came to it, where its equipment always
 /// does something. It is so at first where the order of a new node was the last that was written before it was made.
 #[tactic(auto, using(crate::proofs::LastOrder::last_order_stands))]
 pub fn the_last_order_stands<B: Behaves>()
@@ -56,7 +57,7 @@ pub fn what_was_seen_was_called<B: Behaves>()
 {}
 
 /// Each datagram that comes to a node has waited in its socket for at most 400 ms: the reading that was taken once it had come is at
-/// most so much later than one behind which the socket was found empty, by the calls that the process made before.
+/// most so much later than one after which the socket was found empty, by the calls that the process made before.
 pub fn what_is_heard_waited_briefly<B: Behaves>()
     ensures { (earlier : List Call) (comings : List (ℕ × Coming)) (standing : Standing B.State) → standing.course.seen ≡ all_seen earlier nothing_seen
         → (now : ℕ) (from : Option NodeId) (bytes : List ℕ) (thrown : ThrownAway) (leaves : ℕ) → inputs_of B.does now (Datagram from bytes thrown leaves) (all_come B.does comings standing).1 ≡ (now, B.does.datagram bytes) ∷ []
@@ -70,11 +71,11 @@ pub fn what_is_sent_is_sent_in_time<B: Behaves>()
     ensures { (comings : List (ℕ × Coming)) (standing : Standing B.State) → SendsBy (SentInTime B.does comings standing) standing.course.seen (all_come B.does comings standing).0 }
 {}
 
-/// What a datagram may take from its step to its being heard is 2000 ms in all, for which a link has a datagram live, and what the
+/// What a datagram may take from its step to its being heard is `LIFETIME` in all, for which a link has a datagram live, and what the
 /// program takes of it is no more than its share.
 #[tactic(auto, using(crate::proofs::Budgeted::sum_is, crate::proofs::Budgeted::lives_as_long))]
 pub fn the_ages_add_up()
-    ensures sum { at_sender + in_network + at_receiver ≡ 2000 }
+    ensures sum { at_sender + in_network + at_receiver ≡ LIFETIME }
     ensures lifetime { 1000 * oldest ≡ lifetime }
     ensures socket { in_socket ≤ at_receiver }
 {}

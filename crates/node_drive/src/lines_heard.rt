@@ -7,7 +7,7 @@ ghost use Rattle.node_drive.specs.Inside.{OneLine, OneLineCut, closed_end, stand
 use crate::course::Course;
 use crate::datagrams_sent::release;
 use crate::fault::NodeFault;
-use crate::node::Node;
+use crate::node::NodeMachine;
 use crate::outside::{NextLine, Outside};
 use crate::step::hear_line;
 use std::alloc::Global;
@@ -16,7 +16,7 @@ use std::alloc::Global;
 const MOST_LINES: usize = 64;
 
 /// The lines that have come, each at a reading taken after it came.
-pub(crate) fn hear_lines<N: Node, O: Outside>(
+pub(crate) fn hear_lines<N: NodeMachine, O: Outside>(
     alloc: Global,
     node: &mut N,
     course: &mut Course,
@@ -36,7 +36,7 @@ pub(crate) fn hear_lines<N: Node, O: Outside>(
 }
 
 /// The next line, at a reading taken after it came. It answers whether there was one.
-fn hear_next<N: Node, O: Outside>(
+fn hear_next<N: NodeMachine, O: Outside>(
     alloc: Global,
     node: &mut N,
     course: &mut Course,

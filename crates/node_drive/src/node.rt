@@ -1,9 +1,6 @@
 //! The node that runs as a process of its own.
 
-use node_lines::Order;
-use node_lines::ixl_rules::rasta_pdu::Datagram;
-use node_lines::replay_words::Fault;
-use node_lines::simulator_event::NodeId;
+use node_lines::{Datagram, Fault, NodeId, Order};
 use std::alloc::{AllocError, Global};
 
 /// A datagram that a node hands out, and the node to which it goes.
@@ -26,7 +23,7 @@ pub enum LineMeaning {
 
 /// A node with what its last step left: the datagrams that it hands out, the lines that it tells, and the inputs of a line that
 /// have to come.
-pub trait Node {
+pub trait NodeMachine {
     ghost use Rattle.std.specs.Prelude.{◌≡◌, ◌≤◌, drop, slice_get, IfOk, OnOk, string_bytes};
     ghost use Rattle.std.specs.Option.{option_map};
     ghost use Rattle.node_drive.specs.Inside.{StepsOn};

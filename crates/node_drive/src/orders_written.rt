@@ -7,13 +7,16 @@ ghost use Rattle.node_drive.specs.Rounds.{count, line_of, new_order, with_order}
 
 use crate::course::Course;
 use crate::fault::NodeFault;
-use crate::node::Node;
+use crate::node::NodeMachine;
 use crate::outside::Outside;
 use node_lines::{Order, OrderLine};
 use std::alloc::Global;
 
 /// Writes the lines that a node tells, the first one first.
-pub(crate) fn say_all<N: Node, O: Outside>(node: &mut N, outside: &mut O) -> Result<(), NodeFault>
+pub(crate) fn say_all<N: NodeMachine, O: Outside>(
+    node: &mut N,
+    outside: &mut O,
+) -> Result<(), NodeFault>
     ensures done { OnOk result (Calls (O.told outside.old) (O.told outside.new) (map Writes (N.node node.old).said)) }
     ensures node { OnOk result (N.node node.new ≡ record (N.node node.old) { said = [] }) }
     ensures stopped { OnErr result (CallsCut (O.told outside.old) (O.told outside.new) (map Writes (N.node node.old).said)) }
@@ -62,7 +65,7 @@ pub fn finish<O: Outside>(
     Ok(())
 }
 
-/// Writes an order behind so many, and answers its number.
+/// Writes an order after so many, and answers its number.
 fn write_next<O: Outside>(
     alloc: Global,
     written: u64,

@@ -1,12 +1,7 @@
 //! What a node's process has outside: its clock, its lines in and out, and its socket.
 
-use arrayvec::ArrayVec;
-use node_lines::replay_words::Fault;
-use node_lines::simulator_event::NodeId;
+use node_lines::{Fault, NodeId, Received};
 use std::alloc::{AllocError, Global};
-
-/// The bytes that are received at once; longer datagrams are cut.
-pub type Received = ArrayVec<u8, 512>;
 
 /// A datagram that has come.
 #[derive(Drop)]

@@ -10,16 +10,16 @@ use crate::datagrams_heard::hear_datagrams;
 use crate::datagrams_sent::release;
 use crate::fault::NodeFault;
 use crate::lines_heard::hear_lines;
-use crate::node::Node;
+use crate::node::NodeMachine;
 use crate::orders_written::say_all;
 use crate::outside::Outside;
 use crate::step::perform;
 use std::alloc::Global;
 
 /// Drives a node: round after round, up to and with the first that ticks `for_ms` later than `first`, which is the reading at which
-/// the node was made, or behind which the node has nothing more to do and its last order is in force. It answers the reading of the
+/// the node was made, or after which the node has nothing more to do and its last order is in force. It answers the reading of the
 /// last tick.
-pub fn drive<N: Node, O: Outside>(
+pub fn drive<N: NodeMachine, O: Outside>(
     alloc: Global,
     node: &mut N,
     course: &mut Course,
@@ -44,15 +44,15 @@ pub fn drive<N: Node, O: Outside>(
     Err(NodeFault::OutOfNumbers)
 }
 
-/// Whether a process ends behind a round that ticked so many milliseconds after its beginning.
-fn is_over<N: Node>(node: &N, course: &Course, passed: u64, for_ms: u64) -> bool
+/// Whether a process ends after a round that ticked so many milliseconds after its beginning.
+fn is_over<N: NodeMachine>(node: &N, course: &Course, passed: u64, for_ms: u64) -> bool
     ensures { (first ticks : ℕ) → passed ≡ ticks - first → result ≡ is_over N.does for_ms first ticks (standing_of (N.node node.now) course.now) }
 {
     passed >= for_ms || (node.is_done() && course.is_settled())
 }
 
 /// A round: field lines first, then datagrams, a tick last. It answers the reading of its tick.
-fn round<N: Node, O: Outside>(
+fn round<N: NodeMachine, O: Outside>(
     alloc: Global,
     node: &mut N,
     course: &mut Course,
@@ -71,7 +71,7 @@ fn round<N: Node, O: Outside>(
 }
 
 /// A round begins when it is due. An operator who began to listen is told all that stands.
-fn begin_round<N: Node, O: Outside>(
+fn begin_round<N: NodeMachine, O: Outside>(
     alloc: Global,
     node: &mut N,
     course: &mut Course,
@@ -94,7 +94,7 @@ fn begin_round<N: Node, O: Outside>(
 }
 
 /// The clock goes on.
-fn tick<N: Node, O: Outside>(
+fn tick<N: NodeMachine, O: Outside>(
     alloc: Global,
     node: &mut N,
     course: &mut Course,

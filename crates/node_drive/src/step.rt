@@ -1,4 +1,4 @@
-//! What a process does behind each step of its node, and with a line.
+//! What a process does after each step of its node, and with a line.
 
 ghost use Rattle.std.specs.Prelude.{◌≡◌, ◌≤◌, ◌++◌, [], map, OnErr, OnOk};
 ghost use Rattle.node_drive.specs.Calls.{Calls, CallsCut, Writes};
@@ -8,14 +8,14 @@ ghost use Rattle.node_drive.specs.Inside.{standing_of};
 use crate::course::Course;
 use crate::datagrams_sent::take_datagrams;
 use crate::fault::NodeFault;
-use crate::node::{LineMeaning, Node};
+use crate::node::{LineMeaning, NodeMachine};
 use crate::orders_written::{say_all, write_order};
 use crate::outside::Outside;
-use node_lines::replay_words::Fault;
+use node_lines::Fault;
 use std::alloc::Global;
 
 /// What a step has left is performed: its lines are written, and its datagrams wait.
-pub(crate) fn perform<N: Node, O: Outside>(
+pub(crate) fn perform<N: NodeMachine, O: Outside>(
     alloc: Global,
     node: &mut N,
     course: &mut Course,
@@ -46,7 +46,7 @@ fn put_in_force<O: Outside>(course: &mut Course, outside: &mut O, number: u64)
 }
 
 /// The inputs of a line come to the node one after another, each as a step of its own.
-fn step_through<N: Node, O: Outside>(
+fn step_through<N: NodeMachine, O: Outside>(
     alloc: Global,
     node: &mut N,
     course: &mut Course,
@@ -66,7 +66,7 @@ fn step_through<N: Node, O: Outside>(
 }
 
 /// A line comes at a reading.
-pub(crate) fn hear_line<N: Node, O: Outside>(
+pub(crate) fn hear_line<N: NodeMachine, O: Outside>(
     alloc: Global,
     node: &mut N,
     course: &mut Course,

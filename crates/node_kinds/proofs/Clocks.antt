@@ -1,12 +1,12 @@
 -- The clocks of the interlocking's links.
 use Rattle.std.proofs.Common.{◌≡◌, sym, subst, ℕ, ◌≤◌, arith}
 use Rattle.std.proofs.lemmas.List.Elements.{All-map}
-use Rattle.simulator_run.specs.layout.Entries.{Site}
-use Rattle.simulator_run.specs.rasta_core.Calls.{MayStep, created}
-use Rattle.simulator_run.specs.ixl_client.Client.{new_client}
-use Rattle.simulator_run.specs.ixl_rules.State.{KnownDetectorState, IxlState, KnownSignalState, KnownPointState}
-use Rattle.simulator_run.specs.ixl_rules.Table.{SitedTable, Table}
-use Rattle.simulator_run.specs.First.{Beginning, new_detector_of, new_ixl, new_known_signal_of, new_known_point_of}
+use Rattle.simulator_spec.specs.layout.Entries.{Site}
+use Rattle.simulator_spec.specs.rasta_core.Calls.{MayStep, created}
+use Rattle.simulator_spec.specs.ixl_client.Client.{new_client}
+use Rattle.simulator_spec.specs.ixl_spec.State.{KnownDetectorState, IxlState, KnownSignalState, KnownPointState}
+use Rattle.simulator_spec.specs.ixl_spec.Table.{SitedTable, Table}
+use Rattle.simulator_spec.specs.First.{Beginning, new_detector_of, new_ixl, new_known_signal_of, new_known_point_of}
 use Rattle.ixl_state.specs.State.{MayStepAll, StateView}
 
 -- a clock that has just begun

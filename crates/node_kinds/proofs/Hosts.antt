@@ -1,8 +1,8 @@
 -- Steps of a host.
 use Rattle.std.proofs.Common.{◌≡◌, refl, ℕ, List, Bor}
-use Rattle.simulator_run.specs.Happens.{coming}
-use Rattle.simulator_run.specs.object_host.Behaviour.{Behaviour}
-use Rattle.simulator_run.specs.object_host.declared.input.Input.TheVariants as inputs
+use Rattle.simulator_spec.specs.Happens.{coming}
+use Rattle.simulator_spec.specs.object_host.Behaviour.{Behaviour}
+use Rattle.simulator_spec.specs.object_host.declared.input.Input.TheVariants as inputs
 use Rattle.node_kinds.specs.inside.ControllerSteps.{SteppedState, stepped_at}
 use Rattle.node_kinds.proofs.HostsBelow.{beating, given, host_step}
 

@@ -7,7 +7,6 @@ pub mod IxlBelow
 pub mod Lists
 pub mod OpeningLines
 pub mod OwnSectionsTold
-pub mod Places
 pub mod ReportLines
 pub mod Same
 pub mod Steps

@@ -1,8 +1,8 @@
 -- What is kept of what contacts told.
 use Rattle.std.proofs.Common.{◌≡◌, refl, sym, ap, List, [], ◌∷◌, ◌++◌, Option, Some, None, option_map}
 use Rattle.std.proofs.lemmas.List.{append_assoc}
-use Rattle.simulator_run.specs.sci_telegram.declared.message.Occupancy.{Occupancy}
-use Rattle.simulator_run.specs.sci_telegram.declared.message.Position.{Position}
+use Rattle.simulator_spec.specs.sci_telegram.declared.message.Occupancy.{Occupancy}
+use Rattle.simulator_spec.specs.sci_telegram.declared.message.Position.{Position}
 use Rattle.node_kinds.specs.Openings.{Opening, opened_by}
 use Rattle.node_kinds.specs.declared.opening_node.Contact.{Contact}
 use Rattle.node_kinds.specs.declared.opening_node.Contact.TheVariants as contact

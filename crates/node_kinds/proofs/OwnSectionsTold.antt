@@ -3,10 +3,10 @@ use Rattle.std.proofs.Common.{◌≡◌, sym, ap, ◌∙◌, ℕ, ◌+◌, ◌<�
 use Rattle.std.specs.List.{zip}
 use Rattle.std.proofs.lemmas.List.{get_or-map, get_or_read, length-map, take_all, take_more}
 use Rattle.std.proofs.lemmas.Slice.Zip.{get_or-zip, length-zip}
-use Rattle.simulator_run.specs.layout.Entries.{DetectorEntry, Site}
-use Rattle.simulator_run.specs.layout.Station.{IsDetectorOf, IsStation}
-use Rattle.simulator_run.specs.layout.declared.ids.SectionId.{SectionId}
-use Rattle.simulator_run.specs.sci_telegram.declared.message.Occupancy.{Occupancy}
+use Rattle.simulator_spec.specs.layout.Entries.{DetectorEntry, Site}
+use Rattle.simulator_spec.specs.layout.Station.{IsDetectorOf, IsStation}
+use Rattle.simulator_spec.specs.layout.declared.ids.SectionId.{SectionId}
+use Rattle.simulator_spec.specs.sci_telegram.declared.message.Occupancy.{Occupancy}
 use Rattle.node_kinds.specs.Made.{own_names}
 
 -- one more pair

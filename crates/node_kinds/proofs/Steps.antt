@@ -1,7 +1,7 @@
--- The node behind a step.
+-- The node after a step.
 use Rattle.std.proofs.Common.{◌≡◌, ◌∙◌, ◌++◌, ℕ, List, ap, Option, Result, Ok, Err}
 use Rattle.std.specs.Prelude.{OnOk}
-use Rattle.simulator_run.specs.ixl_rules.Step as ixl
+use Rattle.simulator_spec.specs.ixl_spec.Step as ixl
 use Rattle.node_drive.specs.node_lines.declared.operator_line.Known.{Known}
 use Rattle.node_drive.specs.Kinds.{NodeState, node_after}
 use Rattle.node_kinds.specs.Interlockings.{InterlockingNode, all_known, answer, changes, interlocking_kind, to_controllers}

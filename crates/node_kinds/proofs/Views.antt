@@ -1,9 +1,9 @@
 -- What the controllers tell, as facts of all that is kept.
 use Rattle.std.proofs.Common.{◌≡◌, ◌<◌, ℕ, zero, suc, refl, sym, ap, subst, Bool, List, [], ◌∷◌, length, Some, arith}
 use Rattle.std.specs.Prelude.{slice_get, IfSome}
-use Rattle.simulator_run.specs.ixl_rules.State.{IxlState}
-use Rattle.simulator_run.specs.ixl_rules.Table.{Table, at}
-use Rattle.ixl_state.specs.ixl_field.Field.{FieldState, Rest, kept}
+use Rattle.simulator_spec.specs.ixl_spec.State.{IxlState}
+use Rattle.simulator_spec.specs.ixl_spec.Table.{Table, at}
+use Rattle.ixl_state.specs.ixl_known.Field.{FieldState, Rest, kept}
 use Rattle.ixl_state.specs.State.{StateView, field_of, rest_of}
 
 pub in_state : (holds : Table → IxlState → Type 0) (state : StateView) (field : FieldState) → field ≡ field_of state →

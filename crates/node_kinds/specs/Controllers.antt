@@ -4,29 +4,29 @@ use Rattle.std.specs.List.{position}
 use Rattle.node_drive.specs.replay_words.Cut.{words}
 use Rattle.node_drive.specs.replay_words.declared.fault.Fault.{Fault}
 use Rattle.node_drive.specs.replay_words.declared.fault.Fault.TheVariants.{Name, Words}
-use Rattle.simulator_run.specs.layout.Entries.{Site}
-use Rattle.simulator_run.specs.layout.declared.ids.SectionId.{SectionId}
-use Rattle.simulator_run.specs.sci_telegram.declared.message.Aspect.{Aspect}
-use Rattle.simulator_run.specs.sci_telegram.declared.message.Aspect.TheVariants as aspects
-use Rattle.simulator_run.specs.sci_telegram.declared.message.Occupancy.{Occupancy}
-use Rattle.simulator_run.specs.sci_telegram.declared.message.Occupancy.TheVariants as occupancies
-use Rattle.simulator_run.specs.sci_telegram.declared.message.Position.{Position}
-use Rattle.simulator_run.specs.sci_telegram.declared.message.Position.TheVariants as positions
-use Rattle.simulator_run.specs.rasta_core.Outbox.{spellings}
-use Rattle.simulator_run.specs.object_host.Behaviour.{Behaviour}
-use Rattle.simulator_run.specs.object_host.Host.{HostState}
-use Rattle.simulator_run.specs.object_host.Step.{host_step}
-use Rattle.simulator_run.specs.object_host.declared.input.Input.{Input}
-use Rattle.simulator_run.specs.object_host.declared.input.Input.TheVariants as inputs
-use Rattle.simulator_run.specs.object_host.declared.sense.Sense.TheVariants as sense
-use Rattle.simulator_run.specs.signal_ctl.Lamp.{Lamp}
-use Rattle.simulator_run.specs.signal_ctl.Signal.{SignalState, signal_behaviour}
-use Rattle.simulator_run.specs.point_ctl.Controlled.{point_behaviour}
-use Rattle.simulator_run.specs.point_ctl.Drive.{PointState, drive_of}
-use Rattle.simulator_run.specs.point_ctl.declared.drive.Drive.{Drive as DriveUnderWay}
-use Rattle.simulator_run.specs.tds_ctl.Controlled.{detection_behaviour}
-use Rattle.simulator_run.specs.tds_ctl.declared.section.Section.{Section as SectionState}
-use Rattle.simulator_run.specs.Happens.{coming}
+use Rattle.simulator_spec.specs.layout.Entries.{Site}
+use Rattle.simulator_spec.specs.layout.declared.ids.SectionId.{SectionId}
+use Rattle.simulator_spec.specs.sci_telegram.declared.message.Aspect.{Aspect}
+use Rattle.simulator_spec.specs.sci_telegram.declared.message.Aspect.TheVariants as aspects
+use Rattle.simulator_spec.specs.sci_telegram.declared.message.Occupancy.{Occupancy}
+use Rattle.simulator_spec.specs.sci_telegram.declared.message.Occupancy.TheVariants as occupancies
+use Rattle.simulator_spec.specs.sci_telegram.declared.message.Position.{Position}
+use Rattle.simulator_spec.specs.sci_telegram.declared.message.Position.TheVariants as positions
+use Rattle.simulator_spec.specs.rasta_core.Outbox.{spellings}
+use Rattle.simulator_spec.specs.object_host.Behaviour.{Behaviour}
+use Rattle.simulator_spec.specs.object_host.Host.{HostState}
+use Rattle.simulator_spec.specs.object_host.Step.{host_step}
+use Rattle.simulator_spec.specs.object_host.declared.input.Input.{Input}
+use Rattle.simulator_spec.specs.object_host.declared.input.Input.TheVariants as inputs
+use Rattle.simulator_spec.specs.object_host.declared.sense.Sense.TheVariants as sense
+use Rattle.simulator_spec.specs.signal_ctl.Lamp.{Lamp}
+use Rattle.simulator_spec.specs.signal_ctl.Signal.{SignalState, signal_behaviour}
+use Rattle.simulator_spec.specs.point_ctl.Controlled.{point_behaviour}
+use Rattle.simulator_spec.specs.point_ctl.Drive.{PointState, drive_of}
+use Rattle.simulator_spec.specs.point_ctl.declared.drive.Drive.{Drive as DriveUnderWay}
+use Rattle.simulator_spec.specs.tds_ctl.Controlled.{detection_behaviour}
+use Rattle.simulator_spec.specs.tds_ctl.declared.section.Section.{Section as SectionState}
+use Rattle.simulator_spec.specs.Happens.{coming}
 use Rattle.node_drive.specs.node_lines.Reports.{report_said}
 use Rattle.node_drive.specs.node_lines.declared.order.Order.{Order}
 use Rattle.node_drive.specs.node_lines.declared.order.Order.TheVariants.{ShowStop, ShowProceed, ShowSlow, DriveNone, Drive}

@@ -4,24 +4,24 @@ use Rattle.std.specs.Prelude.{ℕ, zero, suc, ◌+◌, ◌==◌, ◌&&◌, not, 
 use Rattle.std.specs.List.{flat_map}
 use Rattle.node_drive.specs.replay_words.Cut.{words}
 use Rattle.node_drive.specs.replay_words.declared.fault.Fault.{Fault}
-use Rattle.simulator_run.specs.layout.Entries.{Site}
-use Rattle.simulator_run.specs.sci_telegram.declared.message.Aspect.{Aspect}
-use Rattle.simulator_run.specs.sci_telegram.declared.message.Aspect.TheVariants as aspects
-use Rattle.simulator_run.specs.sci_telegram.declared.message.Occupancy.{Occupancy}
-use Rattle.simulator_run.specs.sci_telegram.declared.message.Occupancy.TheVariants as occupancies
-use Rattle.simulator_run.specs.sci_telegram.declared.message.Side.{Side}
-use Rattle.simulator_run.specs.sci_telegram.declared.message.Side.TheVariants as sides
-use Rattle.simulator_run.specs.ixl_rules.State.{IxlState, RouteState}
-use Rattle.simulator_run.specs.ixl_rules.Step as ixl
-use Rattle.simulator_run.specs.ixl_rules.StepSoFar.{StepSoFar, begun_with, empty_outbox}
-use Rattle.simulator_run.specs.ixl_rules.Table.{Row, Table, at, is_same_side}
-use Rattle.simulator_run.specs.ixl_rules.View.{authority_from, indicated, is_clear, is_holding, is_known, is_occupied, is_point_ready, is_set, is_signal_ready}
-use Rattle.simulator_run.specs.ixl_rules.declared.command.Command.{Command}
-use Rattle.simulator_run.specs.ixl_rules.declared.command.Command.TheVariants as command
-use Rattle.simulator_run.specs.ixl_rules.declared.command.Refusal.TheVariants as refusal
-use Rattle.simulator_run.specs.ixl_client.Client.{is_ready}
-use Rattle.simulator_run.specs.Nodes.{key_of}
-use Rattle.simulator_run.specs.Interlocking.{link_of}
+use Rattle.simulator_spec.specs.layout.Entries.{Site}
+use Rattle.simulator_spec.specs.sci_telegram.declared.message.Aspect.{Aspect}
+use Rattle.simulator_spec.specs.sci_telegram.declared.message.Aspect.TheVariants as aspects
+use Rattle.simulator_spec.specs.sci_telegram.declared.message.Occupancy.{Occupancy}
+use Rattle.simulator_spec.specs.sci_telegram.declared.message.Occupancy.TheVariants as occupancies
+use Rattle.simulator_spec.specs.sci_telegram.declared.message.Side.{Side}
+use Rattle.simulator_spec.specs.sci_telegram.declared.message.Side.TheVariants as sides
+use Rattle.simulator_spec.specs.ixl_spec.State.{IxlState, RouteState}
+use Rattle.simulator_spec.specs.ixl_spec.Step as ixl
+use Rattle.simulator_spec.specs.ixl_spec.StepSoFar.{StepSoFar, begun_with, empty_outbox}
+use Rattle.simulator_spec.specs.ixl_spec.Table.{Row, Table, at, is_same_side}
+use Rattle.simulator_spec.specs.ixl_spec.View.{authority_from, indicated, is_clear, is_holding, is_known, is_occupied, is_point_ready, is_set, is_signal_ready}
+use Rattle.simulator_spec.specs.ixl_spec.declared.command.Command.{Command}
+use Rattle.simulator_spec.specs.ixl_spec.declared.command.Command.TheVariants as command
+use Rattle.simulator_spec.specs.ixl_spec.declared.command.Refusal.TheVariants as refusal
+use Rattle.simulator_spec.specs.ixl_client.Client.{is_ready}
+use Rattle.simulator_spec.specs.Nodes.{key_of}
+use Rattle.simulator_spec.specs.Interlocking.{link_of}
 use Rattle.node_drive.specs.node_lines.Commands.{command_said}
 use Rattle.node_drive.specs.node_lines.Known.{known_text, operator_text}
 use Rattle.node_drive.specs.node_lines.declared.operator_command.OperatorCommand.{OperatorCommand}
@@ -34,6 +34,7 @@ use Rattle.node_drive.specs.node_lines.declared.operator_line.Authority.{Authori
 use Rattle.node_drive.specs.node_lines.declared.operator_line.OperatorLine.TheVariants.{Accepted, Refused}
 use Rattle.node_drive.specs.Kinds.{Kind, Meaning, Comes, Faulty}
 use Rattle.node_drive.specs.Waiting.{Addressed}
+use Rattle.node_kinds.specs.Controllers.{is_same_occupancy}
 use Rattle.node_kinds.specs.declared.thing.Thing.{Thing}
 use Rattle.node_kinds.specs.declared.thing.Thing.TheVariants.{SignalLink, PointLink, DetectorLink, Section, Point, Signal, Indication, Route, Readiness}
 
@@ -129,11 +130,6 @@ abbrev pub is_same_link : LinkState → LinkState → Bool
 is_same_link Ready Ready = true
 is_same_link Lost Lost = true
 is_same_link _ _ = false
-
-abbrev pub is_same_occupancy : Occupancy → Occupancy → Bool
-is_same_occupancy occupancies.Clear occupancies.Clear = true
-is_same_occupancy occupancies.Occupied occupancies.Occupied = true
-is_same_occupancy _ _ = false
 
 abbrev pub is_same_aspect : Aspect → Aspect → Bool
 is_same_aspect aspects.Stop aspects.Stop = true
@@ -245,7 +241,7 @@ answer now input node = []
 abbrev pub to_controllers : Site → List (List ℕ) → List Addressed
 to_controllers site datagrams = map (λ (bytes : List ℕ). (record { 0 = suc (link_of site bytes) }, bytes)) datagrams
 
--- all that is known behind a step
+-- all that is known after a step
 abbrev pub known_then : ℕ → ixl.Input → InterlockingNode → List (Option Known)
 known_then now input node = all_known node.site node.table now (ixl_step now input node).ixl
 

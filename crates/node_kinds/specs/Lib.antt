@@ -8,5 +8,5 @@ pub mod Processes
 pub mod inside
 -- what crates above need of the crates below
 pub use Rattle.node_drive.specs as node_drive
-pub use Rattle.simulator_run.specs as simulator_run
+pub use Rattle.simulator_spec.specs as simulator_spec
 pub use Rattle.ixl_state.specs.ixl_table as ixl_table

@@ -1,14 +1,14 @@
 -- Nodes that were just made.
 use Rattle.std.specs.Prelude.{ℕ, List, [], ◌∷◌, map, option_map, slice_index_or, Option, Some, None}
 use Rattle.std.specs.List.{zip}
-use Rattle.simulator_run.specs.First.{Beginning, host_of}
-use Rattle.simulator_run.specs.layout.Entries.{DetectorEntry, Site}
-use Rattle.simulator_run.specs.layout.declared.ids.SectionId.{SectionId}
-use Rattle.simulator_run.specs.object_host.Host.{HostState}
-use Rattle.simulator_run.specs.sci_telegram.declared.message.Occupancy.{Occupancy}
-use Rattle.simulator_run.specs.tds_ctl.Controlled.{detection_behaviour}
-use Rattle.simulator_run.specs.tds_ctl.Sections as sections
-use Rattle.simulator_run.specs.tds_ctl.declared.section.Section.{Section}
+use Rattle.simulator_spec.specs.First.{Beginning, host_of}
+use Rattle.simulator_spec.specs.layout.Entries.{DetectorEntry, Site}
+use Rattle.simulator_spec.specs.layout.declared.ids.SectionId.{SectionId}
+use Rattle.simulator_spec.specs.object_host.Host.{HostState}
+use Rattle.simulator_spec.specs.sci_telegram.declared.message.Occupancy.{Occupancy}
+use Rattle.simulator_spec.specs.tds_ctl.Controlled.{detection_behaviour}
+use Rattle.simulator_spec.specs.tds_ctl.Sections as sections
+use Rattle.simulator_spec.specs.tds_ctl.declared.section.Section.{Section}
 use Rattle.node_drive.specs.Kinds.{NodeState}
 use Rattle.node_kinds.specs.Controllers.{OwnSections}
 use Rattle.node_kinds.specs.Openings.{Equipment, Lamp, Motor, Sections}

@@ -1,9 +1,9 @@
 -- The node of an interlocking, as the engine sees it.
 use Rattle.std.specs.Prelude.{[]}
-use Rattle.simulator_run.specs.First.{Beginning, new_ixl}
-use Rattle.simulator_run.specs.layout.Entries.{Site}
-use Rattle.simulator_run.specs.ixl_rules.Step as ixl
-use Rattle.simulator_run.specs.ixl_rules.Table.{Table}
+use Rattle.simulator_spec.specs.First.{Beginning, new_ixl}
+use Rattle.simulator_spec.specs.layout.Entries.{Site}
+use Rattle.simulator_spec.specs.ixl_spec.Step as ixl
+use Rattle.simulator_spec.specs.ixl_spec.Table.{Table}
 use Rattle.node_drive.specs.Kinds.{NodeState}
 use Rattle.node_kinds.specs.Interlockings.{InterlockingNode, commands, to_controllers}
 use Rattle.node_kinds.specs.inside.InterlockingSteps.{texts}

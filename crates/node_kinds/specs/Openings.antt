@@ -5,10 +5,10 @@ use Rattle.std.specs.List.{list_all}
 use Rattle.node_drive.specs.replay_words.Cut.{words}
 use Rattle.node_drive.specs.replay_words.declared.fault.Fault.{Fault}
 use Rattle.node_drive.specs.replay_words.declared.fault.Fault.TheVariants.{Name, Words}
-use Rattle.simulator_run.specs.layout.Entries.{Site}
-use Rattle.simulator_run.specs.layout.declared.ids.SectionId.{SectionId}
-use Rattle.simulator_run.specs.sci_telegram.declared.message.Occupancy.{Occupancy}
-use Rattle.simulator_run.specs.sci_telegram.declared.message.Position.{Position}
+use Rattle.simulator_spec.specs.layout.Entries.{Site}
+use Rattle.simulator_spec.specs.layout.declared.ids.SectionId.{SectionId}
+use Rattle.simulator_spec.specs.sci_telegram.declared.message.Occupancy.{Occupancy}
+use Rattle.simulator_spec.specs.sci_telegram.declared.message.Position.{Position}
 use Rattle.node_drive.specs.node_lines.Reports.{report_said}
 use Rattle.node_drive.specs.node_lines.declared.order.Order.{Order}
 use Rattle.node_drive.specs.node_lines.declared.order.Order.TheVariants.{ShowStop, DriveNone}

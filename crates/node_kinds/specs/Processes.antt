@@ -1,18 +1,18 @@
 -- The process of a node, from its first call to its last.
 use Rattle.std.specs.Prelude.{◌≡◌, ◌-◌, ℕ, List, [], ◌∷◌, Option, Some, None, slice_get}
-use Rattle.simulator_run.specs.layout.Entries.{DetectorEntry, Site}
-use Rattle.simulator_run.specs.layout.declared.entries.Point.{Point as PointEntry}
-use Rattle.simulator_run.specs.layout.declared.entries.Signal.{Signal as SignalEntry}
-use Rattle.simulator_run.specs.sci_telegram.declared.message.Occupancy.{Occupancy}
-use Rattle.simulator_run.specs.sci_telegram.declared.message.Position.{Position}
-use Rattle.simulator_run.specs.object_host.declared.input.Input.{Input}
-use Rattle.simulator_run.specs.signal_ctl.Signal.{SignalState}
-use Rattle.simulator_run.specs.point_ctl.Drive.{PointState}
-use Rattle.simulator_run.specs.tds_ctl.declared.section.Section.{Section as SectionState}
+use Rattle.simulator_spec.specs.layout.Entries.{DetectorEntry, Site}
+use Rattle.simulator_spec.specs.layout.declared.entries.Point.{Point as PointEntry}
+use Rattle.simulator_spec.specs.layout.declared.entries.Signal.{Signal as SignalEntry}
+use Rattle.simulator_spec.specs.sci_telegram.declared.message.Occupancy.{Occupancy}
+use Rattle.simulator_spec.specs.sci_telegram.declared.message.Position.{Position}
+use Rattle.simulator_spec.specs.object_host.declared.input.Input.{Input}
+use Rattle.simulator_spec.specs.signal_ctl.Signal.{SignalState}
+use Rattle.simulator_spec.specs.point_ctl.Drive.{PointState}
+use Rattle.simulator_spec.specs.tds_ctl.declared.section.Section.{Section as SectionState}
 use Rattle.ixl_state.specs.ixl_table.Table.{IsTableOf}
-use Rattle.simulator_run.specs.ixl_rules.Table.{Table}
-use Rattle.simulator_run.specs.First.{new_ixl, new_point, new_signal}
-use Rattle.simulator_run.specs.Nodes.{Node, Interlocking, Signal, Point, Detector}
+use Rattle.simulator_spec.specs.ixl_spec.Table.{Table}
+use Rattle.simulator_spec.specs.First.{new_ixl, new_point, new_signal}
+use Rattle.simulator_spec.specs.Nodes.{Node, Interlocking, Signal, Point, Detector}
 use Rattle.node_kinds.specs.Made.{detector_sensing}
 use Rattle.node_drive.specs.node_lines.declared.order.Order.{Order}
 use Rattle.node_drive.specs.Beginning.{first_course, last_line}
@@ -155,7 +155,7 @@ pub record Process (site : Site) (node : Option Node) (first for_ms : ℕ) (old 
   pub ends : ℕ
   pub rests : Calls ended new (Reads ends ∷ last_line ends (rest_of node) course)
 
--- Nothing was called behind the cut; or the equipment was told to rest, or a beginning of that.
+-- Nothing was called after the cut; or the equipment was told to rest, or a beginning of that.
 pub data EndsSomehow (rest : Option Order) (old new : Told) : Type 0 where
   at_once : Calls old new [] → EndsSomehow rest old new
   resting : {ends : ℕ} (course : CourseState) → CallsCut old new (Reads ends ∷ last_line ends rest course) → EndsSomehow rest old new

@@ -2,51 +2,41 @@
 
 ghost use Rattle.std.specs.Prelude.{◌≡◌, ◌++◌, OnOk};
 ghost use Rattle.ixl.specs.Interlocking.{told};
-ghost use Rattle.simulator_run.specs.Nodes.{key_of};
-ghost use Rattle.simulator_run.specs.ixl_rules.Step.{Commands, reply};
-ghost use Rattle.simulator_run.specs.ixl_rules.declared.command.Command.TheVariants as command;
+ghost use Rattle.simulator_spec.specs.Nodes.{key_of};
+ghost use Rattle.simulator_spec.specs.ixl_spec.Step.{Commands, answer_by, reply};
+ghost use Rattle.simulator_spec.specs.ixl_spec.declared.command.Command.TheVariants as command;
 ghost use Rattle.node_kinds.specs.Interlockings.{answer_to, answer_to_all, cancels, wanted};
 ghost use Rattle.node_kinds.specs.inside.InterlockingSteps.{texts};
 
 use crate::saying::say_answer;
 use ixl::{Command, Interlocking, Refusal, Reply};
 use node_drive::node_lines::OperatorCommand;
-use simulator_run::ixl_rules::control_table::layout::RouteId;
-use simulator_run::ixl_rules::rasta_core::Millis;
+use simulator_spec::{Millis, RouteId};
 use std::alloc::{AllocError, Global};
 use std::collections::VecDeque;
+
+/// The answer to a command for which this refusal was found, or none.
+fn answer_by(refusal: Option<Refusal>) -> Reply
+    ensures { told result ≡ answer_by refusal }
+{
+    match refusal {
+        Some(cause) => Reply::Refused(cause),
+        None => Reply::Accepted,
+    }
+}
 
 /// Whether cancels are taken, as it is answered.
 fn answer_to_all(ixl: &Interlocking, now: Millis) -> Reply
     ensures { told result ≡ answer_to_all now ixl.now.state.ixl }
 {
-    if ixl.holding(now) {
-        Reply::Refused(Refusal::Holding)
-    } else if !ixl.state().is_resumed() {
-        Reply::Refused(Refusal::NotResumed)
-    } else {
-        Reply::Accepted
-    }
+    answer_by(ixl.refusal_of_any(now))
 }
 
 /// The answer to a cancel of one route.
 fn answer_to_cancel(ixl: &Interlocking, now: Millis, route: RouteId) -> Reply
     ensures { told result ≡ reply now ixl.now.state.sited.table (key_of ixl.now.state.sited.site) (Commands (command.Cancel route)) ixl.now.state.ixl }
 {
-    let state = ixl.state();
-    if route.0 >= state.table().rows().len() {
-        return Reply::Refused(Refusal::UnknownRoute);
-    }
-    if ixl.holding(now) {
-        return Reply::Refused(Refusal::Holding);
-    }
-    if !state.is_resumed() {
-        return Reply::Refused(Refusal::NotResumed);
-    }
-    if !ixl.is_set(route) {
-        return Reply::Refused(Refusal::NotSet);
-    }
-    Reply::Accepted
+    answer_by(ixl.refusal(now, Command::Cancel(route)))
 }
 
 /// Each route that is set is to be cancelled.
@@ -61,6 +51,7 @@ fn add_cancels(left: &mut VecDeque<Command>, ixl: &Interlocking) -> Result<(), A
     }
     Ok(())
 }
+
 /// The answer that a line is given when it is taken is to be told.
 pub(crate) fn say_answer_to(
     alloc: Global,

@@ -7,7 +7,7 @@ ghost use Rattle.node_kinds.specs.inside.InterlockingSteps.{texts};
 use crate::comparison::is_same;
 use crate::saying::say;
 use node_drive::node_lines::{Known, OperatorLine};
-use simulator_run::ixl_rules::control_table::layout::Layout;
+use simulator_spec::Layout;
 use std::alloc::{AllocError, Global};
 use std::collections::VecDeque;
 

@@ -1,16 +1,15 @@
 //! What tells the controllers apart: what their equipment has to do, and what its contacts tell.
 
-use node_drive::LineMeaning;
-use node_drive::node_lines::replay_words::Fault;
-use node_drive::node_lines::{FieldReport, Order};
-use simulator_run::object_host::{Controller, Sense};
+use node_drive::node_lines::FieldReport;
+use node_drive::{Fault, LineMeaning, Order};
+use simulator_spec::object_host::{Controller, Sense};
 
 /// The contacts of the equipment of a field object, with what they told last.
 pub trait Contacts: Drop {
     ghost use Rattle.std.specs.Prelude.{◌≡◌, List, ℕ, Option, Result};
-    ghost use Rattle.simulator_run.specs.Happens.{coming};
-    ghost use Rattle.simulator_run.specs.object_host.declared.input.Input.{Input};
-    ghost use Rattle.simulator_run.specs.object_host.declared.input.Input.TheVariants as inputs;
+    ghost use Rattle.simulator_spec.specs.Happens.{coming};
+    ghost use Rattle.simulator_spec.specs.object_host.declared.input.Input.{Input};
+    ghost use Rattle.simulator_spec.specs.object_host.declared.input.Input.TheVariants as inputs;
     ghost use Rattle.node_drive.specs.replay_words.declared.fault.Fault.{Fault as LineFault};
     ghost use Rattle.node_drive.specs.node_lines.declared.order.Order.{Order as FieldOrder};
     ghost use Rattle.node_drive.specs.node_lines.declared.report.FieldReport.{FieldReport as Report};

@@ -1,18 +1,17 @@
 //! The controller of a signal, a point or a detector as a node.
 
 use crate::contacts::Contacts;
-use crate::controller_steps::{INTERLOCKING, Stepped};
-use node_drive::node_lines::{Order, read_report};
-use node_drive::{LineMeaning, Node, Outgoing};
-use simulator_run::ixl_rules::control_table::layout::Layout;
-use simulator_run::object_host::{Input, Sense};
-use simulator_run::simulator_event::NodeId;
+use crate::controller_steps::{INTERLOCKING, SteppedHost};
+use node_drive::node_lines::read_report;
+use node_drive::{LineMeaning, NodeMachine, Order, Outgoing};
+use simulator_spec::object_host::{Input, Sense};
+use simulator_spec::{Layout, NodeId};
 use std::alloc::{AllocError, Global};
 
 /// The controller of a field object, in a station of this layout.
 pub struct ControllerNode<'a, C: Contacts> {
     pub(crate) layout: &'a Layout,
-    pub(crate) stepped: Stepped<C::Object>,
+    pub(crate) stepped: SteppedHost<C::Object>,
     pub(crate) contacts: C,
     /// What a contact told that has to come.
     pub(crate) left: Option<Sense>,
@@ -30,8 +29,8 @@ impl<C: Contacts> Drop for ControllerNode<'_, C> {
     }
 }
 
-impl<'a, C: Contacts> Node for ControllerNode<'a, C> {
-    ghost use Rattle.simulator_run.specs.object_host.declared.input.Input.{Input as HostInput};
+impl<'a, C: Contacts> NodeMachine for ControllerNode<'a, C> {
+    ghost use Rattle.simulator_spec.specs.object_host.declared.input.Input.{Input as HostInput};
     ghost use Rattle.node_drive.specs.replay_words.Cut.{words};
     ghost use Rattle.node_drive.specs.node_lines.Reports.{report_said};
     ghost use Rattle.node_kinds.specs.Controllers.{Controller, controller};

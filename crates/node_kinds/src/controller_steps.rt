@@ -2,17 +2,14 @@
 
 ghost use Rattle.std.specs.Prelude.{◌≡◌, ◌≤◌, [], drop, slice_get, IfOk};
 ghost use Rattle.std.specs.Option.{option_map};
-ghost use Rattle.simulator_run.specs.First.{host_of};
-ghost use Rattle.simulator_run.specs.Happens.{coming};
+ghost use Rattle.simulator_spec.specs.First.{host_of};
+ghost use Rattle.simulator_spec.specs.Happens.{coming};
 ghost use Rattle.node_kinds.specs.inside.ControllerSteps.{stepped_at};
 
 use node_drive::Outgoing;
-use simulator_run::ixl_rules::control_table::Checked;
-use simulator_run::ixl_rules::control_table::sci_telegram::Name;
-use simulator_run::ixl_rules::key_of;
-use simulator_run::ixl_rules::rasta_core::Millis;
-use simulator_run::object_host::{Controller, Hosted, Input};
-use simulator_run::simulator_event::NodeId;
+use simulator_spec::ixl_spec::key_of;
+use simulator_spec::object_host::{Controller, Hosted, Input, Parties};
+use simulator_spec::{Checked, Millis, Name, NodeId, Start};
 use std::alloc::{AllocError, Global};
 use std::marker::Model;
 
@@ -21,13 +18,13 @@ pub(crate) const INTERLOCKING: NodeId = NodeId(0);
 
 /// A controller's host, with the reading of its last step. Contracts see it as a `SteppedState`.
 #[derive(Drop)]
-pub(crate) struct Stepped<C: Controller> {
+pub(crate) struct SteppedHost<C: Controller> {
     hosted: Hosted<C>,
     reached: Millis,
 }
 
-impl<C: Controller> Model for Stepped<C> {
-    ghost use Rattle.simulator_run.specs.rasta_core.Calls.{MayStep};
+impl<C: Controller> Model for SteppedHost<C> {
+    ghost use Rattle.simulator_spec.specs.rasta_core.Calls.{MayStep};
     ghost use Rattle.node_kinds.specs.inside.ControllerSteps.{SteppedState};
     ghost use Rattle.node_kinds.specs.Controllers.{to_interlocking};
 
@@ -38,38 +35,32 @@ impl<C: Controller> Model for Stepped<C> {
     ghost invariant = { λ s. MayStep s.reached s.hosted.host.link };
 }
 
-impl<C: Controller> Stepped<C> {
-    /// The host of an object under a name and an identity. It begins at this reading of its clock, and numbers its PDUs from
-    /// `first_sequence_number` on.
+impl<C: Controller> SteppedHost<C> {
+    /// The host of an object under a name and an identity, which begins so.
     #[tactic(auto, unfolding(crate::proofs::HostsBelow::new_host, crate::proofs::HostsBelow::keeping, crate::proofs::HostsBelow::created))]
     pub(crate) fn new(
         alloc: Global,
         table: &Checked,
-        name: Name,
-        id: u32,
+        own_name: Name,
+        own: u32,
         object: C,
-        reading: Millis,
-        first_sequence_number: u32,
-    ) -> Result<Stepped<C>, AllocError>
-        ensures { IfOk result (λ stepped. stepped ≡ record { host = host_of C.behaviour table.now (record { clock = reading; first = first_sequence_number }) name id object; reached = reading; handed = [] }) }
+        start: Start,
+    ) -> Result<SteppedHost<C>, AllocError>
+        ensures { IfOk result (λ stepped. stepped ≡ record { host = host_of C.behaviour table.now (record { clock = start.now; first = start.first_sequence_number }) own_name own object; reached = start.now; handed = [] }) }
     {
         let layout = table.layout();
         let station = layout.station();
-        let hosted = Hosted::new(
-            alloc,
-            id,
-            station.id,
-            name,
-            station.name,
-            key_of(layout),
-            first_sequence_number,
-            reading,
-            object,
-            table.version(),
-        )?;
-        Ok(Stepped {
+        let parties = Parties {
+            own,
+            partner: station.id,
+            own_name,
+            peer_name: station.name,
+            key: key_of(layout),
+        };
+        let hosted = Hosted::new(alloc, parties, start, object, table.version())?;
+        Ok(SteppedHost {
             hosted,
-            reached: reading,
+            reached: start.now,
         })
     }
 

@@ -1,7 +1,7 @@
 //! The controller of a detector.
 
 ghost use Rattle.std.specs.Prelude.{◌≡◌, ◌<◌, length, slice_get, IfOk, Some};
-ghost use Rattle.simulator_run.specs.layout.Entries.{DetectorEntry};
+ghost use Rattle.simulator_spec.specs.layout.Entries.{DetectorEntry};
 ghost use Rattle.node_kinds.specs.Controllers.{stands_so, told_of_section};
 ghost use Rattle.node_kinds.specs.inside.ControllerSteps.{sense_left, unanswered};
 ghost use Rattle.node_kinds.specs.Made.{detector_sensing, made_at, told_so};
@@ -9,17 +9,13 @@ ghost use Rattle.node_kinds.specs.inside.ControllerNodes.{detector_now};
 
 use crate::contacts::Contacts;
 use crate::controller_node::ControllerNode;
-use crate::controller_steps::Stepped;
+use crate::controller_steps::SteppedHost;
 use crate::own_sections::{named, own_place, replace_at};
-use node_drive::LineMeaning;
-use node_drive::node_lines::replay_words::Fault;
-use node_drive::node_lines::{FieldReport, Order};
-use simulator_run::ixl_rules::control_table::Checked;
-use simulator_run::ixl_rules::control_table::layout::SectionId;
-use simulator_run::ixl_rules::control_table::sci_telegram::Occupancy;
-use simulator_run::ixl_rules::rasta_core::Millis;
-use simulator_run::object_host::Sense;
-use simulator_run::tds_ctl::Detection;
+use node_drive::node_lines::FieldReport;
+use node_drive::{Fault, LineMeaning, Order};
+use simulator_spec::object_host::Sense;
+use simulator_spec::tds_ctl::Detection;
+use simulator_spec::{Checked, DetectorId, Millis, Occupancy, SectionId, Start};
 use std::alloc::{AllocError, Global};
 
 /// The own sections of a detector, and how each was told last.
@@ -33,34 +29,36 @@ pub struct DetectorContacts<'a> {
 pub type DetectorNode<'a> = ControllerNode<'a, DetectorContacts<'a>>;
 
 impl<'a> DetectorNode<'a> {
-    /// The controller of the detector at this place, which senses its own sections so, in its own order. It is made at this reading
+    /// The controller of a detector, which senses its own sections so, in its own order. It is made at this reading
     /// of its clock, and numbers its PDUs from `first_sequence_number` on.
     pub fn new(
         alloc: Global,
         table: &'a Checked,
-        place: usize,
+        detector: DetectorId,
         sensed: &[Occupancy],
         reading: Millis,
         first_sequence_number: u32,
     ) -> Result<DetectorNode<'a>, AllocError>
-        requires { place < length table.now.detectors }
+        requires { detector.0 < length table.now.detectors }
         ensures reached { IfOk result (λ node. (detector_now node).reached ≡ reading) }
-        ensures made { IfOk result (λ node. (entry : DetectorEntry) → slice_get table.now.detectors place ≡ Some entry
+        ensures made { IfOk result (λ node. (entry : DetectorEntry) → slice_get table.now.detectors detector.0 ≡ Some entry
             → detector_now node ≡ made_at reading (record { site = table.now; host = detector_sensing table.now (record { clock = reading; first = first_sequence_number }) sensed.now entry; contacts = told_so entry sensed.now })) }
     {
         let layout = table.layout();
-        let entry = &layout.detectors()[place];
+        let entry = &layout.detectors()[detector.0];
         let own = entry.sections();
         let named = named(alloc, layout, own, sensed)?;
         let last = sensed.to_vec(alloc)?;
-        let stepped = Stepped::new(
+        let stepped = SteppedHost::new(
             alloc,
             table,
             *entry.name(),
             entry.id(),
             Detection::new(&named),
-            reading,
-            first_sequence_number,
+            Start {
+                first_sequence_number,
+                now: reading,
+            },
         )?;
         Ok(ControllerNode {
             layout,

@@ -4,8 +4,8 @@ ghost use Rattle.std.specs.Prelude.{◌≡◌};
 ghost use Rattle.node_kinds.specs.Made.{equipment_of};
 ghost use Rattle.node_kinds.specs.Openings.{own_sections, rest_order};
 
-use node_drive::node_lines::Order;
-use simulator_run::ixl_rules::control_table::layout::SectionId;
+use node_drive::Order;
+use simulator_spec::SectionId;
 
 /// The field equipment of a controller.
 #[derive(Clone, Copy)]

@@ -2,29 +2,28 @@
 
 ghost use Rattle.ixl_state.specs.ixl_table.Table.{IsTableOf};
 ghost use Rattle.std.specs.Prelude.{◌≡◌, ◌++◌, ◌≤◌, [], map, IfOk, OnOk};
-ghost use Rattle.simulator_run.specs.First.{Beginning};
+ghost use Rattle.simulator_spec.specs.First.{Beginning};
 ghost use Rattle.node_kinds.specs.Interlockings.{all_known, answer_to, changes, wanted};
 ghost use Rattle.node_kinds.specs.inside.InterlockingSteps.{texts};
 ghost use Rattle.node_kinds.specs.MadeInterlocking.{made, seen};
 
 use crate::asked::{add_wanted, say_answer_to};
 use crate::changes::say_changes;
-use crate::interlocking_steps::Stepped;
+use crate::interlocking_steps::SteppedInterlocking;
 use crate::knowledge::all_known;
 use crate::receivers::receiver;
 use crate::saying::say_answer_by_step;
 use ixl::{Command, Input};
-use node_drive::node_lines::{Known, OperatorCommand, Order, read_command};
-use node_drive::{LineMeaning, Node, Outgoing};
-use simulator_run::ixl_rules::control_table::Checked;
-use simulator_run::simulator_event::NodeId;
+use node_drive::node_lines::{Known, OperatorCommand, read_command};
+use node_drive::{LineMeaning, NodeMachine, Order, Outgoing};
+use simulator_spec::{Checked, NodeId};
 use std::alloc::{AllocError, Global};
 use std::collections::VecDeque;
 
 /// The interlocking of a station, with what it told last of each thing, the lines that it has to tell, and the commands of a line
 /// that have to come.
 pub struct InterlockingNode {
-    pub(crate) stepped: Stepped,
+    pub(crate) stepped: SteppedInterlocking,
     pub(crate) told: Vec<Option<Known>>,
     pub(crate) said: VecDeque<String>,
     pub(crate) left: VecDeque<Command>,
@@ -55,7 +54,7 @@ impl InterlockingNode {
         ensures table { IfOk result (λ n. IsTableOf (seen n).state.site (seen n).state.table) }
         ensures node { IfOk result (λ n. seen n ≡ made (seen n).state.site (seen n).state.table (record { clock = reading; first = first })) }
     {
-        let stepped = Stepped::new(alloc, checked, reading, first)?;
+        let stepped = SteppedInterlocking::new(alloc, checked, reading, first)?;
         stepped.layout();
         Ok(InterlockingNode {
             stepped,
@@ -104,10 +103,10 @@ impl InterlockingNode {
     }
 }
 
-impl Node for InterlockingNode {
+impl NodeMachine for InterlockingNode {
     ghost use Rattle.node_kinds.specs.Interlockings.{InterlockingNode as Interlocking, interlocking_kind};
     ghost use Rattle.node_kinds.specs.MadeInterlocking.{seen};
-    ghost use Rattle.simulator_run.specs.ixl_rules.Step.{Input as StepInput};
+    ghost use Rattle.simulator_spec.specs.ixl_spec.Step.{Input as StepInput};
 
     ghost State = { Interlocking };
 

@@ -4,29 +4,27 @@ ghost use Rattle.ixl_state.specs.ixl_table.Table.{IsTableOf};
 ghost use Rattle.std.specs.Prelude.{◌≡◌, ◌≤◌, [], drop, slice_get, IfOk};
 ghost use Rattle.std.specs.Option.{option_map};
 ghost use Rattle.ixl.specs.Interlocking.{meant, told};
-ghost use Rattle.simulator_run.specs.First.{new_ixl};
-ghost use Rattle.simulator_run.specs.Nodes.{key_of};
-ghost use Rattle.simulator_run.specs.ixl_rules.Step.{reply};
+ghost use Rattle.simulator_spec.specs.First.{new_ixl};
+ghost use Rattle.simulator_spec.specs.Nodes.{key_of};
+ghost use Rattle.simulator_spec.specs.ixl_spec.Step.{reply};
 ghost use Rattle.node_kinds.specs.inside.InterlockingSteps.{stepped_at};
 
 use ixl::{Input, Interlocking, Reply, steps_may_follow_at_later_clocks};
-use simulator_run::ixl_rules::control_table::Checked;
-use simulator_run::ixl_rules::control_table::layout::Layout;
-use simulator_run::ixl_rules::rasta_pdu::Datagram;
+use simulator_spec::{Checked, Datagram, Layout};
 use std::alloc::{AllocError, Global};
 use std::marker::Model;
 
 /// An interlocking, with the reading of its last step. Contracts see it as a `SteppedState`.
 #[derive(Drop)]
-pub(crate) struct Stepped {
+pub(crate) struct SteppedInterlocking {
     interlocking: Interlocking,
     reached: u64,
 }
 
-impl Model for Stepped {
+impl Model for SteppedInterlocking {
     ghost use Rattle.std.specs.Prelude.{◌≤◌, ℕ};
     ghost use Rattle.std.specs.Coded.{codes};
-    ghost use Rattle.simulator_run.specs.bit_row.Places.{places_code};
+    ghost use Rattle.simulator_spec.specs.bit_row.Places.{places_code};
     ghost use Rattle.ixl_state.specs.State.{MayStepAll};
     ghost use Rattle.node_kinds.specs.inside.InterlockingSteps.{SteppedState};
 
@@ -39,19 +37,19 @@ impl Model for Stepped {
     ghost invariant = { λ s. (later : ℕ) → s.reached ≤ later → MayStepAll later s.interlocking.state };
 }
 
-impl Stepped {
+impl SteppedInterlocking {
     /// The interlocking of a table that was checked, at a reading of its clock. It numbers its PDUs from `first` on.
     pub(crate) fn new(
         alloc: Global,
         checked: Checked,
         reading: u64,
         first: u32,
-    ) -> Result<Stepped, AllocError>
+    ) -> Result<SteppedInterlocking, AllocError>
         ensures site { IfOk result (λ s. s.sited.site ≡ checked) }
         ensures made { IfOk result (λ s. s ≡ record { sited = s.sited; ixl = new_ixl s.sited.site s.sited.table (record { clock = reading; first = first }); reached = reading; datagrams = [] }) }
     {
         let interlocking = Interlocking::new(alloc, checked, first, reading)?;
-        Ok(Stepped {
+        Ok(SteppedInterlocking {
             interlocking,
             reached: reading,
         })

@@ -8,7 +8,7 @@ use crate::thing::Thing;
 use crate::thing_known::{count, known_at};
 use ixl::Interlocking;
 use node_drive::node_lines::Known;
-use simulator_run::ixl_rules::rasta_core::Millis;
+use simulator_spec::Millis;
 use std::alloc::{AllocError, Global};
 
 /// The kinds of things, in the order in which they are told.

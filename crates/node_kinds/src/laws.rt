@@ -9,13 +9,13 @@ ghost use Rattle.node_kinds.specs.Same.{IsSameOpening};
 use crate::detector_node::DetectorNode;
 use crate::point_node::PointNode;
 use crate::signal_node::SignalNode;
-use node_drive::Node;
+use node_drive::NodeMachine;
 
 /// Each controller is a node of the kind of its equipment.
 pub fn controllers_are_of_their_kinds()
-    ensures signal { ⟦<SignalNode<'static> as Node>⟧.does ≡ signal_kind }
-    ensures point { ⟦<PointNode<'static> as Node>⟧.does ≡ point_kind }
-    ensures detector { ⟦<DetectorNode<'static> as Node>⟧.does ≡ detector_kind }
+    ensures signal { ⟦<SignalNode<'static> as NodeMachine>⟧.does ≡ signal_kind }
+    ensures point { ⟦<PointNode<'static> as NodeMachine>⟧.does ≡ point_kind }
+    ensures detector { ⟦<DetectorNode<'static> as NodeMachine>⟧.does ≡ detector_kind }
 {}
 
 /// Whatever contacts tell before a controller is made, it stays one of this station and this equipment, with as many sections.

@@ -33,4 +33,12 @@ pub use thing::Thing;
 
 // What crates above need of the crates below.
 pub use node_drive;
-pub use simulator_run;
+pub use simulator_spec;
+
+// The everyday items of the crates below.
+pub use node_drive::{
+    AnswerText, Fault, Lines, MICROS, Order, ROUND, ROUND_MICROS, SessionFault, Words, decimal,
+    hex_word, hexadecimal_or_none, joined_words_are_read_again, name_word, names_are_read_again,
+    names_are_words, node_named, point_named, read_event, read_order, read_script_event, recorded,
+    route_named, section_named, write_as_taken, write_event,
+};

@@ -3,7 +3,7 @@
 ghost use Rattle.std.specs.Prelude.{◌≡◌, map, is_some, IfOk, None};
 ghost use Rattle.std.specs.List.{list_all};
 ghost use Rattle.std.specs.Option.{option_map};
-ghost use Rattle.simulator_run.specs.layout.declared.ids.SectionId.{SectionId as Id};
+ghost use Rattle.simulator_spec.specs.layout.declared.ids.SectionId.{SectionId as Id};
 ghost use Rattle.node_kinds.specs.Openings.{told_at_first, told_of_point, told_of_section, untold};
 ghost use Rattle.node_kinds.specs.inside.ControllerSteps.{contact_left, noted, unanswered};
 ghost use Rattle.node_kinds.specs.Made.{all_told, equipment_of, made_at};
@@ -11,14 +11,9 @@ ghost use Rattle.node_kinds.specs.inside.ControllerNodes.{opening_now};
 
 use crate::equipment::{Equipment, own_sections, rest_order};
 use crate::own_sections::{own_place, replace_at};
-use node_drive::node_lines::replay_words::Fault;
-use node_drive::node_lines::{FieldReport, Order, read_report};
-use node_drive::{LineMeaning, Node, Outgoing};
-use simulator_run::ixl_rules::control_table::Checked;
-use simulator_run::ixl_rules::control_table::layout::{Layout, SectionId};
-use simulator_run::ixl_rules::control_table::sci_telegram::{Occupancy, Position};
-use simulator_run::ixl_rules::rasta_core::Millis;
-use simulator_run::simulator_event::NodeId;
+use node_drive::node_lines::{FieldReport, read_report};
+use node_drive::{Fault, LineMeaning, NodeMachine, Order, Outgoing};
+use simulator_spec::{Checked, Layout, Millis, NodeId, Occupancy, Position, SectionId};
 use std::alloc::{AllocError, Global};
 
 /// What a contact told that has to come.
@@ -99,7 +94,7 @@ impl<'a> OpeningNode<'a> {
     }
 }
 
-impl<'a> Node for OpeningNode<'a> {
+impl<'a> NodeMachine for OpeningNode<'a> {
     ghost use Rattle.node_kinds.specs.Openings.{Opening, Opens, opening_kind};
     ghost use Rattle.node_kinds.specs.inside.ControllerNodes.{opening_now};
 

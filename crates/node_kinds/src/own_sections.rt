@@ -2,12 +2,11 @@
 
 ghost use Rattle.std.specs.Prelude.{◌≡◌, length, slice_set, IfOk};
 ghost use Rattle.std.specs.List.{All, zip};
-ghost use Rattle.simulator_run.specs.layout.Station.{HasSection};
+ghost use Rattle.simulator_spec.specs.layout.Station.{HasSection};
 ghost use Rattle.node_kinds.specs.Made.{own_names};
 ghost use Rattle.node_kinds.specs.Controllers.{own_place};
 
-use simulator_run::ixl_rules::control_table::layout::{Layout, SectionId};
-use simulator_run::ixl_rules::control_table::sci_telegram::{Name, Occupancy};
+use simulator_spec::{Layout, Name, Occupancy, SectionId};
 use std::alloc::{AllocError, Global};
 
 /// The place of a section among a detector's own.

@@ -1,10 +1,10 @@
 //! The controller of a point.
 
 ghost use Rattle.std.specs.Prelude.{◌≡◌, ◌<◌, [], length, slice_get, IfOk, Some};
-ghost use Rattle.simulator_run.specs.First.{new_point};
-ghost use Rattle.simulator_run.specs.layout.declared.entries.Point.{Point as Entry};
-ghost use Rattle.simulator_run.specs.object_host.declared.input.Input.TheVariants as inputs;
-ghost use Rattle.simulator_run.specs.object_host.declared.sense.Sense.TheVariants as sense;
+ghost use Rattle.simulator_spec.specs.First.{new_point};
+ghost use Rattle.simulator_spec.specs.layout.declared.entries.Point.{Point as Entry};
+ghost use Rattle.simulator_spec.specs.object_host.declared.input.Input.TheVariants as inputs;
+ghost use Rattle.simulator_spec.specs.object_host.declared.sense.Sense.TheVariants as sense;
 ghost use Rattle.node_drive.specs.Kinds.{Comes};
 ghost use Rattle.node_kinds.specs.Controllers.{drive_order, is_same_position, unless_again};
 ghost use Rattle.node_kinds.specs.inside.ControllerSteps.{sense_left};
@@ -13,15 +13,12 @@ ghost use Rattle.node_kinds.specs.inside.ControllerNodes.{point_now};
 
 use crate::contacts::Contacts;
 use crate::controller_node::ControllerNode;
-use crate::controller_steps::Stepped;
-use node_drive::LineMeaning;
-use node_drive::node_lines::replay_words::Fault;
-use node_drive::node_lines::{FieldReport, Order};
-use simulator_run::ixl_rules::control_table::Checked;
-use simulator_run::ixl_rules::control_table::sci_telegram::Position;
-use simulator_run::ixl_rules::rasta_core::Millis;
-use simulator_run::object_host::Sense;
-use simulator_run::point_ctl::{Drive, Point};
+use crate::controller_steps::SteppedHost;
+use node_drive::node_lines::FieldReport;
+use node_drive::{Fault, LineMeaning, Order};
+use simulator_spec::object_host::Sense;
+use simulator_spec::point_ctl::{Drive, Point};
+use simulator_spec::{Checked, Millis, PointId, Position, Start};
 use std::alloc::{AllocError, Global};
 
 /// Where the contacts of a point told last that it lies.
@@ -34,31 +31,33 @@ pub struct PointContacts {
 pub type PointNode<'a> = ControllerNode<'a, PointContacts>;
 
 impl<'a> PointNode<'a> {
-    /// The controller of the point at this place, which lies so. It is made at this reading of its clock, and numbers its PDUs from
+    /// The controller of a point, which lies so. It is made at this reading of its clock, and numbers its PDUs from
     /// `first_sequence_number` on.
     pub fn new(
         alloc: Global,
         table: &'a Checked,
-        place: usize,
+        point: PointId,
         position: Position,
         reading: Millis,
         first_sequence_number: u32,
     ) -> Result<PointNode<'a>, AllocError>
-        requires { place < length table.now.points }
+        requires { point.0 < length table.now.points }
         ensures reached { IfOk result (λ node. (point_now node).reached ≡ reading) }
-        ensures made { IfOk result (λ node. (entry : Entry) → slice_get table.now.points place ≡ Some entry
+        ensures made { IfOk result (λ node. (entry : Entry) → slice_get table.now.points point.0 ≡ Some entry
             → point_now node ≡ made_at reading (record { site = table.now; host = new_point table.now (record { clock = reading; first = first_sequence_number }) position entry; contacts = position })) }
     {
         let layout = table.layout();
-        let entry = &layout.points()[place];
-        let stepped = Stepped::new(
+        let entry = &layout.points()[point.0];
+        let stepped = SteppedHost::new(
             alloc,
             table,
             entry.name,
             entry.id,
             Point::new(position),
-            reading,
-            first_sequence_number,
+            Start {
+                first_sequence_number,
+                now: reading,
+            },
         )?;
         Ok(ControllerNode {
             layout,
@@ -71,8 +70,8 @@ impl<'a> PointNode<'a> {
 
 impl Contacts for PointContacts {
     ghost use Rattle.std.specs.Prelude.{Some, refl};
-    ghost use Rattle.simulator_run.specs.point_ctl.Drive.{drive_of};
-    ghost use Rattle.simulator_run.specs.sci_telegram.declared.message.Position.{Position as Lies};
+    ghost use Rattle.simulator_spec.specs.point_ctl.Drive.{drive_of};
+    ghost use Rattle.simulator_spec.specs.sci_telegram.declared.message.Position.{Position as Lies};
     ghost use Rattle.node_kinds.specs.Controllers.{drive_order, position_after, told_to_point};
 
     type Object = Point;

@@ -8,11 +8,11 @@ ghost use Rattle.node_kinds.specs.inside.InterlockingSteps.{texts};
 
 use ixl::{Command, Reply};
 use node_drive::node_lines::{OperatorLine, OperatorText};
-use simulator_run::ixl_rules::control_table::layout::Layout;
+use simulator_spec::Layout;
 use std::alloc::{AllocError, Global};
 use std::collections::VecDeque;
 
-/// A line is to be told behind the others.
+/// A line is to be told after the others.
 pub(crate) fn say(
     alloc: Global,
     layout: &Layout,

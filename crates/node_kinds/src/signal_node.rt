@@ -1,23 +1,20 @@
 //! The controller of a signal.
 
 ghost use Rattle.std.specs.Prelude.{◌≡◌, ◌<◌, length, slice_get, IfOk, Some};
-ghost use Rattle.simulator_run.specs.First.{new_signal};
-ghost use Rattle.simulator_run.specs.layout.declared.entries.Signal.{Signal as Entry};
+ghost use Rattle.simulator_spec.specs.First.{new_signal};
+ghost use Rattle.simulator_spec.specs.layout.declared.entries.Signal.{Signal as Entry};
 ghost use Rattle.node_kinds.specs.Controllers.{lamp_order};
 ghost use Rattle.node_kinds.specs.Made.{made_at};
 ghost use Rattle.node_kinds.specs.inside.ControllerNodes.{signal_now};
 
 use crate::contacts::Contacts;
 use crate::controller_node::ControllerNode;
-use crate::controller_steps::Stepped;
-use node_drive::LineMeaning;
-use node_drive::node_lines::replay_words::Fault;
-use node_drive::node_lines::{FieldReport, Order};
-use simulator_run::ixl_rules::control_table::Checked;
-use simulator_run::ixl_rules::control_table::sci_telegram::Aspect;
-use simulator_run::ixl_rules::rasta_core::Millis;
-use simulator_run::object_host::Sense;
-use simulator_run::signal_ctl::Signal;
+use crate::controller_steps::SteppedHost;
+use node_drive::node_lines::FieldReport;
+use node_drive::{Fault, LineMeaning, Order};
+use simulator_spec::object_host::Sense;
+use simulator_spec::signal_ctl::Signal;
+use simulator_spec::{Aspect, Checked, Millis, SignalId, Start};
 use std::alloc::{AllocError, Global};
 
 /// A signal has no contacts.
@@ -28,30 +25,32 @@ pub struct NoContacts;
 pub type SignalNode<'a> = ControllerNode<'a, NoContacts>;
 
 impl<'a> SignalNode<'a> {
-    /// The controller of the signal at this place, which was told nothing yet. It is made at this reading of its clock, and numbers
+    /// The controller of a signal, which was told nothing yet. It is made at this reading of its clock, and numbers
     /// its PDUs from `first_sequence_number` on.
     pub fn new(
         alloc: Global,
         table: &'a Checked,
-        place: usize,
+        signal: SignalId,
         reading: Millis,
         first_sequence_number: u32,
     ) -> Result<SignalNode<'a>, AllocError>
-        requires { place < length table.now.signals }
+        requires { signal.0 < length table.now.signals }
         ensures reached { IfOk result (λ node. (signal_now node).reached ≡ reading) }
-        ensures made { IfOk result (λ node. (entry : Entry) → slice_get table.now.signals place ≡ Some entry
+        ensures made { IfOk result (λ node. (entry : Entry) → slice_get table.now.signals signal.0 ≡ Some entry
             → signal_now node ≡ made_at reading (record { site = table.now; host = new_signal table.now (record { clock = reading; first = first_sequence_number }) entry; contacts = tt })) }
     {
         let layout = table.layout();
-        let entry = &layout.signals()[place];
-        let stepped = Stepped::new(
+        let entry = &layout.signals()[signal.0];
+        let stepped = SteppedHost::new(
             alloc,
             table,
             entry.name,
             entry.id,
             Signal::new(),
-            reading,
-            first_sequence_number,
+            Start {
+                first_sequence_number,
+                now: reading,
+            },
         )?;
         Ok(ControllerNode {
             layout,

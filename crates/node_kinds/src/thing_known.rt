@@ -2,10 +2,10 @@
 
 ghost use Rattle.std.specs.Prelude.{◌≡◌, ◌<◌, ◌+◌, length};
 ghost use Rattle.std.specs.Option.{option_map};
-ghost use Rattle.simulator_run.specs.layout.declared.ids.RouteId.{RouteId};
-ghost use Rattle.simulator_run.specs.ixl_rules.Table.{at};
-ghost use Rattle.simulator_run.specs.ixl_rules.View.{authority_from, indicated, is_clear, is_holding, is_known, is_occupied, is_point_ready, is_set, is_signal_ready};
-ghost use Rattle.simulator_run.specs.sci_telegram.declared.message.Side.TheVariants as sides;
+ghost use Rattle.simulator_spec.specs.layout.declared.ids.RouteId.{RouteId};
+ghost use Rattle.simulator_spec.specs.ixl_spec.Table.{at};
+ghost use Rattle.simulator_spec.specs.ixl_spec.View.{authority_from, indicated, is_clear, is_holding, is_known, is_occupied, is_point_ready, is_set, is_signal_ready};
+ghost use Rattle.simulator_spec.specs.sci_telegram.declared.message.Side.TheVariants as sides;
 ghost use Rattle.node_kinds.specs.Interlockings.{authority_of, count, indication, is_detector_ready, known_at, link_known, occupancy_known, readiness, side_known};
 
 use crate::thing::Thing;
@@ -13,10 +13,7 @@ use ixl::Interlocking;
 use ixl_state::State;
 use ixl_state::ixl_table::Table;
 use node_drive::node_lines::{Authority, Known, LinkState};
-use simulator_run::ixl_rules::control_table::layout::{PointId, RouteId, SectionId, SignalId};
-use simulator_run::ixl_rules::control_table::sci_telegram::{Occupancy, Side};
-use simulator_run::ixl_rules::rasta_core::Millis;
-use simulator_run::simulator_event::NodeId;
+use simulator_spec::{Millis, NodeId, Occupancy, PointId, RouteId, SectionId, Side, SignalId};
 
 /// What is known of the link to the controller of a place among all.
 fn link(place: usize, ready: bool) -> Option<Known>

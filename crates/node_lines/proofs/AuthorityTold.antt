@@ -1,11 +1,12 @@
 -- Authority, and none.
 use Rattle.std.proofs.Common.{◌≡◌, ◌≢◌, ℕ, List, [], ◌∷◌, ◌++◌, drop, codes, Some, None, slice_index_or, ap, arith, refl}
-use Rattle.ixl_rules.specs.layout.Entries.{Site}
-use Rattle.ixl_rules.specs.layout.declared.ids.SignalId.{SignalId}
-use Rattle.ixl_rules.specs.sci_telegram.declared.message.Aspect.{Aspect}
-use Rattle.ixl_rules.specs.sci_telegram.declared.message.Aspect.TheVariants.{Stop, Proceed, Slow}
+use Rattle.ixl_spec.specs.layout.Entries.{Site}
+use Rattle.ixl_spec.specs.layout.declared.ids.SignalId.{SignalId}
+use Rattle.ixl_spec.specs.sci_telegram.Words.{aspect_word}
+use Rattle.ixl_spec.specs.sci_telegram.declared.message.Aspect.{Aspect}
+use Rattle.ixl_spec.specs.sci_telegram.declared.message.Aspect.TheVariants.{Stop, Proceed, Slow}
 use Rattle.replay_lines.specs.Names.{route_word}
-use Rattle.node_lines.specs.Known.{aspect_word, signal_text, signal_word}
+use Rattle.node_lines.specs.Known.{signal_text, signal_word}
 use Rattle.node_lines.specs.declared.operator_line.Authority.{Authority}
 
 same_tail : (xs ys zs : List ℕ) → xs ++ ys ≡ xs ++ zs → ys ≡ zs

@@ -1,4 +1,4 @@
--- The words of an order, behind others.
+-- The words of an order, after others.
 use Rattle.std.proofs.Common.{◌≡◌, ℕ, List, ◌∷◌, ◌++◌, refl}
 use Rattle.std.specs.List.{join_with_byte}
 use Rattle.node_lines.specs.Orders.{order_words}

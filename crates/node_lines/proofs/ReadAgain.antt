@@ -12,14 +12,14 @@ use Rattle.replay_words.specs.Cut.{words}
 use Rattle.replay_words.specs.Fault.{both, ◌>>=◌}
 use Rattle.replay_words.specs.Read.{decimal}
 use Rattle.replay_words.specs.Words.{are_words, is_without}
-use Rattle.ixl_rules.specs.layout.Entries.{RouteEntry, Site}
-use Rattle.ixl_rules.specs.layout.declared.ids.RouteId.{RouteId}
-use Rattle.ixl_rules.specs.layout.declared.ids.SectionId.{SectionId}
-use Rattle.ixl_rules.specs.declared.command.Command.TheVariants as command
-use Rattle.ixl_rules.specs.sci_telegram.declared.message.Occupancy.{Occupancy}
-use Rattle.ixl_rules.specs.sci_telegram.declared.message.Occupancy.TheVariants as occupancy
-use Rattle.ixl_rules.specs.sci_telegram.declared.message.Position.TheVariants as position
-use Rattle.ixl_rules.specs.sci_telegram.declared.message.Side.TheVariants as side
+use Rattle.ixl_spec.specs.layout.Entries.{RouteEntry, Site}
+use Rattle.ixl_spec.specs.layout.declared.ids.RouteId.{RouteId}
+use Rattle.ixl_spec.specs.layout.declared.ids.SectionId.{SectionId}
+use Rattle.ixl_spec.specs.declared.command.Command.TheVariants as command
+use Rattle.ixl_spec.specs.sci_telegram.declared.message.Occupancy.{Occupancy}
+use Rattle.ixl_spec.specs.sci_telegram.declared.message.Occupancy.TheVariants as occupancy
+use Rattle.ixl_spec.specs.sci_telegram.declared.message.Position.TheVariants as position
+use Rattle.ixl_spec.specs.sci_telegram.declared.message.Side.TheVariants as side
 use Rattle.replay_lines.specs.Names.{route_named, route_word, section_named, section_word}
 use Rattle.replay_lines.specs.ReadAgain.{route_read}
 use Rattle.node_lines.specs.Commands.{command_said, command_text, operator_read}

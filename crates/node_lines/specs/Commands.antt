@@ -9,8 +9,8 @@ use Rattle.std.specs.List.{join_with_byte}
 use Rattle.std.specs.Str.{bytes_eq}
 use Rattle.replay_words.specs.declared.fault.Fault.{Fault}
 use Rattle.replay_words.specs.declared.fault.Fault.TheVariants.{Words}
-use Rattle.ixl_rules.specs.layout.Entries.{Site}
-use Rattle.ixl_rules.specs.declared.command.Command.TheVariants as command
+use Rattle.ixl_spec.specs.layout.Entries.{Site}
+use Rattle.ixl_spec.specs.declared.command.Command.TheVariants as command
 use Rattle.replay_lines.specs.Names.{route_named, route_word}
 use Rattle.replay_lines.specs.ReadAgain.{command_read}
 use Rattle.replay_lines.specs.Written.{command_words}
@@ -50,7 +50,7 @@ command_said site (first ∷ rest) =
     else Err Words
 command_said site [] = Err Words
 
--- as what the line of a command is read: a route that the table lacks as the one behind the last, and a cancel of a route
+-- as what the line of a command is read: a route that the table lacks as the one after the last, and a cancel of a route
 -- that is called `all` as one of each route
 abbrev pub operator_read : Site → OperatorCommand → OperatorCommand
 operator_read site (One (command.Cancel route)) =

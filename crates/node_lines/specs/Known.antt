@@ -13,17 +13,14 @@
 --     waiting for resume
 use Rattle.std.specs.Prelude.{ℕ, Bool, true, false, List, ◌∷◌, ◌++◌, codes, Option, Some, None, slice_get}
 use Rattle.std.specs.Option.{option_map_or}
-use Rattle.ixl_rules.specs.layout.Entries.{Site}
-use Rattle.ixl_rules.specs.layout.declared.ids.SignalId.{SignalId}
-use Rattle.ixl_rules.specs.sci_telegram.declared.message.Aspect.{Aspect}
-use Rattle.ixl_rules.specs.sci_telegram.declared.message.Aspect.TheVariants.{Stop, Proceed, Slow}
-use Rattle.ixl_rules.specs.sci_telegram.declared.message.Occupancy.{Occupancy}
-use Rattle.ixl_rules.specs.sci_telegram.declared.message.Occupancy.TheVariants.{Clear, Occupied}
-use Rattle.ixl_rules.specs.sci_telegram.declared.message.Side.{Side}
-use Rattle.simulator_event.specs.declared.event.NodeId.{NodeId}
+use Rattle.ixl_spec.specs.layout.Entries.{Site}
+use Rattle.ixl_spec.specs.layout.declared.ids.SignalId.{SignalId}
+use Rattle.ixl_spec.specs.sci_telegram.Words.{aspect_word, occupancy_word, side_word}
+use Rattle.ixl_spec.specs.sci_telegram.declared.message.Occupancy.{Occupancy}
+use Rattle.ixl_spec.specs.sci_telegram.declared.message.Side.{Side}
+use Rattle.simulator_event.specs.layout.declared.ids.NodeId.{NodeId}
 use Rattle.replay_lines.specs.Answers.{refusal_text}
 use Rattle.replay_lines.specs.Names.{node_names, point_word, route_word, section_word}
-use Rattle.node_lines.specs.Orders.{side_word}
 use Rattle.node_lines.specs.declared.operator_line.Authority.{Authority}
 use Rattle.node_lines.specs.declared.operator_line.Known.{Known as KnownThing}
 use Rattle.node_lines.specs.declared.operator_line.Known.TheVariants.{Link, Section, Point, Signal, Indicates, Route, Holding, WaitingForResume}
@@ -41,18 +38,12 @@ node_word site node = option_map_or (λ name. name) (slice_get (node_names site)
 abbrev pub signal_word : Site → SignalId → List ℕ
 signal_word site signal = option_map_or (λ s. s.name) (slice_get site.signals signal.0) (codes "_")
 
-abbrev pub aspect_word : Aspect → List ℕ
-aspect_word Stop = codes "stop"
-aspect_word Proceed = codes "proceed"
-aspect_word Slow = codes "slow"
-
 abbrev pub link_word : LinkState → List ℕ
 link_word Ready = codes "ready"
 link_word Lost = codes "lost"
 
 abbrev pub known_occupancy_word : Option Occupancy → List ℕ
-known_occupancy_word (Some Clear) = codes "clear"
-known_occupancy_word (Some Occupied) = codes "occupied"
+known_occupancy_word (Some occupancy) = occupancy_word occupancy
 known_occupancy_word None = codes "unknown"
 
 abbrev pub known_side_word : Option Side → List ℕ

@@ -1,7 +1,7 @@
 -- The line of an order, by which a controller tells its field equipment what to do: its number, the reading of the step, and
 -- the order. All moments are readings of the node's clock, in milliseconds.
 --
---     7 at 12000 show proceed until 13640     show proceed, or slow, and from the moment behind `until` on show stop
+--     7 at 12000 show proceed until 13640     show proceed, or slow, and from the moment after `until` on show stop
 --     8 at 12310 show stop
 --     9 at 500 drive left until 2280          drive the point to a side, and from that moment on don't drive it
 --     10 at 900 drive none
@@ -13,10 +13,10 @@ use Rattle.replay_words.specs.declared.fault.Fault.{Fault}
 use Rattle.replay_words.specs.declared.fault.Fault.TheVariants.{Words}
 use Rattle.replay_words.specs.Fault.{both, ◌>>=◌}
 use Rattle.replay_words.specs.Read.{decimal}
-use Rattle.ixl_rules.specs.sci_telegram.declared.message.Aspect.{Aspect}
-use Rattle.ixl_rules.specs.sci_telegram.declared.message.Aspect.TheVariants as aspects
-use Rattle.ixl_rules.specs.sci_telegram.declared.message.Side.{Side}
-use Rattle.ixl_rules.specs.sci_telegram.declared.message.Side.TheVariants as side
+use Rattle.ixl_spec.specs.sci_telegram.Words.{aspect_of_word, side_of_word, side_word}
+use Rattle.ixl_spec.specs.sci_telegram.declared.message.Aspect.{Aspect}
+use Rattle.ixl_spec.specs.sci_telegram.declared.message.Aspect.TheVariants as aspects
+use Rattle.ixl_spec.specs.sci_telegram.declared.message.Side.{Side}
 use Rattle.node_lines.specs.declared.order.Order.{Order}
 use Rattle.node_lines.specs.declared.order.Order.TheVariants.{ShowStop, ShowProceed, ShowSlow, DriveNone, Drive}
 use Rattle.node_lines.specs.declared.order.OrderLine.{OrderLine}
@@ -36,10 +36,6 @@ side_ordered order now = None
 
 -- ---- written
 
-abbrev pub side_word : Side → List ℕ
-side_word side.Right = codes "right"
-side_word side.Left = codes "left"
-
 abbrev pub until_words : ℕ → List (List ℕ)
 until_words until = codes "until" ∷ written until ∷ []
 
@@ -58,7 +54,7 @@ order_text line = join_with_byte 32 (order_line_words line)
 
 -- ---- read
 
--- an order behind which nothing stands
+-- an order after which nothing stands
 abbrev pub alone : Order → List (List ℕ) → Result Order Fault
 alone order [] = Ok order
 alone order more = Err Words
@@ -73,25 +69,28 @@ with_until order more = do
   until ← until_said more
   Ok (order until)
 
--- by the word behind `show`, and those behind that
+-- by the word after `show`, and those after that
 abbrev pub shown_as : List ℕ → List (List ℕ) → Result Order Fault
-shown_as aspect more =
-    if bytes_eq aspect (codes "stop") then alone ShowStop more
-    else if bytes_eq aspect (codes "proceed") then with_until (λ until. ShowProceed until) more
-    else if bytes_eq aspect (codes "slow") then with_until (λ until. ShowSlow until) more
-    else Err Words
+shown_as aspect more = by_aspect (aspect_of_word aspect) where
+  by_aspect : Option Aspect → Result Order Fault
+  by_aspect (Some aspects.Stop) = alone ShowStop more
+  by_aspect (Some aspects.Proceed) = with_until (λ until. ShowProceed until) more
+  by_aspect (Some aspects.Slow) = with_until (λ until. ShowSlow until) more
+  by_aspect None = Err Words
 
 abbrev pub shown : List (List ℕ) → Result Order Fault
 shown (aspect ∷ more) = shown_as aspect more
 shown [] = Err Words
 
--- by the word behind `drive`
+-- by the word after `drive`
 abbrev pub driven_to : List ℕ → List (List ℕ) → Result Order Fault
 driven_to to more =
     if bytes_eq to (codes "none") then alone DriveNone more
-    else if bytes_eq to (codes "left") then with_until (λ until. Drive side.Left until) more
-    else if bytes_eq to (codes "right") then with_until (λ until. Drive side.Right until) more
-    else Err Words
+    else driven_aside (side_of_word to)
+  where
+    driven_aside : Option Side → Result Order Fault
+    driven_aside (Some side) = with_until (λ until. Drive side until) more
+    driven_aside None = Err Words
 
 abbrev pub driven : List (List ℕ) → Result Order Fault
 driven (to ∷ more) = driven_to to more

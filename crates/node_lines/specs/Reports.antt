@@ -11,12 +11,13 @@ use Rattle.replay_words.specs.declared.fault.Fault.{Fault}
 use Rattle.replay_words.specs.declared.fault.Fault.TheVariants.{Words}
 use Rattle.replay_words.specs.Fault.{◌>>=◌}
 use Rattle.replay_words.specs.Read.{decimal}
-use Rattle.ixl_rules.specs.layout.Entries.{Site}
-use Rattle.ixl_rules.specs.sci_telegram.declared.message.Occupancy.{Occupancy}
-use Rattle.ixl_rules.specs.sci_telegram.declared.message.Occupancy.TheVariants as occupancy
+use Rattle.ixl_spec.specs.layout.Entries.{Site}
+use Rattle.ixl_spec.specs.sci_telegram.declared.message.Occupancy.{Occupancy}
+use Rattle.ixl_spec.specs.sci_telegram.declared.message.Occupancy.TheVariants as occupancy
 use Rattle.replay_lines.specs.Events.{position_named}
 use Rattle.replay_lines.specs.Names.{section_named, section_word}
-use Rattle.replay_lines.specs.Written.{occupancy_word, position_word}
+use Rattle.replay_lines.specs.Written.{occupancy_verb}
+use Rattle.ixl_spec.specs.sci_telegram.Words.{position_word}
 use Rattle.node_lines.specs.declared.report.FieldReport.{FieldReport}
 use Rattle.node_lines.specs.declared.report.FieldReport.TheVariants.{Done, Section, Point}
 
@@ -24,7 +25,7 @@ use Rattle.node_lines.specs.declared.report.FieldReport.TheVariants.{Done, Secti
 
 abbrev pub report_words : Site → FieldReport → List (List ℕ)
 report_words site (Done number) = codes "done" ∷ written number ∷ []
-report_words site (Section of told) = occupancy_word told ∷ section_word site of ∷ []
+report_words site (Section of told) = occupancy_verb told ∷ section_word site of ∷ []
 report_words site (Point position) = codes "reach" ∷ position_word position ∷ []
 
 abbrev pub report_text : Site → FieldReport → List ℕ

@@ -2,12 +2,12 @@
 
 ghost use Rattle.std.specs.Prelude.{◌≡◌, ◌≢◌, None, Ok, Some};
 ghost use Rattle.replay_words.specs.Cut.{words};
-ghost use Rattle.ixl_rules.specs.layout.Entries.{Site};
-ghost use Rattle.ixl_rules.specs.layout.Once.{Once};
-ghost use Rattle.ixl_rules.specs.layout.Station.{IsStation};
+ghost use Rattle.ixl_spec.specs.layout.Entries.{Site};
+ghost use Rattle.ixl_spec.specs.layout.Once.{Once};
+ghost use Rattle.ixl_spec.specs.layout.Station.{IsStation};
 ghost use Rattle.node_lines.specs.Commands.{command_said, command_text, operator_read};
-ghost use Rattle.ixl_rules.specs.layout.declared.ids.SignalId.{SignalId};
-ghost use Rattle.ixl_rules.specs.sci_telegram.declared.message.Aspect.TheVariants.{Stop};
+ghost use Rattle.ixl_spec.specs.layout.declared.ids.SignalId.{SignalId};
+ghost use Rattle.ixl_spec.specs.sci_telegram.declared.message.Aspect.TheVariants.{Stop};
 ghost use Rattle.node_lines.specs.Known.{signal_text};
 ghost use Rattle.node_lines.specs.Orders.{order_line_said, order_text};
 ghost use Rattle.node_lines.specs.ReadAgain.{IsOrderLine, IsReport};
@@ -39,7 +39,7 @@ pub fn reports_are_read_again()
     names_are_words();
 }
 
-/// The line of a command is read as this command. One on a route that the table lacks is read as one on the route behind its
+/// The line of a command is read as this command. One on a route that the table lacks is read as one on the route after its
 /// last, and a cancel of a route that is called `all` as one of each route.
 pub fn commands_are_read_again()
     ensures { (site : Site) → Once site → IsStation site → (asked : Asked) → command_said site (words (command_text site asked)) ≡ Ok (operator_read site asked) }

@@ -4,8 +4,7 @@ ghost use Rattle.std.specs.Prelude.{◌≡◌};
 ghost use Rattle.replay_words.specs.Cut.{words};
 ghost use Rattle.node_lines.specs.Commands.{cancel, command_said, resume, set};
 
-use ixl_rules::Command;
-use ixl_rules::control_table::layout::Layout;
+use ixl_spec::{Command, Layout};
 use replay_lines::{route_named, route_word};
 use replay_words::{Fault, Words};
 use std::fmt;

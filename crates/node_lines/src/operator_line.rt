@@ -3,18 +3,14 @@
 ghost use Rattle.std.specs.Prelude.{◌≡◌};
 ghost use Rattle.node_lines.specs.Known.{signal_word};
 
-use crate::word_table::{
-    aspect_word, known_occupancy_word, known_side_word, link_word, route_state_word,
-};
-use ixl_rules::Refusal;
-use ixl_rules::control_table::layout::{Layout, PointId, RouteId, SectionId, SignalId};
-use ixl_rules::control_table::sci_telegram::{Aspect, Occupancy, Side};
-use replay_lines::{AnswerText, node_name, point_word, route_word, section_word};
+use crate::word_table::{known_occupancy_word, known_side_word, link_word, route_state_word};
+use ixl_spec::{Aspect, Layout, Occupancy, PointId, Refusal, RouteId, SectionId, Side, SignalId};
+use replay_lines::{AnswerText, point_word, route_word, section_word};
 use simulator_event::{Answer, NodeId};
 use std::fmt;
 
 /// Whether the link to a controller carries commands and reports.
-#[derive(Clone, Copy)]
+#[derive(Clone, Copy, PartialEq, Eq)]
 pub enum LinkState {
     /// It is up, and the initialisation is completed.
     Ready,
@@ -22,7 +18,7 @@ pub enum LinkState {
 }
 
 /// The authority that was given at a signal.
-#[derive(Clone, Copy)]
+#[derive(Clone, Copy, PartialEq, Eq)]
 pub struct Authority {
     /// The aspect that the signal was told to show.
     pub aspect: Aspect,
@@ -31,7 +27,7 @@ pub struct Authority {
 }
 
 /// What an interlocking knows of one thing.
-#[derive(Clone, Copy)]
+#[derive(Clone, Copy, PartialEq, Eq)]
 pub enum Known {
     /// The link of a controller.
     Link {
@@ -63,7 +59,7 @@ pub enum Known {
         route: RouteId,
         is_set: bool,
     },
-    /// It takes no request yet: less than 6000 ms have passed since it was made.
+    /// It takes no request yet: less than `HOLD_TIME` has passed since it was made.
     Holding,
     /// The hold is over, and it wasn't told to resume yet.
     WaitingForResume,
@@ -150,7 +146,7 @@ impl<'a> fmt::Display for KnownText<'a> {
             }
             Known::Indicates { signal, aspect } => {
                 let signal = signal_word(layout, signal);
-                let word = aspect_word(aspect);
+                let word = aspect.word();
                 write!(f, "indicates {signal} {word}")
             }
             Known::Route { route, is_set } => {
@@ -178,7 +174,7 @@ impl<'a> fmt::Display for NodeWord<'a> {
     ghost output = { λ word. Some (node_word word.layout.now word.node) };
 
     fn fmt<W: fmt::Write>(&self, f: &mut fmt::Formatter<W>) -> fmt::Result {
-        match node_name(self.layout, self.node) {
+        match self.layout.node_name(self.node) {
             Some(name) => {
                 let name = name.as_str();
                 write!(f, "{name}")
@@ -204,7 +200,7 @@ impl<'a> fmt::Display for AuthorityText<'a> {
     fn fmt<W: fmt::Write>(&self, f: &mut fmt::Formatter<W>) -> fmt::Result {
         match self.authority {
             Some(authority) => {
-                let word = aspect_word(authority.aspect);
+                let word = authority.aspect.word();
                 let route = route_word(self.layout, authority.route);
                 write!(f, "{word} {route}")
             }

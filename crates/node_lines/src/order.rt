@@ -1,10 +1,9 @@
 //! What a controller tells its field equipment to do.
 
-use crate::word_table::side_word;
-use ixl_rules::control_table::sci_telegram::Side;
+use ixl_spec::Side;
 use std::fmt;
 
-/// What field equipment is told to do. All moments are readings of the node's clock, in milliseconds. From the moment behind
+/// What field equipment is told to do. All moments are readings of the node's clock, in milliseconds. From the moment after
 /// *until* on the equipment shows stop, or doesn't drive, by itself.
 #[derive(Clone, Copy)]
 pub enum Order {
@@ -34,7 +33,7 @@ impl fmt::Display for Order {
             Order::ShowSlow { until } => write!(f, "show slow until {until}"),
             Order::DriveNone => write!(f, "drive none"),
             Order::Drive { side, until } => {
-                let side = side_word(side);
+                let side = side.word();
                 write!(f, "drive {side} until {until}")
             }
         }

@@ -6,7 +6,7 @@ ghost use Rattle.node_lines.specs.Orders.{alone, driven, driven_to, line_of, num
 ghost use Rattle.node_lines.specs.declared.order.Order.TheVariants.{Drive, ShowProceed, ShowSlow};
 
 use crate::order::{Order, OrderLine};
-use ixl_rules::control_table::sci_telegram::Side;
+use ixl_spec::{Aspect, Side};
 use replay_words::{Fault, Words, both, decimal};
 
 /// The order that a line says, or the lowest fault of its words.
@@ -78,14 +78,11 @@ fn shown(mut words: Words<'_>) -> Result<Order, Fault>
 fn shown_as(aspect: &str, more: Words<'_>) -> Result<Order, Fault>
     ensures { result ≡ shown_as aspect.now more.entry }
 {
-    if aspect == "stop" {
-        alone(more, Order::ShowStop)
-    } else if aspect == "proceed" {
-        proceed_until(more)
-    } else if aspect == "slow" {
-        slow_until(more)
-    } else {
-        Err(Fault::Words)
+    match Aspect::of_word(aspect) {
+        Some(Aspect::Stop) => alone(more, Order::ShowStop),
+        Some(Aspect::Proceed) => proceed_until(more),
+        Some(Aspect::Slow) => slow_until(more),
+        None => Err(Fault::Words),
     }
 }
 
@@ -118,13 +115,11 @@ fn driven_to(to: &str, more: Words<'_>) -> Result<Order, Fault>
     ensures { result ≡ driven_to to.now more.entry }
 {
     if to == "none" {
-        alone(more, Order::DriveNone)
-    } else if to == "left" {
-        drive_until(Side::Left, more)
-    } else if to == "right" {
-        drive_until(Side::Right, more)
-    } else {
-        Err(Fault::Words)
+        return alone(more, Order::DriveNone);
+    }
+    match Side::of_word(to) {
+        Some(side) => drive_until(side, more),
+        None => Err(Fault::Words),
     }
 }
 
@@ -137,7 +132,7 @@ fn drive_until(side: Side, words: Words<'_>) -> Result<Order, Fault>
     })
 }
 
-// An order behind which nothing stands.
+// An order after which nothing stands.
 fn alone(mut words: Words<'_>, order: Order) -> Result<Order, Fault>
     ensures { result ≡ alone order words.entry }
 {

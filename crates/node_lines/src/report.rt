@@ -1,14 +1,11 @@
 //! What field equipment tells its controller.
 
 ghost use Rattle.std.specs.Prelude.{◌≡◌};
-ghost use Rattle.replay_lines.specs.Events.{position_named};
 ghost use Rattle.replay_words.specs.Cut.{words};
 ghost use Rattle.node_lines.specs.Reports.{contact, done, reach, report_said};
 
-use crate::word_table::{occupancy_word, position_word};
-use ixl_rules::control_table::layout::{Layout, SectionId};
-use ixl_rules::control_table::sci_telegram::{Occupancy, Position};
-use replay_lines::{section_named, section_word};
+use ixl_spec::{Layout, Occupancy, Position, SectionId};
+use replay_lines::{occupancy_verb, section_named, section_word};
 use replay_words::{Fault, Words, decimal};
 use std::fmt;
 
@@ -45,12 +42,12 @@ impl<'a> fmt::Display for ReportText<'a> {
         match self.report {
             FieldReport::Done { number } => write!(f, "done {number}"),
             FieldReport::Section { section, occupancy } => {
-                let word = occupancy_word(occupancy);
+                let word = occupancy_verb(occupancy);
                 let section = section_word(self.layout, section);
                 write!(f, "{word} {section}")
             }
             FieldReport::Point(position) => {
-                let position = position_word(position);
+                let position = position.word();
                 write!(f, "reach {position}")
             }
         }
@@ -105,17 +102,5 @@ fn reach(mut words: Words<'_>) -> Result<FieldReport, Fault>
     let (Some(position), None) = (words.next(), words.next()) else {
         return Err(Fault::Words);
     };
-    Ok(FieldReport::Point(position_named(position)?))
-}
-
-// Where a point lies.
-fn position_named(word: &str) -> Result<Position, Fault>
-    ensures { result ≡ position_named word.now }
-{
-    match word {
-        "left" => Ok(Position::Left),
-        "right" => Ok(Position::Right),
-        "none" => Ok(Position::NoEndPosition),
-        _ => Err(Fault::Words),
-    }
+    Ok(FieldReport::Point(Position::of_word(position).ok_or(Fault::Words)?))
 }

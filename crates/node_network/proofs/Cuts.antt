@@ -11,7 +11,7 @@ true_false e = cc
 abbrev whole : List ℕ → List ℕ → Option (List ℕ) × Waiting
 whole begun behind = (Some begun, record { begun = []; behind = behind })
 
--- ---- where a piece has no whole line, the next is cut behind it
+-- ---- where a piece has no whole line, the next is cut after it
 
 cut_byte : (feed : Bool) (begun next first second : List ℕ) → (cond feed (whole begun first) (cut next first)).0 ≡ None
     → ((cut next first).0 ≡ None → cut next (first ++ second) ≡ cut (cut next first).1.begun second)
@@ -30,7 +30,7 @@ none_byte : (feed : Bool) (begun next behind : List ℕ) → (cond feed (whole b
 none_byte true begun next behind none on = absurd (none_some none)
 none_byte false begun next behind none on = on none
 
--- nothing is left behind it
+-- nothing is left after it
 pub none_behind : (begun behind : List ℕ) → (cut begun behind).0 ≡ None → (cut begun behind).1.behind ≡ []
 none_behind begun [] none = refl
 none_behind begun (byte ∷ behind) none = none_byte (byte == line_feed) begun (with_byte begun byte) behind none (none_behind (with_byte begun byte) behind)

@@ -1,7 +1,7 @@
 -- From which node a datagram came.
 use Rattle.std.proofs.Common.{◌≡◌, ℕ, List, Option, subst, sym}
 use Rattle.std.specs.declared.net.socket_addr.SocketAddr.{SocketAddr}
-use Rattle.node_drive.specs.simulator_event.declared.event.NodeId.{NodeId}
+use Rattle.node_drive.specs.simulator_event.layout.declared.ids.NodeId.{NodeId}
 use Rattle.node_drive.specs.Calls.{DatagramHeard, Came}
 use Rattle.node_network.specs.Places.{IsFromNode, IsNodeOf}
 

@@ -5,7 +5,7 @@ use Rattle.std.specs.Prelude.{ℕ, ◌+◌, ◌/◌, min, nat_lt, if◌then◌el
 abbrev pub largest : ℕ
 largest = 18446744073709551615
 
--- The reading so many nanoseconds behind the first. It isn't less than the latest.
+-- The reading so many nanoseconds after the first. It isn't less than the latest.
 abbrev pub reading_behind : ℕ → ℕ → ℕ → ℕ
 reading_behind first latest nanos =
     let now = min (first + nanos / 1000000) largest in if nat_lt now latest then latest else now

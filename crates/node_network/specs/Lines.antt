@@ -12,7 +12,7 @@ line_feed = 10
 abbrev pub longest_line : ℕ
 longest_line = 512
 
--- the byte that stands behind them where there were more: no text has it
+-- the byte that stands after them where there were more: no text has it
 abbrev pub too_long : ℕ
 too_long = 255
 
@@ -23,7 +23,7 @@ with_byte begun byte =
     then begun ++ byte ∷ []
     else (if length begun == longest_line then begun ++ too_long ∷ [] else begun)
 
--- What came and wasn't handed on: of the line that has begun, and the bytes behind that.
+-- What came and wasn't handed on: of the line that has begun, and the bytes after that.
 pub record Waiting : Type 0 where
   pub begun : List ℕ
   pub behind : List ℕ
@@ -31,7 +31,7 @@ pub record Waiting : Type 0 where
 abbrev pub nothing_waits : Waiting
 nothing_waits = record { begun = []; behind = [] }
 
--- the first line that is whole, without its line feed, and what waits behind it
+-- the first line that is whole, without its line feed, and what waits after it
 abbrev pub cut : List ℕ → List ℕ → Option (List ℕ) × Waiting
 cut begun [] = (None, record { begun = begun; behind = [] })
 cut begun (byte ∷ behind) =
@@ -50,7 +50,7 @@ abbrev pub left : List ℕ → List ℕ → List ℕ
 left begun [] = begun
 left begun (byte ∷ behind) = if byte == line_feed then left [] behind else left (with_byte begun byte) behind
 
--- the line that was cut, and those behind it
+-- the line that was cut, and those after it
 abbrev pub handed_on : Option (List ℕ) × Waiting → List (List ℕ)
 handed_on (Some line, rest) = line ∷ lines rest.begun rest.behind
 handed_on (None, rest) = []

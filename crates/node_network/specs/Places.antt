@@ -2,7 +2,7 @@
 use Rattle.std.specs.Prelude.{◌≡◌, ◌<◌, ℕ, List, Option, Some, None, slice_get}
 use Rattle.std.specs.declared.net.socket_addr.SocketAddr.{SocketAddr}
 use Rattle.node_drive.specs.Calls.{DatagramHeard, Came}
-use Rattle.node_drive.specs.simulator_event.declared.event.NodeId.{NodeId}
+use Rattle.node_drive.specs.simulator_event.layout.declared.ids.NodeId.{NodeId}
 
 -- it is the first whose address it is, or no node's
 abbrev pub IsNodeOf : List SocketAddr → SocketAddr → Option NodeId → Type 0

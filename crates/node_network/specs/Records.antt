@@ -18,7 +18,7 @@ use Rattle.std.specs.Fmt.{decimal as written}
 use Rattle.node_drive.specs.replay_words.Fault.{number_of}
 use Rattle.node_drive.specs.replay_words.Read.{hex_word}
 use Rattle.node_drive.specs.layout.Entries.{Site}
-use Rattle.node_drive.specs.simulator_event.declared.event.NodeId.{NodeId}
+use Rattle.node_drive.specs.simulator_event.layout.declared.ids.NodeId.{NodeId}
 use Rattle.node_drive.specs.Calls.{Call, Rests, Reads, AsksListener, AsksLine, AsksDatagram, ThrowsAway, Writes, BreaksOff, Sends, Complains, Text, Nothing, Closed, Came, Empty, Failed}
 use Rattle.node_drive.specs.node_lines.Known.{node_word}
 use Rattle.node_network.specs.declared.entry.Entry.{Entry}

@@ -4,11 +4,7 @@ ghost use Rattle.std.specs.Prelude.{◌≡◌, ◌++◌, ◌∷◌, IfOk, Some, 
 ghost use Rattle.node_drive.specs.replay_words.Read.{hex_word};
 ghost use Rattle.node_network.specs.Records.{bytes_word, call_line, call_with, sender_word, thrown_words};
 
-use node_drive::ThrownAway;
-use node_drive::node_lines::ixl_rules::control_table::layout::Layout;
-use node_drive::node_lines::replay_lines::node_name;
-use node_drive::node_lines::replay_words::{Fault, hex_word};
-use node_drive::node_lines::simulator_event::NodeId;
+use node_drive::{Fault, Layout, NodeId, ThrownAway, hex_word};
 use std::alloc::{AllocError, Global};
 
 /// A call of a node's process that has a line in its record.
@@ -85,7 +81,7 @@ fn datagram_line(
     let Some(node) = node else {
         return bytes_line(alloc, what, "-", bytes);
     };
-    match node_name(layout, node) {
+    match layout.node_name(node) {
         Some(name) => bytes_line(alloc, what, name.as_str(), bytes),
         None => bytes_line(alloc, what, "_", bytes),
     }

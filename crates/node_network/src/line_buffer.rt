@@ -13,7 +13,7 @@ pub(crate) const PIECE: usize = 512;
 /// How many bytes of a line are kept.
 const LONGEST_LINE: usize = 512;
 
-/// What stands behind them where there were more. It is in no text, so the line is faulty.
+/// What stands after them where there were more. It is in no text, so the line is faulty.
 const TOO_LONG: u8 = 255;
 
 const LINE_FEED: u8 = 10;
@@ -66,7 +66,7 @@ impl LineBuffer {
         None
     }
 
-    /// Takes the first byte behind the line that has begun.
+    /// Takes the first byte after the line that has begun.
     fn next_byte(&mut self) -> Option<u8>
         ensures { MatchOption result ((self.old.behind ≡ []) × (self.new ≡ self.old)) (λ byte. (self.old.behind ≡ byte ∷ self.new.behind) × (self.new.begun ≡ self.old.begun)) }
     {

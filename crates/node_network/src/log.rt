@@ -4,8 +4,7 @@ ghost use Rattle.std.specs.Prelude.{[], ◌∷◌};
 ghost use Rattle.node_drive.specs.Calls.{Grows};
 ghost use Rattle.node_network.specs.Log.{call_of, told_calls};
 
-use node_drive::node_lines::replay_words::Fault;
-use node_drive::node_lines::simulator_event::NodeId;
+use node_drive::{Fault, NodeId};
 
 /// A call of a node's process.
 #[derive(Drop)]

@@ -7,10 +7,10 @@ ghost use Rattle.node_drive.specs.Calls.{Arrival, Empty, Failed, datagram_heard}
 ghost use Rattle.node_network.specs.Log.{told_calls};
 
 use crate::log::{Log, OutsideCall};
-use crate::node_socket::{LONGEST, MOST_THROWN_AWAY, arrived};
-use node_drive::node_lines::replay_words::Fault;
-use node_drive::node_lines::simulator_event::NodeId;
-use node_drive::{BrokenOff, NextDatagram, NextLine, Outside, ThrownAway};
+use crate::node_socket::{MOST_THROWN_AWAY, arrived};
+use node_drive::{
+    BrokenOff, Fault, LONGEST_DATAGRAM, NextDatagram, NextLine, NodeId, Outside, ThrownAway,
+};
 use std::alloc::{AllocError, Global};
 use std::collections::VecDeque;
 
@@ -27,7 +27,7 @@ pub struct MemoryOutside {
     /// Whether an operator began to listen since the last question.
     began: bool,
     lines: VecDeque<String>,
-    /// Whether no line comes behind those.
+    /// Whether no line comes after those.
     closed: bool,
     datagrams: VecDeque<(Option<NodeId>, Vec<u8>)>,
     written: VecDeque<String>,
@@ -255,7 +255,7 @@ impl Outside for MemoryOutside {
     }
 }
 
-/// Keeps a line behind others.
+/// Keeps a line after others.
 fn keep_line(alloc: Global, lines: &mut VecDeque<String>, text: &str) -> Result<(), AllocError>
     ensures { OnOk result (map string_bytes lines.new.items ≡ map string_bytes lines.old.items ++ text.now ∷ []) }
 {
@@ -263,7 +263,7 @@ fn keep_line(alloc: Global, lines: &mut VecDeque<String>, text: &str) -> Result<
     Ok(())
 }
 
-/// Keeps a datagram behind others, with the node that sent it or to which it goes.
+/// Keeps a datagram after others, with the node that sent it or to which it goes.
 fn keep_datagram<N: Copy>(
     alloc: Global,
     datagrams: &mut VecDeque<(N, Vec<u8>)>,
@@ -300,7 +300,7 @@ fn take_datagram(
     let Some((from, bytes)) = datagrams.pop_front() else {
         return NextDatagram::Empty;
     };
-    let (front, _) = bytes.split_at(bytes.len().min(LONGEST));
+    let (front, _) = bytes.split_at(bytes.len().min(LONGEST_DATAGRAM));
     arrived(from, front)
 }
 

@@ -6,10 +6,8 @@ ghost use Rattle.node_network.specs.Clocks.{reading_behind};
 ghost use Rattle.node_network.specs.declared.fault.OpenFault.TheVariants.{NoClock};
 
 use crate::fault::OpenFault;
+use node_drive::ROUND_MICROS;
 use std::time::{Clock as Timer, Duration, Instant};
-
-/// A round is due so many microseconds behind the one before.
-const ROUND: u64 = 10_000;
 
 const NANOS_PER_MILLI: u128 = 1_000_000;
 
@@ -54,7 +52,7 @@ impl<'a, T: Timer> NodeClock<'a, T> {
         if left > 0 {
             self.timer.sleep(Duration::from_micros(left));
         }
-        self.due = self.micros().saturating_add(ROUND);
+        self.due = self.micros().saturating_add(ROUND_MICROS);
     }
 
     /// The microseconds since its start. Where the machine's clock can't be read, the round is due.
@@ -78,7 +76,7 @@ impl<'a, T: Timer> NodeClock<'a, T> {
     }
 }
 
-/// The reading so long behind the first, or the latest where that is greater.
+/// The reading so long after the first, or the latest where that is greater.
 fn reading_behind(first: u64, latest: u64, elapsed: Duration) -> u64
     ensures { result ≡ reading_behind first latest (as_nanos elapsed) }
 {

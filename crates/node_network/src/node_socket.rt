@@ -7,14 +7,10 @@ ghost use Rattle.node_network.specs.Places.{IsFromNode, IsNodeOf};
 ghost use Rattle.node_network.specs.declared.fault.OpenFault.TheVariants.{NoAddress};
 
 use crate::fault::OpenFault;
-use node_drive::node_lines::simulator_event::NodeId;
-use node_drive::{Arrived, NextDatagram, Received, ThrownAway};
+use node_drive::{Arrived, LONGEST_DATAGRAM, NextDatagram, NodeId, Received, ThrownAway};
 use std::alloc::Global;
 use std::io::ErrorKind;
 use std::net::{Net, SocketAddr, UdpSocket};
-
-/// The longest datagram that is received whole.
-pub(crate) const LONGEST: usize = 512;
 
 /// How many datagrams are thrown away at most in one go.
 pub(crate) const MOST_THROWN_AWAY: u64 = 4096;
@@ -56,7 +52,7 @@ impl NodeSocket {
     pub(crate) fn next_datagram(&self) -> NextDatagram
         ensures { IsFromNode self.now.addresses.items (datagram_heard result) }
     {
-        let mut buffer = [0u8; LONGEST];
+        let mut buffer = [0u8; LONGEST_DATAGRAM];
         match self.socket.recv_from(&mut buffer) {
             Ok((count, sender)) => {
                 let (bytes, _) = buffer.as_slice().split_at(count);
@@ -97,7 +93,7 @@ impl NodeSocket {
 
 /// A datagram that came from the address of a node, or from another.
 pub(crate) fn arrived(from: Option<NodeId>, bytes: &[u8]) -> NextDatagram
-    requires { length bytes.now ≤ 512 }
+    requires { length bytes.now ≤ LONGEST_DATAGRAM }
     ensures { datagram_heard result ≡ Came (from, bytes.now) }
 {
     let Ok(bytes) = Received::try_from(bytes) else {

@@ -1,6 +1,6 @@
 //! The lines of a record that is gone through.
 
-use node_drive::node_lines::replay_words::Lines;
+use node_drive::Lines;
 
 /// The lines of a record that is gone through, up to the first that differs.
 #[derive(Drop)]
@@ -27,7 +27,7 @@ impl<'a> RecordLines<'a> {
         }
     }
 
-    /// What stands behind these words in the next line, which is gone through.
+    /// What stands after these words in the next line, which is gone through.
     pub(crate) fn behind(&mut self, words: &str) -> Option<&'a str> {
         let rest = self.rest(words);
         if rest.is_some() {
@@ -36,7 +36,7 @@ impl<'a> RecordLines<'a> {
         rest
     }
 
-    /// What stands behind these words in the next line.
+    /// What stands after these words in the next line.
     pub(crate) fn rest(&self, words: &str) -> Option<&'a str> {
         match self.next {
             Some(line) => line.strip_prefix(words),

@@ -3,10 +3,7 @@
 ghost use Rattle.std.specs.Prelude.{◌≡◌};
 
 use crate::entry::{Entry, entry_line};
-use node_drive::node_lines::ixl_rules::control_table::layout::Layout;
-use node_drive::node_lines::replay_words::Fault;
-use node_drive::node_lines::simulator_event::NodeId;
-use node_drive::{BrokenOff, NextDatagram, NextLine, Outside, ThrownAway};
+use node_drive::{BrokenOff, Fault, Layout, NextDatagram, NextLine, NodeId, Outside, ThrownAway};
 use std::alloc::{AllocError, Global};
 use std::io::{Eprint, Write};
 

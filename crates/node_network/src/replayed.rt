@@ -4,11 +4,10 @@ ghost use Rattle.std.specs.Prelude.{◌≡◌, ◌≤◌};
 
 use crate::entry::{Entry, entry_line};
 use crate::record_lines::RecordLines;
-use node_drive::node_lines::ixl_rules::control_table::layout::Layout;
-use node_drive::node_lines::replay_lines::node_named;
-use node_drive::node_lines::replay_words::{Fault, Lines, decimal, hexadecimal_or_none};
-use node_drive::node_lines::simulator_event::NodeId;
-use node_drive::{Arrived, BrokenOff, NextDatagram, NextLine, Outside, ThrownAway};
+use node_drive::{
+    Arrived, BrokenOff, Fault, Layout, Lines, NextDatagram, NextLine, NodeId, Outside, ThrownAway,
+    decimal, hexadecimal_or_none, node_named,
+};
 use std::alloc::{AllocError, Global};
 
 /// A record that is gone through once more: what came to the node is taken from it, and what the node does is compared with it.
@@ -36,7 +35,7 @@ impl Drop for Replayed<'_> {
 }
 
 impl<'a> Replayed<'a> {
-    /// What stands behind the first line of a record.
+    /// What stands after the first line of a record.
     pub fn new(alloc: Global, layout: &'a Layout, lines: Lines<'a>) -> Replayed<'a> {
         let mut lines = RecordLines {
             lines,
@@ -89,7 +88,7 @@ impl<'a> Replayed<'a> {
     }
 }
 
-/// A datagram as a line has it, behind its first word.
+/// A datagram as a line has it, after its first word.
 fn arrived(layout: &Layout, rest: &str) -> Option<Arrived> {
     let Some((word, bytes)) = rest.split_once(' ') else {
         return None;
@@ -101,7 +100,7 @@ fn arrived(layout: &Layout, rest: &str) -> Option<Arrived> {
     Some(Arrived { from, bytes })
 }
 
-/// What was thrown away, as a line has it behind its first words.
+/// What was thrown away, as a line has it after its first words.
 fn thrown_said(rest: &str) -> Result<ThrownAway, Fault> {
     let Some(all) = rest.strip_prefix("all ") else {
         let count = decimal(rest)?;
@@ -143,7 +142,7 @@ impl<'a> Outside for Replayed<'a> {
         self.is_next(Entry::Listens)
     }
 
-    /// Behind its last line a record has no more of what came, so the process ends there.
+    /// After its last line a record has no more of what came, so the process ends there.
     fn next_line(&mut self, alloc: Global) -> Result<NextLine, AllocError> {
         if self.lines.next.is_none() || self.is_next(Entry::Closed) {
             return Ok(NextLine::Closed);

@@ -1,4 +1,4 @@
--- Calls one behind another.
+-- Calls one after another.
 use Rattle.std.proofs.Common.{◌≡◌, ◌≤◌, ℕ, List, [], ◌∷◌, ◌++◌, Option, Some, None, refl, sym, ap, ◌∙◌, subst, append_assoc, append-nil, arith}
 use Rattle.node_drive.specs.Calls.{Call, Calls, Grows, Reads, Rises, Told}
 

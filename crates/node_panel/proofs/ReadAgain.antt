@@ -3,6 +3,7 @@ use Rattle.std.proofs.Common.{◌≡◌, ◌≢◌, ◌<◌, ◌∙◌, ◌++◌
 use Rattle.std.specs.List.{join_with_byte}
 use Rattle.std.specs.Option.{option_map, option_map_or}
 use Rattle.std.proofs.lemmas.Bool.Decides.{nat_tests}
+use Rattle.panel_desk.specs.node_lines.layout.Nodes.{Signal as AtSignal, node_at}
 use Rattle.panel_desk.specs.node_lines.layout.Entries.{RouteEntry, Site}
 use Rattle.panel_desk.specs.node_lines.layout.declared.entries.Point.{Point as PointEntry}
 use Rattle.panel_desk.specs.node_lines.layout.declared.entries.Signal.{Signal as SignalEntry}
@@ -15,14 +16,15 @@ use Rattle.panel_desk.specs.node_lines.replay_words.Cut.{words}
 use Rattle.panel_desk.specs.node_lines.replay_words.Fault.{◌>>=◌}
 use Rattle.panel_desk.specs.node_lines.replay_words.Words.{are_words, is_without}
 use Rattle.panel_desk.specs.node_lines.replay_words.declared.fault.Fault.{Fault}
+use Rattle.panel_desk.specs.node_lines.sci_telegram.Words.{aspect_word}
 use Rattle.panel_desk.specs.node_lines.sci_telegram.declared.message.Aspect.{Aspect}
 use Rattle.panel_desk.specs.node_lines.sci_telegram.declared.message.Aspect.TheVariants.{Stop, Proceed, Slow}
 use Rattle.panel_desk.specs.node_lines.sci_telegram.declared.message.Occupancy.{Occupancy}
 use Rattle.panel_desk.specs.node_lines.sci_telegram.declared.message.Occupancy.TheVariants.{Clear, Occupied}
 use Rattle.panel_desk.specs.node_lines.sci_telegram.declared.message.Side.{Side}
 use Rattle.panel_desk.specs.node_lines.sci_telegram.declared.message.Side.TheVariants.{Left, Right}
-use Rattle.panel_desk.specs.node_lines.simulator_event.declared.event.NodeId.{NodeId}
-use Rattle.panel_desk.specs.node_lines.Known.{aspect_word, known_text, node_word, signal_word}
+use Rattle.panel_desk.specs.node_lines.simulator_event.layout.declared.ids.NodeId.{NodeId}
+use Rattle.panel_desk.specs.node_lines.Known.{known_text, node_word, signal_word}
 use Rattle.panel_desk.specs.node_lines.declared.operator_line.Authority.{Authority}
 use Rattle.panel_desk.specs.node_lines.declared.operator_line.Known.{Known}
 use Rattle.panel_desk.specs.node_lines.declared.operator_line.Known.TheVariants as known
@@ -53,7 +55,7 @@ not_past [] k h e = omega arith
 not_past (x ∷ xs) zero h e = cc
 not_past (x ∷ xs) (suc k) h e = not_past xs k (omega arith) e
 
--- the name of a signal is that of the node behind it
+-- the name of a signal is that of the node after it
 signal_node : (xs : List SignalEntry) (rest : List (List ℕ)) (k : ℕ) (x : SignalEntry) → slice_get xs k ≡ Some x → slice_get (map (λ s. s.name) xs ++ rest) k ≡ Some x.name
 signal_node [] rest k x e = absurd (cc)
 signal_node (y ∷ ys) rest zero x e = ap (option_map (λ (s : SignalEntry). s.name)) e
@@ -108,8 +110,8 @@ module _ (site : Site) (names : Names site) where
           let below : nat_lt signal.0 (length site.signals) ≡ true = grind (arith, nat_tests, is) in
           record {
             is_read = ap (signal_named site) word
-                ∙ ap (λ (r : Result NodeId Fault). r >>= (λ (n : NodeId). signal_of (length site.signals) n.0)) (names.nodes (suc signal.0) entry.name node)
-                ∙ chosen (nat_lt signal.0 (length site.signals)) (Ok signal) _ below;
+                ∙ ap (λ (r : Result NodeId Fault). r >>= (λ (n : NodeId). signal_of (node_at site n.0))) (names.nodes (suc signal.0) entry.name node)
+                ∙ ap signal_of (chosen (nat_lt signal.0 (length site.signals)) (Some (AtSignal signal.0)) _ below);
             is_word = ap (is_without 32) word ∙ names.node_words (suc signal.0) entry.name node;
           }
       by None e = absurd (not_past site.signals signal.0 is e)

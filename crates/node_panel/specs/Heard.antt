@@ -6,8 +6,9 @@ use Rattle.panel_desk.specs.declared.panel_line.Mode.TheVariants as mode
 use Rattle.panel_desk.specs.declared.panel_line.PanelLine.{PanelLine}
 use Rattle.panel_desk.specs.declared.panel_line.PanelLine.TheVariants.{Interlocking, Silent, Time}
 use Rattle.panel_desk.specs.declared.panel_line.PanelLine.TheVariants as shows
-use Rattle.panel_desk.specs.node_lines.ixl_rules.declared.command.Command.TheVariants.{Resume}
+use Rattle.panel_desk.specs.node_lines.ixl_spec.declared.command.Command.TheVariants.{Resume}
 use Rattle.panel_desk.specs.node_lines.layout.Entries.{Site}
+use Rattle.panel_desk.specs.node_lines.layout.Nodes.{links as link_count}
 use Rattle.panel_desk.specs.node_lines.replay_words.Cut.{words}
 use Rattle.panel_desk.specs.node_lines.replay_words.declared.fault.Fault.{Fault}
 use Rattle.panel_desk.specs.node_lines.sci_telegram.declared.message.Aspect.{Aspect}
@@ -52,7 +53,7 @@ unheard site = record {
   millis = 0;
   joined = false;
   mode = mode.Ready;
-  links = replicate (length site.signals + (length site.points + length site.detectors)) false;
+  links = replicate (link_count site) false;
   sections = replicate (length site.sections) None;
   points = replicate (length site.points) None;
   authorities = replicate (length site.signals) None;
@@ -113,7 +114,7 @@ told_by text (Ok Answer) heard = answered_by text heard.asked heard
 told_by text (Ok (Tells known)) heard = put known (record heard { joined = true })
 told_by text (Err fault) heard = heard
 
--- what is known behind the question for a line: what the line told; and nothing where the node has gone
+-- what is known after the question for a line: what the line told; and nothing where the node has gone
 abbrev pub heard_by : Site → LineHeard → HeardView → HeardView
 heard_by site (Text text) heard = told_by text (told_said site (words text)) heard
 heard_by site Nothing heard = heard

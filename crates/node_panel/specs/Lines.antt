@@ -1,20 +1,18 @@
 -- What a line of an interlocking's node tells its operator, by its words: the answer to a command, or what the interlocking knows of
 -- one thing. `node_lines` has these lines.
 use Rattle.std.specs.Prelude.{◌≢◌, ◌<◌, ℕ, zero, suc, nat_lt, Bool, true, false, if◌then◌else◌, List, [], ◌∷◌, codes, length, Option, Some, None, Result, Ok, Err}
+use Rattle.std.specs.Option.{ok_or}
 use Rattle.std.specs.Str.{bytes_eq}
 use Rattle.panel_desk.specs.node_lines.layout.Entries.{Site}
+use Rattle.panel_desk.specs.node_lines.layout.Nodes.{Node, Signal, node_at}
 use Rattle.panel_desk.specs.node_lines.layout.declared.ids.RouteId.{RouteId}
 use Rattle.panel_desk.specs.node_lines.layout.declared.ids.SignalId.{SignalId}
 use Rattle.panel_desk.specs.node_lines.replay_lines.Names.{node_named, node_names, point_named, route_named, section_named}
 use Rattle.panel_desk.specs.node_lines.replay_words.Fault.{◌>>=◌}
 use Rattle.panel_desk.specs.node_lines.replay_words.declared.fault.Fault.{Fault}
 use Rattle.panel_desk.specs.node_lines.replay_words.declared.fault.Fault.TheVariants.{Name, Words}
-use Rattle.panel_desk.specs.node_lines.sci_telegram.declared.message.Aspect.{Aspect}
-use Rattle.panel_desk.specs.node_lines.sci_telegram.declared.message.Aspect.TheVariants.{Stop, Proceed, Slow}
-use Rattle.panel_desk.specs.node_lines.sci_telegram.declared.message.Occupancy.{Occupancy}
-use Rattle.panel_desk.specs.node_lines.sci_telegram.declared.message.Occupancy.TheVariants.{Clear, Occupied}
-use Rattle.panel_desk.specs.node_lines.sci_telegram.declared.message.Side.{Side}
-use Rattle.panel_desk.specs.node_lines.sci_telegram.declared.message.Side.TheVariants.{Left, Right}
+use Rattle.panel_desk.specs.node_lines.sci_telegram.declared.message.Aspect.TheVariants.{Stop}
+use Rattle.panel_desk.specs.node_lines.sci_telegram.Words.{aspect_of_word, occupancy_of_word, side_of_word}
 use Rattle.panel_desk.specs.node_lines.declared.operator_line.Authority.{Authority}
 use Rattle.panel_desk.specs.node_lines.declared.operator_line.Known.{Known}
 use Rattle.panel_desk.specs.node_lines.declared.operator_line.Known.TheVariants as known
@@ -31,26 +29,10 @@ link_said word =
     else if bytes_eq word (codes "lost") then Ok Lost
     else Err Words
 
-abbrev pub occupancy_said : List ℕ → Result (Option Occupancy) Fault
-occupancy_said word =
-    if bytes_eq word (codes "clear") then Ok (Some Clear)
-    else if bytes_eq word (codes "occupied") then Ok (Some Occupied)
-    else if bytes_eq word (codes "unknown") then Ok None
-    else Err Words
-
-abbrev pub side_said : List ℕ → Result (Option Side) Fault
-side_said word =
-    if bytes_eq word (codes "left") then Ok (Some Left)
-    else if bytes_eq word (codes "right") then Ok (Some Right)
-    else if bytes_eq word (codes "unknown") then Ok None
-    else Err Words
-
-abbrev pub aspect_said : List ℕ → Result Aspect Fault
-aspect_said word =
-    if bytes_eq word (codes "stop") then Ok Stop
-    else if bytes_eq word (codes "proceed") then Ok Proceed
-    else if bytes_eq word (codes "slow") then Ok Slow
-    else Err Words
+-- what a word says, if anything is known of it; `unknown` says that nothing is
+abbrev pub or_unknown : {T : Type 0} → List ℕ → Option T → Result (Option T) Fault
+or_unknown word (Some said) = Ok (Some said)
+or_unknown word None = if bytes_eq word (codes "unknown") then Ok None else Err Words
 
 abbrev pub route_state_said : List ℕ → Result Bool Fault
 route_state_said word =
@@ -61,14 +43,14 @@ route_state_said word =
 -- ---- names
 
 -- the signal that is this node, if it is one
-abbrev pub signal_of : ℕ → ℕ → Result SignalId Fault
-signal_of signals zero = Err Name
-signal_of signals (suc place) = if nat_lt place signals then Ok (record { 0 = place }) else Err Name
+abbrev pub signal_of : Option Node → Result SignalId Fault
+signal_of (Some (Signal place)) = Ok (record { 0 = place })
+signal_of other = Err Name
 
 abbrev pub signal_named : Site → List ℕ → Result SignalId Fault
 signal_named site word = do
   node ← node_named site word
-  signal_of (length site.signals) node.0
+  signal_of (node_at site node.0)
 
 -- a route that the table has
 abbrev pub route_of : ℕ → RouteId → Result RouteId Fault
@@ -77,7 +59,7 @@ route_of routes route = if nat_lt route.0 routes then Ok route else Err Name
 abbrev pub known_route : Site → List ℕ → Result RouteId Fault
 known_route site word = route_of (length site.routes) (route_named site word)
 
--- ---- lines, by the words behind the first
+-- ---- lines, by the words after the first
 
 abbrev pub link : Site → List (List ℕ) → Result Known Fault
 link site (name ∷ word ∷ []) = do
@@ -89,14 +71,14 @@ link site other = Err Words
 abbrev pub section : Site → List (List ℕ) → Result Known Fault
 section site (name ∷ word ∷ []) = do
   section ← section_named site name
-  occupancy ← occupancy_said word
+  occupancy ← or_unknown word (occupancy_of_word word)
   Ok (known.Section section occupancy)
 section site other = Err Words
 
 abbrev pub point : Site → List (List ℕ) → Result Known Fault
 point site (name ∷ word ∷ []) = do
   point ← point_named site name
-  side ← side_said word
+  side ← or_unknown word (side_of_word word)
   Ok (known.Point point side)
 point site other = Err Words
 
@@ -105,7 +87,7 @@ abbrev pub authority_said : Site → List ℕ → List ℕ → Result (Option Au
 authority_said site aspect route =
     if bytes_eq aspect (codes "stop") then (if bytes_eq route (codes "-") then Ok None else Err Words)
     else (do
-      aspect ← aspect_said aspect
+      aspect ← ok_or (aspect_of_word aspect) Words
       route ← known_route site route
       Ok (Some (record { aspect = aspect; route = route })))
 
@@ -119,7 +101,7 @@ signal site other = Err Words
 abbrev pub indicates : Site → List (List ℕ) → Result Known Fault
 indicates site (name ∷ word ∷ []) = do
   signal ← signal_named site name
-  aspect ← aspect_said word
+  aspect ← ok_or (aspect_of_word word) Words
   Ok (known.Indicates signal aspect)
 indicates site other = Err Words
 

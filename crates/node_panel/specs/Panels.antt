@@ -6,8 +6,8 @@ use Rattle.node_drive.specs.Calls.{Call, Calls, Told}
 use Rattle.panel_desk.specs.Answers.{DeskView, access_at}
 use Rattle.panel_desk.specs.declared.desk_opened.PageAsked.{PageAsked}
 use Rattle.panel_desk.specs.node_lines.layout.Entries.{Site}
-use Rattle.panel_desk.specs.panel_board.Lines.{blank}
-use Rattle.panel_desk.specs.panel_board.State.{about}
+use Rattle.panel_desk.specs.Lines.{blank}
+use Rattle.panel_desk.specs.State.{about}
 use Rattle.station_check.specs.Failures.{ExplainsTable, Tells as TellsText}
 use Rattle.station_check.specs.Report.{IsSound}
 use Rattle.station_check.specs.declared.failure.Failure.{Failure}

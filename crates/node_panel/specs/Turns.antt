@@ -7,7 +7,7 @@ use Rattle.panel_desk.specs.Answers.{Answered, DeskView}
 use Rattle.panel_desk.specs.Boards.{Notes, shown_all}
 use Rattle.panel_desk.specs.declared.panel_command.PanelCommand.{PanelCommand}
 use Rattle.panel_desk.specs.declared.panel_command.PanelCommand.TheVariants as wants
-use Rattle.panel_desk.specs.panel_board.Lines.{numbered}
+use Rattle.panel_desk.specs.Lines.{numbered}
 use Rattle.panel_desk.specs.node_lines.layout.Entries.{Site}
 use Rattle.panel_desk.specs.node_lines.simulator_event.declared.event.Event.{Event}
 use Rattle.panel_desk.specs.node_lines.simulator_event.declared.event.Event.TheVariants.{Request}
@@ -60,7 +60,7 @@ timed reading heard = record heard { millis = reading }
 abbrev pub opened : DeskView → DeskView
 opened desk = record desk { waiting = []; board = numbered desk.board }
 
--- These were all calls of a turn behind its reading, in their order: whether the node was joined anew; the lines that it told; and each
+-- These were all calls of a turn after its reading, in their order: whether the node was joined anew; the lines that it told; and each
 -- command that waited, once. Then the desk shows what is known, a line at each place.
 pub record IsLived (site : Site) (reading : ℕ) (calls : List Call) (old new : Moment) : Type 0 where
   pub began : Bool

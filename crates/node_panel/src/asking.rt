@@ -10,10 +10,8 @@ ghost use Rattle.panel_desk.specs.Boards.{Notes};
 use crate::heard::Heard;
 use crate::hearing::note_command;
 use node_drive::Outside;
-use panel_desk::node_lines::ixl_rules::control_table::layout::Layout;
-use panel_desk::node_lines::simulator_event::Event;
 use panel_desk::node_lines::{CommandText, OperatorCommand};
-use panel_desk::{Desk, PanelCommand};
+use panel_desk::{Desk, Event, Layout, PanelCommand};
 use std::alloc::{AllocError, Global};
 
 /// Asks each command of the node, one after the other.
@@ -21,7 +19,6 @@ pub(crate) fn ask_each<O: Outside>(
     alloc: Global,
     layout: &Layout,
     outside: &mut O,
-    reading: u64,
     commands: &[PanelCommand],
     heard: &mut Heard,
     desk: &mut Desk,
@@ -29,7 +26,7 @@ pub(crate) fn ask_each<O: Outside>(
     ensures { OnOk result ((calls : List Call) × Calls (O.told outside.old) (O.told outside.new) calls × AsksEach layout.now (flat_map asked_by commands.now) heard.old calls heard.new × Notes desk.old desk.new) }
 {
     for command in commands {
-        ask_wanted(alloc, layout, outside, reading, command, heard, desk)?;
+        ask_wanted(alloc, layout, outside, command, heard, desk)?;
     }
     Ok(())
 }
@@ -39,7 +36,6 @@ fn ask_wanted<O: Outside>(
     alloc: Global,
     layout: &Layout,
     outside: &mut O,
-    reading: u64,
     command: &PanelCommand,
     heard: &mut Heard,
     desk: &mut Desk,
@@ -47,8 +43,9 @@ fn ask_wanted<O: Outside>(
     ensures { OnOk result ((calls : List Call) × Calls (O.told outside.old) (O.told outside.new) calls × AsksEach layout.now (asked_by command.now) heard.old calls heard.new × Notes desk.old desk.new) }
 {
     match operator_command(command) {
-        Some(command) => ask(alloc, layout, outside, reading, command, heard, desk),
+        Some(command) => ask(alloc, layout, outside, command, heard, desk),
         None => {
+            let reading = heard.millis;
             let line = format!(in alloc; "{reading} an occupancy or a fault = not taken here")?;
             desk.note(line.as_str())
         }
@@ -71,7 +68,6 @@ fn ask<O: Outside>(
     alloc: Global,
     layout: &Layout,
     outside: &mut O,
-    reading: u64,
     command: OperatorCommand,
     heard: &mut Heard,
     desk: &mut Desk,
@@ -82,6 +78,6 @@ fn ask<O: Outside>(
     let line = format!(in alloc; "{text}")?;
     match outside.write_line(line.as_str()) {
         Ok(()) => heard.ask(command),
-        Err(_) => note_command(alloc, layout, reading, command, "lost", desk),
+        Err(_) => note_command(alloc, layout, heard.millis, command, "lost", desk),
     }
 }

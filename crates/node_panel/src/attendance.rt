@@ -11,10 +11,17 @@ use crate::heard::Heard;
 use crate::hearing::hear_lines;
 use node_drive::Outside;
 use panel_connections::{Connections, Listens};
-use panel_desk::node_lines::ixl_rules::control_table::layout::Layout;
-use panel_desk::{Desk, Pictured, show_lines};
+use panel_desk::{Desk, Layout, Pictured, show_lines};
 use std::alloc::{AllocError, Global};
 use std::random::RandomSource;
+
+/// What a panel knows of its node, by the layout of the station, and the desk that shows it.
+#[derive(Drop)]
+pub struct Room<'a> {
+    pub layout: &'a Layout,
+    pub heard: Heard,
+    pub desk: Desk,
+}
 
 /// Attends a panel of an interlocking's node until its clock reads `until`, in milliseconds. Each reading makes a turn: the requests
 /// that have come are answered, what the node has told is heard, each command is asked of it once and in order, and the desk shows
@@ -22,22 +29,28 @@ use std::random::RandomSource;
 pub fn attend_node<O: Outside, R: RandomSource, L: Listens>(
     rt: &R,
     alloc: Global,
-    layout: &Layout,
     outside: &mut O,
     listener: &mut L,
-    heard: &mut Heard,
-    desk: &mut Desk,
+    room: &mut Room<'_>,
     until: u64,
 ) -> Result<(), AllocError>
-    ensures turns { OnOk result ((calls : List Call) × Calls (O.told outside.old) (O.told outside.new) calls × Turns layout.now (record { heard = heard.old; desk = desk.old }) calls (record { heard = heard.new; desk = desk.new })) }
+    ensures turns { OnOk result ((calls : List Call) × Calls (O.told outside.old) (O.told outside.new) calls × Turns room.old.layout.now (record { heard = room.old.heard; desk = room.old.desk }) calls (record { heard = room.new.heard; desk = room.new.desk })) }
     ensures over { OnOk result (until ≤ (O.told outside.new).latest) }
 {
+    let layout = room.layout;
     let mut connections = Connections::new(alloc);
     for _ in 0..u64::MAX {
         outside.rest();
         let reading = outside.read_clock();
-        connections.serve(rt, alloc, listener, desk, reading);
-        turn(alloc, layout, outside, reading, heard, desk)?;
+        connections.serve(rt, alloc, listener, &mut room.desk, reading);
+        turn(
+            alloc,
+            layout,
+            outside,
+            reading,
+            &mut room.heard,
+            &mut room.desk,
+        )?;
         if reading >= until {
             return Ok(());
         }
@@ -46,7 +59,7 @@ pub fn attend_node<O: Outside, R: RandomSource, L: Listens>(
     Err(AllocError)
 }
 
-/// What a turn does behind the answers to its requests.
+/// What a turn does after the answers to its requests.
 fn turn<O: Outside>(
     alloc: Global,
     layout: &Layout,
@@ -62,7 +75,7 @@ fn turn<O: Outside>(
     let commands = desk.take();
     desk.count();
     hear_lines(alloc, layout, outside, reading, heard, desk)?;
-    ask_each(alloc, layout, outside, reading, &commands, heard, desk)?;
+    ask_each(alloc, layout, outside, &commands, heard, desk)?;
     show(alloc, layout, heard, desk)
 }
 

@@ -6,13 +6,12 @@ ghost use Rattle.node_panel.specs.Panels.{Explained, IsOpened, Stood, until};
 ghost use Rattle.panel_desk.specs.node_lines.layout.Entries.{Site};
 ghost use Rattle.station_check.specs.Report.{IsSound};
 
-use crate::attendance::attend_node;
+use crate::attendance::{Room, attend_node};
 use crate::failure::NodePanelFailure;
 use crate::heard::Heard;
 use node_network::{Caller, NodeClock};
 use panel_connections::{Loopback, tell_address};
-use panel_desk::node_lines::ixl_rules::control_table::Checked;
-use panel_desk::{Desk, PageAsked, Pictured, open_desk};
+use panel_desk::{Checked, Desk, PageAsked, Pictured, open_desk};
 use station_check::{table_of, tell};
 use std::alloc::Global;
 use std::io::Write;
@@ -22,7 +21,7 @@ use std::time::Clock as Timer;
 
 /// What a panel of a node is asked.
 #[derive(Clone, Copy, Debug)]
-pub struct Asked<'a> {
+pub struct NodePanelOptions<'a> {
     pub page: PageAsked<'a>,
     /// The path of a record. None is written: the node writes one.
     pub record: Option<&'a str>,
@@ -37,7 +36,7 @@ pub struct Asked<'a> {
 /// why.
 pub fn panel_of_node<R: Net + Timer + RandomSource + AllocGlobal, O: Write, E: Write>(
     rt: &R,
-    asked: &Asked<'_>,
+    asked: &NodePanelOptions<'_>,
     out: &mut O,
     err: &mut E,
 ) -> u8
@@ -50,10 +49,7 @@ pub fn panel_of_node<R: Net + Timer + RandomSource + AllocGlobal, O: Write, E: W
 {
     let table = match table_of(rt.alloc(), asked.page.layout) {
         Ok(table) => table,
-        Err(failure) => {
-            tell(&failure, err);
-            return 1;
-        }
+        Err(failure) => return tell(&failure, err),
     };
     match open(rt, asked, &table, out) {
         Ok(()) => 0,
@@ -67,7 +63,7 @@ pub fn panel_of_node<R: Net + Timer + RandomSource + AllocGlobal, O: Write, E: W
 /// Opens what the panel has outside.
 fn open<R: Net + Timer + RandomSource + AllocGlobal, O: Write>(
     rt: &R,
-    asked: &Asked<'_>,
+    asked: &NodePanelOptions<'_>,
     table: &Checked,
     out: &mut O,
 ) -> Result<(), NodePanelFailure>
@@ -92,7 +88,7 @@ fn open<R: Net + Timer + RandomSource + AllocGlobal, O: Write>(
 /// Opens the desk, tells where the page is, and attends the panel.
 fn attend_opened<R: Net + Timer + RandomSource + AllocGlobal, O: Write>(
     rt: &R,
-    asked: &Asked<'_>,
+    asked: &NodePanelOptions<'_>,
     table: &Checked,
     mut caller: Caller<'_, R>,
     mut listener: Loopback,
@@ -106,35 +102,32 @@ fn attend_opened<R: Net + Timer + RandomSource + AllocGlobal, O: Write>(
     attend_node(
         rt,
         rt.alloc(),
-        table.layout(),
         &mut caller,
         &mut listener,
-        &mut room.heard,
-        &mut room.desk,
+        &mut room,
         asked.for_ms.unwrap_or(u64::MAX),
     )?;
     Ok(())
 }
 
-/// What was told, and the desk that shows it.
-#[derive(Drop)]
-struct Room {
-    heard: Heard,
-    desk: Desk,
-}
-
 /// Nothing was told yet, and a desk is opened that shows this.
-fn open_room<R: RandomSource>(
+fn open_room<'a, R: RandomSource>(
     rt: &R,
     alloc: Global,
-    table: &Checked,
+    table: &'a Checked,
     page: &PageAsked<'_>,
-) -> Result<Room, NodePanelFailure>
+) -> Result<Room<'a>, NodePanelFailure>
+    ensures layout { IfOk result (λ room. room.layout.now ≡ table.now) }
     ensures heard { IfOk result (λ room. room.heard ≡ unheard table.now) }
     ensures desk { IfOk result (λ room. IsOpened table.now page.now room.desk) }
 {
-    let heard = Heard::nothing(alloc, table.layout())?;
+    let layout = table.layout();
+    let heard = Heard::nothing(alloc, layout)?;
     let places = heard.picture(alloc)?.len();
     let desk = open_desk(rt, alloc, table.copy(alloc)?, places, page)?;
-    Ok(Room { heard, desk })
+    Ok(Room {
+        layout,
+        heard,
+        desk,
+    })
 }

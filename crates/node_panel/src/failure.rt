@@ -3,7 +3,7 @@
 ghost use Rattle.std.specs.Prelude.{◌≡◌, string_bytes};
 ghost use Rattle.node_panel.specs.Panels.{Tells, failure_line};
 
-use panel_desk::node_lines::replay_words::write_as_taken;
+use panel_desk::write_as_taken;
 use std::alloc::AllocError;
 use std::io;
 use std::io::Write;

@@ -5,12 +5,8 @@ ghost use Rattle.node_panel.specs.Heard.{answered_by, forgotten, mode_after, put
 ghost use Rattle.node_panel.specs.Turns.{begun, timed};
 
 use crate::told::Told;
-use panel_desk::Mode;
-use panel_desk::node_lines::ixl_rules::Command;
-use panel_desk::node_lines::ixl_rules::control_table::layout::Layout;
-use panel_desk::node_lines::ixl_rules::control_table::sci_telegram::{Aspect, Occupancy, Side};
-use panel_desk::node_lines::replay_words::Fault;
 use panel_desk::node_lines::{Authority, Known, LinkState, OperatorCommand};
+use panel_desk::{Aspect, Command, Fault, Layout, Mode, Occupancy, Side};
 use std::alloc::{AllocError, Global};
 use std::marker::Model;
 
@@ -45,12 +41,11 @@ impl Heard {
     {
         let signals = layout.signals().len();
         let points = layout.points().len();
-        let controllers = signals.saturating_add(points.saturating_add(layout.detectors().len()));
         Ok(Heard {
             millis: 0,
             joined: false,
             mode: Mode::Ready,
-            links: vec![in alloc; false; controllers]?,
+            links: vec![in alloc; false; layout.links()]?,
             sections: vec![in alloc; None; layout.sections().len()]?,
             points: vec![in alloc; None; points]?,
             authorities: vec![in alloc; None; signals]?,
@@ -159,7 +154,7 @@ impl Heard {
     }
 }
 
-/// What is taken behind the answer to a command.
+/// What is taken after the answer to a command.
 fn mode_after(command: OperatorCommand, text: &str, before: Mode) -> Mode
     ensures { result ≡ mode_after command text.now before }
 {

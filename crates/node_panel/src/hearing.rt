@@ -8,9 +8,8 @@ ghost use Rattle.panel_desk.specs.Boards.{Notes};
 use crate::heard::Heard;
 use crate::told::read_told;
 use node_drive::{NextLine, Outside};
-use panel_desk::Desk;
-use panel_desk::node_lines::ixl_rules::control_table::layout::Layout;
 use panel_desk::node_lines::{CommandText, OperatorCommand};
+use panel_desk::{Desk, Layout};
 use std::alloc::{AllocError, Global};
 
 /// How many lines a turn takes at most: those of a node at every limit, of which all is told at once.

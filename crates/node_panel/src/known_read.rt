@@ -1,14 +1,13 @@
 //! What an interlocking knows, read from the words of a line.
 
 ghost use Rattle.std.specs.Prelude.{◌≡◌};
-ghost use Rattle.node_panel.specs.Lines.{aspect_said, authority_said, holding, indicates, known_route, known_said, link, link_said, occupancy_said, point, route, route_of, route_state_said, section, side_said, signal, signal_named, signal_of, waiting};
+ghost use Rattle.node_panel.specs.Lines.{authority_said, holding, indicates, known_route, known_said, link, link_said, or_unknown, point, route, route_of, route_state_said, section, signal, signal_named, waiting};
 
-use panel_desk::node_lines::ixl_rules::control_table::layout::{Layout, RouteId, SignalId};
-use panel_desk::node_lines::ixl_rules::control_table::sci_telegram::{Aspect, Occupancy, Side};
-use panel_desk::node_lines::replay_lines::{node_named, point_named, route_named, section_named};
-use panel_desk::node_lines::replay_words::{Fault, Words};
-use panel_desk::node_lines::simulator_event::NodeId;
 use panel_desk::node_lines::{Authority, Known, LinkState};
+use panel_desk::{
+    Aspect, Fault, Layout, Node, Occupancy, RouteId, Side, SignalId, Words, node_named,
+    point_named, route_named, section_named,
+};
 
 /// What an interlocking knows by the words of a line, or their lowest fault.
 pub(crate) fn read_known(layout: &Layout, mut words: Words<'_>) -> Result<Known, Fault>
@@ -45,7 +44,7 @@ fn section(layout: &Layout, mut words: Words<'_>) -> Result<Known, Fault>
         return Err(Fault::Words);
     };
     let section = section_named(layout, name)?;
-    let occupancy = occupancy_said(word)?;
+    let occupancy = or_unknown(word, Occupancy::of_word(word))?;
     Ok(Known::Section { section, occupancy })
 }
 
@@ -56,7 +55,7 @@ fn point(layout: &Layout, mut words: Words<'_>) -> Result<Known, Fault>
         return Err(Fault::Words);
     };
     let point = point_named(layout, name)?;
-    let side = side_said(word)?;
+    let side = or_unknown(word, Side::of_word(word))?;
     Ok(Known::Point { point, side })
 }
 
@@ -83,7 +82,7 @@ fn indicates(layout: &Layout, mut words: Words<'_>) -> Result<Known, Fault>
         return Err(Fault::Words);
     };
     let signal = signal_named(layout, name)?;
-    let aspect = aspect_said(word)?;
+    let aspect = Aspect::of_word(word).ok_or(Fault::Words)?;
     Ok(Known::Indicates { signal, aspect })
 }
 
@@ -127,7 +126,7 @@ fn authority_said(layout: &Layout, aspect: &str, route: &str) -> Result<Option<A
             Err(Fault::Words)
         };
     }
-    let aspect = aspect_said(aspect)?;
+    let aspect = Aspect::of_word(aspect).ok_or(Fault::Words)?;
     let route = known_route(layout, route)?;
     Ok(Some(Authority { aspect, route }))
 }
@@ -136,15 +135,8 @@ fn signal_named(layout: &Layout, word: &str) -> Result<SignalId, Fault>
     ensures { result ≡ signal_named layout.now word.now }
 {
     let node = node_named(layout, word)?;
-    signal_of(layout.signals().len(), node)
-}
-
-/// The signal of which a node is the controller.
-fn signal_of(signals: usize, node: NodeId) -> Result<SignalId, Fault>
-    ensures { result ≡ signal_of signals node.0 }
-{
-    match node.0.checked_sub(1) {
-        Some(place) if place < signals => Ok(SignalId(place)),
+    match layout.node(node) {
+        Some(Node::Signal(signal)) => Ok(signal),
         _ => Err(Fault::Name),
     }
 }
@@ -175,36 +167,14 @@ fn link_said(word: &str) -> Result<LinkState, Fault>
     }
 }
 
-fn occupancy_said(word: &str) -> Result<Option<Occupancy>, Fault>
-    ensures { result ≡ occupancy_said word.now }
+/// What a word says, if anything is known of it; `unknown` says that nothing is.
+fn or_unknown<T: Copy>(word: &str, said: Option<T>) -> Result<Option<T>, Fault>
+    ensures { result ≡ or_unknown word.now said }
 {
-    match word {
-        "clear" => Ok(Some(Occupancy::Clear)),
-        "occupied" => Ok(Some(Occupancy::Occupied)),
-        "unknown" => Ok(None),
-        _ => Err(Fault::Words),
-    }
-}
-
-fn side_said(word: &str) -> Result<Option<Side>, Fault>
-    ensures { result ≡ side_said word.now }
-{
-    match word {
-        "left" => Ok(Some(Side::Left)),
-        "right" => Ok(Some(Side::Right)),
-        "unknown" => Ok(None),
-        _ => Err(Fault::Words),
-    }
-}
-
-fn aspect_said(word: &str) -> Result<Aspect, Fault>
-    ensures { result ≡ aspect_said word.now }
-{
-    match word {
-        "stop" => Ok(Aspect::Stop),
-        "proceed" => Ok(Aspect::Proceed),
-        "slow" => Ok(Aspect::Slow),
-        _ => Err(Fault::Words),
+    match said {
+        Some(_) => Ok(said),
+        None if word == "unknown" => Ok(None),
+        None => Err(Fault::Words),
     }
 }
 

@@ -10,8 +10,7 @@ ghost use Rattle.panel_desk.specs.node_lines.declared.operator_line.Known.{Known
 ghost use Rattle.node_panel.specs.Lines.{IsOf, told_said};
 ghost use Rattle.node_panel.specs.declared.told.Told.TheVariants.{Tells};
 
-use panel_desk::node_lines::replay_lines::{names_are_read_again, names_are_words};
-use panel_desk::node_lines::replay_words::joined_words_are_read_again;
+use panel_desk::{joined_words_are_read_again, names_are_read_again, names_are_words};
 
 /// What an interlocking writes of one thing is read as this.
 pub fn lines_are_read_again()

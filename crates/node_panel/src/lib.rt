@@ -13,8 +13,8 @@ mod laws;
 mod pictured;
 mod told;
 
-pub use attendance::attend_node;
-pub use command::{Asked, panel_of_node};
+pub use attendance::{Room, attend_node};
+pub use command::{NodePanelOptions, panel_of_node};
 pub use heard::Heard;
 pub use laws::lines_are_read_again;
 pub use told::{Told, read_told};

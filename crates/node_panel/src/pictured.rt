@@ -4,13 +4,10 @@ ghost use Rattle.std.specs.Prelude.{◌≡◌, ◌++◌, IfOk, OnOk};
 ghost use Rattle.node_panel.specs.Heard.{authority_line, each, indication_line, link_line, link_state, pictured, point_line, route_line, section_line};
 
 use crate::heard::Heard;
-use panel_desk::node_lines::ixl_rules::control_table::layout::{
-    PointId, RouteId, SectionId, SignalId,
-};
-use panel_desk::node_lines::ixl_rules::control_table::sci_telegram::{Aspect, Occupancy, Side};
-use panel_desk::node_lines::simulator_event::NodeId;
 use panel_desk::node_lines::{Authority, Known, LinkState};
-use panel_desk::{PanelLine, Pictured};
+use panel_desk::{
+    Aspect, NodeId, Occupancy, PanelLine, Pictured, PointId, RouteId, SectionId, Side, SignalId,
+};
 use std::alloc::{AllocError, Global};
 
 impl Pictured for Heard {

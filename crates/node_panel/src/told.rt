@@ -6,8 +6,7 @@ ghost use Rattle.node_panel.specs.Lines.{is_answer, told_known, told_said};
 
 use crate::known_read::read_known;
 use panel_desk::node_lines::Known;
-use panel_desk::node_lines::ixl_rules::control_table::layout::Layout;
-use panel_desk::node_lines::replay_words::{Fault, Words};
+use panel_desk::{Fault, Layout, Words};
 
 /// What a line of an interlocking's node tells its operator.
 #[derive(Clone, Copy)]

@@ -9,10 +9,9 @@ use Rattle.capture_file.specs.declared.journey.Endpoint.{Endpoint}
 use Rattle.node_record.specs.CapturedRecord.{HasTooLong, IsCaptureOf, captured}
 use Rattle.node_record.specs.NodeTraffic.{Passed}
 use Rattle.node_record.specs.inside.CapturesSoFar.{Adds, HasTooLongOf, IsNoCapture}
-use Rattle.node_record.specs.declared.capture_failure.CaptureFailure.{CaptureFailure}
-use Rattle.node_record.specs.declared.capture_failure.CaptureFailure.TheVariants.{Station, Capture}
-use Rattle.capture_file.specs.declared.fault.CaptureFault.TheVariants.{TooLong, Exists, CannotWrite}
-use Rattle.station_check.specs.declared.failure.Failure.TheVariants.{Layout, Table, Line, OutOfMemory, NotWritten}
+use Rattle.capture_file.specs.declared.fault.CaptureFault.TheVariants.{TooLong}
+use Rattle.station_check.specs.declared.failure.Failure.{Failure}
+use Rattle.station_check.specs.declared.failure.Failure.TheVariants.{Capture, OutOfMemory}
 use Rattle.node_record.specs.inside.Passing.{seen}
 use Rattle.node_record.specs.declared.passage.Passed.{Passed as Code}
 
@@ -63,17 +62,12 @@ too_long given node all left more one file split long before = record {
 }
 
 -- a datagram can't be added, so there is no capture of all
-pub fails : {T : Type 0} (given : List Endpoint) (node : ℕ) (all left more : List Code) (one : Code) (file : List ℕ) (why : CaptureFailure) (answer : Result T CaptureFailure) → left ≡ one ∷ more
+pub fails : {T : Type 0} (given : List Endpoint) (node : ℕ) (all left more : List Code) (one : Code) (file : List ℕ) (why : Failure) (answer : Result T Failure) → left ≡ one ∷ more
     → HasTooLongOf (seen one) why → Captures given node all left file → IsErrAnd answer (λ told. told ≡ why) → IfErr answer (λ told. IsNoCapture (map seen all) told)
 fails given node all left more one file why (Ok done) split is before told = tt
-fails given node all left more one file why (Err other) split is before told = subst (λ (w : CaptureFailure). IsNoCapture (map seen all) w) (sym told) (none why is)
+fails given node all left more one file why (Err other) split is before told = subst (λ (w : Failure). IsNoCapture (map seen all) w) (sym told) (none why is)
   where
-    none : (why : CaptureFailure) → HasTooLongOf (seen one) why → IsNoCapture (map seen all) why
-    none (Station (Layout fault)) is = is
-    none (Station (Table fault)) is = is
-    none (Station (Line fault)) is = is
-    none (Station OutOfMemory) is = tt
-    none (Station NotWritten) is = is
+    none : (why : Failure) → HasTooLongOf (seen one) why → IsNoCapture (map seen all) why
+    none OutOfMemory is = tt
     none (Capture TooLong) is = too_long given node all left more one file split is before
-    none (Capture Exists) is = is
-    none (Capture CannotWrite) is = is
+    none other is = absurd is

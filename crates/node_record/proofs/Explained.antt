@@ -1,5 +1,5 @@
 -- Why a record isn't told to its end, and what that says of the texts and leaves of the output.
-use Rattle.std.proofs.Common.{◌≡◌, ℕ, List, IsOk, Option, Result, Ok, Err, map, refl, subst, sym}
+use Rattle.std.proofs.Common.{◌≡◌, ℕ, List, IsOk, Option, Result, Ok, Err, map, refl, rules, subst, sym}
 use Rattle.std.specs.Prelude.{IfErr, IfOk, IsErrAnd, OnOk}
 use Rattle.std.specs.Io.KnownBytes.{Appends}
 use Rattle.capture_file.specs.Faults.{IsOfFile}
@@ -7,22 +7,20 @@ use Rattle.capture_file.specs.declared.fault.CaptureFault.{CaptureFault}
 use Rattle.capture_file.specs.declared.fault.CaptureFault.TheVariants.{TooLong, Exists, CannotWrite}
 use Rattle.capture_file.specs.declared.journey.Endpoint.{Endpoint}
 use Rattle.control_table.specs.layout.Entries.{Site}
-use Rattle.station_check.specs.Failures.{ExplainsTable, Leaves}
+use Rattle.station_check.specs.Failures.{ExplainsTable, IsLate, LeavesParts}
 use Rattle.station_check.specs.Report.{IsSound}
 use Rattle.station_check.specs.declared.failure.Failure.{Failure}
-use Rattle.station_check.specs.declared.failure.Failure.TheVariants.{Layout, Table, Line, OutOfMemory, NotWritten}
+use Rattle.station_check.specs.declared.failure.Failure.TheVariants.{Capture, OutOfMemory, NotWritten}
 use Rattle.node_record.specs.CapturedRecord.{Explains, HasCapture, IsCaptureOf, IsRecordCapture}
 use Rattle.node_record.specs.DecodedRecord.{CanRead, ExplainsRecord, IsDecoded}
 use Rattle.node_record.specs.NodeLines.{lines_text}
 use Rattle.node_record.specs.NodeTraffic.{traffic}
 use Rattle.node_record.specs.RecordLines.{told}
 use Rattle.node_record.specs.Records.{record_said}
-use Rattle.node_record.specs.declared.capture_failure.CaptureFailure.{CaptureFailure}
-use Rattle.node_record.specs.declared.capture_failure.CaptureFailure.TheVariants.{Station, Capture}
 use Rattle.node_record.specs.declared.record.Record.{Record}
 use Rattle.node_record.specs.inside.CapturesSoFar.{IsNoCapture}
 use Rattle.node_record.specs.inside.RecordsRead.{said}
-use Rattle.node_record.specs.inside.SoundTexts.{AreTexts, IsLate}
+use Rattle.node_record.specs.inside.SoundTexts.{AreTexts}
 
 -- a call is answered with a failure
 pub told_on : {T E : Type 0} (P : E → Type 0) (tried : Result T E) (failure : E) → IsErrAnd tried (λ told. told ≡ failure) → P failure → IfErr tried P
@@ -31,32 +29,23 @@ told_on P (Err other) failure told holds = subst P (sym told) holds
 
 -- the layout gives no table
 pub without_table : (layout name text : List ℕ) (why : Failure) → ExplainsTable layout why → ExplainsRecord layout name text why
-without_table layout name text (Layout fault) explains = explains
-without_table layout name text (Table fault) explains = explains
-without_table layout name text (Line fault) explains = absurd explains
-without_table layout name text OutOfMemory explains = absurd explains
-without_table layout name text NotWritten explains = absurd explains
-
--- a writer to which nothing was written
-pub stays : {W : Type 0} (why : Failure) (out : W) → Leaves why out out
-stays (Layout fault) out = refl
-stays (Table fault) out = refl
-stays (Line fault) out = refl
-stays OutOfMemory out = tt
-stays NotWritten out = tt
+without_table layout name text why explains = search rules
 
 -- texts without a fault, of which something failed later
-pub late : {W : Type 0} (layout name text : List ℕ) (why : Failure) (old new : W) → IsLate why → CanRead layout name text → ExplainsRecord layout name text why × Leaves why old new
-late layout name text (Layout fault) old new is can = absurd is
-late layout name text (Table fault) old new is can = absurd is
-late layout name text (Line fault) old new is can = absurd is
-late layout name text OutOfMemory old new is can = (can, tt)
-late layout name text NotWritten old new is can = (can, tt)
+pub late : (layout name text : List ℕ) (why : Failure) → IsLate why → CanRead layout name text → ExplainsRecord layout name text why
+late layout name text OutOfMemory is can = can
+late layout name text NotWritten is can = can
+late layout name text other is can = absurd is
+
+parts_left : {W : Type 0} (why : Failure) (old new : W) → IsLate why → LeavesParts why old new
+parts_left OutOfMemory old new is = λ other. absurd (other refl)
+parts_left NotWritten old new is = λ _ other. absurd (other refl)
+parts_left other old new is = absurd is
 
 pub late_told : {W T : Type 0} (layout name text : List ℕ) (tried : Result T Failure) (old new : W) → IfErr tried IsLate → CanRead layout name text
-    → IfErr tried (λ failure. ExplainsRecord layout name text failure × Leaves failure old new)
+    → IfErr tried (λ failure. ExplainsRecord layout name text failure × LeavesParts failure old new)
 late_told layout name text (Ok done) old new is can = tt
-late_told layout name text (Err why) old new is can = late layout name text why old new is can
+late_told layout name text (Err why) old new is can = (late layout name text why is can, parts_left why old new is)
 
 -- the traffic of texts was told
 pub decoded : {T E : Type 0} (layout name text : List ℕ) (site drawn : Site) (read : Record) (before now : Option (List ℕ)) (tried : Result T E) → AreTexts layout name text site read → drawn ≡ site
@@ -88,18 +77,13 @@ pub can_read : (layout name text : List ℕ) (site : Site) (read : Record) → A
 can_read layout name text site read are = record { site = site; sound = are.sound; says = subst IsOk (sym are.says) refl }
 
 -- or they have none
-pub no_capture : (layout name text : List ℕ) (site : Site) (read : Record) (given : List Endpoint) (why : CaptureFailure) → AreTexts layout name text site read
+pub no_capture : (layout name text : List ℕ) (site : Site) (read : Record) (given : List Endpoint) (why : Failure) → AreTexts layout name text site read
     → IsNoCapture (traffic read.head.node 0 (map told read.lines.items)) why → Explains layout name text given why
-no_capture layout name text site read given (Station (Layout fault)) are so = absurd so
-no_capture layout name text site read given (Station (Table fault)) are so = absurd so
-no_capture layout name text site read given (Station (Line fault)) are so = absurd so
-no_capture layout name text site read given (Station OutOfMemory) are so = can_read layout name text site read are
-no_capture layout name text site read given (Station NotWritten) are so = absurd so
+no_capture layout name text site read given OutOfMemory are so = can_read layout name text site read are
 no_capture layout name text site read given (Capture TooLong) are so = record { site = site; sound = are.sound; head = read.head; lines = map told read.lines.items; says = are.says; has = so }
-no_capture layout name text site read given (Capture Exists) are so = absurd so
-no_capture layout name text site read given (Capture CannotWrite) are so = absurd so
+no_capture layout name text site read given other are so = absurd so
 
-pub none_told : {T : Type 0} (layout name text : List ℕ) (site : Site) (read : Record) (given : List Endpoint) (tried : Result T CaptureFailure) → AreTexts layout name text site read
+pub none_told : {T : Type 0} (layout name text : List ℕ) (site : Site) (read : Record) (given : List Endpoint) (tried : Result T Failure) → AreTexts layout name text site read
     → IfErr tried (IsNoCapture (traffic read.head.node 0 (map told read.lines.items))) → IfErr tried (Explains layout name text given)
 none_told layout name text site read given (Ok file) are so = tt
 none_told layout name text site read given (Err why) are so = no_capture layout name text site read given why are so

@@ -9,7 +9,7 @@ use Rattle.node_record.specs.Courses.{parted}
 abbrev both : List ℕ → List ℕ → List ℕ × List ℕ
 both a b = (a, b)
 
--- a line without a space is its own first word, and nothing stands behind it
+-- a line without a space is its own first word, and nothing stands after it
 alone : (line : List ℕ) → position_or_len (λ b. b == 32) line ≡ length line → both line [] ≡ parted line
 alone line none =
     let p : ℕ → Bool = λ b. b == 32 in

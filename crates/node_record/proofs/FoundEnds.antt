@@ -5,12 +5,11 @@ use Rattle.std.proofs.lemmas.List.{map-append, take_all, take_more}
 use Rattle.std.specs.declared.net.socket_addr.SocketAddr.{SocketAddr}
 use Rattle.capture_file.specs.declared.journey.Endpoint.{Endpoint}
 use Rattle.control_table.specs.layout.Entries.{Site}
-use Rattle.node_addresses.specs.Addresses.{IsSound as AreAddresses}
+use Rattle.station_check.specs.node_addresses.Addresses.{IsSound as AreAddresses}
 use Rattle.station_check.specs.Report.{IsSound}
-use Rattle.station_check.specs.declared.failure.Failure.TheVariants.{Layout, Table, Line, OutOfMemory, NotWritten}
+use Rattle.station_check.specs.declared.failure.Failure.{Failure}
+use Rattle.station_check.specs.declared.failure.Failure.TheVariants.{Addresses, NoIpv4, OutOfMemory}
 use Rattle.node_record.specs.GivenEnds.{AreEnds, Explains, end_at}
-use Rattle.node_record.specs.declared.ends_failure.EndsFailure.{EndsFailure}
-use Rattle.node_record.specs.declared.ends_failure.EndsFailure.TheVariants.{Station, Addresses, NoIpv4}
 use Rattle.node_record.specs.inside.EndsSoFar.{ExplainsOf, HasEnds, HasNoEnd, IsNoEnd, IsNoEndOf}
 
 -- one more
@@ -26,32 +25,24 @@ pub ends : (all : List SocketAddr) (count place : ℕ) (found : List Endpoint) �
 ends all count place found counted past is = ap (λ l. map end_at l) (sym (take_all place all (rw (sym counted) past))) ∙ is
 
 -- an address has no end, so there are no ends of all
-pub fails : {F : Type 0} (site : Site) (all : List SocketAddr) (place : ℕ) (one : SocketAddr) (why : EndsFailure) (tried : Result F EndsFailure) → slice_get all place ≡ Some one
+pub fails : {F : Type 0} (site : Site) (all : List SocketAddr) (place : ℕ) (one : SocketAddr) (why : Failure) (tried : Result F Failure) → slice_get all place ≡ Some one
     → IsNoEndOf site one place why → IsErrAnd tried (λ told. told ≡ why) → IfErr tried (IsNoEnd site all)
 fails site all place one why (Ok found) there so told = tt
 fails site all place one why (Err other) there so told = subst (IsNoEnd site all) (sym told) (none why so)
   where
-    none : (why : EndsFailure) → IsNoEndOf site one place why → IsNoEnd site all why
-    none (Station (Layout fault)) so = so
-    none (Station (Table fault)) so = so
-    none (Station (Line fault)) so = so
-    none (Station OutOfMemory) so = tt
-    none (Station NotWritten) so = so
-    none (Addresses fault) so = so
+    none : (why : Failure) → IsNoEndOf site one place why → IsNoEnd site all why
+    none OutOfMemory so = tt
     none (NoIpv4 name) so = record { place = place; address = one; there = there; named = so.0; none = so.1 }
+    none other so = absurd so
 
 -- ---- of a text
 
-pub lack_end : {F : Type 0} (site : Site) (text : List ℕ) (addresses lent : List SocketAddr) (tried : Result F EndsFailure) → AreAddresses site text addresses → lent ≡ addresses
+pub lack_end : {F : Type 0} (site : Site) (text : List ℕ) (addresses lent : List SocketAddr) (tried : Result F Failure) → AreAddresses site text addresses → lent ≡ addresses
     → IfErr tried (IsNoEnd site lent) → IfErr tried (ExplainsOf site text)
 lack_end site text addresses lent (Ok found) are all so = tt
-lack_end site text addresses lent (Err (Station (Layout fault))) are all so = absurd so
-lack_end site text addresses lent (Err (Station (Table fault))) are all so = absurd so
-lack_end site text addresses lent (Err (Station (Line fault))) are all so = absurd so
-lack_end site text addresses lent (Err (Station OutOfMemory)) are all so = tt
-lack_end site text addresses lent (Err (Station NotWritten)) are all so = absurd so
-lack_end site text addresses lent (Err (Addresses fault)) are all so = absurd so
+lack_end site text addresses lent (Err OutOfMemory) are all so = tt
 lack_end site text addresses lent (Err (NoIpv4 name)) are all so = record { addresses = addresses; are = are; lacks = subst (λ l. HasNoEnd site l name) all so }
+lack_end site text addresses lent (Err other) are all so = absurd so
 
 -- ---- of a layout's text
 
@@ -62,12 +53,8 @@ are_ends items layout text site drawn (Ok found) sound same has =
     in record { site = site; sound = sound; addresses = have.addresses; are = have.are; ends_are = have.ends_are }
 are_ends items layout text site drawn (Err why) sound same has = tt
 
-explained : (layout text : List ℕ) (site : Site) (why : EndsFailure) → IsSound layout site → ExplainsOf site text why → Explains layout text why
-explained layout text site (Station (Layout fault)) sound so = absurd so
-explained layout text site (Station (Table fault)) sound so = absurd so
-explained layout text site (Station (Line fault)) sound so = absurd so
-explained layout text site (Station OutOfMemory) sound so = tt
-explained layout text site (Station NotWritten) sound so = absurd so
+explained : (layout text : List ℕ) (site : Site) (why : Failure) → IsSound layout site → ExplainsOf site text why → Explains layout text why
+explained layout text site OutOfMemory sound so = tt
 explained layout text site (Addresses fault) sound so = (site, sound, so)
 explained layout text site (NoIpv4 name) sound so = record {
   site = site;
@@ -80,8 +67,9 @@ explained layout text site (NoIpv4 name) sound so = record {
   named = so.lacks.named;
   none = so.lacks.none;
 }
+explained layout text site other sound so = absurd so
 
-pub no_ends : {F : Type 0} (layout text : List ℕ) (site drawn : Site) (tried : Result F EndsFailure) → IsSound layout site → drawn ≡ site → IfErr tried (ExplainsOf drawn text)
+pub no_ends : {F : Type 0} (layout text : List ℕ) (site drawn : Site) (tried : Result F Failure) → IsSound layout site → drawn ≡ site → IfErr tried (ExplainsOf drawn text)
     → IfErr tried (Explains layout text)
 no_ends layout text site drawn (Ok found) sound same so = tt
 no_ends layout text site drawn (Err why) sound same so = explained layout text site why sound (subst (λ (s : Site). ExplainsOf s text why) same so)

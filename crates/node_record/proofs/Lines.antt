@@ -16,7 +16,7 @@ is_told text (Ok line) written said same is = is ∙ same
 is_told text (Err why) written said same is = tt
 
 module _ (site : Site) (node reading : ℕ) (way : Way) (bytes own words : List ℕ) (own_is : own ≡ node_text site node) (words_is : words ≡ datagram_text (Some site) bytes) where
-  -- what stands behind the way, and the line up to it
+  -- what stands after the way, and the line up to it
   abbrev rest : List ℕ → List ℕ
   rest words = codes ": " ++ (words ++ codes "\n")
 

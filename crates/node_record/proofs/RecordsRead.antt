@@ -1,4 +1,4 @@
--- What the first line and those behind it tell, together.
+-- What the first line and those after it tell, together.
 use Rattle.std.proofs.Common.{◌≡◌, ◌==◌, ◌∙◌, ℕ, Bool, true, false, List, Result, Ok, Err, ap, subst, sym}
 use Rattle.std.specs.Prelude.{IsErrAnd}
 use Rattle.std.specs.List.{enumerate_from}
@@ -40,7 +40,7 @@ module _ (site : Site) (name text first : List ℕ) (lines : List (ℕ × List �
   head_faulty fault number head_is number_is =
       unless (number == number_of Memory) (sym (taken (Err fault) head_is) ∙ ap (λ n. Err (record { line = 1; number = n })) (sym number_is))
 
-  -- one behind it is
+  -- one after it is
   pub later_faulty : (head : Head) (left : List (ℕ × List ℕ)) (fault : SessionFault) (answer : Result Record SessionFault) → Ok head ≡ head_said site name (words first) → left ≡ behind_first lines
       → FailsAt fault.line fault.number (lines_said site left) → IsErrAnd answer (λ told. told ≡ fault) → Tells said (record_said site name text) answer
   later_faulty head left fault answer head_is left_is fails told =

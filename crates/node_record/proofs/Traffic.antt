@@ -9,7 +9,7 @@ use Rattle.node_record.specs.inside.Passing.{seen}
 use Rattle.node_record.specs.declared.passage.Passed.{Passed as Code}
 use Rattle.node_record.specs.declared.passage.Way.TheVariants.{Sent}
 
--- the datagram at a place and those behind it
+-- the datagram at a place and those after it
 pub split_at : (all : List Code) (place : ℕ) (otherwise : Code) → place < length all → drop place all ≡ get_or all place otherwise ∷ drop (place + 1) all
 split_at all place otherwise within = drop_more all place otherwise within
 
@@ -19,7 +19,7 @@ nowhere = record { reading = 0; way = Sent 0; bytes = record { ref_ptr = (0, 0);
 
 -- ---- their lines
 
--- What was written so far, and behind it the lines of the datagrams that are left, are those of all.
+-- What was written so far, and after it the lines of the datagrams that are left, are those of all.
 pub record Writes (site : Site) (node : ℕ) (all left : List Code) (old new : Option (List ℕ)) : Type 0 where
   pub written : List ℕ
   pub appended : Appends old new written

@@ -1,4 +1,4 @@
--- The first whole line of a text, and those behind it.
+-- The first whole line of a text, and those after it.
 use Rattle.std.proofs.Common.{◌≡◌, ℕ, ◌+◌, ◌<◌, ◌==◌, Bool, true, false, not, cond, List, [], ◌∷◌, ◌++◌, length, Option, Some, None, Bor, Result, Ok, Err, lit<, refl, ap, append_assoc, sym, ◌∙◌, arith}
 use Rattle.std.specs.Iterator.{MakesProgress, item_count}
 use Rattle.std.specs.List.{slice_split, onto_first, before_first, after_first, position_or_len}

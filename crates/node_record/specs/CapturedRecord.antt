@@ -1,25 +1,23 @@
 -- What a node's record comes to as a capture.
-use Rattle.std.specs.Prelude.{◌≡◌, ◌<◌, ◌*◌, ◌-◌, ◌^◌, ℕ, min, List, [], ◌∷◌, ◌++◌, length, map, take, slice_get, Option, Some, None, Ok}
-use Rattle.std.specs.Io.KnownBytes.{Appends}
+use Rattle.std.specs.Prelude.{◌≡◌, ◌<◌, ◌*◌, ◌-◌, ◌^◌, ℕ, min, List, [], ◌∷◌, ◌++◌, length, map, slice_get, Option, Some, None, Ok}
 use Rattle.std.specs.List.{flat_map}
 use Rattle.capture_file.specs.Blocks.{head, packet_block}
 use Rattle.capture_file.specs.Captures.{IsCapture}
 use Rattle.capture_file.specs.Journeys.{Sent as Captured}
-use Rattle.capture_file.specs.Faults.{fault_line}
 use Rattle.capture_file.specs.NodeEnds.{end_of}
 use Rattle.capture_file.specs.declared.fault.CaptureFault.TheVariants.{TooLong, Exists, CannotWrite}
+use Rattle.capture_file.specs.declared.journey.TheConstants.{MOST_BYTES}
 use Rattle.capture_file.specs.declared.journey.Endpoint.{Endpoint}
 use Rattle.capture_file.specs.declared.journey.Journey.{Journey}
 use Rattle.control_table.specs.layout.Entries.{Site}
-use Rattle.station_check.specs.Failures.{told_line as station_line}
 use Rattle.station_check.specs.Report.{IsSound}
+use Rattle.station_check.specs.declared.failure.Failure.{Failure}
+use Rattle.station_check.specs.declared.failure.Failure.TheVariants.{Capture}
 use Rattle.node_record.specs.DecodedRecord.{ExplainsRecord}
 use Rattle.node_record.specs.NodeLines.{why_text}
 use Rattle.node_record.specs.NodeTraffic.{Passed, traffic}
 use Rattle.node_record.specs.RecordLines.{Line}
 use Rattle.node_record.specs.Records.{record_said}
-use Rattle.node_record.specs.declared.capture_failure.CaptureFailure.{CaptureFailure}
-use Rattle.node_record.specs.declared.capture_failure.CaptureFailure.TheVariants.{Station, Capture}
 use Rattle.node_record.specs.declared.passage.Way.{Way}
 use Rattle.node_record.specs.declared.passage.Way.TheVariants.{Sent, Came}
 use Rattle.node_record.specs.declared.record_head.Head.{Head as RecordHead}
@@ -72,7 +70,7 @@ pub record HasTooLong (all : List Passed) : Type 0 where
   pub place : ℕ
   pub one : Passed
   pub there : slice_get all place ≡ Some one
-  pub long : 512 < length one.bytes
+  pub long : MOST_BYTES < length one.bytes
 
 -- ---- records
 
@@ -103,21 +101,8 @@ pub record HasCapture (layout name text : List ℕ) (given : List Endpoint) : Ty
 
 -- Why there is no capture file: as a record isn't told, or a datagram is too long; or there is a capture, but a file of that name
 -- too, or the system doesn't write it.
-abbrev pub Explains : List ℕ → List ℕ → List ℕ → List Endpoint → CaptureFailure → Type 0
-Explains layout name text given (Station why) = ExplainsRecord layout name text why
+abbrev pub Explains : List ℕ → List ℕ → List ℕ → List Endpoint → Failure → Type 0
 Explains layout name text given (Capture TooLong) = IsTooLong layout name text
 Explains layout name text given (Capture Exists) = HasCapture layout name text given
 Explains layout name text given (Capture CannotWrite) = HasCapture layout name text given
-
--- the line that tells why
-abbrev pub told_line : CaptureFailure → List ℕ
-told_line (Station why) = station_line why
-told_line (Capture fault) = fault_line fault
-
--- This line was told, as far as the writer took it, and nothing else.
-abbrev pub Tells : CaptureFailure → Option (List ℕ) → Option (List ℕ) → Type 0
-Tells why old new = (told : ℕ) × Appends old new (take told (told_line why))
-
--- Why there is no capture file was told.
-abbrev pub Explained : List ℕ → List ℕ → List ℕ → List Endpoint → Option (List ℕ) → Option (List ℕ) → Type 0
-Explained layout name text given old new = (why : CaptureFailure) × Explains layout name text given why × Tells why old new
+Explains layout name text given why = ExplainsRecord layout name text why

@@ -1,13 +1,18 @@
 -- What the lines of an interlocking to its operator tell of signals, points, sections, routes and links: `node_lines` says
 -- which lines these are.
 use Rattle.std.specs.Prelude.{ℕ, if◌then◌else◌, List, [], ◌∷◌, codes, Option, Some, None, Result, Ok, Err}
+use Rattle.std.specs.Option.{option_map}
 use Rattle.std.specs.Str.{bytes_eq}
 use Rattle.control_table.specs.layout.Entries.{Site}
 use Rattle.control_table.specs.layout.declared.ids.PointId.{PointId}
 use Rattle.control_table.specs.layout.declared.ids.SectionId.{SectionId}
-use Rattle.control_table.specs.sci_telegram.declared.message.Aspect.TheVariants as aspect
-use Rattle.control_table.specs.sci_telegram.declared.message.Occupancy.TheVariants as occupancy
+use Rattle.control_table.specs.layout.Nodes.{Node}
+use Rattle.control_table.specs.layout.Nodes as nodes
+use Rattle.control_table.specs.sci_telegram.Words.{aspect_of_word, occupancy_of_word, side_of_word}
+use Rattle.control_table.specs.sci_telegram.declared.message.Position.{Position}
 use Rattle.control_table.specs.sci_telegram.declared.message.Position.TheVariants as position
+use Rattle.control_table.specs.sci_telegram.declared.message.Side.{Side}
+use Rattle.control_table.specs.sci_telegram.declared.message.Side.TheVariants as side
 use Rattle.lane_chart.specs.declared.lane.Kind.{Kind}
 use Rattle.lane_chart.specs.declared.lane.Kind.TheVariants as kind
 use Rattle.lane_chart.specs.declared.lane.Lane.{Lane}
@@ -17,10 +22,8 @@ use Rattle.lane_chart.specs.declared.lane.Seen.{Seen}
 use Rattle.lane_chart.specs.declared.lane.Seen.TheVariants as seen
 use Rattle.replay_lines.specs.Names.{node_named, point_named, route_named, section_named}
 use Rattle.replay_words.specs.declared.fault.Fault.{Fault}
-use Rattle.simulator_event.specs.declared.event.NodeId.{NodeId}
-use Rattle.node_record.specs.Roles.{role_of}
-use Rattle.node_record.specs.declared.role.Role.{Role}
-use Rattle.node_record.specs.declared.role.Role.TheVariants as role
+use Rattle.simulator_event.specs.layout.declared.ids.NodeId.{NodeId}
+use Rattle.node_record.specs.NodesOfRecords.{node_of}
 use Rattle.node_record.specs.declared.told.Told.{Told}
 
 abbrev lane_of : Kind → ℕ → Lane
@@ -28,26 +31,26 @@ lane_of what place = record { kind = what; place = place }
 
 -- ---- of which lane
 
-abbrev pub link_of : Role → Option Lane
-link_of role.Interlocking = None
-link_of (role.Signal place) = Some (lane_of kind.SignalLink place)
-link_of (role.Point place) = Some (lane_of kind.PointLink place)
-link_of (role.Detector place) = Some (lane_of kind.DetectorLink place)
+abbrev pub link_of : Node → Option Lane
+link_of nodes.Interlocking = None
+link_of (nodes.Signal place) = Some (lane_of kind.SignalLink place)
+link_of (nodes.Point place) = Some (lane_of kind.PointLink place)
+link_of (nodes.Detector place) = Some (lane_of kind.DetectorLink place)
 
 abbrev pub link_to : Site → Result NodeId Fault → Option Lane
-link_to l (Ok node) = link_of (role_of l node.0)
+link_to l (Ok node) = link_of (node_of l node.0)
 link_to l (Err fault) = None
 
 -- the link to the node of a name
 abbrev pub link_lane : Site → List ℕ → Option Lane
 link_lane l name = link_to l (node_named l name)
 
-abbrev pub signal_of : Kind → Role → Option Lane
-signal_of what (role.Signal place) = Some (lane_of what place)
+abbrev pub signal_of : Kind → Node → Option Lane
+signal_of what (nodes.Signal place) = Some (lane_of what place)
 signal_of what other = None
 
 abbrev pub signal_at : Site → Kind → Result NodeId Fault → Option Lane
-signal_at l what (Ok node) = signal_of what (role_of l node.0)
+signal_at l what (Ok node) = signal_of what (node_of l node.0)
 signal_at l what (Err fault) = None
 
 -- the signal of a name
@@ -76,26 +79,24 @@ link_seen word =
     else if bytes_eq word (codes "lost") then Some (seen.Link readiness.Down)
     else None
 
+-- what a word says, if anything is known of it; `unknown` says that nothing is
+abbrev pub or_unknown : {T : Type 0} → List ℕ → Option T → Option (Option T)
+or_unknown word (Some said) = Some (Some said)
+or_unknown word None = if bytes_eq word (codes "unknown") then Some None else None
+
 abbrev pub section_seen : List ℕ → Option Seen
-section_seen word =
-    if bytes_eq word (codes "clear") then Some (seen.Section (Some occupancy.Clear))
-    else if bytes_eq word (codes "occupied") then Some (seen.Section (Some occupancy.Occupied))
-    else if bytes_eq word (codes "unknown") then Some (seen.Section None)
-    else None
+section_seen word = option_map (λ occupancy. seen.Section occupancy) (or_unknown word (occupancy_of_word word))
+
+-- a point is known where it lies at a side
+abbrev position_at : Side → Position
+position_at side.Right = position.Right
+position_at side.Left = position.Left
 
 abbrev pub position_seen : List ℕ → Option Seen
-position_seen word =
-    if bytes_eq word (codes "left") then Some (seen.Position (Some position.Left))
-    else if bytes_eq word (codes "right") then Some (seen.Position (Some position.Right))
-    else if bytes_eq word (codes "unknown") then Some (seen.Position None)
-    else None
+position_seen word = option_map (λ side. seen.Position (option_map position_at side)) (or_unknown word (side_of_word word))
 
 abbrev pub aspect_seen : List ℕ → Option Seen
-aspect_seen word =
-    if bytes_eq word (codes "stop") then Some (seen.Aspect (Some aspect.Stop))
-    else if bytes_eq word (codes "proceed") then Some (seen.Aspect (Some aspect.Proceed))
-    else if bytes_eq word (codes "slow") then Some (seen.Aspect (Some aspect.Slow))
-    else None
+aspect_seen word = option_map (λ aspect. seen.Aspect (Some aspect)) (aspect_of_word word)
 
 -- a route that is set may have authority by now: that is told of its signal
 abbrev pub progress_seen : List ℕ → Option Seen

@@ -5,7 +5,7 @@ pub mod NodeLines
 pub mod DecodedRecord
 pub mod CapturedRecord
 pub mod GivenEnds
-pub mod Roles
+pub mod NodesOfRecords
 pub mod OrdersTold
 pub mod ReportsTold
 pub mod KnownTold

@@ -10,11 +10,11 @@ use Rattle.replay_words.specs.declared.fault.Fault.{Fault}
 use Rattle.node_record.specs.CapturedRecord.{stamp}
 use Rattle.node_record.specs.Courses.{first_course, parted, step_of}
 use Rattle.node_record.specs.Records.{whole_lines}
-use Rattle.node_record.specs.Roles.{role_of}
+use Rattle.node_record.specs.NodesOfRecords.{node_of}
 use Rattle.node_record.specs.declared.course.Course.{Course}
 use Rattle.node_record.specs.declared.node_story.NodeStory.{NodeStory}
-use Rattle.node_record.specs.declared.role.Role.{Role}
-use Rattle.node_record.specs.declared.role.Role.TheVariants as role
+use Rattle.control_table.specs.layout.Nodes.{Node}
+use Rattle.control_table.specs.layout.Nodes as nodes
 use Rattle.node_record.specs.declared.told.Told.{Told}
 
 -- ---- changes
@@ -25,16 +25,16 @@ change_by number time (Some told) = record { line = number; time = stamp time; l
 change_by number time None = []
 
 -- Those of numbered lines, one after the other.
-abbrev pub changes_from : Site → Role → Course → List (ℕ × List ℕ) → List Change
-changes_from l role course [] = []
-changes_from l role course (line ∷ more) =
-    let this = step_of l role course line.1
-    in change_by line.0 this.time this.told ++ changes_from l role this.course more
+abbrev pub changes_from : Site → Node → Course → List (ℕ × List ℕ) → List Change
+changes_from l whose course [] = []
+changes_from l whose course (line ∷ more) =
+    let this = step_of l whose course line.1
+    in change_by line.0 this.time this.told ++ changes_from l whose this.course more
 
--- how far a record is read behind them
-abbrev pub course_behind : Site → Role → Course → List (ℕ × List ℕ) → Course
-course_behind l role course [] = course
-course_behind l role course (line ∷ more) = course_behind l role (step_of l role course line.1).course more
+-- how far a record is read after them
+abbrev pub course_behind : Site → Node → Course → List (ℕ × List ℕ) → Course
+course_behind l whose course [] = course
+course_behind l whose course (line ∷ more) = course_behind l whose (step_of l whose course line.1).course more
 
 -- ---- marks
 
@@ -65,20 +65,20 @@ is_answer word = bytes_eq word (codes "accepted") || (bytes_eq word (codes "refu
 abbrev pub is_marked : List ℕ → List ℕ → Bool
 is_marked kind text = if bytes_eq kind (codes "writes") then is_answer (parted text).0 else bytes_eq kind (codes "hears")
 
-abbrev pub said_at : Role → Course → ℕ → List ℕ → List ℕ → List Mark
-said_at role.Interlocking course number kind text =
+abbrev pub said_at : Node → Course → ℕ → List ℕ → List ℕ → List Mark
+said_at nodes.Interlocking course number kind text =
     if is_marked kind text then record { line = number; time = stamp course.reading; node = None; words = text } ∷ [] else []
 said_at controller course number kind text = []
 
-abbrev pub mark_by : Role → ℕ → Course → ℕ → List ℕ → List ℕ → List Mark
-mark_by role node course number kind text =
-    if bytes_eq kind (codes "at") then begins node number course.first text else said_at role course number kind text
+abbrev pub mark_by : Node → ℕ → Course → ℕ → List ℕ → List ℕ → List Mark
+mark_by whose node course number kind text =
+    if bytes_eq kind (codes "at") then begins node number course.first text else said_at whose course number kind text
 
 -- Those of numbered lines, one after the other.
-abbrev pub marks_from : Site → Role → ℕ → Course → List (ℕ × List ℕ) → List Mark
-marks_from l role node course [] = []
-marks_from l role node course (line ∷ more) =
-    mark_by role node course line.0 (parted line.1).0 (parted line.1).1 ++ marks_from l role node (step_of l role course line.1).course more
+abbrev pub marks_from : Site → Node → ℕ → Course → List (ℕ × List ℕ) → List Mark
+marks_from l whose node course [] = []
+marks_from l whose node course (line ∷ more) =
+    mark_by whose node course line.0 (parted line.1).0 (parted line.1).1 ++ marks_from l whose node (step_of l whose course line.1).course more
 
 -- ---- a record
 
@@ -87,12 +87,12 @@ begin_of (Some first) = stamp first
 begin_of None = 0
 
 -- A story is that of numbered lines.
-pub record TellsLines (l : Site) (role : Role) (node : ℕ) (lines : List (ℕ × List ℕ)) (story : NodeStory) : Type 0 where
-  pub changes : story.changes.items ≡ changes_from l role first_course lines
-  pub happenings : map seen_mark story.happenings.items ≡ marks_from l role node first_course lines
-  pub begin : story.begin ≡ begin_of (course_behind l role first_course lines).first
-  pub end : story.end ≡ stamp (course_behind l role first_course lines).reading
+pub record TellsLines (l : Site) (whose : Node) (node : ℕ) (lines : List (ℕ × List ℕ)) (story : NodeStory) : Type 0 where
+  pub changes : story.changes.items ≡ changes_from l whose first_course lines
+  pub happenings : map seen_mark story.happenings.items ≡ marks_from l whose node first_course lines
+  pub begin : story.begin ≡ begin_of (course_behind l whose first_course lines).first
+  pub end : story.end ≡ stamp (course_behind l whose first_course lines).reading
 
 -- A story is that of the record of a node.
 abbrev pub IsStoryOf : Site → ℕ → List ℕ → NodeStory → Type 0
-IsStoryOf l node text story = TellsLines l (role_of l node) node (enumerate_from 1 (whole_lines text)) story
+IsStoryOf l node text story = TellsLines l (node_of l node) node (enumerate_from 1 (whole_lines text)) story

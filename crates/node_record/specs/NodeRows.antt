@@ -5,8 +5,8 @@ use Rattle.control_table.specs.layout.Entries.{DetectorEntry}
 use Rattle.lane_chart.specs.declared.subject.Row.{Row}
 use Rattle.lane_chart.specs.declared.subject.Sort.{Sort}
 use Rattle.lane_chart.specs.declared.subject.Sort.TheVariants as sort
-use Rattle.node_record.specs.declared.role.Role.{Role}
-use Rattle.node_record.specs.declared.role.Role.TheVariants as role
+use Rattle.control_table.specs.layout.Nodes.{Node}
+use Rattle.control_table.specs.layout.Nodes as nodes
 
 abbrev pub is_controller : Sort → Bool
 is_controller sort.SignalNode = true
@@ -43,8 +43,8 @@ abbrev pub is_detector_row : List DetectorEntry → ℕ → Row → Bool
 is_detector_row detectors detector row = is_detector_sort detectors detector row.place row.subject.sort
 
 -- An interlocking tells of all but the controllers themselves. A controller tells of its signal, its point or its sections.
-abbrev pub is_row_of : List DetectorEntry → Role → Row → Bool
-is_row_of detectors role.Interlocking row = not (is_controller row.subject.sort)
-is_row_of detectors (role.Signal place) row = is_signal_row row.subject.sort && row.place == place
-is_row_of detectors (role.Point place) row = is_point_row row.subject.sort && row.place == place
-is_row_of detectors (role.Detector place) row = is_detector_row detectors place row
+abbrev pub is_row_of : List DetectorEntry → Node → Row → Bool
+is_row_of detectors nodes.Interlocking row = not (is_controller row.subject.sort)
+is_row_of detectors (nodes.Signal place) row = is_signal_row row.subject.sort && row.place == place
+is_row_of detectors (nodes.Point place) row = is_point_row row.subject.sort && row.place == place
+is_row_of detectors (nodes.Detector place) row = is_detector_row detectors place row

@@ -20,7 +20,7 @@ is_partner node (Some from) = if node == 0 then nat_le 1 from else from == 0
 
 -- ---- what came
 
--- What became of a datagram. The clock is read behind each that comes. What may have waited too long is then thrown away, with
+-- What became of a datagram. The clock is read after each that comes. What may have waited too long is then thrown away, with
 -- all that wait; of the others those are taken that came from the address of a partner.
 abbrev pub became_read : Bool → List Line → Reception
 became_read partner (ThrowsAway ∷ more) = ThrownAway
@@ -30,14 +30,14 @@ abbrev pub became : Bool → List Line → Reception
 became partner (Reads reading ∷ more) = became_read partner more
 became partner behind = Unread
 
--- the reading that was taken behind it, or else the last one before
+-- the reading that was taken after it, or else the last one before
 abbrev pub reading_behind : ℕ → List Line → ℕ
 reading_behind latest (Reads reading ∷ more) = reading
 reading_behind latest behind = latest
 
 -- ---- all of it
 
--- the datagram of which a line tells, where the last reading before and the lines behind it are these
+-- the datagram of which a line tells, where the last reading before and the lines after it are these
 abbrev pub passed_at : ℕ → ℕ → Line → List Line → Option Passed
 passed_at node latest (Comes from bytes) behind =
     Some (record { reading = reading_behind latest behind; way = Came from (became (is_partner node from) behind); bytes = bytes })

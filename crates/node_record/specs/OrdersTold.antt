@@ -8,8 +8,8 @@ use Rattle.lane_chart.specs.declared.lane.Kind.TheVariants as kind
 use Rattle.lane_chart.specs.declared.lane.Seen.TheVariants as seen
 use Rattle.node_lines.specs.declared.order.Order.{Order}
 use Rattle.node_lines.specs.declared.order.Order.TheVariants.{ShowStop, ShowProceed, ShowSlow, DriveNone, Drive}
-use Rattle.node_record.specs.declared.role.Role.{Role}
-use Rattle.node_record.specs.declared.role.Role.TheVariants as role
+use Rattle.control_table.specs.layout.Nodes.{Node}
+use Rattle.control_table.specs.layout.Nodes as nodes
 use Rattle.node_record.specs.declared.told.Told.{Told}
 
 -- what a lamp shows by an order that stands, and to which side a motor drives
@@ -23,9 +23,9 @@ drive_by (Drive to until) = Some to
 drive_by other = None
 
 -- the lamp of a signal, and the motor of a point; a detector and an interlocking have none
-abbrev pub told_by_order : Role → Order → Option Told
-told_by_order (role.Signal place) order = Some (record { lane = record { kind = kind.Aspect; place = place }; seen = seen.Aspect (Some (shown_by order)) })
-told_by_order (role.Point place) order = Some (record { lane = record { kind = kind.Drive; place = place }; seen = seen.Drive (drive_by order) })
+abbrev pub told_by_order : Node → Order → Option Told
+told_by_order (nodes.Signal place) order = Some (record { lane = record { kind = kind.Aspect; place = place }; seen = seen.Aspect (Some (shown_by order)) })
+told_by_order (nodes.Point place) order = Some (record { lane = record { kind = kind.Drive; place = place }; seen = seen.Drive (drive_by order) })
 told_by_order other order = None
 
 -- up to which reading an order stands, if it ends by itself, and what stands from then on

@@ -83,12 +83,12 @@ abbrev pub fails : List (List ℕ) → Result Line Fault
 fails (word ∷ next ∷ []) = if bytes_eq word (codes "to") && bytes_eq next (codes "receive") then Ok Other else Err Words
 fails more = Err Words
 
--- nothing stands behind
+-- nothing stands after
 abbrev pub alone : List (List ℕ) → Result Line Fault
 alone [] = Ok Other
 alone more = Err Words
 
--- a text stands behind
+-- a text stands after
 abbrev pub followed : List (List ℕ) → Result Line Fault
 followed [] = Err Words
 followed text = Ok Other
@@ -97,7 +97,7 @@ abbrev pub breaks_off : List (List ℕ) → Result Line Fault
 breaks_off (word ∷ text) = if bytes_eq word (codes "off") then followed text else Err Words
 breaks_off [] = Err Words
 
--- two numbers stand behind
+-- two numbers stand after
 abbrev pub complains : List (List ℕ) → Result Line Fault
 complains (number ∷ fault ∷ []) = do
   line ← decimal number
@@ -107,7 +107,7 @@ complains more = Err Words
 
 -- ---- a line
 
--- of no datagram, behind its first word
+-- of no datagram, after its first word
 abbrev pub other : List ℕ → List (List ℕ) → Result Line Fault
 other first rest =
     if bytes_eq first (codes "listens") then alone rest

@@ -1,4 +1,4 @@
--- A node's record: its first line, as `node S1 first 7 for 60000`, and the lines behind it.
+-- A node's record: its first line, as `node S1 first 7 for 60000`, and the lines after it.
 use Rattle.std.specs.Prelude.{ℕ, ◌^◌, ◌==◌, ◌&&◌, nat_lt, if◌then◌else◌, Bool, List, [], ◌∷◌, codes, Option, Some, None, Result, Ok, Err}
 use Rattle.std.specs.List.{enumerate_from, slice_split}
 use Rattle.std.specs.Str.{bytes_eq}
@@ -20,7 +20,7 @@ but_last [] = []
 but_last (one ∷ []) = []
 but_last (one ∷ next ∷ more) = one ∷ but_last (next ∷ more)
 
--- the lines of a text that end with a line feed: what stands behind the last one was broken off
+-- the lines of a text that end with a line feed: what stands after the last one was broken off
 abbrev pub whole_lines : List ℕ → List (List ℕ)
 whole_lines text = but_last (slice_split (λ b. b == 10) text)
 
@@ -65,7 +65,7 @@ abbrev pub lines_said : Site → List (ℕ × List ℕ) → Result (List Line) S
 lines_said site [] = Ok []
 lines_said site (l ∷ more) = at_line l.0 (line_said site (words l.1)) (lines_said site more)
 
--- the first of numbered lines, which is empty where there is none, and those behind it
+-- the first of numbered lines, which is empty where there is none, and those after it
 abbrev pub first_of : List (ℕ × List ℕ) → List ℕ
 first_of [] = []
 first_of (first ∷ more) = first.1
@@ -77,7 +77,7 @@ behind_first (first ∷ more) = more
 abbrev pub Said : Type 0
 Said = Head × List Line
 
--- what the first line tells, and what those behind it do; or the fault of the first faulty one
+-- what the first line tells, and what those after it do; or the fault of the first faulty one
 abbrev pub joined : Result Head Fault → Result (List Line) SessionFault → Result Said SessionFault
 joined (Err fault) more = Err (record { line = 1; number = number_of fault })
 joined (Ok head) (Ok lines) = Ok (head, lines)

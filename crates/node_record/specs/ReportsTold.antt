@@ -8,23 +8,23 @@ use Rattle.node_lines.specs.Reports.{report_said as said}
 use Rattle.node_lines.specs.declared.report.FieldReport.{FieldReport}
 use Rattle.node_lines.specs.declared.report.FieldReport.TheVariants.{Done, Section, Point}
 use Rattle.replay_words.specs.declared.fault.Fault.{Fault}
-use Rattle.node_record.specs.declared.role.Role.{Role}
-use Rattle.node_record.specs.declared.role.Role.TheVariants as role
+use Rattle.control_table.specs.layout.Nodes.{Node}
+use Rattle.control_table.specs.layout.Nodes as nodes
 use Rattle.node_record.specs.declared.told.Told.{Told}
 
-abbrev pub position_told : Role → Position → Option Told
-position_told (role.Point place) position = Some (record { lane = record { kind = kind.Position; place = place }; seen = seen.Position (Some position) })
+abbrev pub position_told : Node → Position → Option Told
+position_told (nodes.Point place) position = Some (record { lane = record { kind = kind.Position; place = place }; seen = seen.Position (Some position) })
 position_told other position = None
 
-abbrev pub report_told : Role → FieldReport → Option Told
-report_told role (Done number) = None
-report_told role (Section section occupancy) = Some (record { lane = record { kind = kind.Section; place = section.0 }; seen = seen.Section (Some occupancy) })
-report_told role (Point position) = position_told role position
+abbrev pub report_told : Node → FieldReport → Option Told
+report_told whose (Done number) = None
+report_told whose (Section section occupancy) = Some (record { lane = record { kind = kind.Section; place = section.0 }; seen = seen.Section (Some occupancy) })
+report_told whose (Point position) = position_told whose position
 
 -- what is told by what words say, if they say something
-abbrev pub told_if : Role → Result FieldReport Fault → Option Told
-told_if role (Ok report) = report_told role report
-told_if role (Err fault) = None
+abbrev pub told_if : Node → Result FieldReport Fault → Option Told
+told_if whose (Ok report) = report_told whose report
+told_if whose (Err fault) = None
 
-abbrev pub report_said : Site → Role → List (List ℕ) → Option Told
-report_said site role words = told_if role (said site words)
+abbrev pub report_said : Site → Node → List (List ℕ) → Option Told
+report_said site whose words = told_if whose (said site words)

@@ -19,7 +19,7 @@ use Rattle.node_record.specs.Records.{time_said, whole_lines}
 use Rattle.node_record.specs.declared.passage.Reception.{Reception}
 use Rattle.node_record.specs.declared.passage.Reception.TheVariants.{Delivered, FromNoPartner, ThrownAway, Unread}
 use Rattle.node_record.specs.declared.passage.Way.TheVariants.{Sent, Came}
-use Rattle.node_record.specs.declared.role.Role.TheVariants as role
+use Rattle.control_table.specs.layout.Nodes as nodes
 
 -- a datagram of one byte that came at a reading, and one that was sent
 abbrev pub came : ℕ → Option ℕ → Reception → ℕ → Passed
@@ -54,7 +54,7 @@ pub record Worked (site : Site) : Type 0 where
   pub broken : whole_lines (codes "at 10\nlistens\nat 2") ≡ codes "at 10" ∷ codes "listens" ∷ []
   pub for_ever : time_said [] ≡ Ok None
   pub for_a_minute : time_said (words (codes "for 60000")) ≡ Ok (Some 60000)
-  -- a datagram comes at the reading behind it, and what it brings about is sent at that reading
+  -- a datagram comes at the reading after it, and what it brings about is sent at that reading
   pub answered : traffic 1 0 (Reads 10 ∷ Comes (Some 0) (7 ∷ []) ∷ Reads 12 ∷ Other ∷ Sends 0 (8 ∷ []) ∷ []) ≡ came 12 (Some 0) Delivered 7 ∷ sent 12 0 8 ∷ []
   -- a controller takes what comes from the address of the interlocking alone, and the interlocking what comes from those of the others
   pub stranger : traffic 1 0 (Comes None (7 ∷ []) ∷ Reads 12 ∷ []) ≡ came 12 None FromNoPartner 7 ∷ []
@@ -63,7 +63,7 @@ pub record Worked (site : Site) : Type 0 where
   -- what is thrown away isn't delivered, from whomever it came
   pub late : traffic 1 0 (Comes (Some 0) (7 ∷ []) ∷ Reads 1600 ∷ ThrowsAway ∷ Reads 1600 ∷ Comes (Some 0) (9 ∷ []) ∷ Reads 1610 ∷ [])
       ≡ came 1600 (Some 0) ThrownAway 7 ∷ came 1610 (Some 0) Delivered 9 ∷ []
-  -- a record that is broken off behind a datagram
+  -- a record that is broken off after a datagram
   pub unread : traffic 1 0 (Reads 10 ∷ Comes (Some 0) (7 ∷ []) ∷ []) ≡ came 10 (Some 0) Unread 7 ∷ []
   -- what was sent goes from the node, and what came goes to it
   pub outward : (captured [] 1 (sent 12 0 8)).journey.sender.address ≡ 10 ∷ 0 ∷ 0 ∷ 2 ∷ []
@@ -72,14 +72,14 @@ pub record Worked (site : Site) : Type 0 where
   pub unremarked : (captured [] 1 (came 12 (Some 0) Delivered 7)).comment ≡ []
   pub remarked : (captured [] 1 (came 12 None FromNoPartner 7)).comment ≡ codes "from no partner"
   -- an order that is renewed tells nothing new, and the lamp falls at the end of the last one, though no line is written then
-  pub lamp : changes_from site (role.Signal 3) first_course ((2, codes "at 10") ∷ (3, codes "writes 1 at 10 show proceed until 50") ∷ (4, codes "at 40")
+  pub lamp : changes_from site (nodes.Signal 3) first_course ((2, codes "at 10") ∷ (3, codes "writes 1 at 10 show proceed until 50") ∷ (4, codes "at 40")
       ∷ (5, codes "writes 2 at 40 show proceed until 70") ∷ (6, codes "at 69") ∷ (7, codes "at 80") ∷ [])
       ≡ shows 3 10000 kind.Aspect (seen.Aspect (Some aspect.Proceed)) ∷ shows 7 70000 kind.Aspect (seen.Aspect (Some aspect.Stop)) ∷ []
   -- a motor that is told to stop
-  pub motor : changes_from site (role.Point 3) first_course ((2, codes "at 10") ∷ (3, codes "writes 1 at 10 drive left until 50") ∷ (4, codes "at 40") ∷ (5, codes "writes 2 at 40 drive none") ∷ (6, codes "at 80") ∷ [])
+  pub motor : changes_from site (nodes.Point 3) first_course ((2, codes "at 10") ∷ (3, codes "writes 1 at 10 drive left until 50") ∷ (4, codes "at 40") ∷ (5, codes "writes 2 at 40 drive none") ∷ (6, codes "at 80") ∷ [])
       ≡ shows 3 10000 kind.Drive (seen.Drive (Some side.Left)) ∷ shows 5 40000 kind.Drive (seen.Drive None) ∷ []
   -- a detector gives no orders
-  pub ordered_nothing : changes_from site (role.Detector 3) first_course ((2, codes "at 10") ∷ (3, codes "writes 1 at 10 show proceed until 50") ∷ []) ≡ []
+  pub ordered_nothing : changes_from site (nodes.Detector 3) first_course ((2, codes "at 10") ∷ (3, codes "writes 1 at 10 show proceed until 50") ∷ []) ≡ []
   -- a command and its answer; what is known is no mark
-  pub commands : marks_from site role.Interlocking 0 (record first_course { first = Some 10; reading = 10 }) ((3, codes "hears set R1") ∷ (4, codes "at 20") ∷ (5, codes "writes refused 5 R2") ∷ (6, codes "writes holding") ∷ (7, codes "writes route R1 free") ∷ [])
+  pub commands : marks_from site nodes.Interlocking 0 (record first_course { first = Some 10; reading = 10 }) ((3, codes "hears set R1") ∷ (4, codes "at 20") ∷ (5, codes "writes refused 5 R2") ∷ (6, codes "writes holding") ∷ (7, codes "writes route R1 free") ∷ [])
       ≡ said 3 10000 (codes "set R1") ∷ said 5 20000 (codes "refused 5 R2") ∷ said 6 20000 (codes "holding") ∷ []

@@ -8,16 +8,14 @@ ghost use Rattle.node_record.specs.RecordLines.{told};
 ghost use Rattle.node_record.specs.inside.CapturesSoFar.{Adds, HasTooLongOf, IsNoCapture};
 ghost use Rattle.node_record.specs.inside.Passing.{seen};
 
-use crate::capture_failure::CaptureFailure;
 use crate::passage::{Passed, Way, traffic_of};
 use crate::passed_line::comment;
 use crate::record::Record;
 use crate::texts::read_texts;
 use capture_file::{CaptureFault, Endpoint, Journey, MOST_BYTES, begin, end_of, push_datagram};
+use replay_lines::MICROS;
+use station_check::Failure;
 use std::alloc::Global;
-
-/// How many microseconds a millisecond has.
-const MICROS: u64 = 1000;
 
 /// The end of an address that is no node's: the record doesn't tell it.
 const NO_END: Endpoint = Endpoint {
@@ -34,7 +32,7 @@ pub fn node_capture(
     name: &str,
     recording: &str,
     given: &[Endpoint],
-) -> Result<Vec<u8>, CaptureFailure>
+) -> Result<Vec<u8>, Failure>
     ensures done { IfOk result (λ file. IsRecordCapture layout.now name.now recording.now given.now file.items) }
     ensures reads { OnOk result (CanRead layout.now name.now recording.now) }
     ensures faulty { (CanRead layout.now name.now recording.now → ⊥) → IsErr result }
@@ -47,7 +45,7 @@ pub fn node_capture(
 }
 
 /// The capture of the datagrams of a record.
-fn capture_of(alloc: Global, read: &Record, given: &[Endpoint]) -> Result<Vec<u8>, CaptureFailure>
+fn capture_of(alloc: Global, read: &Record, given: &[Endpoint]) -> Result<Vec<u8>, Failure>
     ensures is { IfOk result (λ file. IsCaptureOf given.now read.now.head.node (traffic read.now.head.node 0 (map told read.now.lines.items)) file.items) }
     ensures failed { IfErr result (IsNoCapture (traffic read.now.head.node 0 (map told read.now.lines.items))) }
 {
@@ -67,12 +65,12 @@ fn push_passed(
     one: &Passed<'_>,
     given: &[Endpoint],
     file: &mut Vec<u8>,
-) -> Result<(), CaptureFailure>
+) -> Result<(), Failure>
     ensures added { OnOk result (Adds given.now node (seen one.now) file.old.items file.new.items) }
     ensures failed { IfErr result (HasTooLongOf (seen one.now)) }
 {
     if one.bytes.len() > MOST_BYTES {
-        return Err(CaptureFailure::Capture(CaptureFault::TooLong));
+        return Err(Failure::Capture(CaptureFault::TooLong));
     }
     let comment = comment(one.way);
     push_datagram(alloc, file, &journey(given, node, one), one.bytes, comment)?;

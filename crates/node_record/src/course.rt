@@ -2,13 +2,13 @@
 
 ghost use Rattle.std.specs.Prelude.{◌≡◌};
 ghost use Rattle.node_record.specs.Courses.{orders, parted, read_at, step_by};
+ghost use Rattle.control_table.specs.layout.Nodes.{meant_node};
 
 use crate::known_told::known_said;
 use crate::order_told::{order_number, told_by_order};
 use crate::report_told::report_said;
-use crate::role::Role;
 use crate::told::Told;
-use control_table::layout::Layout;
+use control_table::{Layout, Node};
 use node_lines::{Order, read_order};
 use replay_words::decimal;
 
@@ -26,7 +26,7 @@ pub(crate) struct Course {
 /// What a line comes to.
 #[derive(Clone, Copy)]
 pub(crate) struct Step {
-    /// How far the record is read behind it.
+    /// How far the record is read after it.
     pub(crate) course: Course,
     /// At which reading something was told of a lane, if it was.
     pub(crate) time: u64,
@@ -41,8 +41,8 @@ pub(crate) const FIRST_COURSE: Course = Course {
 };
 
 /// The clock is read: the order that stands may have ended by itself.
-fn read_at(role: Role, course: Course, reading: u64) -> Step
-    ensures { result ≡ read_at role course reading }
+fn read_at(whose: Node, course: Course, reading: u64) -> Step
+    ensures { result ≡ read_at (meant_node whose) course reading }
 {
     let first = course.first.or(Some(reading));
     let ended = match course.order {
@@ -60,7 +60,7 @@ fn read_at(role: Role, course: Course, reading: u64) -> Step
                 order: Some(left),
             },
             time,
-            told: told_by_order(role, left),
+            told: told_by_order(whose, left),
         },
         _ => Step {
             course: Course {
@@ -75,12 +75,12 @@ fn read_at(role: Role, course: Course, reading: u64) -> Step
 }
 
 /// An order is given; one that is the same as the one that stands, but for its end, tells nothing new.
-fn orders(role: Role, course: Course, order: Order) -> Step
-    ensures { result ≡ orders role course order }
+fn orders(whose: Node, course: Course, order: Order) -> Step
+    ensures { result ≡ orders (meant_node whose) course order }
 {
     let told = match course.order {
         Some(standing) if order_number(standing) == order_number(order) => None,
-        _ => told_by_order(role, order),
+        _ => told_by_order(whose, order),
     };
     Step {
         course: Course {
@@ -92,7 +92,7 @@ fn orders(role: Role, course: Course, order: Order) -> Step
     }
 }
 
-/// The first word of a line, and the text behind it.
+/// The first word of a line, and the text after it.
 pub(crate) fn parted(line: &str) -> (&str, &str)
     ensures { (result.0.now, result.1.now) ≡ parted line.now }
 {
@@ -102,24 +102,24 @@ pub(crate) fn parted(line: &str) -> (&str, &str)
     }
 }
 
-/// What a line comes to, by its first word and the text behind it. What is written is what an interlocking knows, or the order of a
+/// What a line comes to, by its first word and the text after it. What is written is what an interlocking knows, or the order of a
 /// controller. What is heard is a command, which changes no lane by itself, or what field equipment tells.
-pub(crate) fn step_of(layout: &Layout, role: Role, course: Course, kind: &str, text: &str) -> Step
-    ensures { result ≡ step_by layout.now role course kind.now text.now }
+pub(crate) fn step_of(layout: &Layout, whose: Node, course: Course, kind: &str, text: &str) -> Step
+    ensures { result ≡ step_by layout.now (meant_node whose) course kind.now text.now }
 {
     let told = match kind {
         "at" => match decimal(text) {
-            Ok(reading) => return read_at(role, course, reading),
+            Ok(reading) => return read_at(whose, course, reading),
             Err(_) => None,
         },
-        "hears" => match role {
-            Role::Interlocking => None,
-            _ => report_said(layout, role, text),
+        "hears" => match whose {
+            Node::Interlocking => None,
+            _ => report_said(layout, whose, text),
         },
-        "writes" => match role {
-            Role::Interlocking => known_said(layout, text),
+        "writes" => match whose {
+            Node::Interlocking => known_said(layout, text),
             _ => match read_order(text) {
-                Ok(line) => return orders(role, course, line.order),
+                Ok(line) => return orders(whose, course, line.order),
                 Err(_) => None,
             },
         },

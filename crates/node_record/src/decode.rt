@@ -2,19 +2,18 @@
 
 ghost use Rattle.std.specs.Prelude.{◌≡◌, ◌≤◌, IsErr, IfErr, OnOk, map};
 ghost use Rattle.std.specs.Io.KnownBytes.{Appends};
-ghost use Rattle.station_check.specs.Failures.{Leaves};
-ghost use Rattle.node_record.specs.DecodedRecord.{CanRead, Explained, ExplainsRecord, IsDecoded};
+ghost use Rattle.station_check.specs.Failures.{ExplainedParts, IsLate, LeavesParts};
+ghost use Rattle.node_record.specs.DecodedRecord.{CanRead, ExplainsRecord, IsDecoded};
 ghost use Rattle.node_record.specs.NodeLines.{lines_text};
 ghost use Rattle.node_record.specs.NodeTraffic.{traffic};
 ghost use Rattle.node_record.specs.RecordLines.{told};
 ghost use Rattle.node_record.specs.inside.Passing.{seen};
-ghost use Rattle.node_record.specs.inside.SoundTexts.{IsLate};
 
 use crate::passage::traffic_of;
 use crate::passed_line::line;
 use crate::record::Record;
 use crate::texts::read_texts;
-use control_table::layout::Layout;
+use control_table::Layout;
 use station_check::{Failure, tell};
 use std::alloc::Global;
 use std::io::Write;
@@ -36,14 +35,11 @@ pub fn decode_node_text<W: Write, E: Write>(
     ensures faulty { (CanRead layout.now name.now recording.now → ⊥) → (result ≡ 1) × (out.new ≡ out.old) }
     ensures silent { result ≡ 0 → err.new ≡ err.old }
     // Only a beginning of the line was told where a write to `err` failed.
-    ensures explains { result ≡ 1 → Explained layout.now name.now recording.now out.old out.new (E.contents err.old) (E.contents err.new) }
+    ensures explains { result ≡ 1 → ExplainedParts (ExplainsRecord layout.now name.now recording.now) result out.old out.new (E.contents err.old) (E.contents err.new) }
 {
     match decode(alloc, layout, name, recording, out) {
         Ok(()) => 0,
-        Err(failure) => {
-            tell(&failure, err);
-            1
-        }
+        Err(failure) => tell(&failure, err),
     }
 }
 
@@ -57,7 +53,7 @@ fn decode<W: Write>(
 ) -> Result<(), Failure>
     ensures done { OnOk result (IsDecoded layout.now name.now recording.now (W.contents out.old) (W.contents out.new)) }
     ensures faulty { (CanRead layout.now name.now recording.now → ⊥) → IsErr result × (out.new ≡ out.old) }
-    ensures explains { IfErr result (λ failure. ExplainsRecord layout.now name.now recording.now failure × Leaves failure out.old out.new) }
+    ensures explains { IfErr result (λ failure. ExplainsRecord layout.now name.now recording.now failure × LeavesParts failure out.old out.new) }
 {
     let texts = read_texts(alloc, layout, name, recording)?;
     let told = write_traffic(alloc, texts.table.layout(), &texts.read, out);

@@ -2,16 +2,14 @@
 
 ghost use Rattle.std.specs.Prelude.{◌≡◌, ◌<◌, ◌∷◌, ◌++◌, [], IfErr, IfNone, IfOk, IfSome, OnOk, OnSome, Some, length, map};
 ghost use Rattle.replay_lines.specs.Names.{node_names};
-ghost use Rattle.node_record.specs.GivenEnds.{AreEnds, Explained, Explains, end_at};
+ghost use Rattle.station_check.specs.Failures.{Told};
+ghost use Rattle.node_record.specs.GivenEnds.{AreEnds, Explains, end_at};
 ghost use Rattle.node_record.specs.inside.EndsSoFar.{ExplainsOf, HasEnds, IsNoEndOf};
 
-use crate::ends_failure::{EndsFailure, tell_ends_failure};
 use capture_file::Endpoint;
-use control_table::layout::Layout;
-use node_addresses::read_addresses;
-use replay_lines::node_name;
+use control_table::Layout;
 use simulator_event::NodeId;
-use station_check::{Failure, table_of};
+use station_check::{Failure, read_addresses, table_of, tell};
 use std::alloc::Global;
 use std::io::Write;
 use std::net::SocketAddr;
@@ -28,19 +26,19 @@ pub fn ends_text<E: Write>(
     ensures found { IfSome result (λ ends. AreEnds layout.now addresses.now ends.items) }
     ensures silent { OnSome result (err.new ≡ err.old) }
     // Only a beginning of the line was told where a write to `err` failed.
-    ensures explains { IfNone result (Explained layout.now addresses.now (E.contents err.old) (E.contents err.new)) }
+    ensures explains { IfNone result (Told (Explains layout.now addresses.now) (E.contents err.old) (E.contents err.new)) }
 {
     match ends(alloc, layout, addresses) {
         Ok(ends) => Some(ends),
         Err(failure) => {
-            tell_ends_failure(&failure, err);
+            tell(&failure, err);
             None
         }
     }
 }
 
 /// Judges the texts, and then makes the ends.
-fn ends(alloc: Global, layout: &str, addresses: &str) -> Result<Vec<Endpoint>, EndsFailure>
+fn ends(alloc: Global, layout: &str, addresses: &str) -> Result<Vec<Endpoint>, Failure>
     ensures found { IfOk result (λ ends. AreEnds layout.now addresses.now ends.items) }
     ensures explains { IfErr result (Explains layout.now addresses.now) }
 {
@@ -51,7 +49,7 @@ fn ends(alloc: Global, layout: &str, addresses: &str) -> Result<Vec<Endpoint>, E
 }
 
 /// The ends of the nodes of this layout, by the text of an addresses file.
-fn ends_in(alloc: Global, layout: &Layout, addresses: &str) -> Result<Vec<Endpoint>, EndsFailure>
+fn ends_in(alloc: Global, layout: &Layout, addresses: &str) -> Result<Vec<Endpoint>, Failure>
     ensures found { IfOk result (λ ends. HasEnds layout.now addresses.now ends.items) }
     ensures explains { IfErr result (ExplainsOf layout.now addresses.now) }
 {
@@ -70,15 +68,15 @@ fn push_end(
     address: &SocketAddr,
     place: usize,
     ends: &mut Vec<Endpoint>,
-) -> Result<(), EndsFailure>
+) -> Result<(), Failure>
     requires { place < length (node_names layout.now) }
     ensures added { OnOk result (map (λ end. Some end) ends.new.items ≡ map (λ end. Some end) ends.old.items ++ end_at address.now ∷ []) }
     ensures failed { IfErr result (IsNoEndOf layout.now address.now place) }
 {
     let SocketAddr::V4(address) = address else {
-        return match node_name(layout, NodeId(place)) {
-            Some(name) => Err(EndsFailure::NoIpv4(name)),
-            None => Err(EndsFailure::Station(Failure::OutOfMemory)),
+        return match layout.node_name(NodeId(place)) {
+            Some(name) => Err(Failure::NoIpv4(name)),
+            None => Err(Failure::OutOfMemory),
         };
     };
     let end = Endpoint {
@@ -87,6 +85,6 @@ fn push_end(
     };
     match ends.push(end) {
         Ok(()) => Ok(()),
-        Err(_) => Err(EndsFailure::Station(Failure::OutOfMemory)),
+        Err(_) => Err(Failure::OutOfMemory),
     }
 }

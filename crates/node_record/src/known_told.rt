@@ -3,14 +3,12 @@
 ghost use Rattle.std.specs.Prelude.{◌≡◌};
 ghost use Rattle.std.specs.Option.{option_map, option_to_list};
 ghost use Rattle.replay_words.specs.Cut.{words};
-ghost use Rattle.node_record.specs.KnownTold.{authority_seen, known_said};
+ghost use Rattle.node_record.specs.KnownTold.{aspect_seen, authority_seen, known_said, or_unknown, position_seen, section_seen};
 ghost use Rattle.node_record.specs.inside.ThingsTold.{lane_of, node_lane, thing_told};
 
-use crate::role::{Role, role_of};
 use crate::told::Told;
 use crate::word_table::told_by;
-use control_table::layout::Layout;
-use control_table::sci_telegram::{Aspect, Occupancy, Position};
+use control_table::{Aspect, Layout, Node, Occupancy, Position, Side};
 use lane_chart::{Kind, Lane, Progress, Readiness, Seen};
 use replay_lines::{node_named, point_named, route_named, section_named};
 use replay_words::Words;
@@ -47,12 +45,12 @@ fn node_lane(layout: &Layout, thing: Thing, name: &str) -> Option<Lane>
     let Ok(node) = node_named(layout, name) else {
         return None;
     };
-    let (kind, place) = match (thing, role_of(layout, node.0)) {
-        (Thing::Link, Role::Signal(place)) => (Kind::SignalLink, place),
-        (Thing::Link, Role::Point(place)) => (Kind::PointLink, place),
-        (Thing::Link, Role::Detector(place)) => (Kind::DetectorLink, place),
-        (Thing::Authority, Role::Signal(place)) => (Kind::Authority, place),
-        (Thing::Aspect, Role::Signal(place)) => (Kind::Aspect, place),
+    let (kind, place) = match (thing, layout.node(node)) {
+        (Thing::Link, Some(Node::Signal(signal))) => (Kind::SignalLink, signal.0),
+        (Thing::Link, Some(Node::Point(point))) => (Kind::PointLink, point.0),
+        (Thing::Link, Some(Node::Detector(detector))) => (Kind::DetectorLink, detector.0),
+        (Thing::Authority, Some(Node::Signal(signal))) => (Kind::Authority, signal.0),
+        (Thing::Aspect, Some(Node::Signal(signal))) => (Kind::Aspect, signal.0),
         _ => return None,
     };
     Some(Lane { kind, place })
@@ -79,34 +77,53 @@ fn lane_of(layout: &Layout, thing: Thing, name: &str) -> Option<Lane>
 
 // ---- what they show
 
-/// The words for what is told of a link, of a section, of a point, of what a signal indicates, and of a route.
+/// The words for what is told of a link and of a route.
 const LINK: &[(&str, Seen)] = &[
     ("ready", Seen::Link(Readiness::Ready)),
     ("lost", Seen::Link(Readiness::Down)),
-];
-
-const SECTION: &[(&str, Seen)] = &[
-    ("clear", Seen::Section(Some(Occupancy::Clear))),
-    ("occupied", Seen::Section(Some(Occupancy::Occupied))),
-    ("unknown", Seen::Section(None)),
-];
-
-const POINT: &[(&str, Seen)] = &[
-    ("left", Seen::Position(Some(Position::Left))),
-    ("right", Seen::Position(Some(Position::Right))),
-    ("unknown", Seen::Position(None)),
-];
-
-const INDICATED: &[(&str, Seen)] = &[
-    ("stop", Seen::Aspect(Some(Aspect::Stop))),
-    ("proceed", Seen::Aspect(Some(Aspect::Proceed))),
-    ("slow", Seen::Aspect(Some(Aspect::Slow))),
 ];
 
 const ROUTE: &[(&str, Seen)] = &[
     ("set", Seen::Route(Some(Progress::Waiting))),
     ("free", Seen::Route(Some(Progress::Free))),
 ];
+
+/// What a word says, if anything is known of it; `unknown` says that nothing is.
+fn or_unknown<T: Copy>(word: &str, said: Option<T>) -> Option<Option<T>>
+    ensures { result ≡ or_unknown word.now said }
+{
+    match said {
+        Some(_) => Some(said),
+        None if word == "unknown" => Some(None),
+        None => None,
+    }
+}
+
+fn section_seen(word: &str) -> Option<Seen>
+    ensures { result ≡ section_seen word.now }
+{
+    let occupancy = or_unknown(word, Occupancy::of_word(word))?;
+    Some(Seen::Section(occupancy))
+}
+
+/// A point is known where it lies at a side.
+fn position_seen(word: &str) -> Option<Seen>
+    ensures { result ≡ position_seen word.now }
+{
+    let position = match or_unknown(word, Side::of_word(word))? {
+        Some(Side::Right) => Some(Position::Right),
+        Some(Side::Left) => Some(Position::Left),
+        None => None,
+    };
+    Some(Seen::Position(position))
+}
+
+fn aspect_seen(word: &str) -> Option<Seen>
+    ensures { result ≡ aspect_seen word.now }
+{
+    let aspect = Aspect::of_word(word)?;
+    Some(Seen::Aspect(Some(aspect)))
+}
 
 /// Without authority the aspect is stop, and a route into which one leads has another one.
 fn authority_seen(layout: &Layout, aspect: &str, route: Option<&str>) -> Option<Seen>
@@ -123,7 +140,7 @@ fn authority_seen(layout: &Layout, aspect: &str, route: Option<&str>) -> Option<
 
 // ---- a line
 
-/// What the words behind the first one tell; there may be a third.
+/// What the words after the first one tell; there may be a third.
 fn thing_told(
     layout: &Layout,
     thing: Thing,
@@ -135,10 +152,10 @@ fn thing_told(
 {
     let seen = match thing {
         Thing::Link => told_by(LINK, word),
-        Thing::Section => told_by(SECTION, word),
-        Thing::Point => told_by(POINT, word),
+        Thing::Section => section_seen(word),
+        Thing::Point => position_seen(word),
         Thing::Authority => authority_seen(layout, word, route),
-        Thing::Aspect => told_by(INDICATED, word),
+        Thing::Aspect => aspect_seen(word),
         Thing::Route => told_by(ROUTE, word),
     };
     match (lane_of(layout, thing, name), seen) {

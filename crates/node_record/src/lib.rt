@@ -4,11 +4,9 @@
 #![tactic(auto)]
 
 mod capture;
-mod capture_failure;
 mod course;
 mod decode;
 mod ends;
-mod ends_failure;
 mod known_told;
 mod laws;
 mod node_chart;
@@ -22,16 +20,14 @@ mod record;
 mod record_head;
 mod record_line;
 mod report_told;
-mod role;
 mod texts;
 mod told;
 mod whole_lines;
 mod word_table;
 
 pub use capture::node_capture;
-pub use capture_failure::CaptureFailure;
 pub use decode::decode_node_text;
 pub use ends::ends_text;
 pub use laws::traffic_is_as_worked_by_hand;
-pub use node_chart::{Cut, chart_node_text};
-pub use out_file::{Asked, capture_node_to_file};
+pub use node_chart::{Cut, NodeRecord, chart_node_text};
+pub use out_file::{NodeCaptureOptions, capture_node_to_file};

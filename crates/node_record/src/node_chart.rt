@@ -1,17 +1,18 @@
 //! A node's record, drawn over the readings of its clock.
 
 ghost use Rattle.std.specs.Prelude.{◌≡◌, ◌≤◌, IsErr, IfErr, IfOk, OnOk};
-ghost use Rattle.node_record.specs.ChartedRecord.{Explained, IsChartBy, IsCharted, IsTextOf, Leaves, window_of};
+ghost use Rattle.station_check.specs.Failures.{Explained, IsLate, Leaves};
+ghost use Rattle.node_record.specs.ChartedRecord.{IsChartBy, IsCharted, IsTextOf, window_of};
 ghost use Rattle.node_record.specs.DecodedRecord.{CanRead, ExplainsRecord};
-ghost use Rattle.node_record.specs.inside.SoundTexts.{IsLate};
+ghost use Rattle.control_table.specs.layout.Nodes.{meant_node};
+ghost use Rattle.node_record.specs.NodesOfRecords.{node_of};
 
 use crate::capture::stamp;
 use crate::node_rows::node_rows;
 use crate::node_story::{NodeStory, story_of};
-use crate::role::{Role, role_of};
 use crate::texts::read_texts;
 use crate::whole_lines::WholeLines;
-use control_table::layout::Layout;
+use control_table::{Layout, Node, NodeId};
 use drawing::svg;
 use lane_chart::{Window, chart};
 use station_check::{Failure, tell};
@@ -28,31 +29,39 @@ pub struct Cut {
     pub to: Option<u64>,
 }
 
+/// What a node recorded, with the layout of its station and its name.
+#[derive(Clone, Copy)]
+pub struct NodeRecord<'a> {
+    pub layout: &'a str,
+    pub name: &'a str,
+    pub recording: &'a str,
+}
+
 /// Writes the chart of a node's record to `out`, as SVG: what each line tells of a signal, a point, a section, a route or a link
 /// from its reading on. Both texts are judged before, the layout first. The status is 0, or 1 where anything failed. Where no
 /// chart was begun `out` stays as it is; `err` is then told why.
 pub fn chart_node_text<W: Write, E: Write>(
     alloc: Global,
-    layout: &str,
-    name: &str,
-    recording: &str,
+    recorded: NodeRecord<'_>,
     cut: Cut,
     out: &mut W,
     err: &mut E,
 ) -> u8
     ensures status { result ≤ 1 }
-    ensures done { result ≡ 0 → IsCharted layout.now name.now recording.now cut (W.contents out.old) (W.contents out.new) }
-    ensures faulty { (CanRead layout.now name.now recording.now → ⊥) → (result ≡ 1) × (out.new ≡ out.old) }
+    ensures done { result ≡ 0 → IsCharted recorded.entry.layout.now recorded.entry.name.now recorded.entry.recording.now cut (W.contents out.old) (W.contents out.new) }
+    ensures faulty { (CanRead recorded.entry.layout.now recorded.entry.name.now recorded.entry.recording.now → ⊥) → (result ≡ 1) × (out.new ≡ out.old) }
     ensures silent { result ≡ 0 → err.new ≡ err.old }
     // Only a beginning of the line was told where a write to `err` failed.
-    ensures explains { result ≡ 1 → Explained layout.now name.now recording.now out.old out.new (E.contents err.old) (E.contents err.new) }
+    ensures explains { result ≡ 1 → Explained (ExplainsRecord recorded.entry.layout.now recorded.entry.name.now recorded.entry.recording.now) result out.old out.new (E.contents err.old) (E.contents err.new) }
 {
+    let NodeRecord {
+        layout,
+        name,
+        recording,
+    } = recorded;
     match write_chart(alloc, layout, name, recording, cut, out) {
         Ok(()) => 0,
-        Err(failure) => {
-            tell(&failure, err);
-            1
-        }
+        Err(failure) => tell(&failure, err),
     }
 }
 
@@ -79,6 +88,16 @@ fn write_chart<W: Write>(
     Ok(())
 }
 
+/// The node of a number; one that is no node's stands for the interlocking.
+fn node_of(layout: &Layout, number: usize) -> Node
+    ensures { meant_node result ≡ node_of layout.now number }
+{
+    match layout.node(NodeId(number)) {
+        Some(node) => node,
+        None => Node::Interlocking,
+    }
+}
+
 /// The chart of the record of the node of this number.
 fn chart_of(
     alloc: Global,
@@ -90,14 +109,14 @@ fn chart_of(
     ensures drawn { IfOk result (λ text. IsChartBy layout.now node recording.now cut text.items) }
     ensures failed { IfErr result IsLate }
 {
-    let role = role_of(layout, node);
-    let story = story_of(alloc, layout, role, node, WholeLines::of(recording))?;
-    let text = text_of(alloc, layout, role, cut, &story);
+    let whose = node_of(layout, node);
+    let story = story_of(alloc, layout, whose, node, WholeLines::of(recording))?;
+    let text = text_of(alloc, layout, whose, cut, &story);
     drop(story);
     Ok(text?)
 }
 
-/// The part of a record that is drawn, in microseconds: no time behind its end.
+/// The part of a record that is drawn, in microseconds: no time after its end.
 fn window_of(cut: Cut, begin: u64, end: u64) -> Window
     ensures { result ≡ window_of cut begin end }
 {
@@ -119,14 +138,14 @@ fn window_of(cut: Cut, begin: u64, end: u64) -> Window
 fn text_of(
     alloc: Global,
     layout: &Layout,
-    role: Role,
+    whose: Node,
     cut: Cut,
     story: &NodeStory,
 ) -> Result<Vec<u8>, AllocError>
-    ensures { IfOk result (λ text. IsTextOf layout.now role cut story.now text.items) }
+    ensures { IfOk result (λ text. IsTextOf layout.now (meant_node whose) cut story.now text.items) }
 {
     let window = window_of(cut, story.begin, story.end);
-    let rows = node_rows(alloc, layout, role, window, &story.changes)?;
+    let rows = node_rows(alloc, layout, whose, window, &story.changes)?;
     let picture = chart(alloc, layout, window, &rows, &story.happenings)?;
     svg(alloc, &picture)
 }

@@ -4,13 +4,13 @@ ghost use Rattle.std.specs.Prelude.{◌≡◌, ◌++◌, IfOk, OnOk, map};
 ghost use Rattle.std.specs.Option.{option_map, option_to_list};
 ghost use Rattle.node_record.specs.NodeChanges.{TellsLines, begin_of, change_by, is_marked, mark_by, seen_mark};
 ghost use Rattle.node_record.specs.inside.Marking.{marked};
+ghost use Rattle.control_table.specs.layout.Nodes.{meant_node};
 
 use crate::capture::stamp;
 use crate::course::{Course, FIRST_COURSE, Step, parted, step_of};
-use crate::role::Role;
 use crate::told::Told;
 use crate::whole_lines::WholeLines;
-use control_table::layout::Layout;
+use control_table::{Layout, Node};
 use lane_chart::{Change, Happening};
 use replay_words::decimal;
 use std::alloc::{AllocError, Global};
@@ -67,17 +67,17 @@ fn is_marked(kind: &str, text: &str) -> bool
     ANSWERS.contains(&word)
 }
 
-/// The mark of a line, if it has one, by its first word and the text behind it. At its first reading a node begins; then the
+/// The mark of a line, if it has one, by its first word and the text after it. At its first reading a node begins; then the
 /// lines of an interlocking are marked that tell commands and answers.
 fn mark_by<'a>(
-    role: Role,
+    whose: Node,
     node: usize,
     course: Course,
     line: usize,
     kind: &str,
     text: &'a str,
 ) -> Option<Mark<'a>>
-    ensures { option_to_list (option_map marked result) ≡ mark_by role node course line kind.now text.now }
+    ensures { option_to_list (option_map marked result) ≡ mark_by (meant_node whose) node course line kind.now text.now }
 {
     if kind == "at" {
         return match (course.first, decimal(text)) {
@@ -90,8 +90,8 @@ fn mark_by<'a>(
             _ => None,
         };
     }
-    match role {
-        Role::Interlocking if is_marked(kind, text) => Some(Mark {
+    match whose {
+        Node::Interlocking if is_marked(kind, text) => Some(Mark {
             line,
             time: stamp(course.reading),
             node: None,
@@ -135,11 +135,11 @@ fn begin_of(first: Option<u64>) -> u64
 pub(crate) fn story_of(
     alloc: Global,
     layout: &Layout,
-    role: Role,
+    whose: Node,
     node: usize,
     lines: WholeLines<'_>,
 ) -> Result<NodeStory, AllocError>
-    ensures { IfOk result (TellsLines layout.now role node lines.entry) }
+    ensures { IfOk result (TellsLines layout.now (meant_node whose) node lines.entry) }
 {
     let mut changes = Vec::new(alloc);
     let mut happenings = Vec::new(alloc);
@@ -147,9 +147,9 @@ pub(crate) fn story_of(
     for (number, line) in lines {
         let place = number as usize;
         let (kind, text) = parted(line);
-        let mark = mark_by(role, node, course, place, kind, text);
+        let mark = mark_by(whose, node, course, place, kind, text);
         add_mark(alloc, &mut happenings, mark)?;
-        let this = step_of(layout, role, course, kind, text);
+        let this = step_of(layout, whose, course, kind, text);
         add_change(&mut changes, place, this)?;
         course = this.course;
     }

@@ -2,19 +2,19 @@
 
 ghost use Rattle.std.specs.Prelude.{◌≡◌};
 ghost use Rattle.node_record.specs.OrdersTold.{order_number, told_by_order};
+ghost use Rattle.control_table.specs.layout.Nodes.{meant_node};
 
-use crate::role::Role;
 use crate::told::Told;
-use control_table::sci_telegram::{Aspect, Side};
+use control_table::{Aspect, Node, Side};
 use lane_chart::{Kind, Lane, Seen};
 use node_lines::Order;
 
 /// What the order of a controller tells of its lane: what its lamp shows, or to which side its motor drives.
-pub(crate) fn told_by_order(role: Role, order: Order) -> Option<Told>
-    ensures { result ≡ told_by_order role order }
+pub(crate) fn told_by_order(whose: Node, order: Order) -> Option<Told>
+    ensures { result ≡ told_by_order (meant_node whose) order }
 {
-    match role {
-        Role::Signal(place) => {
+    match whose {
+        Node::Signal(signal) => {
             let aspect = match order {
                 Order::ShowProceed { .. } => Aspect::Proceed,
                 Order::ShowSlow { .. } => Aspect::Slow,
@@ -23,12 +23,12 @@ pub(crate) fn told_by_order(role: Role, order: Order) -> Option<Told>
             Some(Told {
                 lane: Lane {
                     kind: Kind::Aspect,
-                    place,
+                    place: signal.0,
                 },
                 seen: Seen::Aspect(Some(aspect)),
             })
         }
-        Role::Point(place) => {
+        Node::Point(point) => {
             let side = match order {
                 Order::Drive { side, .. } => Some(side),
                 _ => None,
@@ -36,7 +36,7 @@ pub(crate) fn told_by_order(role: Role, order: Order) -> Option<Told>
             Some(Told {
                 lane: Lane {
                     kind: Kind::Drive,
-                    place,
+                    place: point.0,
                 },
                 seen: Seen::Drive(side),
             })

@@ -1,19 +1,20 @@
 //! The capture of a node's record, in a file of its own.
 
 ghost use Rattle.std.specs.Prelude.{◌≡◌, ◌≤◌};
-ghost use Rattle.node_record.specs.CapturedRecord.{Explained, HasCapture};
+ghost use Rattle.station_check.specs.Failures.{Failed};
+ghost use Rattle.node_record.specs.CapturedRecord.{Explains, HasCapture};
 ghost use Rattle.node_record.specs.DecodedRecord.{CanRead};
 
 use crate::capture::node_capture;
-use crate::capture_failure::{CaptureFailure, tell_capture_failure};
 use capture_file::{Endpoint, write_file};
+use station_check::{Failure, tell};
 use std::fs::Files;
 use std::io::Write;
 
 /// What `station capture` is asked of a node's record: the texts of the layout and of the record, the name of the node, where the
 /// nodes are found, where the capture goes, and whether a file that is there is written over.
 #[derive(Clone, Copy)]
-pub struct Asked<'a> {
+pub struct NodeCaptureOptions<'a> {
     pub layout: &'a str,
     pub name: &'a str,
     pub recording: &'a str,
@@ -29,7 +30,7 @@ pub struct Asked<'a> {
 /// where that is wanted. The status is 0, or 1 where anything failed; `err` is then told why.
 pub fn capture_node_to_file<R: Files + AllocGlobal, E: Write>(
     rt: &R,
-    asked: &Asked<'_>,
+    asked: &NodeCaptureOptions<'_>,
     err: &mut E,
 ) -> u8
     ensures status { result ≤ 1 }
@@ -37,7 +38,7 @@ pub fn capture_node_to_file<R: Files + AllocGlobal, E: Write>(
     ensures faulty { (CanRead asked.now.layout.now asked.now.name.now asked.now.recording.now → ⊥) → result ≡ 1 }
     ensures silent { result ≡ 0 → err.new ≡ err.old }
     // Only a beginning of the line was told where a write to `err` failed.
-    ensures explains { result ≡ 1 → Explained asked.now.layout.now asked.now.name.now asked.now.recording.now asked.now.endpoints.now (E.contents err.old) (E.contents err.new) }
+    ensures explains { result ≡ 1 → Failed (Explains asked.now.layout.now asked.now.name.now asked.now.recording.now asked.now.endpoints.now) result (E.contents err.old) (E.contents err.new) }
 {
     let capture = match node_capture(
         rt.alloc(),
@@ -47,16 +48,10 @@ pub fn capture_node_to_file<R: Files + AllocGlobal, E: Write>(
         asked.endpoints,
     ) {
         Ok(capture) => capture,
-        Err(failure) => {
-            tell_capture_failure(&failure, err);
-            return 1;
-        }
+        Err(failure) => return tell(&failure, err),
     };
     match write_file(rt, asked.out, asked.force, &capture) {
         Ok(()) => 0,
-        Err(fault) => {
-            tell_capture_failure(&CaptureFailure::Capture(fault), err);
-            1
-        }
+        Err(fault) => tell(&Failure::Capture(fault), err),
     }
 }

@@ -18,7 +18,7 @@ pub(crate) enum Reception {
     FromNoPartner,
     /// It was thrown away, since it may have waited too long.
     ThrownAway,
-    /// The clock wasn't read behind it: the record ends there.
+    /// The clock wasn't read after it: the record ends there.
     Unread,
 }
 
@@ -55,7 +55,7 @@ fn is_partner(node: usize, from: Option<usize>) -> bool
     }
 }
 
-/// The reading that was taken behind a datagram, or else the last one before; and what became of it, by the lines behind it.
+/// The reading that was taken after a datagram, or else the last one before; and what became of it, by the lines after it.
 fn received(latest: u64, partner: bool, behind: &[RecordLine]) -> (u64, Reception)
     ensures reading { result.0 ≡ reading_behind latest (map told behind.now) }
     ensures reception { result.1 ≡ became partner (map told behind.now) }

@@ -6,9 +6,7 @@ ghost use Rattle.node_record.specs.NodeLines.{line_text, name_or_none};
 ghost use Rattle.node_record.specs.inside.Passing.{seen};
 
 use crate::passage::{Passed, Reception, Way};
-use control_table::layout::Layout;
-use control_table::sci_telegram::Name;
-use replay_lines::node_name;
+use control_table::{Layout, Name};
 use simulator_event::NodeId;
 use station_decode::datagram_words;
 use std::alloc::{AllocError, Global};
@@ -49,11 +47,11 @@ pub(crate) fn line(
 {
     let words = datagram_words(alloc, Some(layout), one.bytes)?;
     let reading = one.reading;
-    let own = node_name(layout, NodeId(node));
+    let own = layout.node_name(NodeId(node));
     let own = name_or_none(&own);
     match one.way {
         Way::Sent { to } => {
-            let to = node_name(layout, NodeId(to));
+            let to = layout.node_name(NodeId(to));
             let to = name_or_none(&to);
             format!(in alloc; "{reading}.000 sent by {own} to {to}: {words}\n")
         }

@@ -11,12 +11,12 @@ ghost use Rattle.node_record.specs.inside.RecordsRead.{said};
 use crate::record_head::{Head, read_head};
 use crate::record_line::{RecordLine, read_line};
 use crate::whole_lines::WholeLines;
-use control_table::layout::Layout;
+use control_table::Layout;
 use replay_lines::SessionFault;
 use replay_words::Fault;
 use std::alloc::Global;
 
-/// What the record of a node tells: its first line, and those behind it.
+/// What the record of a node tells: its first line, and those after it.
 #[derive(Drop)]
 pub(crate) struct Record {
     pub(crate) head: Head,
@@ -59,7 +59,7 @@ fn first_line<'a>(lines: &mut WholeLines<'a>) -> &'a str
     }
 }
 
-/// What the lines behind the first tell.
+/// What the lines after the first tell.
 fn read_lines(
     alloc: Global,
     layout: &Layout,
@@ -80,7 +80,7 @@ fn read_lines(
     Ok(read)
 }
 
-/// Keeps what a line tells behind those before it.
+/// Keeps what a line tells after those before it.
 fn keep_line(
     alloc: Global,
     layout: &Layout,

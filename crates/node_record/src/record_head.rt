@@ -4,7 +4,7 @@ ghost use Rattle.std.specs.Prelude.{◌≡◌};
 ghost use Rattle.replay_words.specs.Cut.{words};
 ghost use Rattle.node_record.specs.Records.{head_said, time_said};
 
-use control_table::layout::Layout;
+use control_table::Layout;
 use replay_lines::node_named;
 use replay_words::{Fault, Words, decimal};
 

@@ -7,7 +7,7 @@ ghost use Rattle.node_record.specs.RecordLines.{complains, line_said, throws_awa
 ghost use Rattle.node_record.specs.inside.FormsSaid.{datagram, other_said};
 
 use crate::word_table::told_by;
-use control_table::layout::Layout;
+use control_table::Layout;
 use replay_lines::node_named;
 use replay_words::{Fault, Words, decimal, hexadecimal_or_none};
 use std::alloc::Global;
@@ -35,9 +35,9 @@ enum Form {
     ThrowsAway,
     Sends,
     Fails,
-    /// Nothing stands behind its first word.
+    /// Nothing stands after its first word.
     Alone,
-    /// A text stands behind it.
+    /// A text stands after it.
     Followed,
     BreaksOff,
     Complains,
@@ -76,7 +76,7 @@ pub(crate) fn read_line(alloc: Global, layout: &Layout, line: &str) -> Result<Re
     }
 }
 
-/// What a line of another form tells, behind its first word.
+/// What a line of another form tells, after its first word.
 fn other(form: Form, mut words: Words<'_>) -> Result<RecordLine, Fault>
     ensures { Gives told (other_said form words.entry) result }
 {
@@ -110,7 +110,7 @@ fn other(form: Form, mut words: Words<'_>) -> Result<RecordLine, Fault>
     }
 }
 
-/// What a line tells of what was thrown away, behind its first word.
+/// What a line tells of what was thrown away, after its first word.
 fn throws_away(mut words: Words<'_>) -> Result<RecordLine, Fault>
     ensures { Gives told (throws_away words.entry) result }
 {
@@ -126,7 +126,7 @@ fn throws_away(mut words: Words<'_>) -> Result<RecordLine, Fault>
     Ok(RecordLine::ThrowsAway)
 }
 
-/// What a line tells of a datagram that came, or of one that was sent, behind its first word. Of one that came a hyphen that is
+/// What a line tells of a datagram that came, or of one that was sent, after its first word. Of one that came a hyphen that is
 /// no node's name stands for an address that is no node's.
 fn datagram(
     alloc: Global,

@@ -7,7 +7,7 @@ ghost use Rattle.node_record.specs.Records.{whole_lines};
 
 use std::marker::Model;
 
-/// The lines of a text, each with its number from 1. A line ends at a line feed: what stands behind the last one is no line.
+/// The lines of a text, each with its number from 1. A line ends at a line feed: what stands after the last one is no line.
 #[derive(Drop)]
 pub(crate) struct WholeLines<'a> {
     rest: &'a str,

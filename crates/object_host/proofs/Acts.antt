@@ -228,7 +228,7 @@ module _ {Object : Type 0} (does : Behaviour Object) where
   beating_quiet now (inputs.Datagram bytes) host = record { acts_on_none = refl; tells_none = refl }
   beating_quiet now (inputs.Sense sense) host = record { acts_on_none = refl; tells_none = refl }
 
-  -- a quiet part of own calls behind another
+  -- a quiet part of own calls after another
   acts_then : (now : ℕ) (link : LinkState) (first : HostSoFar Object) (next : HostState Object → HostSoFar Object) → IsMadeOf now link first →
       ActsOn (items_taken now first.calls link) first → IsPart now first.host.link (next first.host) → IsQuiet (next first.host) →
       ActsOn (items_taken now (then_do first next).calls link) (then_do first next)

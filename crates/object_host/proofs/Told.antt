@@ -95,7 +95,7 @@ module _ {Object : Type 0} (does : Behaviour Object) where
   fit_joined (Pays ∷ calls) others object one more = fit_joined calls others (does.after_paid object) one more
   fit_joined (Loses ∷ calls) others object one more = fit_joined calls others (does.after_loss object) one more
 
-  -- what an object is told from one state to another, with nothing paid; where the link is open behind it, all fit
+  -- what an object is told from one state to another, with nothing paid; where the link is open after it, all fit
   record AreCalls (now : ℕ) (old new : Object) (told : List Telegram) (senses : List Sense) (opened : Bool) : Type 0 where
     calls : List ObjectCall
     object_is : new ≡ object_after_all does calls old

@@ -31,7 +31,7 @@ module _ {Object : Type 0} where
     pub posts_none : left.pdus ≡ []
     pub calls_none : left.calls ≡ []
 
-  -- a part of what is left, and what is left behind it
+  -- a part of what is left, and what is left after it
   pub record IsFirst (left first next : HostSoFar Object) : Type 0 where
     pub ends_same : left.host ≡ next.host
     pub pdus_joined : left.pdus ≡ first.pdus ++ next.pdus

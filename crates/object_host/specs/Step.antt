@@ -12,6 +12,7 @@ use Rattle.sci_telegram.specs.declared.message.Aspect.TheVariants.{Slow}
 use Rattle.sci_telegram.specs.declared.message.Message.{Message}
 use Rattle.sci_telegram.specs.declared.message.Message.TheVariants.{Signal}
 use Rattle.sci_telegram.specs.declared.message.SignalMessage.TheVariants.{IndicateAspect, IndicatedAspect}
+use Rattle.sci_telegram.specs.declared.message.TheConstants.{SLOW_SINCE}
 use Rattle.sci_telegram.specs.declared.message.Protocol.{Protocol}
 use Rattle.sci_telegram.specs.declared.message.Protocol.TheVariants as protocols
 use Rattle.sci_telegram.specs.declared.telegram.Telegram.{Telegram}
@@ -44,13 +45,13 @@ is_same_protocol protocols.LightSignal protocols.LightSignal = true
 is_same_protocol protocols.Point protocols.Point = true
 is_same_protocol _ _ = false
 
--- telegrams of a version: the aspect slow came with version 2
+-- telegrams of a version: the aspect slow came with version `SLOW_SINCE`
 abbrev pub is_in_version : ℕ → Message → Bool
-is_in_version version (Signal (IndicateAspect Slow)) = nat_le 2 version
-is_in_version version (Signal (IndicatedAspect Slow)) = nat_le 2 version
+is_in_version version (Signal (IndicateAspect Slow)) = nat_le SLOW_SINCE version
+is_in_version version (Signal (IndicatedAspect Slow)) = nat_le SLOW_SINCE version
 is_in_version version _ = true
 
--- a report and those behind it; where there is none, those behind it are none
+-- a report and those after it; where there is none, those after it are none
 abbrev pub report_then : Option Report → List Report → List Report
 report_then None others = []
 report_then (Some report) others = report ∷ others
@@ -122,7 +123,7 @@ module _ {Object : Type 0} where
       then following does now item telegram (meaning telegram.message host.stage) host
       else violating now host
 
-  -- the items of a datagram, one after another; those behind one that closed the link are dropped
+  -- the items of a datagram, one after another; those after one that closed the link are dropped
   unfoldable pub acting_all : Behaviour Object → ℕ → List (List ℕ) → HostState Object → HostSoFar Object
   acting_all does now [] host = silent host
   acting_all does now (item ∷ others) host =

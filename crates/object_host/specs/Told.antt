@@ -70,7 +70,7 @@ module _ {Object : Type 0} where
   initialisation does object =
       said does StartInitialisation ∷ (initial_status does most_objects 0 object ++ said does InitialisationCompleted ∷ [])
 
-  -- What a host itself says to what comes: answers of the version, and behind them some of what its initialisation says,
+  -- What a host itself says to what comes: answers of the version, and after them some of what its initialisation says,
   -- for the window may refuse each. Then the initialisation is completed.
   pub record IsSaid (does : Behaviour Object) (host : HostState Object) (after : Stage) (own : List Report) : Type 0 where
     pub answers : List Report
@@ -93,7 +93,7 @@ module _ {Object : Type 0} where
       calls_begun now old ++ (during ++ (loss_where is_lost ++ Keeps (alive_until new.link) ∷ []))
 
   pub record IsToldIn (does : Behaviour Object) (now : ℕ) (input : Input) (host : HostState Object) (part : HostSoFar Object) : Type 0 where
-    -- the object after the step is that before it after these calls: what comes, and behind it what is paid
+    -- the object after the step is that before it after these calls: what comes, and after it what is paid
     pub comes : List ObjectCall
     pub pays : List ObjectCall
     pub are_coming : AreComing now comes
@@ -121,7 +121,7 @@ module _ {Object : Type 0} where
     pub remains : is_outside (beginning does now host).stage ≡ false → is_outside (given does now input (beginning does now host)).host.stage ≡ false
     pub completed : is_completed (beginning does now host).stage ≡ true → is_completed (given does now input (beginning does now host)).host.stage ≡ true
     pub stage_is : is_open part.host.link.phase ≡ true → part.host.stage ≡ (given does now input (beginning does now host)).host.stage
-    -- each report that was paid was sent, as it was owed behind what came, where that has completed the initialisation;
+    -- each report that was paid was sent, as it was owed after what came, where that has completed the initialisation;
     -- otherwise all were dropped
     pub paid : is_completed (given does now input (beginning does now host)).host.stage ≡ true
         → reports ≡ reports_paid does pays (object_after_all does comes (beginning does now host).object)

@@ -4,7 +4,7 @@ ghost use Rattle.std.specs.Prelude.{◌≡◌, ◌≤◌, ℕ, List, length};
 ghost use Rattle.rasta_core.specs.Calls.{MayStep};
 ghost use Rattle.rasta_core.specs.Outbox.{HasRoomFor};
 ghost use Rattle.object_host.specs.Meaning.{meaning};
-ghost use Rattle.object_host.specs.Step.{acting, acting_all, commanding, following, is_admitted, is_from_peer, is_in_version, is_same_protocol, posting};
+ghost use Rattle.object_host.specs.Step.{acting, acting_all, commanding, following, is_admitted, is_from_peer, is_in_version, posting};
 ghost use Rattle.object_host.specs.inside.Performed.{IsPerformed};
 ghost use Rattle.sci_telegram.specs.TelegramRead.{reading};
 
@@ -13,10 +13,7 @@ use crate::host::Host;
 use crate::meaning::Meaning;
 use rasta_core::{Millis, Outbox};
 use rasta_pdu::Item;
-use sci_telegram::{Aspect, Message, Protocol, SignalMessage, Telegram};
-
-/// The first version of the telegrams that has the aspect slow.
-const FIRST_WITH_SLOW: u8 = 2;
+use sci_telegram::{Aspect, Message, SLOW_SINCE, SignalMessage, Telegram};
 
 impl<C: Controller> Host<C> {
     /// The object is told a telegram. One that doesn't fit closes the link.
@@ -51,7 +48,7 @@ impl<C: Controller> Host<C> {
     fn is_from_peer(&self, telegram: &Telegram) -> bool
         ensures { result ≡ is_from_peer C.behaviour telegram.now self.now }
     {
-        is_same(telegram.message.protocol(), self.object.protocol())
+        telegram.message.protocol() == self.object.protocol()
             && telegram.sender.bytes() == self.peer_name.bytes()
             && telegram.receiver.bytes() == self.own_name.bytes()
     }
@@ -76,7 +73,7 @@ impl<C: Controller> Host<C> {
         }
     }
 
-    /// The items of a datagram. Those behind one that closed the link are dropped.
+    /// The items of a datagram. Those after one that closed the link are dropped.
     #[tactic(auto, using(crate::proofs::OutboxPosts::posting, crate::proofs::UnderWay::items_joined))]
     pub(crate) fn act_all(&mut self, now: Millis, items: &[Item], outbox: &mut Outbox)
         requires at { self.old.link.clock ≡ now }
@@ -93,7 +90,7 @@ impl<C: Controller> Host<C> {
     }
 }
 
-/// Whether a version has this message: the aspect slow came with version 2.
+/// Whether a version has this message: the aspect slow came with `SLOW_SINCE`.
 fn is_in_version(version: u8, message: &Message) -> bool
     ensures { result ≡ is_in_version version message.now }
 {
@@ -101,18 +98,7 @@ fn is_in_version(version: u8, message: &Message) -> bool
         Message::Signal(
             SignalMessage::IndicateAspect(Aspect::Slow)
             | SignalMessage::IndicatedAspect(Aspect::Slow),
-        ) => FIRST_WITH_SLOW <= version,
+        ) => SLOW_SINCE <= version,
         _ => true,
     }
-}
-
-fn is_same(protocol: Protocol, other: Protocol) -> bool
-    ensures { result ≡ is_same_protocol protocol other }
-{
-    matches!(
-        (protocol, other),
-        (Protocol::TrainDetection, Protocol::TrainDetection)
-            | (Protocol::LightSignal, Protocol::LightSignal)
-            | (Protocol::Point, Protocol::Point)
-    )
 }

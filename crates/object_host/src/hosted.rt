@@ -10,10 +10,10 @@ ghost use Rattle.rasta_core.specs.identity.Role.TheVariants.{Server};
 use crate::controller::Controller;
 use crate::host::Host;
 use crate::input::Input;
+use crate::parties::Parties;
 use crate::stage::Stage;
-use rasta_core::{Link, Millis, Outbox};
-use rasta_pdu::{Datagram, Key};
-use sci_telegram::Name;
+use rasta_core::{Link, Millis, Outbox, Start};
+use rasta_pdu::Datagram;
 use std::alloc::{AllocError, Global};
 use std::marker::Model;
 
@@ -59,24 +59,28 @@ impl<C: Controller> Hosted<C> {
     ghost use Rattle.object_host.specs.Stepped.{EndsStepped};
     ghost use Rattle.object_host.specs.Hosted.{empty_outbox, new_host};
 
-    /// A controller of these names and identities, with a link that isn't in a connection. Its PDUs are numbered
-    /// from `first_sequence_number` on, and `now` is its clock. The object is as after a loss. `version` is the version
-    /// of the telegrams: version 2 has the aspect slow, version 1 doesn't.
+    /// A controller of these names and identities, with a link that isn't in a connection and begins so. The object is as
+    /// after a loss. `version` is the version of the telegrams: version 2 has the aspect slow, version 1 doesn't.
     #[tactic(auto, unfolding(crate::specs::Hosted::new_host, crate::specs::Host::keeping))]
     pub fn new(
         alloc: Global,
-        own: u32,
-        partner: u32,
-        own_name: Name,
-        peer_name: Name,
-        key: Key,
-        first_sequence_number: u32,
-        now: Millis,
+        parties: Parties,
+        start: Start,
         object: C,
         version: u8,
     ) -> Result<Hosted<C>, AllocError>
-        ensures { IfOk result (λ hosted. hosted ≡ record { host = new_host C.behaviour (record { role = Server; own = own; partner = partner; key = key }) own_name peer_name first_sequence_number now object version; outbox = empty_outbox }) }
+        ensures { IfOk result (λ hosted. hosted ≡ record { host = new_host C.behaviour (record { role = Server; own = parties.own; partner = parties.partner; key = parties.key }) parties.own_name parties.peer_name start.first_sequence_number start.now object version; outbox = empty_outbox }) }
     {
+        let Parties {
+            own,
+            partner,
+            key,
+            ..
+        } = parties;
+        let Start {
+            first_sequence_number,
+            now,
+        } = start;
         let link = Link::server(alloc, own, partner, key, first_sequence_number, now)?;
         let outbox = Outbox::for_links(alloc, OWN_LINKS)?;
         let mut object = object;
@@ -86,8 +90,8 @@ impl<C: Controller> Hosted<C> {
             link,
             stage: Stage::Outside,
             object,
-            own_name,
-            peer_name,
+            own_name: parties.own_name,
+            peer_name: parties.peer_name,
             version,
         };
         Ok(Hosted { host, outbox })

@@ -11,6 +11,7 @@ mod initialisation;
 mod input;
 mod laws;
 mod meaning;
+mod parties;
 mod report;
 mod reports;
 mod sense;
@@ -23,5 +24,6 @@ pub use laws::{
     own_calls_open_nothing, step_is_calls, step_is_told_to_the_object, step_settles_first,
     step_tells_what_was_taken, steps_keep_a_host,
 };
+pub use parties::Parties;
 pub use report::Report;
 pub use sense::Sense;

@@ -1,8 +1,8 @@
 //! An interlocking's end of a link and an object controller at the other, at one clock, and scripts of what both say.
 
 use crate::output::{Observed, Output};
-use object_host::{Hosted, Input, Sense};
-use rasta_core::{Inbox, Link, Millis, Outbox};
+use object_host::{Hosted, Input, Parties, Sense};
+use rasta_core::{Inbox, Link, Millis, Outbox, Start};
 use rasta_pdu::{Body, Datagram, Item, Items, Key};
 use sci_telegram::{Initialisation, Message, Name, Telegram, read, write};
 use std::alloc::Global;
@@ -25,7 +25,7 @@ const MANY: usize = 64;
 
 /// How far a script's ends have come where it begins. A controller has a version of the telegrams.
 #[derive(Clone, Copy)]
-pub(crate) enum Start {
+pub(crate) enum Outset {
     Made(u8),
     /// The station opened a connection at 100000.
     Connected(u8),
@@ -77,7 +77,7 @@ pub(crate) enum Step {
 pub(crate) type Row = (Millis, Step);
 
 /// What is shown, from where on, and how.
-pub(crate) type Script = (&'static str, Start, &'static [Row]);
+pub(crate) type Script = (&'static str, Outset, &'static [Row]);
 
 /// Both ends, and what each has said.
 #[derive(Drop)]
@@ -110,11 +110,18 @@ fn telegram(rt: &impl Abort, sender: &str, receiver: &str, message: Message) -> 
 }
 
 fn hosted<C: Observed>(rt: &impl Abort, alloc: Global, object: C, version: u8) -> Hosted<C> {
-    let own = name(rt, "OC1");
-    let peer = name(rt, "IXL1");
-    let made = Hosted::new(
-        alloc, CONTROLLER, STATION, own, peer, KEY, 0, MADE_AT, object, version,
-    );
+    let parties = Parties {
+        own: CONTROLLER,
+        partner: STATION,
+        own_name: name(rt, "OC1"),
+        peer_name: name(rt, "IXL1"),
+        key: KEY,
+    };
+    let start = Start {
+        first_sequence_number: 0,
+        now: MADE_AT,
+    };
+    let made = Hosted::new(alloc, parties, start, object, version);
     made.expect(rt, "there is memory")
 }
 
@@ -147,13 +154,13 @@ impl<C: Observed> Bench<C> {
     }
 
     /// Both ends, as a script begins with them.
-    fn begun(rt: &impl Abort, alloc: Global, object: C, start: Start) -> Bench<C> {
-        let (Start::Made(version) | Start::Connected(version) | Start::Ready(version)) = start;
+    fn begun(rt: &impl Abort, alloc: Global, object: C, start: Outset) -> Bench<C> {
+        let (Outset::Made(version) | Outset::Connected(version) | Outset::Ready(version)) = start;
         let mut bench = Bench::made(rt, alloc, object, version);
-        if !matches!(start, Start::Made(_)) {
+        if !matches!(start, Outset::Made(_)) {
             bench.connects(rt);
         }
-        if matches!(start, Start::Ready(_)) {
+        if matches!(start, Outset::Ready(_)) {
             bench.initialises(rt, version);
         }
         bench

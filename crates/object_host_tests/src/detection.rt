@@ -1,6 +1,6 @@
 //! A detector of sixteen sections, which are clear, through the link that commands it.
 
-use crate::bench::Start::{Connected, Made, Ready};
+use crate::bench::Outset::{Connected, Made, Ready};
 use crate::bench::Step::{
     Confirms, Connects, Forgets, HandsOut, HasGiven, Hears, HearsNoMore, KeepsUp, KnowsTaken,
     Refuses, Says, Senses, ToController, ToStation,

@@ -1,6 +1,6 @@
 //! A point through the link that commands it. Each lies left.
 
-use crate::bench::Start::{Connected, Ready};
+use crate::bench::Outset::{Connected, Ready};
 use crate::bench::Step::{
     Exchanges, HandsOut, Has, Hears, HearsNoMore, KeepsUp, Refuses, Says, Senses, Ticks,
     ToController, ToStation,

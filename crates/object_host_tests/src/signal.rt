@@ -1,6 +1,6 @@
 //! A signal through the link that commands it.
 
-use crate::bench::Start::{Connected, Ready};
+use crate::bench::Outset::{Connected, Ready};
 use crate::bench::Step::{
     Answers, Confirms, Exchanges, Forgets, HandsOut, Has, Hears, HearsNoMore, Refuses, Says,
     SaysAs, SaysBytes, Senses, ToController, ToStation,

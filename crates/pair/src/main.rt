@@ -2,7 +2,7 @@
 //! ends and the network between them, and prints an answer for each. Its status is 0 or 1.
 #![tactic(auto)]
 
-use limited_text::{Content, STREAM, TextFault, file_text, text_up_to};
+use limited_text::{Content, TextFault, file_text, input_text};
 use simulator_pair_text::{Asked, Error, is_memory, pair_text, read_words, status};
 use std::io::BufWriter;
 use std::process::ExitCode;
@@ -87,7 +87,7 @@ fn text(rt: &HostRuntime, asked: Asked<'_>) -> Result<String, Failure> {
 
 /// The text of standard input, which may never end.
 fn input(rt: &HostRuntime) -> Result<String, Failure> {
-    match text_up_to(rt.alloc(), &mut rt.reader(), STREAM) {
+    match input_text(rt.alloc(), &mut rt.reader(), Content::Lines) {
         Ok(text) => Ok(text),
         Err(TextFault::OutOfMemory) => Err(Failure::OutOfMemory),
         Err(_) => Err(Failure::Input),

@@ -7,8 +7,8 @@ use Rattle.panel_desk.specs.Answers.{DeskView}
 use Rattle.panel_desk.specs.ShownLines.{panel_text}
 use Rattle.panel_desk.specs.declared.panel_line.PanelLine.{PanelLine}
 use Rattle.node_lines.specs.layout.Entries.{Site}
-use Rattle.panel_board.specs.Lines.{BoardView, NotedView, told, told_at, told_over}
-use Rattle.panel_board.specs.Pages.{texts}
+use Rattle.panel_desk.specs.Lines.{BoardView, NotedView, told, told_at, told_over}
+use Rattle.panel_desk.specs.Pages.{texts}
 use Rattle.panel_desk.specs.Boards.{shown_all}
 
 -- ---- lists

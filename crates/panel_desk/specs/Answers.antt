@@ -14,8 +14,8 @@ use Rattle.http_uri.specs.declared.uri.Uri.{Uri}
 use Rattle.http_server.specs.Response.{IsResponse}
 use Rattle.http_server.specs.declared.response.Response.{Response}
 use Rattle.serde_json.specs.Read.{read}
-use Rattle.panel_board.specs.Lines.{BoardView}
-use Rattle.panel_board.specs.State.{state}
+use Rattle.panel_desk.specs.Lines.{BoardView}
+use Rattle.panel_desk.specs.State.{state}
 use Rattle.panel_desk.specs.declared.answer.Kind.{Kind}
 use Rattle.panel_desk.specs.declared.answer.Kind.TheVariants.{Html, Json, Plain}
 use Rattle.panel_desk.specs.Asked.{asked, refusal_text, status}

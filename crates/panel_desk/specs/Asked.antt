@@ -10,7 +10,7 @@
 --     ForeignHost      403   it was sent to another host
 --     NoSuchTarget     404   nothing is there
 --     WrongMethod      405   the target is asked with another method
---     NoNumber         400   what stands behind `after` is no number below 2^64
+--     NoNumber         400   what stands after `after` is no number below 2^64
 --     ForeignOrigin    403   a command, from another page
 --     NoToken          403   a command, without the token that the page was given
 --     TooLong          413   a command of more than 512 bytes

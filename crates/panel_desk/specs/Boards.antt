@@ -1,7 +1,7 @@
 -- What a panel's board shows, and what its log gets.
 use Rattle.std.specs.Prelude.{ℕ, suc, List, [], ◌∷◌}
 use Rattle.node_lines.specs.layout.Entries.{Site}
-use Rattle.panel_board.specs.Lines.{BoardView, noted_at, numbered, told}
+use Rattle.panel_desk.specs.Lines.{BoardView, noted_at, numbered, told}
 use Rattle.panel_desk.specs.Answers.{DeskView}
 use Rattle.panel_desk.specs.ShownLines.{panel_text}
 use Rattle.panel_desk.specs.declared.panel_line.PanelLine.{PanelLine}
@@ -11,7 +11,7 @@ abbrev pub shown_all : Site → ℕ → List PanelLine → BoardView → BoardVi
 shown_all site place [] board = board
 shown_all site place (line ∷ more) board = shown_all site (suc place) more (told place (panel_text site line) board)
 
--- behind a round: all lines are told anew, at the next number
+-- after a round: all lines are told anew, at the next number
 abbrev pub shown_anew : Site → List PanelLine → DeskView → DeskView
 shown_anew site lines desk = record desk { board = shown_all site 0 lines (numbered desk.board) }
 

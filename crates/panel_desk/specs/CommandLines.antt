@@ -17,13 +17,14 @@ use Rattle.node_lines.specs.replay_words.declared.fault.Fault.TheVariants.{Words
 use Rattle.node_lines.specs.replay_words.Fault.{◌>>=◌}
 use Rattle.node_lines.specs.replay_words.Read.{decimal}
 use Rattle.node_lines.specs.layout.Entries.{Site}
+use Rattle.node_lines.specs.ixl_spec.rasta_core.time.TheConstants.{LIFETIME}
 use Rattle.node_lines.specs.replay_lines.Names.{node_named, point_named}
 use Rattle.node_lines.specs.replay_lines.Scripted.{script_event}
 use Rattle.panel_desk.specs.declared.panel_command.Disturbance.TheVariants.{Cut, Mend, Drop, Delay, Jam, Unjam}
 use Rattle.panel_desk.specs.declared.panel_command.PanelCommand.{PanelCommand}
 use Rattle.panel_desk.specs.declared.panel_command.PanelCommand.TheVariants.{Event, CancelAll, Disturb}
 
--- ---- by the words behind the first
+-- ---- by the words after the first
 
 abbrev pub cut : Site → List (List ℕ) → Result PanelCommand Fault
 cut site (word ∷ []) = do
@@ -51,7 +52,7 @@ up_to most word = do
 
 abbrev pub delay : List (List ℕ) → Result PanelCommand Fault
 delay (word ∷ []) = do
-  millis ← up_to 2000 word
+  millis ← up_to LIFETIME word
   Ok (Disturb (Delay millis))
 delay other = Err Words
 
@@ -75,12 +76,12 @@ event site words = do
   of ← script_event site words
   Ok (Event of)
 
--- by all words and those behind `cancel`
+-- by all words and those after `cancel`
 abbrev pub cancel : Site → List (List ℕ) → List (List ℕ) → Result PanelCommand Fault
 cancel site words (word ∷ []) = if bytes_eq word (codes "all") then Ok CancelAll else event site words
 cancel site words other = event site words
 
--- by all words, the first, and those behind it
+-- by all words, the first, and those after it
 abbrev pub said_by : Site → List (List ℕ) → List ℕ → List (List ℕ) → Result PanelCommand Fault
 said_by site words first rest =
     if bytes_eq first (codes "cancel") then cancel site words rest

@@ -1,3 +1,7 @@
+pub mod Lines
+pub mod State
+pub mod Abouts
+pub mod Pages
 pub mod Seen
 pub mod CommandLines
 pub mod Asked
@@ -7,4 +11,3 @@ pub mod Answers
 pub mod Boards
 -- what crates above need of the crates below
 pub use Rattle.node_lines.specs as node_lines
-pub use Rattle.panel_board.specs as panel_board

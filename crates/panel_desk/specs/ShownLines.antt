@@ -6,7 +6,7 @@
 --     time MS
 --     ixl ready|holding|resume               what the interlocking takes
 --     shows SIGNAL stop|proceed|slow
---     lies POINT left|right|none             with `driven left` or `driven right` behind it, if it is
+--     lies POINT left|right|none             with `driven left` or `driven right` after it, if it is
 --     stands SECTION clear|occupied
 --     locked SECTION ROUTE                   for which route; a hyphen for none
 --     cut NODE yes|no
@@ -16,14 +16,12 @@ use Rattle.std.specs.Prelude.{ℕ, Bool, true, false, List, [], ◌∷◌, ◌++
 use Rattle.std.specs.Fmt.{decimal}
 use Rattle.node_lines.specs.layout.Entries.{Site}
 use Rattle.node_lines.specs.layout.declared.ids.RouteId.{RouteId}
-use Rattle.node_lines.specs.sci_telegram.declared.message.Occupancy.{Occupancy}
-use Rattle.node_lines.specs.sci_telegram.declared.message.Occupancy.TheVariants.{Clear, Occupied}
+use Rattle.node_lines.specs.sci_telegram.Words.{aspect_word, occupancy_word, position_word}
 use Rattle.node_lines.specs.sci_telegram.declared.message.Side.{Side}
 use Rattle.node_lines.specs.sci_telegram.declared.message.Side.TheVariants.{Left, Right}
-use Rattle.node_lines.specs.simulator_event.declared.event.NodeId.{NodeId}
+use Rattle.node_lines.specs.simulator_event.layout.declared.ids.NodeId.{NodeId}
 use Rattle.node_lines.specs.replay_lines.Names.{point_word, route_word, section_word}
-use Rattle.node_lines.specs.replay_lines.Written.{position_word}
-use Rattle.node_lines.specs.Known.{aspect_word, known_text, node_word, signal_word}
+use Rattle.node_lines.specs.Known.{known_text, node_word, signal_word}
 use Rattle.panel_desk.specs.declared.panel_command.Disturbance.{Disturbance}
 use Rattle.panel_desk.specs.declared.panel_command.Disturbance.TheVariants as asked
 use Rattle.panel_desk.specs.declared.panel_line.Mode.{Mode}
@@ -43,10 +41,6 @@ driven_words None = []
 driven_words (Some Right) = codes " driven right"
 driven_words (Some Left) = codes " driven left"
 
-abbrev pub occupied_word : Occupancy → List ℕ
-occupied_word Clear = codes "clear"
-occupied_word Occupied = codes "occupied"
-
 abbrev pub yes_or_no : Bool → List ℕ
 yes_or_no true = codes "yes"
 yes_or_no false = codes "no"
@@ -65,7 +59,7 @@ abbrev pub thing_text : Site → PanelLine → List ℕ
 thing_text site (Shows signal aspect) = codes "shows " ++ (signal_word site signal ++ 32 ∷ aspect_word aspect)
 thing_text site (Silent signal) = codes "indicates " ++ (signal_word site signal ++ codes " unknown")
 thing_text site (Lies point position driven) = codes "lies " ++ (point_word site point ++ 32 ∷ (position_word position ++ driven_words driven))
-thing_text site (Stands section occupancy) = codes "stands " ++ (section_word site section ++ 32 ∷ occupied_word occupancy)
+thing_text site (Stands section occupancy) = codes "stands " ++ (section_word site section ++ 32 ∷ occupancy_word occupancy)
 thing_text site (Locked section route) = codes "locked " ++ (section_word site section ++ 32 ∷ route_or_none site route)
 thing_text site (Cut node is_cut) = cut_text site node is_cut
 thing_text site (Jam point is_jammed) = codes "jam " ++ (point_word site point ++ 32 ∷ yes_or_no is_jammed)

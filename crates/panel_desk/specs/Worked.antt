@@ -2,7 +2,7 @@
 use Rattle.std.specs.Prelude.{◌≡◌, ◌∷◌, ℕ, List, [], false, replicate, codes, Option, Some, None, Ok, Err}
 use Rattle.node_lines.specs.replay_words.declared.fault.Fault.TheVariants.{Words}
 use Rattle.node_lines.specs.layout.Entries.{Site}
-use Rattle.node_lines.specs.ixl_rules.declared.command.Command.TheVariants.{Resume}
+use Rattle.node_lines.specs.ixl_spec.declared.command.Command.TheVariants.{Resume}
 use Rattle.node_lines.specs.simulator_event.declared.event.Event.TheVariants as event
 use Rattle.panel_desk.specs.Asked.{asked, line_asked}
 use Rattle.panel_desk.specs.CommandLines.{panel_said}

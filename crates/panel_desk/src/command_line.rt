@@ -5,12 +5,9 @@ ghost use Rattle.node_lines.specs.replay_words.Cut.{words};
 ghost use Rattle.panel_desk.specs.CommandLines.{cancel, cut, delay, dropped, event, jam, mend, panel_said, unjam, up_to};
 
 use crate::panel_command::{Disturbance, PanelCommand};
-use node_lines::ixl_rules::control_table::layout::Layout;
-use node_lines::replay_lines::{node_named, point_named, read_script_event};
-use node_lines::replay_words::{Fault, Words, decimal};
-
-/// The longest delay, in milliseconds: no datagram is delivered later.
-const LONGEST_DELAY: u64 = 2000;
+use node_lines::{
+    Fault, LIFETIME, Layout, Words, decimal, node_named, point_named, read_script_event,
+};
 
 /// What a line asks for, or the lowest fault of its words.
 pub fn read_panel_command(layout: &Layout, line: &str) -> Result<PanelCommand, Fault>
@@ -36,7 +33,7 @@ fn event(layout: &Layout, words: Words<'_>) -> Result<PanelCommand, Fault>
     Ok(PanelCommand::Event(read_script_event(layout, words)?))
 }
 
-/// What the words behind `cancel` ask for.
+/// What the words after `cancel` ask for.
 fn cancel(layout: &Layout, whole: Words<'_>, mut rest: Words<'_>) -> Result<PanelCommand, Fault>
     ensures { result ≡ cancel layout.now whole.entry rest.entry }
 {
@@ -86,12 +83,12 @@ fn delay(mut words: Words<'_>) -> Result<PanelCommand, Fault>
     Ok(PanelCommand::Disturb(Disturbance::Delay { millis }))
 }
 
-/// A delay, in milliseconds.
+/// A delay, in milliseconds: no datagram is delivered later than its lifetime.
 fn up_to_longest(word: &str) -> Result<u64, Fault>
-    ensures { result ≡ up_to 2000 word.now }
+    ensures { result ≡ up_to LIFETIME word.now }
 {
     let millis = decimal(word)?;
-    if millis > LONGEST_DELAY {
+    if millis > LIFETIME {
         return Err(Fault::Number);
     }
     Ok(millis)

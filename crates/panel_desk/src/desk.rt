@@ -1,12 +1,13 @@
 //! The desk at which requests are answered.
 
-ghost use Rattle.std.specs.Prelude.{◌≡◌, ◌<◌, [], OnErr, OnOk, length, string_bytes};
+ghost use Rattle.std.specs.Prelude.{◌≡◌, ◌<◌, [], OnErr, OnOk, length};
 ghost use Rattle.http_server.specs.Response.{IsBlank, IsResponse};
-ghost use Rattle.panel_board.specs.Lines.{noted_at, numbered, told};
+ghost use Rattle.panel_desk.specs.Lines.{noted_at, numbered, told};
 ghost use Rattle.panel_desk.specs.Asked.{asked, refusal_text, status};
 ghost use Rattle.panel_desk.specs.Answers.{AnsweredTo, Taken, fields_with, sent_of};
 ghost use Rattle.panel_desk.specs.declared.answer.Kind.TheVariants.{Plain};
 
+use crate::Board;
 use crate::answer::{Kind, fill};
 use crate::head::sent;
 use crate::panel_command::PanelCommand;
@@ -15,8 +16,7 @@ use crate::request::{Access, Request, read_request};
 use bytes::Bytes;
 use http::{Request as Incoming, StatusCode};
 use http_server::{Response, Service};
-use node_lines::ixl_rules::control_table::Checked;
-use panel_board::Board;
+use node_lines::Checked;
 use std::alloc::{AllocError, Global};
 use std::marker::Model;
 use std::mem;
@@ -27,13 +27,41 @@ const MOST: usize = 64;
 /// What is answered where too many commands wait.
 const TOO_MANY: &str = "too many commands wait";
 
+/// By what a desk knows who may ask, and who may command, as it keeps it (`Access`).
+#[derive(Debug, Drop)]
+pub struct OwnAccess {
+    pub host: String,
+    pub origin: String,
+    pub token: String,
+}
+
+impl Model for OwnAccess {
+    ghost use Rattle.std.specs.Prelude.{string_bytes};
+    ghost use Rattle.panel_desk.specs.Seen.{AccessView};
+
+    ghost Value = { AccessView };
+
+    ghost view = { λ a. record { host = string_bytes a.host; origin = string_bytes a.origin; token = string_bytes a.token } };
+}
+
+impl OwnAccess {
+    /// What a request is judged by.
+    fn lent(&self) -> Access<'_>
+        ensures { result ≡ self.now }
+    {
+        Access {
+            host: self.host.as_bytes(),
+            origin: self.origin.as_bytes(),
+            token: self.token.as_bytes(),
+        }
+    }
+}
+
 /// The desk at which requests are answered. Commands wait on it for the next round.
 pub struct Desk {
     alloc: Global,
     table: Checked,
-    host: String,
-    origin: String,
-    token: String,
+    access: OwnAccess,
     page: Bytes,
     station: Bytes,
     board: Board,
@@ -46,9 +74,7 @@ impl Drop for Desk {
         let Self {
             alloc: _,
             table: _,
-            host: _,
-            origin: _,
-            token: _,
+            access: _,
             page: _,
             station: _,
             board: _,
@@ -58,34 +84,29 @@ impl Drop for Desk {
 }
 
 impl Model for Desk {
-    ghost use Rattle.std.specs.Prelude.{string_bytes};
     ghost use Rattle.panel_desk.specs.Answers.{DeskView};
 
     ghost Value = { DeskView };
 
-    ghost view = { λ d. record { site = d.table; access = record { host = string_bytes d.host; origin = string_bytes d.origin; token = string_bytes d.token }; page = d.page; station = d.station; board = d.board; waiting = d.waiting.items } };
+    ghost view = { λ d. record { site = d.table; access = d.access; page = d.page; station = d.station; board = d.board; waiting = d.waiting.items } };
 }
 
 impl Desk {
-    /// A desk of a panel at a host and an origin, whose page is given a token. No command waits on it.
+    /// A desk of a panel. No command waits on it.
     pub fn new(
         alloc: Global,
         table: Checked,
-        host: String,
-        origin: String,
-        token: String,
+        access: OwnAccess,
         page: Bytes,
         station: Bytes,
         board: Board,
     ) -> Desk
-        ensures { result ≡ record { site = table; access = record { host = string_bytes host; origin = string_bytes origin; token = string_bytes token }; page = page; station = station; board = board; waiting = [] } }
+        ensures { result ≡ record { site = table; access = access; page = page; station = station; board = board; waiting = [] } }
     {
         Desk {
             alloc,
             table,
-            host,
-            origin,
-            token,
+            access,
             page,
             station,
             board,
@@ -136,12 +157,7 @@ impl Desk {
     fn asked(&self, request: &Incoming<Bytes>) -> Result<Request, Refusal>
         ensures { result ≡ asked self.now.site self.now.access (sent_of request.now) }
     {
-        let access = Access {
-            host: self.host.as_bytes(),
-            origin: self.origin.as_bytes(),
-            token: self.token.as_bytes(),
-        };
-        read_request(self.table.layout(), &access, &sent(request))
+        read_request(self.table.layout(), &self.access.lent(), &sent(request))
     }
 
     /// Answers what was asked.

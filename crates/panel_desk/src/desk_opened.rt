@@ -3,14 +3,14 @@
 ghost use Rattle.std.specs.Prelude.{◌≡◌, ◌++◌, [], IfOk, Some, codes, string_bytes};
 ghost use Rattle.std.specs.Fmt.{decimal};
 ghost use Rattle.serde_json.specs.Read.{read};
-ghost use Rattle.panel_board.specs.Lines.{blank};
-ghost use Rattle.panel_board.specs.State.{about};
+ghost use Rattle.panel_desk.specs.Abouts.{told_once};
+ghost use Rattle.panel_desk.specs.Lines.{blank};
 ghost use Rattle.panel_desk.specs.Answers.{access_at};
 
-use crate::desk::Desk;
+use crate::desk::{Desk, OwnAccess};
+use crate::{About, Board, about_text};
 use bytes::Bytes;
-use node_lines::ixl_rules::control_table::Checked;
-use panel_board::{About, Board, about_text};
+use node_lines::Checked;
 use std::alloc::{AllocError, Global};
 use std::io;
 use std::random::RandomSource;
@@ -45,7 +45,7 @@ pub fn open_desk<R: RandomSource>(
     ensures site { IfOk result (λ desk. desk.site ≡ table) }
     ensures access { IfOk result (λ desk. desk.access ≡ access_at asked.now.port desk.access.token) }
     ensures page { IfOk result (λ desk. desk.page ≡ asked.now.page.now) }
-    ensures station { IfOk result (λ desk. read desk.station ≡ Some (about asked.now.kind.now asked.now.layout.now table.station.name asked.now.record.now asked.now.plan.now desk.access.token asked.now.version.now)) }
+    ensures station { IfOk result (λ desk. read desk.station ≡ Some (told_once asked.now table.station.name desk.access.token)) }
     ensures board { IfOk result (λ desk. desk.board ≡ blank places) }
     ensures waiting { IfOk result (λ desk. desk.waiting ≡ []) }
 {
@@ -57,7 +57,12 @@ pub fn open_desk<R: RandomSource>(
     let station = told_once(alloc, name, asked, token.as_str())?;
     let board = Board::new(alloc, places)?;
     let page = Bytes::from_static(asked.page.as_bytes());
-    Ok(Desk::new(alloc, table, host, origin, token, page, station, board))
+    let access = OwnAccess {
+        host,
+        origin,
+        token,
+    };
+    Ok(Desk::new(alloc, table, access, page, station, board))
 }
 
 /// A token that nobody guesses.
@@ -80,7 +85,7 @@ fn told_once(
     asked: &PageAsked<'_>,
     token: &str,
 ) -> Result<Bytes, AllocError>
-    ensures { IfOk result (λ station. read station ≡ Some (about asked.now.kind.now asked.now.layout.now name.now asked.now.record.now asked.now.plan.now token.now asked.now.version.now)) }
+    ensures { IfOk result (λ station. read station ≡ Some (told_once asked.now name.now token.now)) }
 {
     let told = About {
         name,

@@ -2,7 +2,7 @@
 
 ghost use Rattle.std.specs.Prelude.{◌≡◌, List, Ok, length, map};
 ghost use Rattle.node_lines.specs.layout.Entries.{Site};
-ghost use Rattle.panel_board.specs.Pages.{texts};
+ghost use Rattle.panel_desk.specs.Pages.{texts};
 ghost use Rattle.panel_desk.specs.Answers.{DeskView};
 ghost use Rattle.panel_desk.specs.Asked.{ComesFromThePage, IsForPanel, asked};
 ghost use Rattle.panel_desk.specs.Seen.{AccessView, SentView};

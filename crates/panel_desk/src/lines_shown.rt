@@ -1,13 +1,13 @@
 //! Lines are shown on the desk.
 
 ghost use Rattle.std.specs.Prelude.{◌≡◌, OnOk};
-ghost use Rattle.panel_board.specs.Lines.{told};
+ghost use Rattle.panel_desk.specs.Lines.{told};
 ghost use Rattle.panel_desk.specs.Boards.{shown_all};
 ghost use Rattle.panel_desk.specs.ShownLines.{panel_text};
 
 use crate::desk::Desk;
 use crate::panel_line::{PanelLine, PanelText};
-use node_lines::ixl_rules::control_table::layout::Layout;
+use node_lines::Layout;
 use std::alloc::{AllocError, Global};
 
 /// Shows lines, each at its place; a line for whose place the desk has none isn't shown.

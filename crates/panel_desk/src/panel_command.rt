@@ -2,9 +2,8 @@
 
 ghost use Rattle.std.specs.Prelude.{◌≡◌};
 
-use node_lines::ixl_rules::control_table::layout::{Layout, PointId};
-use node_lines::replay_lines::{node_name, point_word};
-use node_lines::simulator_event::{Event, NodeId};
+use node_lines::replay_lines::point_word;
+use node_lines::{Event, Layout, NodeId, PointId};
 use std::fmt;
 
 /// What is done to the network or to a point, so that less comes than was sent or driven.
@@ -98,7 +97,7 @@ impl<'a> fmt::Display for NodeText<'a> {
     ghost output = { λ text. Some (node_word text.layout.now text.node) };
 
     fn fmt<W: fmt::Write>(&self, f: &mut fmt::Formatter<W>) -> fmt::Result {
-        match node_name(self.layout, self.node) {
+        match self.layout.node_name(self.node) {
             Some(name) => {
                 let name = name.as_str();
                 write!(f, "{name}")

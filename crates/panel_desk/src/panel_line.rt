@@ -3,14 +3,12 @@
 ghost use Rattle.std.specs.Prelude.{◌≡◌};
 ghost use Rattle.panel_desk.specs.ShownLines.{route_or_none};
 
-use crate::word_table::{
-    aspect_word, driven_words, mode_word, occupied_word, position_word, signal_word, yes_or_no,
+use crate::word_table::{driven_words, mode_word, signal_word, yes_or_no};
+use node_lines::replay_lines::{point_word, route_word, section_word};
+use node_lines::{
+    Aspect, Known, Layout, NodeId, Occupancy, OperatorLine, OperatorText, PointId, Position,
+    RouteId, SectionId, Side, SignalId,
 };
-use node_lines::ixl_rules::control_table::layout::{Layout, PointId, RouteId, SectionId, SignalId};
-use node_lines::ixl_rules::control_table::sci_telegram::{Aspect, Occupancy, Position, Side};
-use node_lines::replay_lines::{node_name, point_word, route_word, section_word};
-use node_lines::simulator_event::NodeId;
-use node_lines::{Known, OperatorLine, OperatorText};
 use std::fmt;
 
 /// What an interlocking takes.
@@ -140,7 +138,7 @@ impl<'a> fmt::Display for ThingText<'a> {
         match self.line {
             PanelLine::Shows { signal, aspect } => {
                 let signal = signal_word(layout, signal);
-                let word = aspect_word(aspect);
+                let word = aspect.word();
                 write!(f, "shows {signal} {word}")
             }
             PanelLine::Silent { signal } => {
@@ -153,13 +151,13 @@ impl<'a> fmt::Display for ThingText<'a> {
                 driven,
             } => {
                 let point = point_word(layout, point);
-                let word = position_word(position);
+                let word = position.word();
                 let driven = driven_words(driven);
                 write!(f, "lies {point} {word}{driven}")
             }
             PanelLine::Stands { section, occupancy } => {
                 let section = section_word(layout, section);
-                let word = occupied_word(occupancy);
+                let word = occupancy.word();
                 write!(f, "stands {section} {word}")
             }
             PanelLine::Locked { section, route } => {
@@ -211,7 +209,7 @@ impl<'a> fmt::Display for CutText<'a> {
 
     fn fmt<W: fmt::Write>(&self, f: &mut fmt::Formatter<W>) -> fmt::Result {
         let word = yes_or_no(self.is_cut);
-        match node_name(self.layout, self.node) {
+        match self.layout.node_name(self.node) {
             Some(name) => {
                 let name = name.as_str();
                 write!(f, "cut {name} {word}")

@@ -3,18 +3,18 @@
 ghost use Rattle.std.specs.Prelude.{◌≡◌};
 ghost use Rattle.panel_desk.specs.Asked.{refusal_text, status};
 
-use node_lines::replay_words::Fault;
+use node_lines::Fault;
 
 /// Why a request is refused, in the order in which the reasons are looked for: the first one is told.
 #[derive(Clone, Copy, Debug, PartialEq, Eq)]
 pub enum Refusal {
-    /// It was sent to another host than this panel: a page of another host may stand behind it.
+    /// It was sent to another host than this panel: a page of another host may stand after it.
     ForeignHost,
     /// Nothing is there.
     NoSuchTarget,
     /// The target is asked with another method.
     WrongMethod,
-    /// What stands behind `after` is no number below 2^64.
+    /// What stands after `after` is no number below 2^64.
     NoNumber,
     /// A command came from another page than the panel's.
     ForeignOrigin,

@@ -8,8 +8,8 @@ ghost use Rattle.panel_desk.specs.Seen.{field_sent};
 use crate::command_line::read_panel_command;
 use crate::panel_command::PanelCommand;
 use crate::refusal::Refusal;
-use node_lines::ixl_rules::control_table::layout::Layout;
-use node_lines::replay_words::{decimal, name_and_number};
+use node_lines::replay_words::name_and_number;
+use node_lines::{Layout, decimal};
 use std::marker::Model;
 
 /// The most bytes of a command.
@@ -38,7 +38,7 @@ impl<'a> Model for Access<'a> {
 #[derive(Debug, Drop)]
 pub struct Sent<'a> {
     pub method: &'a str,
-    /// The path, with what stands behind a question mark.
+    /// The path, with what stands after a question mark.
     pub target: &'a str,
     /// The fields `Host`, `Origin` and `X-Token`. One that stands twice counts as none.
     pub host: Option<&'a [u8]>,

@@ -1,35 +1,13 @@
 //! The words for what a line tells.
 
 ghost use Rattle.std.specs.Prelude.{◌≡◌};
-ghost use Rattle.node_lines.specs.Known.{aspect_word, signal_word};
-ghost use Rattle.panel_desk.specs.ShownLines.{driven_words, mode_word, occupied_word, yes_or_no};
-ghost use Rattle.node_lines.specs.replay_lines.Written.{position_word};
+ghost use Rattle.node_lines.specs.Known.{signal_word};
+ghost use Rattle.panel_desk.specs.ShownLines.{driven_words, mode_word, yes_or_no};
 
 use crate::panel_line::Mode;
-use node_lines::ixl_rules::control_table::layout::{Layout, SignalId};
-use node_lines::ixl_rules::control_table::sci_telegram::{Aspect, Occupancy, Position, Side};
+use node_lines::{Layout, Side, SignalId};
 
-pub(crate) fn aspect_word(aspect: Aspect) -> &'static str
-    ensures { result.now ≡ aspect_word aspect }
-{
-    match aspect {
-        Aspect::Stop => "stop",
-        Aspect::Proceed => "proceed",
-        Aspect::Slow => "slow",
-    }
-}
-
-pub(crate) fn position_word(position: Position) -> &'static str
-    ensures { result.now ≡ position_word position }
-{
-    match position {
-        Position::Left => "left",
-        Position::Right => "right",
-        Position::NoEndPosition => "none",
-    }
-}
-
-/// What stands behind the position of a point that is driven.
+/// What stands after the position of a point that is driven.
 pub(crate) fn driven_words(driven: Option<Side>) -> &'static str
     ensures { result.now ≡ driven_words driven }
 {
@@ -37,15 +15,6 @@ pub(crate) fn driven_words(driven: Option<Side>) -> &'static str
         None => "",
         Some(Side::Right) => " driven right",
         Some(Side::Left) => " driven left",
-    }
-}
-
-pub(crate) fn occupied_word(occupancy: Occupancy) -> &'static str
-    ensures { result.now ≡ occupied_word occupancy }
-{
-    match occupancy {
-        Occupancy::Clear => "clear",
-        Occupancy::Occupied => "occupied",
     }
 }
 

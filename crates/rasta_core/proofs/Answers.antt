@@ -1,14 +1,14 @@
 -- A connection stays in order where an end answers a retransmission request.
 use Rattle.std.proofs.Common.{◌≡◌, ℕ, zero, suc, ◌+◌, ◌-◌, ◌^◌, ◌<◌, ◌≤◌, min, false, List, [], ◌∷◌, ◌++◌, length, take, ◌⊎◌, inl, inr, refl, sym, ap, subst, ◌∙◌, arith}
 use Rattle.std.proofs.lemmas.List.{length-append, append-nil}
-use Rattle.rasta_core_run.specs.Sequence.{wire}
-use Rattle.rasta_core_run.specs.PdusHandedOut.{pdu_of}
-use Rattle.rasta_core_run.specs.Receipt.{repeated, retagged}
-use Rattle.rasta_core_run.specs.pdu.Pdu.{Pdu}
-use Rattle.rasta_core_run.specs.body.Body.{Body}
-use Rattle.rasta_core_run.specs.body.Body.TheVariants.{RetransmissionRequest, RetransmissionResponse, Heartbeat, RetransmittedData}
-use Rattle.rasta_core_run.specs.window.Unconfirmed.{Unconfirmed}
-use Rattle.rasta_core_run.specs.header.Header.{Header}
+use Rattle.rasta_core_spec.specs.Sequence.{wire}
+use Rattle.rasta_core_spec.specs.PdusHandedOut.{pdu_of}
+use Rattle.rasta_core_spec.specs.Receipt.{repeated, retagged}
+use Rattle.rasta_core_spec.specs.pdu.Pdu.{Pdu}
+use Rattle.rasta_core_spec.specs.body.Body.{Body}
+use Rattle.rasta_core_spec.specs.body.Body.TheVariants.{RetransmissionRequest, RetransmissionResponse, Heartbeat, RetransmittedData}
+use Rattle.rasta_core_spec.specs.window.Unconfirmed.{Unconfirmed}
+use Rattle.rasta_core_spec.specs.header.Header.{Header}
 use Rattle.rasta_core.specs.EndFlow.{IsAt, EndFlow, sent, later, items_of}
 use Rattle.rasta_core.specs.Order.{IsLevel, Brings, Carries, IsClosing, OpensOn, IsSent, Rises, Waits, Counts, Way}
 use Rattle.rasta_core.proofs.Places.{split, within, only_one, IsAfter, CloseNothing, opens_more}

@@ -1,18 +1,18 @@
 -- From what a call does at one end to what is true of both after it.
 use Rattle.std.proofs.Common.{◌≡◌, ℕ, ◌∙◌, ◌+◌, Bool, true, false, ◌&&◌, ◌||◌, not, if◌then◌else◌, ◌++◌, length, Option, Some, is_some, refl, sym, ap, subst, arith}
-use Rattle.rasta_core_run.specs.State.{LinkState, is_open, is_asking}
-use Rattle.rasta_core_run.specs.Outbox.{spellings}
-use Rattle.rasta_core_run.specs.identity.Identity.{Identity}
-use Rattle.rasta_core_run.specs.identity.Role.{Role}
-use Rattle.rasta_core_run.specs.identity.Role.TheVariants as role
-use Rattle.rasta_core_run.specs.Ends.{EndState, Outcome, reading_of, end_after, handed_out, newer, leaves}
-use Rattle.rasta_core_run.specs.Run.{Ends, end_of, with_end}
-use Rattle.rasta_core_run.specs.key.Key.{Key}
-use Rattle.rasta_core_run.specs.Each.{Each}
-use Rattle.rasta_core_run.specs.TrueClocks.{Offset}
+use Rattle.rasta_core_spec.specs.State.{LinkState, is_open, is_asking}
+use Rattle.rasta_core_spec.specs.Outbox.{spellings}
+use Rattle.rasta_core_spec.specs.identity.Identity.{Identity}
+use Rattle.rasta_core_spec.specs.identity.Role.{Role}
+use Rattle.rasta_core_spec.specs.identity.Role.TheVariants as role
+use Rattle.rasta_core_spec.specs.Ends.{EndState, Outcome, reading_of, end_after, handed_out, newer, leaves}
+use Rattle.rasta_core_spec.specs.Run.{Ends, end_of, with_end}
+use Rattle.rasta_core_spec.specs.key.Key.{Key}
+use Rattle.rasta_core_spec.specs.Each.{Each}
+use Rattle.rasta_core_spec.specs.TrueClocks.{Offset}
 use Rattle.rasta_core.specs.TimedEnds.{Standing, Inside, Outside, Past, Times, IsInside, IsOutside, closed_at, standing, timed, times_of}
 use Rattle.rasta_core.specs.Timely.{AreTimed}
-use Rattle.rasta_core_run.specs.Names.{Names}
+use Rattle.rasta_core_spec.specs.Names.{Names}
 use Rattle.rasta_core.specs.Invariant.{InFlight, IsEnd, Timely}
 use Rattle.rasta_core.proofs.Reception.{Reads}
 use Rattle.rasta_core.proofs.Sounds.{standing_closed}

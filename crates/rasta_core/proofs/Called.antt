@@ -1,24 +1,24 @@
 -- A call that may be made keeps the invariant.
 use Rattle.std.proofs.Common.{◌≡◌, ℕ, ◌⊎◌, inl, inr, Bool, false, if◌then◌else◌, List, [], ◌∷◌, Some, None, Result, Ok, Err, refl, sym, ap, subst}
-use Rattle.rasta_core_run.specs.State.{LinkState}
-use Rattle.rasta_core_run.specs.Calls.{opens, opening, ticking, closing_by, sending_item, receiving}
-use Rattle.rasta_core_run.specs.identity.Identity.{Identity}
-use Rattle.rasta_core_run.specs.identity.Role.{Role}
-use Rattle.rasta_core_run.specs.identity.Role.TheVariants as role
-use Rattle.rasta_core_run.specs.Ends.{Sent, Call, Ticks, Opens, Closes, Sends, Receives, outcome, reading_of}
-use Rattle.rasta_core_run.specs.Run.{Ends, end_of, called}
-use Rattle.rasta_core_run.specs.key.Key.{Key}
-use Rattle.rasta_core_run.specs.pdu_fault.PduFault.{PduFault}
-use Rattle.rasta_core_run.specs.pdu.Pdu.{Pdu}
-use Rattle.rasta_core_run.specs.PduRead.{reading}
-use Rattle.rasta_core_run.specs.SafetyCode.{IsIntact}
-use Rattle.rasta_core_run.specs.Values.{IsPdu}
-use Rattle.rasta_core_run.specs.Each.{Each}
+use Rattle.rasta_core_spec.specs.State.{LinkState}
+use Rattle.rasta_core_spec.specs.Calls.{opens, opening, ticking, closing_by, sending_item, receiving}
+use Rattle.rasta_core_spec.specs.identity.Identity.{Identity}
+use Rattle.rasta_core_spec.specs.identity.Role.{Role}
+use Rattle.rasta_core_spec.specs.identity.Role.TheVariants as role
+use Rattle.rasta_core_spec.specs.Ends.{Sent, Call, Ticks, Opens, Closes, Sends, Receives, outcome, reading_of}
+use Rattle.rasta_core_spec.specs.Run.{Ends, end_of, called}
+use Rattle.rasta_core_spec.specs.key.Key.{Key}
+use Rattle.rasta_core_spec.specs.pdu_fault.PduFault.{PduFault}
+use Rattle.rasta_core_spec.specs.pdu.Pdu.{Pdu}
+use Rattle.rasta_core_spec.specs.PduRead.{reading}
+use Rattle.rasta_core_spec.specs.SafetyCode.{IsIntact}
+use Rattle.rasta_core_spec.specs.Values.{IsPdu}
+use Rattle.rasta_core_spec.specs.Each.{Each}
 use Rattle.rasta_core.specs.TimedEnds.{Times, times_of}
 use Rattle.rasta_core.specs.Timely.{IsKnown}
-use Rattle.rasta_core_run.specs.Names.{Names, AreNames, identity_of}
+use Rattle.rasta_core_spec.specs.Names.{Names, AreNames, identity_of}
 use Rattle.rasta_core.specs.Invariant.{InFlight, Timely}
-use Rattle.rasta_core_run.specs.Events.{IsAmong, IsDelivered, IsFor as IsMeant, AreForeign, MayCall}
+use Rattle.rasta_core_spec.specs.Events.{IsAmong, IsDelivered, IsFor as IsMeant, AreForeign, MayCall}
 use Rattle.rasta_core.proofs.Deeds.{Own, Word, IsFor, Steps, ticking_does, closing_does, sending_does, opening_does}
 use Rattle.rasta_core.proofs.Receipts.{Receives as Hears}
 use Rattle.rasta_core.proofs.HeardTimes.{read_pdu, AreRead, receiving_does}

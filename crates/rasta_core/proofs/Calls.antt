@@ -1,25 +1,25 @@
 -- Each call at an end keeps the order of both.
 use Rattle.std.proofs.Common.{◌≡◌, ℕ, ◌≤◌, length, Bool, true, false, ◌&&◌, if◌then◌else◌, List, [], Option, Some, None, refl, ap, subst, ◌∙◌}
 use Rattle.std.specs.Prelude.{is_ok}
-use Rattle.rasta_core_run.specs.State.{LinkState, is_client}
-use Rattle.rasta_core_run.specs.Clock.{state_at}
-use Rattle.rasta_core_run.specs.PdusHandedOut.{Step, entered}
-use Rattle.rasta_core_run.specs.Establishment.{may_open, is_down}
-use Rattle.rasta_core_run.specs.Calls.{answer_to_send, opens, opening, ticking, closing_by, sending_item}
-use Rattle.rasta_core_run.specs.identity.Identity.{Identity}
-use Rattle.rasta_core_run.specs.identity.Role.{Role}
-use Rattle.rasta_core_run.specs.identity.Role.TheVariants as role
-use Rattle.rasta_core_run.specs.reason.Reason.{Reason}
-use Rattle.rasta_core_run.specs.Ends.{Outcome, Ticks, Opens, Closes, Sends, outcome, reading_of, end_after, newer}
-use Rattle.rasta_core_run.specs.Run.{Ends, end_of, called}
+use Rattle.rasta_core_spec.specs.State.{LinkState, is_client}
+use Rattle.rasta_core_spec.specs.Clock.{state_at}
+use Rattle.rasta_core_spec.specs.PdusHandedOut.{Step, entered}
+use Rattle.rasta_core_spec.specs.Establishment.{may_open, is_down}
+use Rattle.rasta_core_spec.specs.Calls.{answer_to_send, opens, opening, ticking, closing_by, sending_item}
+use Rattle.rasta_core_spec.specs.identity.Identity.{Identity}
+use Rattle.rasta_core_spec.specs.identity.Role.{Role}
+use Rattle.rasta_core_spec.specs.identity.Role.TheVariants as role
+use Rattle.rasta_core_spec.specs.reason.Reason.{Reason}
+use Rattle.rasta_core_spec.specs.Ends.{Outcome, Ticks, Opens, Closes, Sends, outcome, reading_of, end_after, newer}
+use Rattle.rasta_core_spec.specs.Run.{Ends, end_of, called}
 use Rattle.rasta_core.specs.Order.{InOrder}
 use Rattle.rasta_core.specs.LinkAndFlow.{GoesOn}
 use Rattle.rasta_core.specs.FirstPdus.{EarlyGoesOn}
-use Rattle.rasta_core_run.specs.Each.{Each}
+use Rattle.rasta_core_spec.specs.Each.{Each}
 use Rattle.rasta_core.specs.TimedEnds.{IsInside, standing}
-use Rattle.rasta_core_run.specs.Names.{Names}
+use Rattle.rasta_core_spec.specs.Names.{Names}
 use Rattle.rasta_core.specs.Invariant.{Timely}
-use Rattle.rasta_core_run.specs.Events.{MayCall}
+use Rattle.rasta_core_spec.specs.Events.{MayCall}
 use Rattle.rasta_core.proofs.Deeds.{Own, Steps, ticking_does, closing_does, sending_does, opening_does}
 use Rattle.rasta_core.proofs.BothEndsAfter.{made_at}
 use Rattle.rasta_core.proofs.CallsKept.{ends_ready, ends_clock}
@@ -29,7 +29,7 @@ use Rattle.rasta_core.proofs.Outside.{entered_identity}
 use Rattle.rasta_core.proofs.Few.{none_few, one_few}
 use Rattle.rasta_core.proofs.Made.{client_together, server_together, client_alone, server_rests, client_asked}
 use Rattle.rasta_core.proofs.Comes.{deed_pdus, deed_silent, server_out, nothing_yet, server_earlier}
-use Rattle.rasta_core_run.specs.Values.{IsPdu}
+use Rattle.rasta_core_spec.specs.Values.{IsPdu}
 
 server_opens_not : (now : ℕ) (link : LinkState) → (entered now link).link.identity.role ≡ role.Server → opens now link ≡ false
 unfolding opens

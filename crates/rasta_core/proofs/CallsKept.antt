@@ -1,14 +1,14 @@
 -- Each call at an end keeps the invariant.
 use Rattle.std.proofs.Common.{◌≡◌, ℕ, Bool, true, false, List, Option, Some, None, sym, ap, subst, arith}
-use Rattle.rasta_core_run.specs.identity.Identity.{Identity}
-use Rattle.rasta_core_run.specs.identity.Role.{Role}
-use Rattle.rasta_core_run.specs.identity.Role.TheVariants as role
-use Rattle.rasta_core_run.specs.Ends.{EndState, Outcome, reading_of}
-use Rattle.rasta_core_run.specs.Run.{Ends, end_of}
-use Rattle.rasta_core_run.specs.pdu.Pdu.{Pdu}
+use Rattle.rasta_core_spec.specs.identity.Identity.{Identity}
+use Rattle.rasta_core_spec.specs.identity.Role.{Role}
+use Rattle.rasta_core_spec.specs.identity.Role.TheVariants as role
+use Rattle.rasta_core_spec.specs.Ends.{EndState, Outcome, reading_of}
+use Rattle.rasta_core_spec.specs.Run.{Ends, end_of}
+use Rattle.rasta_core_spec.specs.pdu.Pdu.{Pdu}
 use Rattle.rasta_core.specs.TimedEnds.{Past, Times, IsInside, own_stamp, standing, timed, times_of}
 use Rattle.rasta_core.specs.Timely.{IsTimed}
-use Rattle.rasta_core_run.specs.Names.{Names, AreNames}
+use Rattle.rasta_core_spec.specs.Names.{Names, AreNames}
 use Rattle.rasta_core.specs.Invariant.{IsEnd, Timely}
 use Rattle.rasta_core.proofs.Sounds.{standing_open}
 use Rattle.rasta_core.proofs.States.{IsReady}

@@ -2,28 +2,28 @@
 use Rattle.std.proofs.Common.{◌≡◌, ℕ, ◌+◌, ◌-◌, Bool, true, false, List, [], ◌∷◌, ◌++◌, inl, inr, refl, sym, ap, subst, ◌∙◌, append_assoc}
 use Rattle.std.specs.Prelude.{nat_lt, nat_le, nat_eq, ◌==◌, ◌&&◌, not, if◌then◌else◌, Result, Ok, Err, is_ok}
 use Rattle.std.specs.Cmp.Lexicographic.{pointwise}
-use Rattle.rasta_core_run.specs.Parameters.{sequence_range, connection_limit, heartbeat_interval, own_version, window_size}
-use Rattle.rasta_core_run.specs.State.{LinkState, is_open, is_up, is_client}
-use Rattle.rasta_core_run.specs.Clock.{open_state, settled, state_at}
-use Rattle.rasta_core_run.specs.PdusHandedOut.{Step, silent, header_of, pdu_of, sending, telling, closing, is_told, closed, limited, entered, beating, giving}
-use Rattle.rasta_core_run.specs.Establishment.{own_opening, may_open, requesting, beginning, meeting, judging, granting, joining}
-use Rattle.rasta_core_run.specs.Receipt as hears
-use Rattle.rasta_core_run.specs.Receipt.{Receipt, accepting, refusing, violating, ahead, is_stale, confirms, taking, repeated, repeating, answering, missing, handing, bringing, in_turn, admission, admitting, testing, is_opening_again, connected, answers_request, asking, resting, by_state, hearing}
-use Rattle.rasta_core_run.specs.Calls.{opening, ticking, closing_by, acceptance, answer_to_send, sending_item, hearing_bytes, receiving}
-use Rattle.rasta_core_run.specs.phase.State.{State}
-use Rattle.rasta_core_run.specs.phase.State.TheVariants as state
-use Rattle.rasta_core_run.specs.reason.Reason.{Reason}
-use Rattle.rasta_core_run.specs.reason.Reason.TheVariants as reason
-use Rattle.rasta_core_run.specs.verdict.Verdict.TheVariants as verdict
-use Rattle.rasta_core_run.specs.PduRead.{reading}
-use Rattle.rasta_core_run.specs.pdu.Pdu.{Pdu}
-use Rattle.rasta_core_run.specs.pdu_fault.PduFault.{PduFault}
-use Rattle.rasta_core_run.specs.body.Opening.{Opening}
-use Rattle.rasta_core_run.specs.body.Body.{Body}
-use Rattle.rasta_core_run.specs.body.Body.TheVariants.{ConnectionRequest, ConnectionResponse, RetransmissionRequest, RetransmissionResponse, DisconnectionRequest, Heartbeat, Data, RetransmittedData}
-use Rattle.rasta_core_run.specs.window.Unconfirmed.{Unconfirmed}
-use Rattle.rasta_core_run.specs.header.Header.{Header}
-use Rattle.rasta_core_run.specs.Given.{new_items}
+use Rattle.rasta_core_spec.specs.Parameters.{sequence_range, connection_limit, heartbeat_interval, own_version, window_size}
+use Rattle.rasta_core_spec.specs.State.{LinkState, is_open, is_up, is_client}
+use Rattle.rasta_core_spec.specs.Clock.{open_state, settled, state_at}
+use Rattle.rasta_core_spec.specs.PdusHandedOut.{Step, silent, header_of, pdu_of, sending, telling, closing, is_told, closed, limited, entered, beating, giving}
+use Rattle.rasta_core_spec.specs.Establishment.{own_opening, may_open, requesting, beginning, meeting, judging, granting, joining}
+use Rattle.rasta_core_spec.specs.Receipt as hears
+use Rattle.rasta_core_spec.specs.Receipt.{Receipt, accepting, refusing, violating, ahead, is_stale, confirms, taking, repeated, repeating, answering, missing, handing, bringing, in_turn, admission, admitting, testing, is_opening_again, connected, answers_request, asking, resting, by_state, hearing}
+use Rattle.rasta_core_spec.specs.Calls.{opening, ticking, closing_by, acceptance, answer_to_send, sending_item, hearing_bytes, receiving}
+use Rattle.rasta_core_spec.specs.phase.State.{State}
+use Rattle.rasta_core_spec.specs.phase.State.TheVariants as state
+use Rattle.rasta_core_spec.specs.reason.Reason.{Reason}
+use Rattle.rasta_core_spec.specs.reason.Reason.TheVariants as reason
+use Rattle.rasta_core_spec.specs.verdict.Verdict.TheVariants as verdict
+use Rattle.rasta_core_spec.specs.PduRead.{reading}
+use Rattle.rasta_core_spec.specs.pdu.Pdu.{Pdu}
+use Rattle.rasta_core_spec.specs.pdu_fault.PduFault.{PduFault}
+use Rattle.rasta_core_spec.specs.body.Opening.{Opening}
+use Rattle.rasta_core_spec.specs.body.Body.{Body}
+use Rattle.rasta_core_spec.specs.body.Body.TheVariants.{ConnectionRequest, ConnectionResponse, RetransmissionRequest, RetransmissionResponse, DisconnectionRequest, Heartbeat, Data, RetransmittedData}
+use Rattle.rasta_core_spec.specs.window.Unconfirmed.{Unconfirmed}
+use Rattle.rasta_core_spec.specs.header.Header.{Header}
+use Rattle.rasta_core_spec.specs.Given.{new_items}
 use Rattle.rasta_core.specs.Carried.{carried}
 use Rattle.rasta_core.specs.LinkAndFlow.{accepted, reads}
 use Rattle.rasta_core.proofs.OrderTests.{by_test}

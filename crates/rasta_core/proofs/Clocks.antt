@@ -1,23 +1,23 @@
 -- Time, restarts and losses keep the invariant, and it holds at the beginning.
 use Rattle.std.proofs.Common.{◌≡◌, ℕ, ◌∙◌, ◌+◌, ◌*◌, ◌≤◌, ◌<◌, Bool, true, false, ◌&&◌, ◌||◌, not, nat_le, if◌then◌else◌, List, [], ◌∷◌, refl, sym, ap, subst, arith, leb-false}
-use Rattle.rasta_core_run.specs.Parameters.{time_limit}
-use Rattle.rasta_core_run.specs.State.{LinkState, is_open, is_asking}
-use Rattle.rasta_core_run.specs.Clock.{settled, deadline}
-use Rattle.rasta_core_run.specs.PdusHandedOut.{closed}
-use Rattle.rasta_core_run.specs.Calls.{created}
-use Rattle.rasta_core_run.specs.identity.Role.{Role}
-use Rattle.rasta_core_run.specs.identity.Role.TheVariants as role
-use Rattle.rasta_core_run.specs.Bag.{without_oldest, is_copy}
-use Rattle.rasta_core_run.specs.Ends.{Sent, EndState, reading_of, end_later, end_restarted}
-use Rattle.rasta_core_run.specs.Run.{Ends, later, lost, restarted}
-use Rattle.rasta_core_run.specs.Each.{Each}
-use Rattle.rasta_core_run.specs.TrueClocks.{GoesOff, IsSmall, Offset, set}
+use Rattle.rasta_core_spec.specs.Parameters.{time_limit}
+use Rattle.rasta_core_spec.specs.State.{LinkState, is_open, is_asking}
+use Rattle.rasta_core_spec.specs.Clock.{settled, deadline}
+use Rattle.rasta_core_spec.specs.PdusHandedOut.{closed}
+use Rattle.rasta_core_spec.specs.Calls.{created}
+use Rattle.rasta_core_spec.specs.identity.Role.{Role}
+use Rattle.rasta_core_spec.specs.identity.Role.TheVariants as role
+use Rattle.rasta_core_spec.specs.Bag.{without_oldest, is_copy}
+use Rattle.rasta_core_spec.specs.Ends.{Sent, EndState, reading_of, end_later, end_restarted}
+use Rattle.rasta_core_spec.specs.Run.{Ends, later, lost, restarted}
+use Rattle.rasta_core_spec.specs.Each.{Each}
+use Rattle.rasta_core_spec.specs.TrueClocks.{GoesOff, IsSmall, Offset, set}
 use Rattle.rasta_core.specs.TimedEnds.{Standing, Inside, Outside, Past, Timed, Times, IsInside, own_stamp, standing, timed, times_of}
 use Rattle.rasta_core.specs.Moves.{clock_on, time_on, outside}
 use Rattle.rasta_core.specs.Timely.{IsTimed, AreTimed}
-use Rattle.rasta_core_run.specs.Names.{Names, AreNames}
+use Rattle.rasta_core_spec.specs.Names.{Names, AreNames}
 use Rattle.rasta_core.specs.Invariant.{InFlight, IsEnd, IsSound, Timely}
-use Rattle.rasta_core_run.specs.Events.{IsWithinDrift, new_end, Start, started}
+use Rattle.rasta_core_spec.specs.Events.{IsWithinDrift, new_end, Start, started}
 use Rattle.rasta_core.proofs.EachLaws.{each_turned}
 use Rattle.rasta_core.proofs.MovesOfEnds.{LivesOn, sent_on_kept, time_on_kept, client_out_kept, server_out_kept}
 use Rattle.rasta_core.proofs.Datagrams.{known_sent_on, known_time_on, known_client_out, known_server_out}

@@ -1,18 +1,18 @@
 -- What comes to an end is a PDU of its partner's flow, or isn't for it.
 use Rattle.std.proofs.Common.{◌≡◌, ℕ, ◌<◌, inl, inr, Bool, true, false, List, [], Some, Result, Ok, Err, sym, ap, subst, ◌∙◌, arith}
 use Rattle.std.proofs.lemmas.Option.{same_Some}
-use Rattle.rasta_core_run.specs.identity.Identity.{Identity}
-use Rattle.rasta_core_run.specs.identity.Role.{Role}
-use Rattle.rasta_core_run.specs.identity.Role.TheVariants as role
-use Rattle.rasta_core_run.specs.Ends.{Sent, Receives}
-use Rattle.rasta_core_run.specs.Run.{Ends}
+use Rattle.rasta_core_spec.specs.identity.Identity.{Identity}
+use Rattle.rasta_core_spec.specs.identity.Role.{Role}
+use Rattle.rasta_core_spec.specs.identity.Role.TheVariants as role
+use Rattle.rasta_core_spec.specs.Ends.{Sent, Receives}
+use Rattle.rasta_core_spec.specs.Run.{Ends}
 use Rattle.rasta_core.specs.EndFlow.{IsOf}
-use Rattle.rasta_core_run.specs.Each.{Each}
+use Rattle.rasta_core_spec.specs.Each.{Each}
 use Rattle.rasta_core.specs.TimedEnds.{Standing, IsInside, IsOutside, times_of, standing}
-use Rattle.rasta_core_run.specs.Names.{partner_of, Names, AreNames, identity_of}
+use Rattle.rasta_core_spec.specs.Names.{partner_of, Names, AreNames, identity_of}
 use Rattle.rasta_core.specs.Timely.{IsKnown}
 use Rattle.rasta_core.specs.Invariant.{InFlight, Timely}
-use Rattle.rasta_core_run.specs.Events.{IsDelivered, IsFor as IsMeant, MayCall}
+use Rattle.rasta_core_spec.specs.Events.{IsDelivered, IsFor as IsMeant, MayCall}
 use Rattle.rasta_core.proofs.EachLaws.{each_turned}
 use Rattle.rasta_core.proofs.Reception.{alive_newest}
 use Rattle.rasta_core.proofs.Deeds.{Heard, Own, Word, IsFor, Deed, rests, speaks, asks, grants, joins, takes}
@@ -20,10 +20,10 @@ use Rattle.rasta_core.proofs.HeardTimes.{read_pdu}
 use Rattle.rasta_core.proofs.Called.{ReadIsIntact, among_each}
 use Rattle.rasta_core.proofs.Conclusions.{of_datagram}
 use Rattle.rasta_core.specs.Ordered.{IsSpelledIn, IsAlone}
-use Rattle.rasta_core_run.specs.pdu.Pdu.{Pdu}
-use Rattle.rasta_core_run.specs.pdu_fault.PduFault.{PduFault}
-use Rattle.rasta_core_run.specs.PduRead.{reading}
-use Rattle.rasta_core_run.specs.Values.{IsPdu}
+use Rattle.rasta_core_spec.specs.pdu.Pdu.{Pdu}
+use Rattle.rasta_core_spec.specs.pdu_fault.PduFault.{PduFault}
+use Rattle.rasta_core_spec.specs.PduRead.{reading}
+use Rattle.rasta_core_spec.specs.Values.{IsPdu}
 
 -- what a call hands out are PDUs
 pub deed_pdus : (identity : Identity) (now : ℕ) (heard : Heard) (old new : Standing) (enters : Bool) (items : List (List ℕ)) (pdus : List Pdu)

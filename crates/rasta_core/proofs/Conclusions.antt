@@ -1,27 +1,27 @@
 -- What follows from the invariant.
 use Rattle.std.proofs.Common.{◌≡◌, ◌≢◌, ℕ, ◌∙◌, ◌+◌, ◌≤◌, ◌<◌, Bool, true, false, ◌&&◌, not, if◌then◌else◌, List, [], Option, Some, None, Result, Ok, Err, refl, sym, ap, subst, arith}
 use native.Mathlib.Decide.{ℕ_discrete}
-use Rattle.rasta_core_run.specs.Parameters.{quiet_time}
-use Rattle.rasta_core_run.specs.State.{LinkState, is_open, is_up}
-use Rattle.rasta_core_run.specs.Clock.{settled, state_at}
-use Rattle.rasta_core_run.specs.Receipt.{Receipt}
-use Rattle.rasta_core_run.specs.identity.Identity.{Identity}
-use Rattle.rasta_core_run.specs.identity.Role.{Role}
-use Rattle.rasta_core_run.specs.identity.Role.TheVariants as role
-use Rattle.rasta_core_run.specs.phase.State.TheVariants as state
-use Rattle.rasta_core_run.specs.Bag.{lifetime}
-use Rattle.rasta_core_run.specs.Ends.{Sent, Receives, outcome, end_after, is_taken, reading_of, newer}
-use Rattle.rasta_core_run.specs.Run.{Ends, end_of, called}
-use Rattle.rasta_core_run.specs.pdu.Pdu.{Pdu}
-use Rattle.rasta_core_run.specs.pdu_fault.PduFault.{PduFault}
-use Rattle.rasta_core_run.specs.PduRead.{reading}
-use Rattle.rasta_core_run.specs.Each.{Each}
+use Rattle.rasta_core_spec.specs.Parameters.{quiet_time}
+use Rattle.rasta_core_spec.specs.State.{LinkState, is_open, is_up}
+use Rattle.rasta_core_spec.specs.Clock.{settled, state_at}
+use Rattle.rasta_core_spec.specs.Receipt.{Receipt}
+use Rattle.rasta_core_spec.specs.identity.Identity.{Identity}
+use Rattle.rasta_core_spec.specs.identity.Role.{Role}
+use Rattle.rasta_core_spec.specs.identity.Role.TheVariants as role
+use Rattle.rasta_core_spec.specs.phase.State.TheVariants as state
+use Rattle.rasta_core_spec.specs.Bag.{lifetime}
+use Rattle.rasta_core_spec.specs.Ends.{Sent, Receives, outcome, end_after, is_taken, reading_of, newer}
+use Rattle.rasta_core_spec.specs.Run.{Ends, end_of, called}
+use Rattle.rasta_core_spec.specs.pdu.Pdu.{Pdu}
+use Rattle.rasta_core_spec.specs.pdu_fault.PduFault.{PduFault}
+use Rattle.rasta_core_spec.specs.PduRead.{reading}
+use Rattle.rasta_core_spec.specs.Each.{Each}
 use Rattle.rasta_core.specs.TimedEnds.{Times, IsInside, IsOutside, HasHeard, own_stamp, closed_at, standing, timed, times_of}
-use Rattle.rasta_core_run.specs.Names.{partner_of, Names, AreNames, name_of, identity_of}
+use Rattle.rasta_core_spec.specs.Names.{partner_of, Names, AreNames, name_of, identity_of}
 use Rattle.rasta_core.specs.Timely.{IsKnown, IsAnswering}
-use Rattle.rasta_core_run.specs.Sentences.{IsRequest, freshness, receipt_at, IsIn, IsOut, IsDownNow, IsOpening}
+use Rattle.rasta_core_spec.specs.Sentences.{IsRequest, freshness, receipt_at, IsIn, IsOut, IsDownNow, IsOpening}
 use Rattle.rasta_core.specs.Invariant.{InFlight, Timely, HasBeenOut}
-use Rattle.rasta_core_run.specs.Events.{IsDelivered}
+use Rattle.rasta_core_spec.specs.Events.{IsDelivered}
 use Rattle.rasta_core.proofs.EachLaws.{each_turned}
 use Rattle.rasta_core.proofs.Phases.{up_open, up_heard}
 use Rattle.rasta_core.proofs.Sounds.{standing_open, standing_closed, inside_open, of_heard}

@@ -1,19 +1,19 @@
 -- An end inside utters PDUs, and goes on or leaves: what is true of the ends and the datagrams stays so.
 use Rattle.std.proofs.Common.{◌≡◌, ℕ, inl, inr, ◌+◌, List, [], ◌∷◌, ◌++◌, length, Some, Ok, refl, sym, subst, arith}
-use Rattle.rasta_core_run.specs.Outbox.{spellings}
-use Rattle.rasta_core_run.specs.identity.Role.{Role}
-use Rattle.rasta_core_run.specs.identity.Role.TheVariants as role
-use Rattle.rasta_core_run.specs.Ends.{Sent, handed_out}
-use Rattle.rasta_core_run.specs.key.Key.{Key}
-use Rattle.rasta_core_run.specs.pdu.Pdu.{Pdu}
-use Rattle.rasta_core_run.specs.Values.{IsPdu}
-use Rattle.rasta_core_run.specs.PduRead.{reading}
-use Rattle.rasta_core_run.specs.Spelling.{writing}
-use Rattle.rasta_core_run.specs.Each.{Each}
+use Rattle.rasta_core_spec.specs.Outbox.{spellings}
+use Rattle.rasta_core_spec.specs.identity.Role.{Role}
+use Rattle.rasta_core_spec.specs.identity.Role.TheVariants as role
+use Rattle.rasta_core_spec.specs.Ends.{Sent, handed_out}
+use Rattle.rasta_core_spec.specs.key.Key.{Key}
+use Rattle.rasta_core_spec.specs.pdu.Pdu.{Pdu}
+use Rattle.rasta_core_spec.specs.Values.{IsPdu}
+use Rattle.rasta_core_spec.specs.PduRead.{reading}
+use Rattle.rasta_core_spec.specs.Spelling.{writing}
+use Rattle.rasta_core_spec.specs.Each.{Each}
 use Rattle.rasta_core.specs.TimedEnds.{Standing, Outside, Past, Times, IsInside, IsOutside, closed_at, at_role}
 use Rattle.rasta_core.specs.Moves.{with_timed, sent_on}
 use Rattle.rasta_core.specs.Timely.{AreTimed, IsKnown}
-use Rattle.rasta_core_run.specs.Names.{Names, identity_of}
+use Rattle.rasta_core_spec.specs.Names.{Names, identity_of}
 use Rattle.rasta_core.specs.Invariant.{InFlight}
 use Rattle.rasta_core.proofs.EachLaws.{each_join, each_turned}
 use Rattle.rasta_core.proofs.MovesOfEnds.{sent_on_kept, client_out_kept, server_out_kept}

@@ -1,10 +1,10 @@
 -- The newest copy of bytes that can be delivered is a delivery.
 use Rattle.std.proofs.Common.{◌≡◌, ℕ, ◌⊎◌, inl, inr, ◌+◌, ◌≤◌, true, not, nat_le, List, [], ◌∷◌, Some, bytes_eq, refl, subst, arith, leb-true}
 use Rattle.std.proofs.lemmas.Slice.Eq.{bytes_eq-Decides}
-use Rattle.rasta_core_run.specs.Bag.{lifetime, newest_copy, is_alive_copy, is_copy}
-use Rattle.rasta_core_run.specs.Ends.{Sent}
-use Rattle.rasta_core_run.specs.Run.{Ends}
-use Rattle.rasta_core_run.specs.Events.{IsAmong, IsDelivered}
+use Rattle.rasta_core_spec.specs.Bag.{lifetime, newest_copy, is_alive_copy, is_copy}
+use Rattle.rasta_core_spec.specs.Ends.{Sent}
+use Rattle.rasta_core_spec.specs.Run.{Ends}
+use Rattle.rasta_core_spec.specs.Events.{IsAmong, IsDelivered}
 use Rattle.rasta_core.proofs.States.{and_first, and_second}
 
 newest_step : (time : ℕ) (bytes : List ℕ) (first : Sent) (later : List Sent) (datagram : Sent) → newest_copy time bytes (first ∷ later) ≡ Some datagram

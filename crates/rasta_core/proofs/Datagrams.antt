@@ -1,15 +1,15 @@
 -- Each move keeps what is true of each datagram.
 use Rattle.std.proofs.Common.{◌≡◌, ℕ, ◌∙◌, Some, refl, ap, arith}
 use native.Mathlib.Decide.{ℕ_discrete}
-use Rattle.rasta_core_run.specs.Sequence.{stamp}
-use Rattle.rasta_core_run.specs.identity.Role.{Role}
-use Rattle.rasta_core_run.specs.identity.Role.TheVariants as role
-use Rattle.rasta_core_run.specs.pdu.Pdu.{Pdu}
+use Rattle.rasta_core_spec.specs.Sequence.{stamp}
+use Rattle.rasta_core_spec.specs.identity.Role.{Role}
+use Rattle.rasta_core_spec.specs.identity.Role.TheVariants as role
+use Rattle.rasta_core_spec.specs.pdu.Pdu.{Pdu}
 use Rattle.rasta_core.specs.TimedEnds.{Standing, Inside, Outside, Times, IsInside, IsOutside, HasHeard, heard_stamp, at_role}
 use Rattle.rasta_core.specs.Moves.{time_on, sent_on, outside, asking, granting, hearing}
-use Rattle.rasta_core_run.specs.TrueClocks.{GoesOff, IsSmall, Offset}
+use Rattle.rasta_core_spec.specs.TrueClocks.{GoesOff, IsSmall, Offset}
 use Rattle.rasta_core.specs.Timely.{WasReadThenBy, AreTimed, IsAnswering, IsKnown}
-use Rattle.rasta_core_run.specs.Sentences.{IsRequest}
+use Rattle.rasta_core_spec.specs.Sentences.{IsRequest}
 use Rattle.rasta_core.proofs.MovesOfEnds.{read_on}
 use Rattle.rasta_core.proofs.Reception.{Reads, IsDown, long_away, not_long}
 

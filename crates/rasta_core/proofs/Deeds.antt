@@ -1,28 +1,28 @@
 -- What a call does at an end, as far as time goes.
 use Rattle.std.proofs.Common.{◌≡◌, ℕ, inl, inr, ◌-◌, ◌^◌, ◌<◌, Bool, true, false, ◌&&◌, List, [], ◌∷◌, ◌++◌, Result, Ok, Err, length, nat_le, nat_lt, is_ok, if◌then◌else◌, refl, sym, ap, subst, arith}
-use Rattle.rasta_core_run.specs.Parameters.{heartbeat_interval}
-use Rattle.rasta_core_run.specs.Sequence.{stamp}
-use Rattle.rasta_core_run.specs.State.{LinkState, is_open, is_up, is_client}
-use Rattle.rasta_core_run.specs.Clock.{state_at}
-use Rattle.rasta_core_run.specs.PdusHandedOut.{Step, silent, then_do, sending, telling, closing, beating, giving, entered, header_of, pdu_of}
-use Rattle.rasta_core_run.specs.Establishment.{own_opening, is_down, may_open, beginning, requesting}
-use Rattle.rasta_core_run.specs.Calls.{opens, opening, ticking, closing_by, acceptance, sending_item}
-use Rattle.rasta_core_run.specs.phase.State.{State}
-use Rattle.rasta_core_run.specs.phase.State.TheVariants as state
-use Rattle.rasta_core_run.specs.fault.SendFault.{SendFault}
-use Rattle.rasta_core_run.specs.fault.SendFault.TheVariants as fault
-use Rattle.rasta_core_run.specs.reason.Reason.{Reason}
-use Rattle.rasta_core_run.specs.reason.Reason.TheVariants as reason
-use Rattle.rasta_core_run.specs.identity.Identity.{Identity}
-use Rattle.rasta_core_run.specs.identity.Role.{Role}
-use Rattle.rasta_core_run.specs.identity.Role.TheVariants as role
-use Rattle.rasta_core_run.specs.pdu.Pdu.{Pdu}
-use Rattle.rasta_core_run.specs.body.Body.TheVariants.{Heartbeat}
-use Rattle.rasta_core_run.specs.Values.{IsPdu, IsOpening}
-use Rattle.rasta_core_run.specs.Items.{IsItem}
+use Rattle.rasta_core_spec.specs.Parameters.{heartbeat_interval}
+use Rattle.rasta_core_spec.specs.Sequence.{stamp}
+use Rattle.rasta_core_spec.specs.State.{LinkState, is_open, is_up, is_client}
+use Rattle.rasta_core_spec.specs.Clock.{state_at}
+use Rattle.rasta_core_spec.specs.PdusHandedOut.{Step, silent, then_do, sending, telling, closing, beating, giving, entered, header_of, pdu_of}
+use Rattle.rasta_core_spec.specs.Establishment.{own_opening, is_down, may_open, beginning, requesting}
+use Rattle.rasta_core_spec.specs.Calls.{opens, opening, ticking, closing_by, acceptance, sending_item}
+use Rattle.rasta_core_spec.specs.phase.State.{State}
+use Rattle.rasta_core_spec.specs.phase.State.TheVariants as state
+use Rattle.rasta_core_spec.specs.fault.SendFault.{SendFault}
+use Rattle.rasta_core_spec.specs.fault.SendFault.TheVariants as fault
+use Rattle.rasta_core_spec.specs.reason.Reason.{Reason}
+use Rattle.rasta_core_spec.specs.reason.Reason.TheVariants as reason
+use Rattle.rasta_core_spec.specs.identity.Identity.{Identity}
+use Rattle.rasta_core_spec.specs.identity.Role.{Role}
+use Rattle.rasta_core_spec.specs.identity.Role.TheVariants as role
+use Rattle.rasta_core_spec.specs.pdu.Pdu.{Pdu}
+use Rattle.rasta_core_spec.specs.body.Body.TheVariants.{Heartbeat}
+use Rattle.rasta_core_spec.specs.Values.{IsPdu, IsOpening}
+use Rattle.rasta_core_spec.specs.Items.{IsItem}
 use Rattle.rasta_core.specs.TimedEnds.{Standing, Inside, IsInside, own_stamp, standing}
 use Rattle.rasta_core.specs.Timely.{IsAnswering}
-use Rattle.rasta_core_run.specs.Sentences.{IsRequest}
+use Rattle.rasta_core_spec.specs.Sentences.{IsRequest}
 use Rattle.rasta_core.proofs.Phases.{up_open, up_heard}
 use Rattle.rasta_core.specs.Invariant.{IsSound}
 use Rattle.rasta_core.proofs.Sounds.{standing_closed, inside_open}

@@ -1,11 +1,11 @@
 -- Clocks that keep within their drift in each event are steady between any two moments.
 use Rattle.std.proofs.Common.{ℕ, ◌+◌, ◌*◌, ◌≤◌, List, [], ◌∷◌, refl, sym, subst, arith}
-use Rattle.rasta_core_run.specs.Events.{Event, Calls, Passes, Loses, Restarts, Elsewhere, IsWithinDrift, May, MayRun, happened}
-use Rattle.rasta_core_run.specs.Names.{Names}
-use Rattle.rasta_core_run.specs.Run.{Ends, called, later, lost, restarted}
-use Rattle.rasta_core_run.specs.TrueClocks.{IsSteady, KeepTime, MayAllCome, MayCome, Moment, StaysSteady, moment_of, moment_on}
-use Rattle.rasta_core_run.specs.identity.Role.{Role}
-use Rattle.rasta_core_run.specs.identity.Role.TheVariants as role
+use Rattle.rasta_core_spec.specs.Events.{Event, Calls, Passes, Loses, Restarts, Elsewhere, IsWithinDrift, May, MayRun, happened}
+use Rattle.rasta_core_spec.specs.Names.{Names}
+use Rattle.rasta_core_spec.specs.Run.{Ends, called, later, lost, restarted}
+use Rattle.rasta_core_spec.specs.TrueClocks.{IsSteady, KeepTime, MayAllCome, MayCome, Moment, StaysSteady, moment_of, moment_on}
+use Rattle.rasta_core_spec.specs.identity.Role.{Role}
+use Rattle.rasta_core_spec.specs.identity.Role.TheVariants as role
 use Rattle.rasta_core.proofs.TrueClocks.{called_moment, elsewhere_moment, later_moment, lost_moment, own}
 
 -- a clock that kept within its drift from one moment to another

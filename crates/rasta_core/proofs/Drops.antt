@@ -1,7 +1,7 @@
 -- A connection stays in order where an end drops the items that its partner confirms, and where it has taken more.
 use Rattle.std.proofs.Common.{ℕ, ◌+◌, ◌<◌, ◌≤◌, Bool, List, [], refl, sym, ap, ◌∙◌, arith}
 use Rattle.std.proofs.lemmas.List.{append-nil}
-use Rattle.rasta_core_run.specs.Receipt.{still_waiting}
+use Rattle.rasta_core_spec.specs.Receipt.{still_waiting}
 use Rattle.rasta_core.specs.EndFlow.{EndFlow, sent}
 use Rattle.rasta_core.specs.Order.{Waits, Way}
 use Rattle.rasta_core.proofs.Tags.{still_few, still_later, still_rises, still_last}

@@ -1,6 +1,6 @@
 -- Facts of each element of a list.
 use Rattle.std.proofs.Common.{List, [], ◌∷◌, ◌++◌}
-use Rattle.rasta_core_run.specs.Each.{Each}
+use Rattle.rasta_core_spec.specs.Each.{Each}
 
 pub each_join : {X : Type 0} (P : X → Type 0) (first second : List X) → Each P first → Each P second → Each P (first ++ second)
 each_join P [] second a b = b

@@ -1,14 +1,14 @@
 -- A client alone in its connection: what it does before the server enters.
 use Rattle.std.proofs.Common.{◌≡◌, ℕ, ◌+◌, ◌^◌, ◌<◌, ◌≤◌, true, [], ◌∷◌, length, take, ◌⊎◌, inl, inr, refl, sym, ap, subst, ◌∙◌, arith}
 use Rattle.std.proofs.lemmas.List.{length-append, append-nil}
-use Rattle.rasta_core_run.specs.Parameters.{most_sent}
-use Rattle.rasta_core_run.specs.Sequence.{wire}
-use Rattle.rasta_core_run.specs.State.{LinkState, is_asking}
-use Rattle.rasta_core_run.specs.PdusHandedOut.{Step, silent, header_of, pdu_of, sending, closed, telling, closing, reason_number, is_told}
-use Rattle.rasta_core_run.specs.reason.Reason.{Reason}
-use Rattle.rasta_core_run.specs.pdu.Pdu.{Pdu}
-use Rattle.rasta_core_run.specs.body.Body.{Body}
-use Rattle.rasta_core_run.specs.body.Body.TheVariants.{RetransmissionRequest, RetransmissionResponse, DisconnectionRequest}
+use Rattle.rasta_core_spec.specs.Parameters.{most_sent}
+use Rattle.rasta_core_spec.specs.Sequence.{wire}
+use Rattle.rasta_core_spec.specs.State.{LinkState, is_asking}
+use Rattle.rasta_core_spec.specs.PdusHandedOut.{Step, silent, header_of, pdu_of, sending, closed, telling, closing, reason_number, is_told}
+use Rattle.rasta_core_spec.specs.reason.Reason.{Reason}
+use Rattle.rasta_core_spec.specs.pdu.Pdu.{Pdu}
+use Rattle.rasta_core_spec.specs.body.Body.{Body}
+use Rattle.rasta_core_spec.specs.body.Body.TheVariants.{RetransmissionRequest, RetransmissionResponse, DisconnectionRequest}
 use Rattle.rasta_core.specs.EndFlow.{IsAt, EndFlow, sent}
 use Rattle.rasta_core.specs.Order.{Brings, Carries, IsClosing, IsSent, Counts}
 use Rattle.rasta_core.specs.LinkAndFlow.{IsInside, Plays, asking, left}

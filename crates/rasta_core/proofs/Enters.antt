@@ -2,15 +2,15 @@
 use Rattle.std.proofs.Common.{◌≡◌, ℕ, ◌+◌, ◌^◌, ◌<◌, ◌≤◌, Bool, true, false, List, [], ◌++◌, length, ◌⊎◌, inl, inr, refl, sym, ap, subst, ◌∙◌, arith}
 use Rattle.std.specs.Prelude.{nat_lt, nat_le, ◌&&◌}
 use Rattle.std.proofs.lemmas.Bool.{leb-false, lt-ltb}
-use Rattle.rasta_core_run.specs.Parameters.{connection_limit}
-use Rattle.rasta_core_run.specs.State.{LinkState, is_open}
-use Rattle.rasta_core_run.specs.Clock.{deadline, settled}
-use Rattle.rasta_core_run.specs.PdusHandedOut.{Step, silent, telling, limited, entered}
-use Rattle.rasta_core_run.specs.reason.Reason.{Reason}
-use Rattle.rasta_core_run.specs.reason.Reason.TheVariants as reason
+use Rattle.rasta_core_spec.specs.Parameters.{connection_limit}
+use Rattle.rasta_core_spec.specs.State.{LinkState, is_open}
+use Rattle.rasta_core_spec.specs.Clock.{deadline, settled}
+use Rattle.rasta_core_spec.specs.PdusHandedOut.{Step, silent, telling, limited, entered}
+use Rattle.rasta_core_spec.specs.reason.Reason.{Reason}
+use Rattle.rasta_core_spec.specs.reason.Reason.TheVariants as reason
 use Rattle.rasta_core.specs.EndFlow.{EndFlow, sent}
 use Rattle.rasta_core.specs.Order.{BeginsByResponse, OpensOn, InOrder}
-use Rattle.rasta_core_run.specs.pdu.Pdu.{Pdu}
+use Rattle.rasta_core_spec.specs.pdu.Pdu.{Pdu}
 use Rattle.std.proofs.lemmas.List.{length-append}
 use Rattle.rasta_core.proofs.Places.{begins_after, opens_after}
 use Rattle.rasta_core.specs.LinkAndFlow.{Keeps, IsNew, IsInside, HasJoined, IsStillAsking, Plays, joined, asking, left, GoesOn}

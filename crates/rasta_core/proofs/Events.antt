@@ -2,32 +2,32 @@
 use Rattle.std.proofs.Common.{◌≡◌, ℕ, ◌+◌, ◌≤◌, ◌<◌, ◌^◌, inl, inr, true, List, [], ◌∷◌, ◌++◌, length, Some, None, refl, sym, ap, subst, ◌∙◌, arith}
 use Rattle.std.proofs.lemmas.List.{length-append}
 use Rattle.std.proofs.lemmas.Option.{same_Some}
-use Rattle.rasta_core_run.specs.Parameters.{stops_at_greatest}
-use Rattle.rasta_core_run.specs.State.{LinkState, confirmed_items}
-use Rattle.rasta_core_run.specs.Clock.{settled}
-use Rattle.rasta_core_run.specs.Calls.{created}
-use Rattle.rasta_core_run.specs.identity.Identity.{Identity}
-use Rattle.rasta_core_run.specs.identity.Role.{Role}
-use Rattle.rasta_core_run.specs.identity.Role.TheVariants as role
-use Rattle.rasta_core_run.specs.Bag.{is_copy, without_oldest}
-use Rattle.rasta_core_run.specs.Ends.{Sent, EndState, Call, Ticks, Opens, Closes, Sends, Receives, reading_of, end_later, end_restarted}
-use Rattle.rasta_core_run.specs.Run.{Ends, called, later, lost, restarted}
+use Rattle.rasta_core_spec.specs.Parameters.{stops_at_greatest}
+use Rattle.rasta_core_spec.specs.State.{LinkState, confirmed_items}
+use Rattle.rasta_core_spec.specs.Clock.{settled}
+use Rattle.rasta_core_spec.specs.Calls.{created}
+use Rattle.rasta_core_spec.specs.identity.Identity.{Identity}
+use Rattle.rasta_core_spec.specs.identity.Role.{Role}
+use Rattle.rasta_core_spec.specs.identity.Role.TheVariants as role
+use Rattle.rasta_core_spec.specs.Bag.{is_copy, without_oldest}
+use Rattle.rasta_core_spec.specs.Ends.{Sent, EndState, Call, Ticks, Opens, Closes, Sends, Receives, reading_of, end_later, end_restarted}
+use Rattle.rasta_core_spec.specs.Run.{Ends, called, later, lost, restarted}
 use Rattle.rasta_core.specs.Order.{InOrder}
 use Rattle.rasta_core.specs.EndFlow.{EndFlow}
 use Rattle.rasta_core.specs.LinkAndFlow.{Keeps, Plays, joined, asking, left}
 use Rattle.rasta_core.specs.FirstPdus.{IsEarly, PlaysEarly, asks, gone}
-use Rattle.rasta_core_run.specs.Each.{Each}
-use Rattle.rasta_core_run.specs.Names.{Names, AreNames}
+use Rattle.rasta_core_spec.specs.Each.{Each}
+use Rattle.rasta_core_spec.specs.Names.{Names, AreNames}
 use Rattle.rasta_core.specs.Invariant.{Timely}
-use Rattle.rasta_core_run.specs.Events.{Event, Calls, Passes, Loses, Restarts, Elsewhere, May, MayCall, happened, run, MayRun, Start, started}
+use Rattle.rasta_core_spec.specs.Events.{Event, Calls, Passes, Loses, Restarts, Elsewhere, May, MayCall, happened, run, MayRun, Start, started}
 use Rattle.rasta_core.proofs.Called.{ReadIsIntact}
 use Rattle.rasta_core.specs.Ordered.{AreTogether, IsSpelledIn, Ordered, unbegun, alone, together}
-use Rattle.rasta_core_run.specs.Safe.{AreCounted, AreFew, AreSafe, CountsNone, IsCounted, IsCountedAlone, IsFew, IsSafe, counts, made_anew}
+use Rattle.rasta_core_spec.specs.Safe.{AreCounted, AreFew, AreSafe, CountsNone, IsCounted, IsCountedAlone, IsFew, IsSafe, counts, made_anew}
 use Rattle.rasta_core.proofs.Tests.{by_test}
 use Rattle.rasta_core.proofs.OrderLaws.{Laws, SafeLaws}
 use Rattle.rasta_core.proofs.Calls.{ticks_client, closes_client, sends_client, opens_client, ticks_server, closes_server, sends_server, opens_server}
 use Rattle.rasta_core.proofs.Receptions.{receives_client, receives_server}
-use Rattle.rasta_core_run.specs.pdu.Pdu.{Pdu}
+use Rattle.rasta_core_spec.specs.pdu.Pdu.{Pdu}
 
 -- ---- time goes on
 

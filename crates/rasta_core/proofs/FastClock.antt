@@ -1,15 +1,15 @@
 -- A clock that runs fast by short events keeps time, and one that runs away doesn't.
 use Rattle.std.proofs.Common.{◌≡◌, ℕ, zero, suc, ◌+◌, ◌*◌, ◌-◌, ◌≤◌, refl, arith}
-use Rattle.rasta_core_run.specs.Ends.{end_later}
-use Rattle.rasta_core_run.specs.Events.{IsWithinDrift, Start, started}
-use Rattle.rasta_core_run.specs.Names.{Names}
-use Rattle.rasta_core_run.specs.Run.{Ends, later}
-use Rattle.rasta_core_run.specs.TrueClocks.{IsSteady, KeepTime, MayAllCome, Moment, StaysSteady, moment_of}
-use Rattle.rasta_core_run.specs.identity.Role.{Role}
-use Rattle.rasta_core_run.specs.identity.Role.TheVariants as role
+use Rattle.rasta_core_spec.specs.Ends.{end_later}
+use Rattle.rasta_core_spec.specs.Events.{IsWithinDrift, Start, started}
+use Rattle.rasta_core_spec.specs.Names.{Names}
+use Rattle.rasta_core_spec.specs.Run.{Ends, later}
+use Rattle.rasta_core_spec.specs.TrueClocks.{IsSteady, KeepTime, MayAllCome, Moment, StaysSteady, moment_of}
+use Rattle.rasta_core_spec.specs.identity.Role.{Role}
+use Rattle.rasta_core_spec.specs.identity.Role.TheVariants as role
 use Rattle.rasta_core.specs.Worked.{IsWithinDriftAnew, fast_clock, fast_from, runaway}
 
--- two ends behind so many events of 100 microseconds
+-- two ends after so many events of 100 microseconds
 record IsAt (number time client server : ℕ) (ends : Ends) : Type 0 where
   time_is : ends.time ≡ time + 100 * number
   client_is : ends.client.clock ≡ client + fast_clock number
@@ -24,7 +24,7 @@ next number time client server ends is = record {
   server_is = omega (arith, is.server_is);
 }
 
--- the clock of an end behind so many of them
+-- the clock of an end after so many of them
 abbrev clock_at : Role → ℕ → ℕ → ℕ → ℕ
 clock_at role.Client client server number = client + fast_clock number
 clock_at role.Server client server number = server + 100 * number

@@ -1,19 +1,19 @@
 -- What was sent spells the PDUs of the flows.
 use Rattle.std.proofs.Common.{◌≡◌, ℕ, zero, suc, List, [], ◌∷◌, ◌++◌, Option, Ok, refl, sym, subst, append_assoc}
-use Rattle.rasta_core_run.specs.identity.Role.{Role}
-use Rattle.rasta_core_run.specs.Outbox.{spellings}
-use Rattle.rasta_core_run.specs.Ends.{Sent, handed_out}
+use Rattle.rasta_core_spec.specs.identity.Role.{Role}
+use Rattle.rasta_core_spec.specs.Outbox.{spellings}
+use Rattle.rasta_core_spec.specs.Ends.{Sent, handed_out}
 use Rattle.rasta_core.specs.EndFlow.{IsAt, IsOf}
-use Rattle.rasta_core_run.specs.Each.{Each}
-use Rattle.rasta_core_run.specs.Names.{Names}
+use Rattle.rasta_core_spec.specs.Each.{Each}
+use Rattle.rasta_core_spec.specs.Names.{Names}
 use Rattle.rasta_core.proofs.EachLaws.{each_join, each_turned}
 use Rattle.rasta_core.proofs.Conversation.{WrittenIsRead}
 use Rattle.rasta_core.specs.Ordered.{IsSpelledIn}
-use Rattle.rasta_core_run.specs.key.Key.{Key}
-use Rattle.rasta_core_run.specs.pdu.Pdu.{Pdu}
-use Rattle.rasta_core_run.specs.PduRead.{reading}
-use Rattle.rasta_core_run.specs.Spelling.{writing}
-use Rattle.rasta_core_run.specs.Values.{IsPdu}
+use Rattle.rasta_core_spec.specs.key.Key.{Key}
+use Rattle.rasta_core_spec.specs.pdu.Pdu.{Pdu}
+use Rattle.rasta_core_spec.specs.PduRead.{reading}
+use Rattle.rasta_core_spec.specs.Spelling.{writing}
+use Rattle.rasta_core_spec.specs.Values.{IsPdu}
 
 at_front : (place : ℕ) (pdu : Pdu) (flow more : List Pdu) → IsAt place pdu flow → IsAt place pdu (flow ++ more)
 at_front place pdu [] more at = elim at [ ]

@@ -1,21 +1,21 @@
 -- Every event keeps it that what an end gave is read off the datagrams that it sent.
 use Rattle.std.proofs.Common.{◌≡◌, ℕ, ◌<◌, Bool, true, false, ◌&&◌, not, if◌then◌else◌, List, [], ◌∷◌, Some, None, refl, sym, ap, subst, ◌∙◌, arith}
 use Rattle.std.proofs.lemmas.Option.{same_Some}
-use Rattle.rasta_core_run.specs.State.{is_open}
-use Rattle.rasta_core_run.specs.Calls.{opens, opening, ticking, closing_by, sending_item, receiving}
-use Rattle.rasta_core_run.specs.identity.Role.{Role}
-use Rattle.rasta_core_run.specs.identity.Role.TheVariants as role
-use Rattle.rasta_core_run.specs.reason.Reason.{Reason}
-use Rattle.rasta_core_run.specs.Ends.{Sent, Outcome, Call, Ticks, Opens, Closes, Sends, Receives, outcome, reading_of, end_later, end_restarted, is_taken}
-use Rattle.rasta_core_run.specs.Run.{Ends, end_of, called, later, lost, restarted}
+use Rattle.rasta_core_spec.specs.State.{is_open}
+use Rattle.rasta_core_spec.specs.Calls.{opens, opening, ticking, closing_by, sending_item, receiving}
+use Rattle.rasta_core_spec.specs.identity.Role.{Role}
+use Rattle.rasta_core_spec.specs.identity.Role.TheVariants as role
+use Rattle.rasta_core_spec.specs.reason.Reason.{Reason}
+use Rattle.rasta_core_spec.specs.Ends.{Sent, Outcome, Call, Ticks, Opens, Closes, Sends, Receives, outcome, reading_of, end_later, end_restarted, is_taken}
+use Rattle.rasta_core_spec.specs.Run.{Ends, end_of, called, later, lost, restarted}
 use Rattle.rasta_core.specs.Carried.{carried}
-use Rattle.rasta_core_run.specs.Each.{Each}
+use Rattle.rasta_core_spec.specs.Each.{Each}
 use Rattle.rasta_core.specs.TimedEnds.{standing, times_of}
-use Rattle.rasta_core_run.specs.Names.{Names, AreNames}
+use Rattle.rasta_core_spec.specs.Names.{Names, AreNames}
 use Rattle.rasta_core.specs.Invariant.{InFlight, Timely}
-use Rattle.rasta_core_run.specs.Events.{Event, Calls, Passes, Loses, Restarts, Elsewhere, May, MayCall, happened, run, MayRun, Start, started}
+use Rattle.rasta_core_spec.specs.Events.{Event, Calls, Passes, Loses, Restarts, Elsewhere, May, MayCall, happened, run, MayRun, Start, started}
 use Rattle.rasta_core.specs.Timely.{IsKnown}
-use Rattle.rasta_core_run.specs.Sentences.{IsOpening}
+use Rattle.rasta_core_spec.specs.Sentences.{IsOpening}
 use Rattle.rasta_core.proofs.EachLaws.{each_turned}
 use Rattle.rasta_core.proofs.CallsKept.{ends_ready}
 use Rattle.rasta_core.proofs.Deeds.{IsFor, ticking_does, closing_does, sending_does, opening_does}
@@ -24,12 +24,12 @@ use Rattle.rasta_core.proofs.HeardTimes.{read_pdu}
 use Rattle.rasta_core.proofs.OrderLaws.{CarryingLaws, Laws}
 use Rattle.rasta_core.proofs.Called.{ReadIsIntact, read_is, bytes_do, bytes_bring}
 use Rattle.rasta_core.proofs.BothEndsAfter.{made_at}
-use Rattle.rasta_core_run.specs.pdu.Pdu.{Pdu}
-use Rattle.rasta_core_run.specs.Items.{IsItem}
-use Rattle.rasta_core_run.specs.PduRead.{reading}
-use Rattle.rasta_core_run.specs.Values.{IsPdu}
-use Rattle.rasta_core_run.specs.identity.Identity.{Identity}
-use Rattle.rasta_core_run.specs.Given.{IsGiven}
+use Rattle.rasta_core_spec.specs.pdu.Pdu.{Pdu}
+use Rattle.rasta_core_spec.specs.Items.{IsItem}
+use Rattle.rasta_core_spec.specs.PduRead.{reading}
+use Rattle.rasta_core_spec.specs.Values.{IsPdu}
+use Rattle.rasta_core_spec.specs.identity.Identity.{Identity}
+use Rattle.rasta_core_spec.specs.Given.{IsGiven}
 use Rattle.rasta_core.proofs.Comes.{deed_pdus, client_enters_none, Comes, comes, in_newest, IsGranted, deed_grants}
 use Rattle.rasta_core.proofs.Calls.{client_key, server_key, at_clock, step_pdus}
 use Rattle.rasta_core.proofs.Receptions.{both_true, not_true}

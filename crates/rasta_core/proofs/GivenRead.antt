@@ -2,24 +2,24 @@
 use Rattle.std.proofs.Common.{◌≡◌, ℕ, Bool, true, false, ◌&&◌, if◌then◌else◌, List, [], ◌∷◌, ◌++◌, Option, Some, None, refl, sym, ap, ◌∙◌, append_assoc, append-nil}
 use Rattle.std.specs.Prelude.{◌==◌}
 use Rattle.std.proofs.lemmas.Bool.{eqb-true, eq-eqb}
-use Rattle.rasta_core_run.specs.Outbox.{spellings}
-use Rattle.rasta_core_run.specs.identity.Role.{Role}
-use Rattle.rasta_core_run.specs.identity.Role.TheVariants as role
-use Rattle.rasta_core_run.specs.Bag.{is_copy, without_oldest}
-use Rattle.rasta_core_run.specs.Ends.{Sent, Outcome, end_after, handed_out, newer, kept}
-use Rattle.rasta_core_run.specs.Run.{Ends}
+use Rattle.rasta_core_spec.specs.Outbox.{spellings}
+use Rattle.rasta_core_spec.specs.identity.Role.{Role}
+use Rattle.rasta_core_spec.specs.identity.Role.TheVariants as role
+use Rattle.rasta_core_spec.specs.Bag.{is_copy, without_oldest}
+use Rattle.rasta_core_spec.specs.Ends.{Sent, Outcome, end_after, handed_out, newer, kept}
+use Rattle.rasta_core_spec.specs.Run.{Ends}
 use Rattle.rasta_core.specs.Carried.{carried}
-use Rattle.rasta_core_run.specs.Given.{new_items, is_same, is_of, items_in, items_given, IsGiven}
-use Rattle.rasta_core_run.specs.Each.{Each}
-use Rattle.rasta_core_run.specs.Names.{Names}
+use Rattle.rasta_core_spec.specs.Given.{new_items, is_same, is_of, items_in, items_given, IsGiven}
+use Rattle.rasta_core_spec.specs.Each.{Each}
+use Rattle.rasta_core_spec.specs.Names.{Names}
 use Rattle.rasta_core.proofs.Conversation.{WrittenIsRead}
 use Rattle.rasta_core.proofs.BothEndsAfter.{made_at}
 use Rattle.rasta_core.proofs.Tests.{by_test}
-use Rattle.rasta_core_run.specs.key.Key.{Key}
-use Rattle.rasta_core_run.specs.pdu.Pdu.{Pdu}
-use Rattle.rasta_core_run.specs.PduRead.{reading}
-use Rattle.rasta_core_run.specs.Spelling.{writing}
-use Rattle.rasta_core_run.specs.Values.{IsPdu}
+use Rattle.rasta_core_spec.specs.key.Key.{Key}
+use Rattle.rasta_core_spec.specs.pdu.Pdu.{Pdu}
+use Rattle.rasta_core_spec.specs.PduRead.{reading}
+use Rattle.rasta_core_spec.specs.Spelling.{writing}
+use Rattle.rasta_core_spec.specs.Values.{IsPdu}
 
 items_given-append : (names : Names) (who : Role) (connection : ℕ) (one other : List Sent)
     → items_given names who connection (one ++ other) ≡ items_given names who connection one ++ items_given names who connection other

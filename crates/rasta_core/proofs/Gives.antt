@@ -1,10 +1,10 @@
 -- A connection stays in order where an end sends a new item.
 use Rattle.std.proofs.Common.{◌≡◌, ℕ, ◌+◌, ◌-◌, ◌^◌, ◌<◌, ◌≤◌, List, [], ◌∷◌, ◌++◌, length, take, ◌⊎◌, inl, inr, refl, sym, ap, subst, ◌∙◌, arith, append_assoc}
 use Rattle.std.proofs.lemmas.List.{length-append, take_all, take-append-le}
-use Rattle.rasta_core_run.specs.Sequence.{wire}
-use Rattle.rasta_core_run.specs.pdu.Pdu.{Pdu}
-use Rattle.rasta_core_run.specs.body.Body.TheVariants.{RetransmissionResponse, Data}
-use Rattle.rasta_core_run.specs.window.Unconfirmed.{Unconfirmed}
+use Rattle.rasta_core_spec.specs.Sequence.{wire}
+use Rattle.rasta_core_spec.specs.pdu.Pdu.{Pdu}
+use Rattle.rasta_core_spec.specs.body.Body.TheVariants.{RetransmissionResponse, Data}
+use Rattle.rasta_core_spec.specs.window.Unconfirmed.{Unconfirmed}
 use Rattle.rasta_core.specs.EndFlow.{IsAt, EndFlow, sent, later, items_of}
 use Rattle.rasta_core.specs.Order.{Brings, Carries, IsUnanswered, IsSent, Rises, Waits, Counts, Way}
 use Rattle.rasta_core.proofs.Places.{only_one}

@@ -1,15 +1,15 @@
 -- What an end hands out in a call are PDUs.
 use Rattle.std.proofs.Common.{◌≡◌, ℕ, Bool, false, List, [], subst}
-use Rattle.rasta_core_run.specs.State.{LinkState}
-use Rattle.rasta_core_run.specs.PdusHandedOut.{Step}
-use Rattle.rasta_core_run.specs.Calls.{opens, opening, ticking, closing_by, sending_item}
-use Rattle.rasta_core_run.specs.identity.Role.{Role}
-use Rattle.rasta_core_run.specs.Ends.{Call, Ticks, Opens, Closes, Sends, Receives, outcome, reading_of}
-use Rattle.rasta_core_run.specs.Run.{Ends, end_of}
-use Rattle.rasta_core_run.specs.Each.{Each}
-use Rattle.rasta_core_run.specs.Events.{MayCall}
-use Rattle.rasta_core_run.specs.Names.{Names}
-use Rattle.rasta_core_run.specs.Values.{IsPdu}
+use Rattle.rasta_core_spec.specs.State.{LinkState}
+use Rattle.rasta_core_spec.specs.PdusHandedOut.{Step}
+use Rattle.rasta_core_spec.specs.Calls.{opens, opening, ticking, closing_by, sending_item}
+use Rattle.rasta_core_spec.specs.identity.Role.{Role}
+use Rattle.rasta_core_spec.specs.Ends.{Call, Ticks, Opens, Closes, Sends, Receives, outcome, reading_of}
+use Rattle.rasta_core_spec.specs.Run.{Ends, end_of}
+use Rattle.rasta_core_spec.specs.Each.{Each}
+use Rattle.rasta_core_spec.specs.Events.{MayCall}
+use Rattle.rasta_core_spec.specs.Names.{Names}
+use Rattle.rasta_core_spec.specs.Values.{IsPdu}
 use Rattle.rasta_core.specs.TimedEnds.{standing}
 use Rattle.rasta_core.specs.Invariant.{Timely}
 use Rattle.rasta_core.proofs.CallsKept.{ends_ready, ends_clock}

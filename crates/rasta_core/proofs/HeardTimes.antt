@@ -1,27 +1,27 @@
 -- What any bytes do at an end, as far as time goes.
 use Rattle.std.proofs.Common.{◌≡◌, ℕ, inl, inr, ◌∙◌, ◌<◌, Bool, true, false, ◌&&◌, not, List, [], ◌++◌, Result, Ok, Err, ◌==◌, if◌then◌else◌, refl, sym, ap, subst, eqb-true, append-nil}
-use Rattle.rasta_core_run.specs.State.{LinkState, is_open, is_asking, is_client}
-use Rattle.rasta_core_run.specs.Clock.{state_at}
-use Rattle.rasta_core_run.specs.PdusHandedOut.{Step, silent, sending, telling, closed}
-use Rattle.rasta_core_run.specs.Establishment.{own_opening, beginning, meeting, granting, joining}
-use Rattle.rasta_core_run.specs.Receipt.{Receipt, refusing, accepting, connected, answers_request, asking, resting, by_state, hearing, up}
-use Rattle.rasta_core_run.specs.Calls.{hearing_bytes, receiving}
-use Rattle.rasta_core_run.specs.phase.State.{State}
-use Rattle.rasta_core_run.specs.phase.State.TheVariants as state
-use Rattle.rasta_core_run.specs.reason.Reason.TheVariants as reason
-use Rattle.rasta_core_run.specs.verdict.Verdict.TheVariants as verdict
-use Rattle.rasta_core_run.specs.identity.Role.{Role}
-use Rattle.rasta_core_run.specs.identity.Role.TheVariants as role
-use Rattle.rasta_core_run.specs.Ends.{is_taken}
-use Rattle.rasta_core_run.specs.pdu.Pdu.{Pdu}
-use Rattle.rasta_core_run.specs.pdu_fault.PduFault.{PduFault}
-use Rattle.rasta_core_run.specs.body.Opening.{Opening}
-use Rattle.rasta_core_run.specs.body.Body.{Body}
-use Rattle.rasta_core_run.specs.body.Body.TheVariants.{ConnectionRequest, ConnectionResponse, DisconnectionRequest, Heartbeat}
-use Rattle.rasta_core_run.specs.PduRead.{reading}
-use Rattle.rasta_core_run.specs.Values.{IsPdu}
+use Rattle.rasta_core_spec.specs.State.{LinkState, is_open, is_asking, is_client}
+use Rattle.rasta_core_spec.specs.Clock.{state_at}
+use Rattle.rasta_core_spec.specs.PdusHandedOut.{Step, silent, sending, telling, closed}
+use Rattle.rasta_core_spec.specs.Establishment.{own_opening, beginning, meeting, granting, joining}
+use Rattle.rasta_core_spec.specs.Receipt.{Receipt, refusing, accepting, connected, answers_request, asking, resting, by_state, hearing, up}
+use Rattle.rasta_core_spec.specs.Calls.{hearing_bytes, receiving}
+use Rattle.rasta_core_spec.specs.phase.State.{State}
+use Rattle.rasta_core_spec.specs.phase.State.TheVariants as state
+use Rattle.rasta_core_spec.specs.reason.Reason.TheVariants as reason
+use Rattle.rasta_core_spec.specs.verdict.Verdict.TheVariants as verdict
+use Rattle.rasta_core_spec.specs.identity.Role.{Role}
+use Rattle.rasta_core_spec.specs.identity.Role.TheVariants as role
+use Rattle.rasta_core_spec.specs.Ends.{is_taken}
+use Rattle.rasta_core_spec.specs.pdu.Pdu.{Pdu}
+use Rattle.rasta_core_spec.specs.pdu_fault.PduFault.{PduFault}
+use Rattle.rasta_core_spec.specs.body.Opening.{Opening}
+use Rattle.rasta_core_spec.specs.body.Body.{Body}
+use Rattle.rasta_core_spec.specs.body.Body.TheVariants.{ConnectionRequest, ConnectionResponse, DisconnectionRequest, Heartbeat}
+use Rattle.rasta_core_spec.specs.PduRead.{reading}
+use Rattle.rasta_core_spec.specs.Values.{IsPdu}
 use Rattle.rasta_core.specs.TimedEnds.{Inside, Outside, own_stamp, standing}
-use Rattle.rasta_core_run.specs.Sentences.{IsRequest}
+use Rattle.rasta_core_spec.specs.Sentences.{IsRequest}
 use Rattle.rasta_core.proofs.Phases.{up_open, up_heard}
 use Rattle.rasta_core.specs.Invariant.{IsSound}
 use Rattle.rasta_core.proofs.Sounds.{standing_open, standing_closed, inside_open}

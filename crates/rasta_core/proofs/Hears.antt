@@ -2,22 +2,22 @@
 use Rattle.std.proofs.Common.{◌≡◌, ℕ, ◌-◌, ◌<◌, ◌≤◌, Bool, true, false, [], ◌⊎◌, inl, inr, refl, sym, ap, subst, ◌∙◌, arith}
 use Rattle.std.specs.Prelude.{nat_lt, nat_eq, ◌==◌, not}
 use Rattle.std.specs.Cmp.Lexicographic.{pointwise}
-use Rattle.rasta_core_run.specs.Parameters.{sequence_range, connection_limit, own_version, window_size}
-use Rattle.rasta_core_run.specs.Sequence.{wire}
-use Rattle.rasta_core_run.specs.State.{LinkState, is_open, is_up, is_asking, is_client}
-use Rattle.rasta_core_run.specs.Clock.{open_state, deadline, state_at}
-use Rattle.rasta_core_run.specs.PdusHandedOut.{Step, silent, sending, telling, closed}
-use Rattle.rasta_core_run.specs.Establishment.{meeting, judging, joining}
-use Rattle.rasta_core_run.specs.Receipt as receiving
-use Rattle.rasta_core_run.specs.Receipt.{Receipt, accepting, refusing, violating, ahead, is_stale, confirms, taking, admission, admitting, testing, is_opening_again, connected, answers_request, asking, by_state, hearing}
-use Rattle.rasta_core_run.specs.phase.State.{State}
-use Rattle.rasta_core_run.specs.phase.State.TheVariants as state
-use Rattle.rasta_core_run.specs.reason.Reason.TheVariants as reason
-use Rattle.rasta_core_run.specs.verdict.Verdict.TheVariants as verdict
-use Rattle.rasta_core_run.specs.pdu.Pdu.{Pdu}
-use Rattle.rasta_core_run.specs.body.Opening.{Opening}
-use Rattle.rasta_core_run.specs.body.Body.{Body}
-use Rattle.rasta_core_run.specs.body.Body.TheVariants.{ConnectionRequest, ConnectionResponse, RetransmissionRequest, RetransmissionResponse, DisconnectionRequest, Heartbeat, Data, RetransmittedData}
+use Rattle.rasta_core_spec.specs.Parameters.{sequence_range, connection_limit, own_version, window_size}
+use Rattle.rasta_core_spec.specs.Sequence.{wire}
+use Rattle.rasta_core_spec.specs.State.{LinkState, is_open, is_up, is_asking, is_client}
+use Rattle.rasta_core_spec.specs.Clock.{open_state, deadline, state_at}
+use Rattle.rasta_core_spec.specs.PdusHandedOut.{Step, silent, sending, telling, closed}
+use Rattle.rasta_core_spec.specs.Establishment.{meeting, judging, joining}
+use Rattle.rasta_core_spec.specs.Receipt as receiving
+use Rattle.rasta_core_spec.specs.Receipt.{Receipt, accepting, refusing, violating, ahead, is_stale, confirms, taking, admission, admitting, testing, is_opening_again, connected, answers_request, asking, by_state, hearing}
+use Rattle.rasta_core_spec.specs.phase.State.{State}
+use Rattle.rasta_core_spec.specs.phase.State.TheVariants as state
+use Rattle.rasta_core_spec.specs.reason.Reason.TheVariants as reason
+use Rattle.rasta_core_spec.specs.verdict.Verdict.TheVariants as verdict
+use Rattle.rasta_core_spec.specs.pdu.Pdu.{Pdu}
+use Rattle.rasta_core_spec.specs.body.Opening.{Opening}
+use Rattle.rasta_core_spec.specs.body.Body.{Body}
+use Rattle.rasta_core_spec.specs.body.Body.TheVariants.{ConnectionRequest, ConnectionResponse, RetransmissionRequest, RetransmissionResponse, DisconnectionRequest, Heartbeat, Data, RetransmittedData}
 use Rattle.rasta_core.specs.EndFlow.{IsAt, EndFlow, sent}
 use Rattle.rasta_core.specs.Order.{Carries, IsRequest, IsResponse, IsClosing, BeginsByResponse, OpensOn, IsUnanswered, InOrder}
 use Rattle.rasta_core.specs.LinkAndFlow.{reads, HasJoined, IsStillAsking, Plays, GoesOn}

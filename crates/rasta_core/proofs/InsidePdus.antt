@@ -1,26 +1,26 @@
 -- What an end inside hands out, and where it stands after it.
 use Rattle.std.proofs.Common.{◌≡◌, ℕ, ◌⊎◌, inl, inr, ◌+◌, ◌^◌, ◌<◌, Bool, true, false, List, [], ◌∷◌, nat_eq, ◌==◌, if◌then◌else◌, refl, arith}
 use Rattle.std.specs.Cmp.Lexicographic.{pointwise}
-use Rattle.rasta_core_run.specs.Parameters.{window_size, own_version}
-use Rattle.rasta_core_run.specs.State.{LinkState, is_open, is_asking, is_client}
-use Rattle.rasta_core_run.specs.PdusHandedOut.{Step, silent, then_do, sending, telling, closed, closing, reason_number, is_told, giving}
-use Rattle.rasta_core_run.specs.Establishment.{judging}
-use Rattle.rasta_core_run.specs.Receipt.{answering, repeating}
-use Rattle.rasta_core_run.specs.reason.Reason.{Reason}
-use Rattle.rasta_core_run.specs.reason.Reason.TheVariants as reason
-use Rattle.rasta_core_run.specs.identity.Identity.{Identity}
-use Rattle.rasta_core_run.specs.identity.Role.{Role}
-use Rattle.rasta_core_run.specs.identity.Role.TheVariants as role
-use Rattle.rasta_core_run.specs.pdu.Pdu.{Pdu}
-use Rattle.rasta_core_run.specs.body.Opening.{Opening}
-use Rattle.rasta_core_run.specs.body.Body.{Body}
-use Rattle.rasta_core_run.specs.body.Body.TheVariants.{RetransmissionResponse, DisconnectionRequest, Heartbeat, Data}
-use Rattle.rasta_core_run.specs.Values.{IsBody}
-use Rattle.rasta_core_run.specs.Items.{IsItem}
-use Rattle.rasta_core_run.specs.Each.{Each}
+use Rattle.rasta_core_spec.specs.Parameters.{window_size, own_version}
+use Rattle.rasta_core_spec.specs.State.{LinkState, is_open, is_asking, is_client}
+use Rattle.rasta_core_spec.specs.PdusHandedOut.{Step, silent, then_do, sending, telling, closed, closing, reason_number, is_told, giving}
+use Rattle.rasta_core_spec.specs.Establishment.{judging}
+use Rattle.rasta_core_spec.specs.Receipt.{answering, repeating}
+use Rattle.rasta_core_spec.specs.reason.Reason.{Reason}
+use Rattle.rasta_core_spec.specs.reason.Reason.TheVariants as reason
+use Rattle.rasta_core_spec.specs.identity.Identity.{Identity}
+use Rattle.rasta_core_spec.specs.identity.Role.{Role}
+use Rattle.rasta_core_spec.specs.identity.Role.TheVariants as role
+use Rattle.rasta_core_spec.specs.pdu.Pdu.{Pdu}
+use Rattle.rasta_core_spec.specs.body.Opening.{Opening}
+use Rattle.rasta_core_spec.specs.body.Body.{Body}
+use Rattle.rasta_core_spec.specs.body.Body.TheVariants.{RetransmissionResponse, DisconnectionRequest, Heartbeat, Data}
+use Rattle.rasta_core_spec.specs.Values.{IsBody}
+use Rattle.rasta_core_spec.specs.Items.{IsItem}
+use Rattle.rasta_core_spec.specs.Each.{Each}
 use Rattle.rasta_core.specs.TimedEnds.{Standing, Outside, standing}
 use Rattle.rasta_core.specs.Timely.{IsAnswering}
-use Rattle.rasta_core_run.specs.Sentences.{IsRequest}
+use Rattle.rasta_core_spec.specs.Sentences.{IsRequest}
 use Rattle.rasta_core.proofs.EachLaws.{each_join}
 use Rattle.rasta_core.proofs.Phases.{asking_client}
 use Rattle.rasta_core.specs.Invariant.{IsSound}

@@ -1,10 +1,10 @@
 -- In which connection an end is.
 use Rattle.std.proofs.Common.{◌≡◌, ◌<◌, ℕ, Some, sym, ◌∙◌}
-use Rattle.rasta_core_run.specs.identity.Role.{Role}
-use Rattle.rasta_core_run.specs.identity.Role.TheVariants as role
-use Rattle.rasta_core_run.specs.Names.{Names}
-use Rattle.rasta_core_run.specs.Run.{Ends, end_of}
-use Rattle.rasta_core_run.specs.Sentences.{IsIn}
+use Rattle.rasta_core_spec.specs.identity.Role.{Role}
+use Rattle.rasta_core_spec.specs.identity.Role.TheVariants as role
+use Rattle.rasta_core_spec.specs.Names.{Names}
+use Rattle.rasta_core_spec.specs.Run.{Ends, end_of}
+use Rattle.rasta_core_spec.specs.Sentences.{IsIn}
 use Rattle.rasta_core.specs.Invariant.{Timely}
 use Rattle.rasta_core.proofs.Sounds.{inside_open}
 

@@ -1,15 +1,15 @@
 -- Each link of a world keeps time by how far its clocks are off.
 use Rattle.std.proofs.Common.{◌≡◌, ◌⊎◌, inl, inr, arith, ℕ, ◌<◌, ◌==◌, ◌&&◌, Bool, true, false, if◌then◌else◌, List, [], ◌∷◌, length, refl, sym, ◌∙◌, ap, subst}
-use Rattle.rasta_core_run.specs.Ends.{end_later}
-use Rattle.rasta_core_run.specs.Events.{Calls, Elsewhere, Event, Loses, May, MayRun, Restarts, Start, happened, run, started}
-use Rattle.rasta_core_run.specs.Given.{IsGiven}
-use Rattle.rasta_core_run.specs.Names.{AreNames, Names}
-use Rattle.rasta_core_run.specs.Newest.{IsNewest, IsUnused}
+use Rattle.rasta_core_spec.specs.Ends.{end_later}
+use Rattle.rasta_core_spec.specs.Events.{Calls, Elsewhere, Event, Loses, May, MayRun, Restarts, Start, happened, run, started}
+use Rattle.rasta_core_spec.specs.Given.{IsGiven}
+use Rattle.rasta_core_spec.specs.Names.{AreNames, Names}
+use Rattle.rasta_core_spec.specs.Newest.{IsNewest, IsUnused}
 use Rattle.std.proofs.lemmas.Bool.Decides.{nat_tests}
-use Rattle.rasta_core_run.specs.Run.{Ends, later, restarted}
-use Rattle.rasta_core_run.specs.TrueClocks.{GoesOff, IsAtOnce, Offset, is_same, moment_of, offsets_after, set}
-use Rattle.rasta_core_run.specs.identity.Role.{Role}
-use Rattle.rasta_core_run.specs.identity.Role.TheVariants as role
+use Rattle.rasta_core_spec.specs.Run.{Ends, later, restarted}
+use Rattle.rasta_core_spec.specs.TrueClocks.{GoesOff, IsAtOnce, Offset, is_same, moment_of, offsets_after, set}
+use Rattle.rasta_core_spec.specs.identity.Role.{Role}
+use Rattle.rasta_core_spec.specs.identity.Role.TheVariants as role
 use Rattle.rasta_core.specs.EachLink.{AreTimely, AreTimelyBy}
 use Rattle.rasta_core.specs.Invariant.{TimelyBy}
 use Rattle.rasta_core.specs.Links.{AreAtOnce, AreLinks, CallsOn, IsAtOnceFor, Links, LinksEvent, LinksStart, LosesAny, MayHappenTo, MayRunLinks, PassesFor, RestartsOn, all_offsets_on, begun, events_on, happened_to, is_oldest_on, offsets_on, run_links, seen, sent_by, sets_on, start_of}

@@ -1,8 +1,8 @@
 -- One more event, and a list of them, after a run of two ends.
 use Rattle.std.proofs.Common.{◌≡◌, refl, List, [], ◌∷◌, ◌++◌}
-use Rattle.rasta_core_run.specs.Run.{Ends}
-use Rattle.rasta_core_run.specs.Events.{Event, MayRun, run}
-use Rattle.rasta_core_run.specs.Names.{Names}
+use Rattle.rasta_core_spec.specs.Run.{Ends}
+use Rattle.rasta_core_spec.specs.Events.{Event, MayRun, run}
+use Rattle.rasta_core_spec.specs.Names.{Names}
 
 pub run_then : (events later : List Event) (ends : Ends) → run (events ++ later) ends ≡ run later (run events ends)
 run_then [] later ends = refl

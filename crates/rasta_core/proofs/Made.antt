@@ -1,19 +1,19 @@
 -- From what a call does at one end to the order of both after it.
 use Rattle.std.proofs.Common.{◌≡◌, ℕ, ◌≤◌, List, [], ◌++◌, length, Option, Some, None, sym, ap, ◌∙◌}
-use Rattle.rasta_core_run.specs.Outbox.{spellings}
-use Rattle.rasta_core_run.specs.identity.Role.TheVariants as role
-use Rattle.rasta_core_run.specs.Ends.{Sent, Outcome, end_after, newer, kept}
-use Rattle.rasta_core_run.specs.Run.{Ends}
+use Rattle.rasta_core_spec.specs.Outbox.{spellings}
+use Rattle.rasta_core_spec.specs.identity.Role.TheVariants as role
+use Rattle.rasta_core_spec.specs.Ends.{Sent, Outcome, end_after, newer, kept}
+use Rattle.rasta_core_spec.specs.Run.{Ends}
 use Rattle.rasta_core.specs.LinkAndFlow.{GoesOn}
 use Rattle.rasta_core.specs.FirstPdus.{EarlyGoesOn, Asks, Grants}
-use Rattle.rasta_core_run.specs.Each.{Each}
-use Rattle.rasta_core_run.specs.Names.{Names}
+use Rattle.rasta_core_spec.specs.Each.{Each}
+use Rattle.rasta_core_spec.specs.Names.{Names}
 use Rattle.rasta_core.proofs.BothEndsAfter.{made_at}
 use Rattle.rasta_core.specs.Ordered.{IsAlone, AreTogether}
 use Rattle.rasta_core.proofs.OrderLaws.{Laws}
 use Rattle.rasta_core.proofs.Few.{empty_few, longer_few}
 use Rattle.rasta_core.proofs.Flows.{flow_longer, flow_kept, flow_new}
-use Rattle.rasta_core_run.specs.Values.{IsPdu}
+use Rattle.rasta_core_spec.specs.Values.{IsPdu}
 
 -- an end that enters nothing keeps its connection and its lists
 same_lists : (enters : Option ℕ) (old new more : List (List ℕ)) (part : List (List ℕ)) → enters ≡ None → part ≡ old → new ≡ part ++ more → new ≡ kept enters old ++ more

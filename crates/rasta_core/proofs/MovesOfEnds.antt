@@ -1,7 +1,7 @@
 -- Each move keeps what is true of the two ends.
 use Rattle.std.proofs.Common.{◌≡◌, ℕ, ◌+◌, ◌*◌, ◌≤◌, ◌<◌, arith}
-use Rattle.rasta_core_run.specs.Parameters.{time_limit}
-use Rattle.rasta_core_run.specs.TrueClocks.{GoesOff, IsSmall, Offset}
+use Rattle.rasta_core_spec.specs.Parameters.{time_limit}
+use Rattle.rasta_core_spec.specs.TrueClocks.{GoesOff, IsSmall, Offset}
 use Rattle.rasta_core.specs.TimedEnds.{Timed, Times, IsInside, own_stamp}
 use Rattle.rasta_core.specs.Moves.{clock_on, time_on, sent_on, outside}
 use Rattle.rasta_core.specs.Timely.{WasReadThenBy, IsTimed, AreTimed}

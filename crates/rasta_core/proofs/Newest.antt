@@ -1,25 +1,25 @@
 -- An end's last connection is that of the newest datagram that it sent.
 use Rattle.std.proofs.Common.{◌≡◌, ℕ, ◌⊎◌, inl, inr, Bool, true, false, if◌then◌else◌, List, [], ◌∷◌, ◌++◌, Option, Some, None, refl, sym, ap, ◌∙◌, append-nil}
-use Rattle.rasta_core_run.specs.Outbox.{spellings}
-use Rattle.rasta_core_run.specs.State.{is_open}
-use Rattle.rasta_core_run.specs.identity.Role.{Role}
-use Rattle.rasta_core_run.specs.identity.Role.TheVariants as role
-use Rattle.rasta_core_run.specs.Bag.{is_copy, without_oldest}
-use Rattle.rasta_core_run.specs.Ends.{Sent, Call, outcome, end_after, end_later, end_restarted, handed_out, newer}
-use Rattle.rasta_core_run.specs.Events.{Event, Calls, Passes, Loses, Restarts, Elsewhere, MayRun, Start, happened, run, started}
-use Rattle.rasta_core_run.specs.Given.{is_same}
-use Rattle.rasta_core_run.specs.Names.{AreNames, Names}
-use Rattle.rasta_core_run.specs.Newest.{IsNewest, newest_connection}
-use Rattle.rasta_core_run.specs.Run.{Ends, end_of, called, later, lost, restarted}
-use Rattle.rasta_core_run.specs.Sentences.{IsIn}
+use Rattle.rasta_core_spec.specs.Outbox.{spellings}
+use Rattle.rasta_core_spec.specs.State.{is_open}
+use Rattle.rasta_core_spec.specs.identity.Role.{Role}
+use Rattle.rasta_core_spec.specs.identity.Role.TheVariants as role
+use Rattle.rasta_core_spec.specs.Bag.{is_copy, without_oldest}
+use Rattle.rasta_core_spec.specs.Ends.{Sent, Call, outcome, end_after, end_later, end_restarted, handed_out, newer}
+use Rattle.rasta_core_spec.specs.Events.{Event, Calls, Passes, Loses, Restarts, Elsewhere, MayRun, Start, happened, run, started}
+use Rattle.rasta_core_spec.specs.Given.{is_same}
+use Rattle.rasta_core_spec.specs.Names.{AreNames, Names}
+use Rattle.rasta_core_spec.specs.Newest.{IsNewest, newest_connection}
+use Rattle.rasta_core_spec.specs.Run.{Ends, end_of, called, later, lost, restarted}
+use Rattle.rasta_core_spec.specs.Sentences.{IsIn}
 use Rattle.rasta_core.specs.Invariant.{Timely}
 use Rattle.rasta_core.proofs.OutsideEntries.{IsSome, does_nothing, entering_speaks}
 use Rattle.rasta_core.proofs.Events.{KeepsTime}
 use Rattle.rasta_core.proofs.GivenRead.{same_self}
 use Rattle.rasta_core.proofs.Outside.{EnteringLaws}
 use Rattle.rasta_core.proofs.Tests.{by_test}
-use Rattle.rasta_core_run.specs.key.Key.{Key}
-use Rattle.rasta_core_run.specs.pdu.Pdu.{Pdu}
+use Rattle.rasta_core_spec.specs.key.Key.{Key}
+use Rattle.rasta_core_spec.specs.pdu.Pdu.{Pdu}
 
 -- an end inside is in some connection
 abbrev pub InsideIsSome : Type 0

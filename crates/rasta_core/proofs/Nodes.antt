@@ -1,14 +1,14 @@
 -- What a step of a node, and its restart, are to each link.
 use Rattle.std.proofs.Common.{◌≡◌, ℕ, Bool, true, false, if◌then◌else◌, List, [], ◌∷◌, length, refl, sym, ap, subst, ◌∙◌}
 use Rattle.std.specs.Prelude.{◌==◌}
-use Rattle.rasta_core_run.specs.Calls.{created}
-use Rattle.rasta_core_run.specs.identity.Role.{Role}
-use Rattle.rasta_core_run.specs.identity.Role.TheVariants.{Client, Server}
-use Rattle.rasta_core_run.specs.Ends.{Call, EndState, end_restarted, reading_of}
-use Rattle.rasta_core_run.specs.Events.{Elsewhere, happened, run}
-use Rattle.rasta_core_run.specs.Names.{partner_of}
-use Rattle.rasta_core_run.specs.Run.{Ends, called, end_of, restarted}
-use Rattle.rasta_core_run.specs.Steps.{EnterNone, IsAfter, StaysIn, calls_at}
+use Rattle.rasta_core_spec.specs.Calls.{created}
+use Rattle.rasta_core_spec.specs.identity.Role.{Role}
+use Rattle.rasta_core_spec.specs.identity.Role.TheVariants.{Client, Server}
+use Rattle.rasta_core_spec.specs.Ends.{Call, EndState, end_restarted, reading_of}
+use Rattle.rasta_core_spec.specs.Events.{Elsewhere, happened, run}
+use Rattle.rasta_core_spec.specs.Names.{partner_of}
+use Rattle.rasta_core_spec.specs.Run.{Ends, called, end_of, restarted}
+use Rattle.rasta_core_spec.specs.Steps.{EnterNone, IsAfter, StaysIn, calls_at}
 use Rattle.rasta_core.specs.Links.{CallsOn, Links, RestartsOn, happened_to, run_links, seen, sent_by}
 use Rattle.rasta_core.specs.Nodes.{NodeCall, at_link, calls_of, is_among, restarts_of}
 use Rattle.rasta_core.proofs.Views.{other_call, other_restart, own_call, own_restart, same_number}

@@ -1,6 +1,6 @@
 -- All the modular arithmetic there is: numbers of less than 2^31 PDUs, as they stand on the wire.
 use Rattle.std.proofs.Common.{◌≡◌, ℕ, ◌+◌, ◌-◌, ◌^◌, ◌<◌, ◌≤◌, arith}
-use Rattle.rasta_core_run.specs.Sequence.{wire, before, distance}
+use Rattle.rasta_core_spec.specs.Sequence.{wire, before, distance}
 
 -- a PDU at most 200 ahead is the one with that number
 pub ahead_is : (first expected place : ℕ) → expected < 2 ^ 31 → place < 2 ^ 31

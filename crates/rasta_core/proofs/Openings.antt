@@ -1,20 +1,20 @@
 -- Opening a connection keeps the invariant.
 use Rattle.std.proofs.Common.{◌≡◌, ℕ, ◌∙◌, ◌+◌, Bool, true, false, ◌||◌, if◌then◌else◌, List, [], ◌∷◌, ◌++◌, length, Option, Some, None, is_some, refl, sym, ap, subst}
-use Rattle.rasta_core_run.specs.State.{is_open}
-use Rattle.rasta_core_run.specs.Outbox.{spellings}
-use Rattle.rasta_core_run.specs.identity.Identity.{Identity}
-use Rattle.rasta_core_run.specs.identity.Role.{Role}
-use Rattle.rasta_core_run.specs.identity.Role.TheVariants as role
-use Rattle.rasta_core_run.specs.Ends.{Sent, EndState, Outcome, end_after, handed_out, newer, leaves}
-use Rattle.rasta_core_run.specs.Run.{Ends}
-use Rattle.rasta_core_run.specs.key.Key.{Key}
-use Rattle.rasta_core_run.specs.pdu.Pdu.{Pdu}
-use Rattle.rasta_core_run.specs.Each.{Each}
+use Rattle.rasta_core_spec.specs.State.{is_open}
+use Rattle.rasta_core_spec.specs.Outbox.{spellings}
+use Rattle.rasta_core_spec.specs.identity.Identity.{Identity}
+use Rattle.rasta_core_spec.specs.identity.Role.{Role}
+use Rattle.rasta_core_spec.specs.identity.Role.TheVariants as role
+use Rattle.rasta_core_spec.specs.Ends.{Sent, EndState, Outcome, end_after, handed_out, newer, leaves}
+use Rattle.rasta_core_spec.specs.Run.{Ends}
+use Rattle.rasta_core_spec.specs.key.Key.{Key}
+use Rattle.rasta_core_spec.specs.pdu.Pdu.{Pdu}
+use Rattle.rasta_core_spec.specs.Each.{Each}
 use Rattle.rasta_core.specs.TimedEnds.{Inside, Past, Times, IsInside, own_stamp, standing, timed, times_of}
 use Rattle.rasta_core.specs.Moves.{asking}
 use Rattle.rasta_core.specs.Timely.{AreTimed}
-use Rattle.rasta_core_run.specs.Sentences.{IsRequest}
-use Rattle.rasta_core_run.specs.Names.{Names, AreNames}
+use Rattle.rasta_core_spec.specs.Sentences.{IsRequest}
+use Rattle.rasta_core_spec.specs.Names.{Names, AreNames}
 use Rattle.rasta_core.specs.Invariant.{InFlight, IsEnd, Timely}
 use Rattle.rasta_core.proofs.EachLaws.{each_join, each_turned}
 use Rattle.rasta_core.proofs.Reception.{IsDown, alive_newest, asking_kept, connection_fresh}

@@ -1,8 +1,8 @@
 -- Each link of a world is in order, event by event.
 use Rattle.std.proofs.Common.{ℕ, sym, subst, List, [], ◌∷◌}
-use Rattle.rasta_core_run.specs.Events.{Event, MayRun, run}
-use Rattle.rasta_core_run.specs.Names.{AreNames, Names}
-use Rattle.rasta_core_run.specs.Run.{Ends}
+use Rattle.rasta_core_spec.specs.Events.{Event, MayRun, run}
+use Rattle.rasta_core_spec.specs.Names.{AreNames, Names}
+use Rattle.rasta_core_spec.specs.Run.{Ends}
 use Rattle.rasta_core.specs.Invariant.{Timely}
 use Rattle.rasta_core.specs.Ordered.{Ordered}
 use Rattle.rasta_core.specs.EachLink.{AreOrdered, AreTimely}

@@ -3,21 +3,21 @@ use Rattle.std.proofs.Common.{◌≡◌, ℕ, ◌<◌, Bool, true, false, List, 
 use Rattle.std.specs.Prelude.{nat_lt, nat_le, ◌-◌, ◌==◌, ◌&&◌, not, if◌then◌else◌, Result, Ok, Err, is_ok}
 use Rattle.std.proofs.lemmas.Bool.{ltb-true}
 use Rattle.std.proofs.lemmas.List.{append-nil}
-use Rattle.rasta_core_run.specs.Parameters.{connection_limit, heartbeat_interval, window_size}
-use Rattle.rasta_core_run.specs.State.{LinkState, is_open, is_up, is_asking}
-use Rattle.rasta_core_run.specs.Clock.{deadline, settled}
-use Rattle.rasta_core_run.specs.PdusHandedOut.{Step, silent, then_do, sending, telling, closing, limited, entered, beating, giving}
-use Rattle.rasta_core_run.specs.Receipt.{Receipt, hearing, refusing}
-use Rattle.rasta_core_run.specs.Calls.{ticking, closing_by, acceptance, answer_to_send, sending_item, hearing_bytes, receiving}
-use Rattle.rasta_core_run.specs.identity.Identity.{Identity}
-use Rattle.rasta_core_run.specs.reason.Reason.{Reason}
-use Rattle.rasta_core_run.specs.fault.SendFault.{SendFault}
-use Rattle.rasta_core_run.specs.fault.SendFault.TheVariants as fault
-use Rattle.rasta_core_run.specs.verdict.Verdict.{Verdict}
-use Rattle.rasta_core_run.specs.verdict.Verdict.TheVariants as verdict
-use Rattle.rasta_core_run.specs.pdu.Pdu.{Pdu}
-use Rattle.rasta_core_run.specs.pdu_fault.PduFault.{PduFault}
-use Rattle.rasta_core_run.specs.PduRead.{reading}
+use Rattle.rasta_core_spec.specs.Parameters.{connection_limit, heartbeat_interval, window_size}
+use Rattle.rasta_core_spec.specs.State.{LinkState, is_open, is_up, is_asking}
+use Rattle.rasta_core_spec.specs.Clock.{deadline, settled}
+use Rattle.rasta_core_spec.specs.PdusHandedOut.{Step, silent, then_do, sending, telling, closing, limited, entered, beating, giving}
+use Rattle.rasta_core_spec.specs.Receipt.{Receipt, hearing, refusing}
+use Rattle.rasta_core_spec.specs.Calls.{ticking, closing_by, acceptance, answer_to_send, sending_item, hearing_bytes, receiving}
+use Rattle.rasta_core_spec.specs.identity.Identity.{Identity}
+use Rattle.rasta_core_spec.specs.reason.Reason.{Reason}
+use Rattle.rasta_core_spec.specs.fault.SendFault.{SendFault}
+use Rattle.rasta_core_spec.specs.fault.SendFault.TheVariants as fault
+use Rattle.rasta_core_spec.specs.verdict.Verdict.{Verdict}
+use Rattle.rasta_core_spec.specs.verdict.Verdict.TheVariants as verdict
+use Rattle.rasta_core_spec.specs.pdu.Pdu.{Pdu}
+use Rattle.rasta_core_spec.specs.pdu_fault.PduFault.{PduFault}
+use Rattle.rasta_core_spec.specs.PduRead.{reading}
 use Rattle.rasta_core.specs.EndFlow.{IsOf, EndFlow}
 use Rattle.rasta_core.specs.Order.{InOrder}
 use Rattle.rasta_core.specs.LinkAndFlow.{HasJoined, IsStillAsking, Plays, GoesOn}

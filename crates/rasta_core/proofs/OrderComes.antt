@@ -2,13 +2,13 @@
 use Rattle.std.proofs.Common.{◌≡◌, ℕ, ◌+◌, ◌-◌, ◌^◌, ◌<◌, ◌≤◌, Bool, true, false, List, length, sym, ap, subst, ◌∙◌, arith}
 use Rattle.std.specs.Prelude.{nat_lt}
 use Rattle.std.proofs.lemmas.Bool.{ltb-false}
-use Rattle.rasta_core_run.specs.Parameters.{sequence_range, stops_at_greatest}
-use Rattle.rasta_core_run.specs.Sequence.{wire, before, distance}
-use Rattle.rasta_core_run.specs.State.{LinkState, is_open, is_up, is_asking}
-use Rattle.rasta_core_run.specs.Clock.{open_state}
-use Rattle.rasta_core_run.specs.Receipt.{ahead, behind, taking, still_waiting}
-use Rattle.rasta_core_run.specs.pdu.Pdu.{Pdu}
-use Rattle.rasta_core_run.specs.phase.Phase.{Phase}
+use Rattle.rasta_core_spec.specs.Parameters.{sequence_range, stops_at_greatest}
+use Rattle.rasta_core_spec.specs.Sequence.{wire, before, distance}
+use Rattle.rasta_core_spec.specs.State.{LinkState, is_open, is_up, is_asking}
+use Rattle.rasta_core_spec.specs.Clock.{open_state}
+use Rattle.rasta_core_spec.specs.Receipt.{ahead, behind, taking, still_waiting}
+use Rattle.rasta_core_spec.specs.pdu.Pdu.{Pdu}
+use Rattle.rasta_core_spec.specs.phase.Phase.{Phase}
 use Rattle.rasta_core.specs.EndFlow.{IsAt, EndFlow, sent}
 use Rattle.rasta_core.specs.Order.{IsSent, InOrder}
 use Rattle.rasta_core.specs.LinkAndFlow.{reads, HaveCome, HasJoined}

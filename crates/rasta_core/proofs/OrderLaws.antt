@@ -1,31 +1,31 @@
 -- The laws that this crate's proofs stand on, handed in by the functions that call them.
 use Rattle.std.proofs.Common.{◌≡◌, ◌≤◌, ◌<◌, ◌^◌, ℕ, true, false, List, [], ◌++◌, length, Ok, Err}
 use Rattle.std.specs.Prelude.{◌==◌, ◌&&◌}
-use Rattle.rasta_core_run.specs.State.{LinkState, confirmed_items, is_client, is_open}
-use Rattle.rasta_core_run.specs.Clock.{settled}
-use Rattle.rasta_core_run.specs.PdusHandedOut.{entered, silent}
-use Rattle.rasta_core_run.specs.Establishment.{granting, own_opening}
-use Rattle.rasta_core_run.specs.Receipt.{hearing, refusing}
-use Rattle.rasta_core_run.specs.Calls.{answer_to_send, closing_by, created, opening, opens, receiving, sending_item, ticking}
-use Rattle.rasta_core_run.specs.identity.Identity.{Identity}
-use Rattle.rasta_core_run.specs.reason.Reason.{Reason}
-use Rattle.rasta_core_run.specs.verdict.Verdict.{Verdict}
+use Rattle.rasta_core_spec.specs.State.{LinkState, confirmed_items, is_client, is_open}
+use Rattle.rasta_core_spec.specs.Clock.{settled}
+use Rattle.rasta_core_spec.specs.PdusHandedOut.{entered, silent}
+use Rattle.rasta_core_spec.specs.Establishment.{granting, own_opening}
+use Rattle.rasta_core_spec.specs.Receipt.{hearing, refusing}
+use Rattle.rasta_core_spec.specs.Calls.{answer_to_send, closing_by, created, opening, opens, receiving, sending_item, ticking}
+use Rattle.rasta_core_spec.specs.identity.Identity.{Identity}
+use Rattle.rasta_core_spec.specs.reason.Reason.{Reason}
+use Rattle.rasta_core_spec.specs.verdict.Verdict.{Verdict}
 use Rattle.rasta_core.specs.FirstPdus.{Asks, EarlyGoesOn, Grants, HearsOutside, IsEarly, PlaysEarly}
 use Rattle.rasta_core.specs.Carried.{carried}
 use Rattle.rasta_core.specs.Order.{InOrder, Way}
 use Rattle.rasta_core.specs.EndFlow.{IsAt, IsOf, EndFlow}
 use Rattle.rasta_core.specs.LinkAndFlow.{accepted, Plays, ReceiptGoesOn, StepGoesOn}
-use Rattle.rasta_core_run.specs.identity.Role.{Role}
-use Rattle.rasta_core_run.specs.Ends.{Sent, is_taken}
-use Rattle.rasta_core_run.specs.Run.{Ends}
-use Rattle.rasta_core_run.specs.Events.{IsDelivered}
-use Rattle.rasta_core_run.specs.Names.{AreNames, Names}
+use Rattle.rasta_core_spec.specs.identity.Role.{Role}
+use Rattle.rasta_core_spec.specs.Ends.{Sent, is_taken}
+use Rattle.rasta_core_spec.specs.Run.{Ends}
+use Rattle.rasta_core_spec.specs.Events.{IsDelivered}
+use Rattle.rasta_core_spec.specs.Names.{AreNames, Names}
 use Rattle.rasta_core.specs.Invariant.{Timely}
-use Rattle.rasta_core_run.specs.Sentences.{IsOpening, IsOut, receipt_at}
+use Rattle.rasta_core_spec.specs.Sentences.{IsOpening, IsOut, receipt_at}
 use Rattle.rasta_core.proofs.Conversation.{WrittenIsRead}
-use Rattle.rasta_core_run.specs.PduRead.{reading}
-use Rattle.rasta_core_run.specs.pdu_fault.PduFault.{PduFault}
-use Rattle.rasta_core_run.specs.pdu.Pdu.{Pdu}
+use Rattle.rasta_core_spec.specs.PduRead.{reading}
+use Rattle.rasta_core_spec.specs.pdu_fault.PduFault.{PduFault}
+use Rattle.rasta_core_spec.specs.pdu.Pdu.{Pdu}
 
 pub record Laws : Type 0 where
   -- an item that is accepted is sent

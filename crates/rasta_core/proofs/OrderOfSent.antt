@@ -1,12 +1,12 @@
 -- What a link in a connection sends is the next PDU of its part.
 use Rattle.std.proofs.Common.{◌≡◌, ◌-◌, [], ◌∷◌, length, ◌⊎◌, inl, inr, ap, ◌∙◌, arith}
 use Rattle.std.specs.Prelude.{if◌then◌else◌}
-use Rattle.rasta_core_run.specs.Sequence.{wire, before}
-use Rattle.rasta_core_run.specs.State.{LinkState}
-use Rattle.rasta_core_run.specs.PdusHandedOut.{header_of, pdu_of}
-use Rattle.rasta_core_run.specs.pdu.Pdu.{Pdu}
-use Rattle.rasta_core_run.specs.body.Body.{Body}
-use Rattle.rasta_core_run.specs.body.Body.TheVariants.{RetransmissionRequest, RetransmissionResponse}
+use Rattle.rasta_core_spec.specs.Sequence.{wire, before}
+use Rattle.rasta_core_spec.specs.State.{LinkState}
+use Rattle.rasta_core_spec.specs.PdusHandedOut.{header_of, pdu_of}
+use Rattle.rasta_core_spec.specs.pdu.Pdu.{Pdu}
+use Rattle.rasta_core_spec.specs.body.Body.{Body}
+use Rattle.rasta_core_spec.specs.body.Body.TheVariants.{RetransmissionRequest, RetransmissionResponse}
 use Rattle.rasta_core.specs.EndFlow.{EndFlow, sent}
 use Rattle.rasta_core.specs.Order.{Brings, Carries, IsClosing, BeginsByResponse, InOrder}
 use Rattle.rasta_core.specs.LinkAndFlow.{IsInside, HasJoined}

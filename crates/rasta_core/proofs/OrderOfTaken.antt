@@ -1,8 +1,8 @@
 -- What stays true of one direction of a connection while its taker sends, asks, and takes.
 use Rattle.std.proofs.Common.{◌≡◌, ℕ, ◌+◌, ◌<◌, ◌≤◌, true, false, List, [], ◌∷◌, ◌++◌, take, ◌⊎◌, inl, inr, refl, sym, ap, ◌∙◌, arith}
-use Rattle.rasta_core_run.specs.pdu.Pdu.{Pdu}
-use Rattle.rasta_core_run.specs.body.Body.TheVariants.{RetransmissionRequest, RetransmissionResponse}
-use Rattle.rasta_core_run.specs.window.Unconfirmed.{Unconfirmed}
+use Rattle.rasta_core_spec.specs.pdu.Pdu.{Pdu}
+use Rattle.rasta_core_spec.specs.body.Body.TheVariants.{RetransmissionRequest, RetransmissionResponse}
+use Rattle.rasta_core_spec.specs.window.Unconfirmed.{Unconfirmed}
 use Rattle.rasta_core.specs.EndFlow.{IsAt, EndFlow, sent}
 use Rattle.rasta_core.specs.Order.{Brings, IsAsking, Way}
 use Rattle.rasta_core.proofs.Places.{split, within, only_one, IsAfter}

@@ -1,12 +1,12 @@
 -- A connection begins in order.
 use Rattle.std.proofs.Common.{◌≡◌, ℕ, ◌^◌, ◌<◌, ◌≤◌, true, false, [], ◌∷◌, length, take, inl, inr, refl, sym, ap, subst, ◌∙◌, arith}
 use Rattle.std.specs.Prelude.{if◌then◌else◌}
-use Rattle.rasta_core_run.specs.Sequence.{wire, before}
-use Rattle.rasta_core_run.specs.State.{LinkState, is_client}
-use Rattle.rasta_core_run.specs.PdusHandedOut.{header_of, pdu_of, sending}
-use Rattle.rasta_core_run.specs.Establishment.{own_opening, beginning, requesting, meeting, judging, granting}
-use Rattle.rasta_core_run.specs.pdu.Pdu.{Pdu}
-use Rattle.rasta_core_run.specs.body.Body.TheVariants.{ConnectionRequest, ConnectionResponse, RetransmissionRequest, RetransmissionResponse}
+use Rattle.rasta_core_spec.specs.Sequence.{wire, before}
+use Rattle.rasta_core_spec.specs.State.{LinkState, is_client}
+use Rattle.rasta_core_spec.specs.PdusHandedOut.{header_of, pdu_of, sending}
+use Rattle.rasta_core_spec.specs.Establishment.{own_opening, beginning, requesting, meeting, judging, granting}
+use Rattle.rasta_core_spec.specs.pdu.Pdu.{Pdu}
+use Rattle.rasta_core_spec.specs.body.Body.TheVariants.{ConnectionRequest, ConnectionResponse, RetransmissionRequest, RetransmissionResponse}
 use Rattle.rasta_core.specs.EndFlow.{IsAt, EndFlow, sent, later, items_of}
 use Rattle.rasta_core.specs.Order.{IsLevel, Carries, IsRequest, IsResponse, IsSent, Rises, Waits, Way}
 use Rattle.rasta_core.specs.LinkAndFlow.{joined}

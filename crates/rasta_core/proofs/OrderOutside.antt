@@ -2,20 +2,20 @@
 use Rattle.std.proofs.Common.{◌≡◌, ℕ, ◌≤◌, Bool, true, false, List, [], ◌++◌, ◌⊎◌, inl, inr, refl, sym, subst, arith}
 use Rattle.std.specs.Prelude.{nat_le, ◌==◌, ◌&&◌, not, if◌then◌else◌}
 use Rattle.std.proofs.lemmas.List.{append-nil}
-use Rattle.rasta_core_run.specs.Parameters.{connection_limit}
-use Rattle.rasta_core_run.specs.State.{LinkState, is_open, is_client}
-use Rattle.rasta_core_run.specs.Clock.{deadline, settled, state_at}
-use Rattle.rasta_core_run.specs.PdusHandedOut.{Step, silent, telling, limited, entered}
-use Rattle.rasta_core_run.specs.Establishment.{may_open, requesting, granting}
-use Rattle.rasta_core_run.specs.Receipt.{accepting, refusing, resting, by_state, hearing}
-use Rattle.rasta_core_run.specs.Calls.{opening, opens}
-use Rattle.rasta_core_run.specs.phase.State.{State}
-use Rattle.rasta_core_run.specs.phase.State.TheVariants as state
-use Rattle.rasta_core_run.specs.reason.Reason.TheVariants as reason
-use Rattle.rasta_core_run.specs.verdict.Verdict.TheVariants as verdict
-use Rattle.rasta_core_run.specs.pdu.Pdu.{Pdu}
-use Rattle.rasta_core_run.specs.body.Body.{Body}
-use Rattle.rasta_core_run.specs.body.Body.TheVariants.{ConnectionRequest, ConnectionResponse, RetransmissionRequest, RetransmissionResponse, DisconnectionRequest, Heartbeat, Data, RetransmittedData}
+use Rattle.rasta_core_spec.specs.Parameters.{connection_limit}
+use Rattle.rasta_core_spec.specs.State.{LinkState, is_open, is_client}
+use Rattle.rasta_core_spec.specs.Clock.{deadline, settled, state_at}
+use Rattle.rasta_core_spec.specs.PdusHandedOut.{Step, silent, telling, limited, entered}
+use Rattle.rasta_core_spec.specs.Establishment.{may_open, requesting, granting}
+use Rattle.rasta_core_spec.specs.Receipt.{accepting, refusing, resting, by_state, hearing}
+use Rattle.rasta_core_spec.specs.Calls.{opening, opens}
+use Rattle.rasta_core_spec.specs.phase.State.{State}
+use Rattle.rasta_core_spec.specs.phase.State.TheVariants as state
+use Rattle.rasta_core_spec.specs.reason.Reason.TheVariants as reason
+use Rattle.rasta_core_spec.specs.verdict.Verdict.TheVariants as verdict
+use Rattle.rasta_core_spec.specs.pdu.Pdu.{Pdu}
+use Rattle.rasta_core_spec.specs.body.Body.{Body}
+use Rattle.rasta_core_spec.specs.body.Body.TheVariants.{ConnectionRequest, ConnectionResponse, RetransmissionRequest, RetransmissionResponse, DisconnectionRequest, Heartbeat, Data, RetransmittedData}
 use Rattle.rasta_core.specs.EndFlow.{EndFlow}
 use Rattle.rasta_core.specs.Order.{InOrder}
 use Rattle.rasta_core.specs.LinkAndFlow.{Plays, GoesOn, StepGoesOn}

@@ -1,16 +1,16 @@
 -- What may come in a connection, phase by phase.
 use Rattle.std.proofs.Common.{◌≡◌, ℕ, Bool, true, false, List, refl, sym, subst, arith, ◌⊎◌, inl, inr}
-use Rattle.rasta_core_run.specs.State.{LinkState, is_open, is_up}
-use Rattle.rasta_core_run.specs.Clock.{open_state}
-use Rattle.rasta_core_run.specs.PdusHandedOut.{silent, closed}
-use Rattle.rasta_core_run.specs.Receipt.{Receipt, accepting, refusing, violating, taking, admission, admitting, in_turn}
-use Rattle.rasta_core_run.specs.phase.State.TheVariants as state
-use Rattle.rasta_core_run.specs.verdict.Verdict.TheVariants as verdict
-use Rattle.rasta_core_run.specs.body.Opening.{Opening}
-use Rattle.rasta_core_run.specs.body.Body.{Body}
-use Rattle.rasta_core_run.specs.body.Body.TheVariants.{ConnectionRequest, ConnectionResponse, RetransmissionRequest, RetransmissionResponse, DisconnectionRequest, Heartbeat, Data, RetransmittedData}
-use Rattle.rasta_core_run.specs.pdu.Pdu.{Pdu}
-use Rattle.rasta_core_run.specs.phase.Phase.{Phase}
+use Rattle.rasta_core_spec.specs.State.{LinkState, is_open, is_up}
+use Rattle.rasta_core_spec.specs.Clock.{open_state}
+use Rattle.rasta_core_spec.specs.PdusHandedOut.{silent, closed}
+use Rattle.rasta_core_spec.specs.Receipt.{Receipt, accepting, refusing, violating, taking, admission, admitting, in_turn}
+use Rattle.rasta_core_spec.specs.phase.State.TheVariants as state
+use Rattle.rasta_core_spec.specs.verdict.Verdict.TheVariants as verdict
+use Rattle.rasta_core_spec.specs.body.Opening.{Opening}
+use Rattle.rasta_core_spec.specs.body.Body.{Body}
+use Rattle.rasta_core_spec.specs.body.Body.TheVariants.{ConnectionRequest, ConnectionResponse, RetransmissionRequest, RetransmissionResponse, DisconnectionRequest, Heartbeat, Data, RetransmittedData}
+use Rattle.rasta_core_spec.specs.pdu.Pdu.{Pdu}
+use Rattle.rasta_core_spec.specs.phase.Phase.{Phase}
 use Rattle.rasta_core.specs.Order.{IsClosing}
 use Rattle.rasta_core.specs.LinkAndFlow.{reads}
 

@@ -1,13 +1,13 @@
 -- What a link does by itself in a connection: it closes, sends a heartbeat, gives an item, or asks for a missing PDU.
 use Rattle.std.proofs.Common.{◌≡◌, ℕ, ◌+◌, ◌<◌, ◌≤◌, true, false, List, [], ◌∷◌, ◌++◌, length, ◌⊎◌, inl, inr, refl, sym, ap, ◌∙◌, arith}
 use Rattle.std.proofs.lemmas.List.{length-append, append-nil}
-use Rattle.rasta_core_run.specs.Parameters.{connection_limit}
-use Rattle.rasta_core_run.specs.State.{LinkState, is_up}
-use Rattle.rasta_core_run.specs.PdusHandedOut.{Step, silent, header_of, pdu_of, sending, closed, telling, closing, reason_number, is_told, giving}
-use Rattle.rasta_core_run.specs.Receipt.{missing}
-use Rattle.rasta_core_run.specs.reason.Reason.{Reason}
-use Rattle.rasta_core_run.specs.pdu.Pdu.{Pdu}
-use Rattle.rasta_core_run.specs.body.Body.TheVariants.{RetransmissionRequest, DisconnectionRequest, Heartbeat, Data}
+use Rattle.rasta_core_spec.specs.Parameters.{connection_limit}
+use Rattle.rasta_core_spec.specs.State.{LinkState, is_up}
+use Rattle.rasta_core_spec.specs.PdusHandedOut.{Step, silent, header_of, pdu_of, sending, closed, telling, closing, reason_number, is_told, giving}
+use Rattle.rasta_core_spec.specs.Receipt.{missing}
+use Rattle.rasta_core_spec.specs.reason.Reason.{Reason}
+use Rattle.rasta_core_spec.specs.pdu.Pdu.{Pdu}
+use Rattle.rasta_core_spec.specs.body.Body.TheVariants.{RetransmissionRequest, DisconnectionRequest, Heartbeat, Data}
 use Rattle.rasta_core.specs.EndFlow.{EndFlow, sent}
 use Rattle.rasta_core.specs.Order.{BeginsByResponse, OpensOn, InOrder}
 use Rattle.rasta_core.specs.LinkAndFlow.{IsInside, HasJoined, IsStillAsking, Plays, joined, left, GoesOn}

@@ -1,30 +1,30 @@
 -- Bytes that are no PDU, or one of another link, bring nothing to an end.
 use Rattle.std.proofs.Common.{◌≡◌, ℕ, ◌⊎◌, inl, inr, Bool, true, false, ◌&&◌, not, List, Result, Ok, Err, refl, ap, subst, ◌∙◌}
 use Rattle.std.specs.Prelude.{◌==◌}
-use Rattle.rasta_core_run.specs.State.{LinkState}
-use Rattle.rasta_core_run.specs.PdusHandedOut.{entered}
-use Rattle.rasta_core_run.specs.Receipt.{refusing, hearing}
-use Rattle.rasta_core_run.specs.Calls.{receiving, hearing_bytes}
-use Rattle.rasta_core_run.specs.identity.Identity.{Identity}
-use Rattle.rasta_core_run.specs.identity.Role.{Role}
-use Rattle.rasta_core_run.specs.verdict.Verdict.TheVariants as verdict
-use Rattle.rasta_core_run.specs.Ends.{reading_of}
-use Rattle.rasta_core_run.specs.Run.{Ends, end_of}
-use Rattle.rasta_core_run.specs.Names.{Names, identity_of}
+use Rattle.rasta_core_spec.specs.State.{LinkState}
+use Rattle.rasta_core_spec.specs.PdusHandedOut.{entered}
+use Rattle.rasta_core_spec.specs.Receipt.{refusing, hearing}
+use Rattle.rasta_core_spec.specs.Calls.{receiving, hearing_bytes}
+use Rattle.rasta_core_spec.specs.identity.Identity.{Identity}
+use Rattle.rasta_core_spec.specs.identity.Role.{Role}
+use Rattle.rasta_core_spec.specs.verdict.Verdict.TheVariants as verdict
+use Rattle.rasta_core_spec.specs.Ends.{reading_of}
+use Rattle.rasta_core_spec.specs.Run.{Ends, end_of}
+use Rattle.rasta_core_spec.specs.Names.{Names, identity_of}
 use Rattle.rasta_core.specs.Invariant.{Timely}
-use Rattle.rasta_core_run.specs.Events.{IsFor as IsMeant, AreForeign}
-use Rattle.rasta_core_run.specs.Sentences.{receipt_at}
+use Rattle.rasta_core_spec.specs.Events.{IsFor as IsMeant, AreForeign}
+use Rattle.rasta_core_spec.specs.Sentences.{receipt_at}
 use Rattle.rasta_core.proofs.Deeds.{IsFor}
 use Rattle.rasta_core.proofs.Called.{ReadIsIntact, end_identity}
 use Rattle.rasta_core.proofs.Outside.{entered_identity}
 use Rattle.rasta_core.proofs.Tests.{by_test}
 use Rattle.rasta_core.proofs.Receptions.{for_me}
-use Rattle.rasta_core_run.specs.Safe.{IsIdle}
-use Rattle.rasta_core_run.specs.key.Key.{Key}
-use Rattle.rasta_core_run.specs.pdu.Pdu.{Pdu}
-use Rattle.rasta_core_run.specs.pdu_fault.PduFault.{PduFault}
-use Rattle.rasta_core_run.specs.PduRead.{reading}
-use Rattle.rasta_core_run.specs.SafetyCode.{IsIntact}
+use Rattle.rasta_core_spec.specs.Safe.{IsIdle}
+use Rattle.rasta_core_spec.specs.key.Key.{Key}
+use Rattle.rasta_core_spec.specs.pdu.Pdu.{Pdu}
+use Rattle.rasta_core_spec.specs.pdu_fault.PduFault.{PduFault}
+use Rattle.rasta_core_spec.specs.PduRead.{reading}
+use Rattle.rasta_core_spec.specs.SafetyCode.{IsIntact}
 
 both_not : (one other : Bool) → not one ≡ false → not other ≡ false → (one && other) ≡ true
 both_not true true a b = refl

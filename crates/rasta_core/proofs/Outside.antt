@@ -1,26 +1,26 @@
 -- An end outside a connection stays outside, but where it enters one.
 use Rattle.std.proofs.Common.{◌≡◌, ℕ, Bool, true, false, ◌&&◌, not, nat_le, ◌-◌, List, Some, None, Result, Ok, Err, refl, sym, subst, ap, ◌∙◌}
 use Rattle.std.specs.Prelude.{if◌then◌else◌, is_ok}
-use Rattle.rasta_core_run.specs.Parameters.{connection_limit, heartbeat_interval}
-use Rattle.rasta_core_run.specs.Clock.{deadline, settled, state_at}
-use Rattle.rasta_core_run.specs.State.{LinkState, is_client, is_open, is_up}
-use Rattle.rasta_core_run.specs.Establishment.{is_down, may_open, requesting}
-use Rattle.rasta_core_run.specs.PdusHandedOut.{Step, silent, then_do, entered, limited, sending, telling, beating, giving, closing}
-use Rattle.rasta_core_run.specs.Receipt.{Receipt, hearing}
-use Rattle.rasta_core_run.specs.Calls.{opens, opening, ticking, closing_by, acceptance, sending_item, hearing_bytes, receiving}
-use Rattle.rasta_core_run.specs.identity.Identity.{Identity}
-use Rattle.rasta_core_run.specs.identity.Role.{Role}
-use Rattle.rasta_core_run.specs.identity.Role.TheVariants as role
-use Rattle.rasta_core_run.specs.reason.Reason.{Reason}
-use Rattle.rasta_core_run.specs.reason.Reason.TheVariants as reason
-use Rattle.rasta_core_run.specs.verdict.Verdict.{Verdict}
-use Rattle.rasta_core_run.specs.Ends.{EndState, Call, Ticks, Opens, Closes, Sends, Receives, outcome, entered_by, is_taken, reading_of}
+use Rattle.rasta_core_spec.specs.Parameters.{connection_limit, heartbeat_interval}
+use Rattle.rasta_core_spec.specs.Clock.{deadline, settled, state_at}
+use Rattle.rasta_core_spec.specs.State.{LinkState, is_client, is_open, is_up}
+use Rattle.rasta_core_spec.specs.Establishment.{is_down, may_open, requesting}
+use Rattle.rasta_core_spec.specs.PdusHandedOut.{Step, silent, then_do, entered, limited, sending, telling, beating, giving, closing}
+use Rattle.rasta_core_spec.specs.Receipt.{Receipt, hearing}
+use Rattle.rasta_core_spec.specs.Calls.{opens, opening, ticking, closing_by, acceptance, sending_item, hearing_bytes, receiving}
+use Rattle.rasta_core_spec.specs.identity.Identity.{Identity}
+use Rattle.rasta_core_spec.specs.identity.Role.{Role}
+use Rattle.rasta_core_spec.specs.identity.Role.TheVariants as role
+use Rattle.rasta_core_spec.specs.reason.Reason.{Reason}
+use Rattle.rasta_core_spec.specs.reason.Reason.TheVariants as reason
+use Rattle.rasta_core_spec.specs.verdict.Verdict.{Verdict}
+use Rattle.rasta_core_spec.specs.Ends.{EndState, Call, Ticks, Opens, Closes, Sends, Receives, outcome, entered_by, is_taken, reading_of}
 use Rattle.rasta_core.specs.FirstPdus.{HearsOutside, refuses, grants}
 use Rattle.rasta_core.proofs.Tests.{by_test}
-use Rattle.rasta_core_run.specs.body.Body.TheVariants.{Heartbeat}
-use Rattle.rasta_core_run.specs.pdu_fault.PduFault.{PduFault}
-use Rattle.rasta_core_run.specs.pdu.Pdu.{Pdu}
-use Rattle.rasta_core_run.specs.PduRead.{reading}
+use Rattle.rasta_core_spec.specs.body.Body.TheVariants.{Heartbeat}
+use Rattle.rasta_core_spec.specs.pdu_fault.PduFault.{PduFault}
+use Rattle.rasta_core_spec.specs.pdu.Pdu.{Pdu}
+use Rattle.rasta_core_spec.specs.PduRead.{reading}
 
 abbrev pub IsShut : LinkState → Type 0
 IsShut link = is_open link.phase ≡ false

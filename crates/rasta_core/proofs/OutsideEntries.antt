@@ -2,26 +2,26 @@
 use Rattle.std.proofs.Common.{◌≡◌, ℕ, Bool, true, false, ◌&&◌, not, nat_le, ◌-◌, List, [], ◌∷◌, ◌++◌, Some, None, Result, Ok, Err, refl, sym, subst, ap, ◌∙◌}
 use Rattle.std.specs.Prelude.{if◌then◌else◌, is_ok, nat_eq, ◌==◌}
 use Rattle.std.specs.Cmp.Lexicographic.{pointwise}
-use Rattle.rasta_core_run.specs.Parameters.{heartbeat_interval, own_version, window_size}
-use Rattle.rasta_core_run.specs.State.{LinkState, is_open, is_up}
-use Rattle.rasta_core_run.specs.Establishment.{granting, judging, may_open, requesting}
-use Rattle.rasta_core_run.specs.PdusHandedOut.{Step, silent, then_do, entered, sending, telling, beating, giving, closing}
-use Rattle.rasta_core_run.specs.Receipt.{Receipt, hearing}
-use Rattle.rasta_core_run.specs.Calls.{opens, opening, ticking, closing_by, acceptance, answer_to_send, sending_item, hearing_bytes, receiving}
-use Rattle.rasta_core_run.specs.phase.Phase.{Phase}
-use Rattle.rasta_core_run.specs.phase.Phase.TheVariants as phase
-use Rattle.rasta_core_run.specs.reason.Reason.{Reason}
-use Rattle.rasta_core_run.specs.Ends.{EndState, Call, Ticks, Opens, Closes, Sends, Receives, outcome, is_taken, reading_of}
-use Rattle.rasta_core_run.specs.Safe.{DoesNothing}
+use Rattle.rasta_core_spec.specs.Parameters.{heartbeat_interval, own_version, window_size}
+use Rattle.rasta_core_spec.specs.State.{LinkState, is_open, is_up}
+use Rattle.rasta_core_spec.specs.Establishment.{granting, judging, may_open, requesting}
+use Rattle.rasta_core_spec.specs.PdusHandedOut.{Step, silent, then_do, entered, sending, telling, beating, giving, closing}
+use Rattle.rasta_core_spec.specs.Receipt.{Receipt, hearing}
+use Rattle.rasta_core_spec.specs.Calls.{opens, opening, ticking, closing_by, acceptance, answer_to_send, sending_item, hearing_bytes, receiving}
+use Rattle.rasta_core_spec.specs.phase.Phase.{Phase}
+use Rattle.rasta_core_spec.specs.phase.Phase.TheVariants as phase
+use Rattle.rasta_core_spec.specs.reason.Reason.{Reason}
+use Rattle.rasta_core_spec.specs.Ends.{EndState, Call, Ticks, Opens, Closes, Sends, Receives, outcome, is_taken, reading_of}
+use Rattle.rasta_core_spec.specs.Safe.{DoesNothing}
 use Rattle.rasta_core.specs.FirstPdus.{HearsOutside, refuses, grants}
 use Rattle.rasta_core.proofs.Outside.{EnteringLaws, IsShut, no_opening, no_taking}
 use Rattle.rasta_core.proofs.Receptions.{both_true, taken_is}
 use Rattle.rasta_core.proofs.Tests.{by_test}
-use Rattle.rasta_core_run.specs.body.Body.TheVariants.{Heartbeat}
-use Rattle.rasta_core_run.specs.body.Opening.{Opening}
-use Rattle.rasta_core_run.specs.pdu_fault.PduFault.{PduFault}
-use Rattle.rasta_core_run.specs.pdu.Pdu.{Pdu}
-use Rattle.rasta_core_run.specs.PduRead.{reading}
+use Rattle.rasta_core_spec.specs.body.Body.TheVariants.{Heartbeat}
+use Rattle.rasta_core_spec.specs.body.Opening.{Opening}
+use Rattle.rasta_core_spec.specs.pdu_fault.PduFault.{PduFault}
+use Rattle.rasta_core_spec.specs.pdu.Pdu.{Pdu}
+use Rattle.rasta_core_spec.specs.PduRead.{reading}
 
 -- ---- nothing
 

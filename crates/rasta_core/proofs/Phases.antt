@@ -1,11 +1,11 @@
 -- Phases and admissions, case by case. Their types have no names outside the crate of the link, so they are written
 -- as the type of such a value.
 use Rattle.std.proofs.Common.{◌≡◌, ℕ, ◌⊎◌, List, [], true, false, arith}
-use Rattle.rasta_core_run.specs.State.{LinkState, is_open, is_up, is_asking, is_client}
-use Rattle.rasta_core_run.specs.Clock.{open_state}
-use Rattle.rasta_core_run.specs.Receipt.{up, missing, admission}
-use Rattle.rasta_core_run.specs.phase.State.TheVariants as state
-use Rattle.rasta_core_run.specs.body.Body.TheVariants.{ConnectionResponse, RetransmissionRequest, RetransmissionResponse, DisconnectionRequest, Heartbeat, Data, RetransmittedData}
+use Rattle.rasta_core_spec.specs.State.{LinkState, is_open, is_up, is_asking, is_client}
+use Rattle.rasta_core_spec.specs.Clock.{open_state}
+use Rattle.rasta_core_spec.specs.Receipt.{up, missing, admission}
+use Rattle.rasta_core_spec.specs.phase.State.TheVariants as state
+use Rattle.rasta_core_spec.specs.body.Body.TheVariants.{ConnectionResponse, RetransmissionRequest, RetransmissionResponse, DisconnectionRequest, Heartbeat, Data, RetransmittedData}
 
 abbrev pub TypeOf : {A : Type 0} → A → Type 0
 TypeOf {A} a = A

@@ -1,18 +1,18 @@
 -- Each link of a world has a run of its own.
 use Rattle.std.proofs.Common.{◌≡◌, ◌≢◌, refl, sym, subst, ap, ◌∙◌, inl, inr, ℕ, ◌<◌, Bool, true, false, List, [], ◌∷◌, ◌++◌, length, Ok}
 use Rattle.std.specs.Prelude.{◌⊎◌, ◌==◌, if◌then◌else◌}
-use Rattle.rasta_core_run.specs.identity.Role.{Role}
-use Rattle.rasta_core_run.specs.identity.Role.TheVariants.{Client, Server}
-use Rattle.rasta_core_run.specs.Bag.{is_copy}
-use Rattle.rasta_core_run.specs.Ends.{Sent, Call, Ticks, Opens, Closes, Sends, Receives}
-use Rattle.rasta_core_run.specs.Run.{Ends}
-use Rattle.rasta_core_run.specs.Each.{Each}
+use Rattle.rasta_core_spec.specs.identity.Role.{Role}
+use Rattle.rasta_core_spec.specs.identity.Role.TheVariants.{Client, Server}
+use Rattle.rasta_core_spec.specs.Bag.{is_copy}
+use Rattle.rasta_core_spec.specs.Ends.{Sent, Call, Ticks, Opens, Closes, Sends, Receives}
+use Rattle.rasta_core_spec.specs.Run.{Ends}
+use Rattle.rasta_core_spec.specs.Each.{Each}
 use Rattle.rasta_core.specs.TimedEnds.{Times, times_of}
-use Rattle.rasta_core_run.specs.Names.{partner_of, AreNames, Names, name_of}
+use Rattle.rasta_core_spec.specs.Names.{partner_of, AreNames, Names, name_of}
 use Rattle.rasta_core.specs.Invariant.{InFlight, Timely}
-use Rattle.rasta_core_run.specs.Events.{AreForeign, Calls, Elsewhere, Event, IsAmong, IsDelivered, Loses, MayCall, MayRun, Restarts, Start, run, started}
-use Rattle.rasta_core_run.specs.PduRead.{reading}
-use Rattle.rasta_core_run.specs.SafetyCode.{IsIntact}
+use Rattle.rasta_core_spec.specs.Events.{AreForeign, Calls, Elsewhere, Event, IsAmong, IsDelivered, Loses, MayCall, MayRun, Restarts, Start, run, started}
+use Rattle.rasta_core_spec.specs.PduRead.{reading}
+use Rattle.rasta_core_spec.specs.SafetyCode.{IsIntact}
 use Rattle.rasta_core.specs.EachLink.{AreTimely}
 use Rattle.rasta_core.specs.Links.{AreLinks, CallsOn, IsAmongAll, Links, LinksEvent, LinksStart, LosesAny, MayCallOn, MayHappenTo, MayRunLinks, OnLink, PassesFor, RestartsOn, WasSent, begun, events_on, happened_to, is_oldest_on, run_links, run_on, seen, sent_by, sent_on, start_of, without_oldest_of_all}
 use Rattle.rasta_core.proofs.LinkRuns.{may_then, run_then}

@@ -1,13 +1,13 @@
 -- How long the client of a link has been outside, event by event of a world.
 use Rattle.std.proofs.Common.{◌≡◌, ℕ, ◌<◌, sym, subst, Bool, true, false, List, [], ◌∷◌}
 use Rattle.std.specs.Prelude.{◌==◌, if◌then◌else◌}
-use Rattle.rasta_core_run.specs.State.{is_open}
-use Rattle.rasta_core_run.specs.identity.Role.TheVariants as role
-use Rattle.rasta_core_run.specs.identity.Role.TheVariants.{Client, Server}
-use Rattle.rasta_core_run.specs.Events.{Calls, Elsewhere, Event, Loses, May, MayRun, Restarts, happened, run}
-use Rattle.rasta_core_run.specs.Names.{AreNames, Names}
-use Rattle.rasta_core_run.specs.Run.{Ends}
-use Rattle.rasta_core_run.specs.Sentences.{IsIn, IsOut, LeavesClient}
+use Rattle.rasta_core_spec.specs.State.{is_open}
+use Rattle.rasta_core_spec.specs.identity.Role.TheVariants as role
+use Rattle.rasta_core_spec.specs.identity.Role.TheVariants.{Client, Server}
+use Rattle.rasta_core_spec.specs.Events.{Calls, Elsewhere, Event, Loses, May, MayRun, Restarts, happened, run}
+use Rattle.rasta_core_spec.specs.Names.{AreNames, Names}
+use Rattle.rasta_core_spec.specs.Run.{Ends}
+use Rattle.rasta_core_spec.specs.Sentences.{IsIn, IsOut, LeavesClient}
 use Rattle.rasta_core.specs.Invariant.{HasBeenOut, Timely}
 use Rattle.rasta_core.specs.EachLink.{AreTimely}
 use Rattle.rasta_core.specs.Links.{AreLinks, CallsOn, LeavesClientOf, Links, LinksEvent, LosesAny, MayHappenTo, PassesFor, RestartsOn, events_on, happened_to, is_oldest_on, seen}

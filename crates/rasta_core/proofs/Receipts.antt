@@ -1,19 +1,19 @@
 -- What a PDU does at an end, as far as time goes.
 use Rattle.std.proofs.Common.{◌≡◌, ℕ, ◌⊎◌, inl, inr, ◌∙◌, ◌-◌, Bool, true, false, ◌&&◌, not, List, [], nat_lt, ◌==◌, if◌then◌else◌, refl, sym, ap, subst, ltb-false}
-use Rattle.rasta_core_run.specs.Parameters.{sequence_range}
-use Rattle.rasta_core_run.specs.Sequence.{distance, stamp}
-use Rattle.rasta_core_run.specs.State.{LinkState, is_open, is_asking}
-use Rattle.rasta_core_run.specs.PdusHandedOut.{Step, silent, sending, telling, closed}
-use Rattle.rasta_core_run.specs.Receipt.{Receipt, refusing, violating, age, ahead, confirms, taking, answering, missing, handing, up, bringing, in_turn, admission, admitting, testing, is_opening_again, connected}
-use Rattle.rasta_core_run.specs.reason.Reason.TheVariants as reason
-use Rattle.rasta_core_run.specs.verdict.Verdict.{Verdict}
-use Rattle.rasta_core_run.specs.verdict.Verdict.TheVariants as verdict
-use Rattle.rasta_core_run.specs.identity.Role.TheVariants as role
-use Rattle.rasta_core_run.specs.Ends.{is_taken}
-use Rattle.rasta_core_run.specs.pdu.Pdu.{Pdu}
-use Rattle.rasta_core_run.specs.body.Body.{Body}
-use Rattle.rasta_core_run.specs.body.Body.TheVariants.{ConnectionRequest, ConnectionResponse, RetransmissionRequest, RetransmissionResponse, DisconnectionRequest, Heartbeat, Data, RetransmittedData}
-use Rattle.rasta_core_run.specs.Values.{IsPdu}
+use Rattle.rasta_core_spec.specs.Parameters.{sequence_range}
+use Rattle.rasta_core_spec.specs.Sequence.{distance, stamp}
+use Rattle.rasta_core_spec.specs.State.{LinkState, is_open, is_asking}
+use Rattle.rasta_core_spec.specs.PdusHandedOut.{Step, silent, sending, telling, closed}
+use Rattle.rasta_core_spec.specs.Receipt.{Receipt, refusing, violating, age, ahead, confirms, taking, answering, missing, handing, up, bringing, in_turn, admission, admitting, testing, is_opening_again, connected}
+use Rattle.rasta_core_spec.specs.reason.Reason.TheVariants as reason
+use Rattle.rasta_core_spec.specs.verdict.Verdict.{Verdict}
+use Rattle.rasta_core_spec.specs.verdict.Verdict.TheVariants as verdict
+use Rattle.rasta_core_spec.specs.identity.Role.TheVariants as role
+use Rattle.rasta_core_spec.specs.Ends.{is_taken}
+use Rattle.rasta_core_spec.specs.pdu.Pdu.{Pdu}
+use Rattle.rasta_core_spec.specs.body.Body.{Body}
+use Rattle.rasta_core_spec.specs.body.Body.TheVariants.{ConnectionRequest, ConnectionResponse, RetransmissionRequest, RetransmissionResponse, DisconnectionRequest, Heartbeat, Data, RetransmittedData}
+use Rattle.rasta_core_spec.specs.Values.{IsPdu}
 use Rattle.rasta_core.specs.TimedEnds.{Standing, Inside, own_stamp, standing}
 use Rattle.rasta_core.specs.Timely.{IsAnswering}
 use Rattle.rasta_core.proofs.Phases.{Admits, violates, closes, in_turn_value, discards, resumes, heartbeat_admission, data_admission, again_admission, request_admission, response_admission}

@@ -2,15 +2,15 @@
 use Rattle.std.proofs.Common.{◌≡◌, ℕ, ◌+◌, ◌*◌, ◌≤◌, ◌<◌, Some, refl, arith}
 use Rattle.std.proofs.lemmas.Option.{same_Some}
 use native.Mathlib.Decide.{ℕ_discrete, dec_lt}
-use Rattle.rasta_core_run.specs.Parameters.{quiet_time}
-use Rattle.rasta_core_run.specs.identity.Role.{Role}
-use Rattle.rasta_core_run.specs.identity.Role.TheVariants as role
-use Rattle.rasta_core_run.specs.Bag.{lifetime}
-use Rattle.rasta_core_run.specs.pdu.Pdu.{Pdu}
+use Rattle.rasta_core_spec.specs.Parameters.{quiet_time}
+use Rattle.rasta_core_spec.specs.identity.Role.{Role}
+use Rattle.rasta_core_spec.specs.identity.Role.TheVariants as role
+use Rattle.rasta_core_spec.specs.Bag.{lifetime}
+use Rattle.rasta_core_spec.specs.pdu.Pdu.{Pdu}
 use Rattle.rasta_core.specs.TimedEnds.{Standing, Inside, Outside, Timed, Times, IsInside, IsOutside, HasHeard, closed_at}
 use Rattle.rasta_core.specs.Moves.{asking}
 use Rattle.rasta_core.specs.Timely.{IsTimed, AreTimed, IsKnown}
-use Rattle.rasta_core_run.specs.Sentences.{IsRequest}
+use Rattle.rasta_core_spec.specs.Sentences.{IsRequest}
 
 -- a reading of a clock in milliseconds
 pub record Reads (now clock : ℕ) : Type 0 where

@@ -2,29 +2,29 @@
 use Rattle.std.proofs.Common.{◌≡◌, ℕ, inl, inr, Bool, true, false, ◌&&◌, not, if◌then◌else◌, List, [], ◌++◌, Some, None, Result, Ok, Err, refl, sym, ap, subst, ◌∙◌, arith}
 use Rattle.std.specs.Prelude.{◌==◌}
 use Rattle.std.proofs.lemmas.Bool.{eqb-true}
-use Rattle.rasta_core_run.specs.State.{LinkState, is_open, is_client}
-use Rattle.rasta_core_run.specs.Clock.{state_at}
-use Rattle.rasta_core_run.specs.PdusHandedOut.{Step, silent, entered, telling, sending}
-use Rattle.rasta_core_run.specs.Establishment.{granting, own_opening}
-use Rattle.rasta_core_run.specs.Receipt.{Receipt, accepting, hearing}
-use Rattle.rasta_core_run.specs.Calls.{receiving, hearing_bytes}
-use Rattle.rasta_core_run.specs.identity.Identity.{Identity}
-use Rattle.rasta_core_run.specs.identity.Role.TheVariants as role
-use Rattle.rasta_core_run.specs.phase.State.TheVariants as state
-use Rattle.rasta_core_run.specs.reason.Reason.TheVariants as reason
-use Rattle.rasta_core_run.specs.verdict.Verdict.{Verdict}
-use Rattle.rasta_core_run.specs.verdict.Verdict.TheVariants as verdict
-use Rattle.rasta_core_run.specs.Ends.{Outcome, Receives, outcome, reading_of, entered_by, is_taken}
-use Rattle.rasta_core_run.specs.Run.{Ends, called}
+use Rattle.rasta_core_spec.specs.State.{LinkState, is_open, is_client}
+use Rattle.rasta_core_spec.specs.Clock.{state_at}
+use Rattle.rasta_core_spec.specs.PdusHandedOut.{Step, silent, entered, telling, sending}
+use Rattle.rasta_core_spec.specs.Establishment.{granting, own_opening}
+use Rattle.rasta_core_spec.specs.Receipt.{Receipt, accepting, hearing}
+use Rattle.rasta_core_spec.specs.Calls.{receiving, hearing_bytes}
+use Rattle.rasta_core_spec.specs.identity.Identity.{Identity}
+use Rattle.rasta_core_spec.specs.identity.Role.TheVariants as role
+use Rattle.rasta_core_spec.specs.phase.State.TheVariants as state
+use Rattle.rasta_core_spec.specs.reason.Reason.TheVariants as reason
+use Rattle.rasta_core_spec.specs.verdict.Verdict.{Verdict}
+use Rattle.rasta_core_spec.specs.verdict.Verdict.TheVariants as verdict
+use Rattle.rasta_core_spec.specs.Ends.{Outcome, Receives, outcome, reading_of, entered_by, is_taken}
+use Rattle.rasta_core_spec.specs.Run.{Ends, called}
 use Rattle.rasta_core.specs.EndFlow.{EndFlow, IsOf, IsAt}
 use Rattle.rasta_core.specs.Order.{Carries}
 use Rattle.rasta_core.specs.LinkAndFlow.{GoesOn}
 use Rattle.rasta_core.specs.FirstPdus.{EarlyGoesOn, Grants, HearsOutside, refuses, grants}
 use Rattle.rasta_core.specs.TimedEnds.{standing}
-use Rattle.rasta_core_run.specs.Names.{Names, AreNames}
+use Rattle.rasta_core_spec.specs.Names.{Names, AreNames}
 use Rattle.rasta_core.specs.Invariant.{Timely}
-use Rattle.rasta_core_run.specs.Events.{MayCall}
-use Rattle.rasta_core_run.specs.Sentences.{IsOpening}
+use Rattle.rasta_core_spec.specs.Events.{MayCall}
+use Rattle.rasta_core_spec.specs.Sentences.{IsOpening}
 use Rattle.rasta_core.proofs.States.{IsReady, entering, calm}
 use Rattle.rasta_core.proofs.Deeds.{IsFor}
 use Rattle.rasta_core.proofs.Receipts.{Receives as Hears}
@@ -39,12 +39,12 @@ use Rattle.rasta_core.proofs.Few.{none_few}
 use Rattle.rasta_core.proofs.Made.{server_granted}
 use Rattle.rasta_core.proofs.Comes.{deed_pdus, deed_silent, client_enters_none, items_for, Comes, comes, of_last, in_flow, server_out, nothing_comes, nothing_sent, IsGranted, deed_grants}
 use Rattle.rasta_core.proofs.Calls.{client_call, server_call, swap, server_key}
-use Rattle.rasta_core_run.specs.pdu.Pdu.{Pdu}
-use Rattle.rasta_core_run.specs.body.Opening.{Opening}
-use Rattle.rasta_core_run.specs.body.Body.TheVariants.{ConnectionRequest}
-use Rattle.rasta_core_run.specs.pdu_fault.PduFault.{PduFault}
-use Rattle.rasta_core_run.specs.key.Key.{Key}
-use Rattle.rasta_core_run.specs.PduRead.{reading}
+use Rattle.rasta_core_spec.specs.pdu.Pdu.{Pdu}
+use Rattle.rasta_core_spec.specs.body.Opening.{Opening}
+use Rattle.rasta_core_spec.specs.body.Body.TheVariants.{ConnectionRequest}
+use Rattle.rasta_core_spec.specs.pdu_fault.PduFault.{PduFault}
+use Rattle.rasta_core_spec.specs.key.Key.{Key}
+use Rattle.rasta_core_spec.specs.PduRead.{reading}
 
 pub both_true : (one other : Bool) → (one && other) ≡ true → (one ≡ true) × (other ≡ true)
 both_true true true e = (refl, refl)

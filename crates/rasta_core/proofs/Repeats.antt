@@ -1,12 +1,12 @@
 -- The PDUs that repeat the items that wait.
 use Rattle.std.proofs.Common.{◌≡◌, ℕ, zero, suc, ◌+◌, List, [], ◌∷◌, ◌++◌, length, take, refl, sym, ap, ◌∙◌, arith, append_assoc}
 use Rattle.std.proofs.lemmas.List.{length-append, take_at}
-use Rattle.rasta_core_run.specs.PdusHandedOut.{pdu_of}
-use Rattle.rasta_core_run.specs.Receipt.{repeated}
-use Rattle.rasta_core_run.specs.pdu.Pdu.{Pdu}
-use Rattle.rasta_core_run.specs.body.Body.TheVariants.{RetransmittedData}
-use Rattle.rasta_core_run.specs.window.Unconfirmed.{Unconfirmed}
-use Rattle.rasta_core_run.specs.header.Header.{Header}
+use Rattle.rasta_core_spec.specs.PdusHandedOut.{pdu_of}
+use Rattle.rasta_core_spec.specs.Receipt.{repeated}
+use Rattle.rasta_core_spec.specs.pdu.Pdu.{Pdu}
+use Rattle.rasta_core_spec.specs.body.Body.TheVariants.{RetransmittedData}
+use Rattle.rasta_core_spec.specs.window.Unconfirmed.{Unconfirmed}
+use Rattle.rasta_core_spec.specs.header.Header.{Header}
 use Rattle.rasta_core.specs.EndFlow.{IsAt, items_of}
 
 pub length-items_of : (waiting : List Unconfirmed) → length (items_of waiting) ≡ length waiting

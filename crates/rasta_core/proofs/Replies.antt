@@ -1,13 +1,13 @@
 -- A link in the connection answers a retransmission request that it has taken.
 use Rattle.std.proofs.Common.{◌≡◌, ℕ, ◌+◌, ◌^◌, ◌<◌, ◌≤◌, true, false, List, [], ◌++◌, length, refl, sym, ap, ◌∙◌, arith}
 use Rattle.std.proofs.lemmas.List.{append-nil}
-use Rattle.rasta_core_run.specs.Parameters.{connection_limit}
-use Rattle.rasta_core_run.specs.State.{LinkState, is_up}
-use Rattle.rasta_core_run.specs.PdusHandedOut.{header_of, pdu_of, sending}
-use Rattle.rasta_core_run.specs.Receipt.{retagged, repeating, answering}
-use Rattle.rasta_core_run.specs.pdu.Pdu.{Pdu}
-use Rattle.rasta_core_run.specs.body.Body.TheVariants.{RetransmissionRequest, RetransmissionResponse}
-use Rattle.rasta_core_run.specs.header.Header.{Header}
+use Rattle.rasta_core_spec.specs.Parameters.{connection_limit}
+use Rattle.rasta_core_spec.specs.State.{LinkState, is_up}
+use Rattle.rasta_core_spec.specs.PdusHandedOut.{header_of, pdu_of, sending}
+use Rattle.rasta_core_spec.specs.Receipt.{retagged, repeating, answering}
+use Rattle.rasta_core_spec.specs.pdu.Pdu.{Pdu}
+use Rattle.rasta_core_spec.specs.body.Body.TheVariants.{RetransmissionRequest, RetransmissionResponse}
+use Rattle.rasta_core_spec.specs.header.Header.{Header}
 use Rattle.rasta_core.specs.EndFlow.{IsAt, EndFlow, sent, later}
 use Rattle.rasta_core.specs.Order.{InOrder}
 use Rattle.rasta_core.specs.LinkAndFlow.{HasJoined, joined, GoesOn}

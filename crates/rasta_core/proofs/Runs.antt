@@ -1,16 +1,16 @@
 -- Every event, and every list of them, keeps the invariant.
 use Rattle.std.proofs.Common.{◌∙◌, ℕ, List, [], ◌∷◌}
-use Rattle.rasta_core_run.specs.Run.{Ends, restarted}
-use Rattle.rasta_core_run.specs.identity.Role.TheVariants as role
-use Rattle.rasta_core_run.specs.Sentences.{LeavesClient, IsIn, IsOut}
+use Rattle.rasta_core_spec.specs.Run.{Ends, restarted}
+use Rattle.rasta_core_spec.specs.identity.Role.TheVariants as role
+use Rattle.rasta_core_spec.specs.Sentences.{LeavesClient, IsIn, IsOut}
 use Rattle.rasta_core.specs.Invariant.{HasBeenOut, Timely}
-use Rattle.rasta_core_run.specs.Names.{Names, AreNames}
-use Rattle.rasta_core_run.specs.Events.{Event, Calls, Passes, Loses, Restarts, Elsewhere, May, MayRun, happened, run, Start, started}
+use Rattle.rasta_core_spec.specs.Names.{Names, AreNames}
+use Rattle.rasta_core_spec.specs.Events.{Event, Calls, Passes, Loses, Restarts, Elsewhere, May, MayRun, happened, run, Start, started}
 use Rattle.rasta_core.proofs.Conversation.{WrittenIsRead}
 use Rattle.rasta_core.proofs.Called.{ReadIsIntact, called_kept}
 use Rattle.rasta_core.proofs.Clocks.{later_kept, lost_kept, client_restarted, server_restarted, elsewhere_kept, Renewed, started_timely}
 use Rattle.rasta_core.proofs.BothEndsAfter.{FollowsOff}
-use Rattle.rasta_core_run.specs.TrueClocks.{Offset, set}
+use Rattle.rasta_core_spec.specs.TrueClocks.{Offset, set}
 
 -- an event that doesn't make the client anew
 pub event_follows : WrittenIsRead → ReadIsIntact → (names : Names) (event : Event) (ends : Ends) → AreNames names → (is : Timely names ends) → May names event ends → LeavesClient event

@@ -2,9 +2,9 @@
 use Rattle.std.proofs.Common.{◌≡◌, ℕ, ◌-◌, ◌≤◌, List, ◌++◌, length, take, drop, inl, inr, refl, sym, ap, arith}
 use Rattle.std.proofs.lemmas.List.{take-append-drop, length-take-le}
 use Rattle.rasta_core.specs.EndFlow.{EndFlow}
-use Rattle.rasta_core_run.specs.Calls.{created}
-use Rattle.rasta_core_run.specs.identity.Identity.{Identity}
-use Rattle.rasta_core_run.specs.State.{LinkState, confirmed_items}
+use Rattle.rasta_core_spec.specs.Calls.{created}
+use Rattle.rasta_core_spec.specs.identity.Identity.{Identity}
+use Rattle.rasta_core_spec.specs.State.{LinkState, confirmed_items}
 use Rattle.rasta_core.specs.Order.{Way, InOrder}
 use Rattle.rasta_core.specs.LinkAndFlow.{Keeps, Plays, joined, asking, left}
 use Rattle.rasta_core.proofs.Tags.{later_most}

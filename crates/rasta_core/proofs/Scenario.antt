@@ -1,23 +1,23 @@
 -- A connection opens and an item is taken: the laws don't speak of nothing.
 use Rattle.std.proofs.Common.{◌≡◌, ℕ, zero, suc, ◌+◌, ◌≤◌, inl, inr, arith, true, List, [], ◌∷◌, length, refl}
 use Rattle.md4.specs.Md4.{padding, block_words, sequence, after_block, after_blocks, digest}
-use Rattle.rasta_core_run.specs.SafetyCode.{code}
-use Rattle.rasta_core_run.specs.Spelling.{payload, fields, text, writing}
-use Rattle.rasta_core_run.specs.PduRead.{text_of, opening_of, disconnection_of, nothing_of, item_of, items_to_end, items_of, body_of, pdu_of as pdu_read, reading}
-use Rattle.rasta_core_run.specs.Calls.{created, opens, opening, ticking, sending_item, acceptance, answer_to_send, hearing_bytes, receiving}
-use Rattle.rasta_core_run.specs.Clock.{settled, deadline, quiet_until, state_at}
-use Rattle.rasta_core_run.specs.PdusHandedOut.{header_of, pdu_of, sending, telling, limited, entered, beating, giving}
-use Rattle.rasta_core_run.specs.Establishment.{beginning, requesting, meeting, judging, granting, joining}
-use Rattle.rasta_core_run.specs.Receipt.{age, ahead, behind, still_waiting, taking, missing, handing, bringing, in_turn, admitting, testing, connected, asking, resting, by_state, hearing}
-use Rattle.rasta_core_run.specs.identity.Role.{Role}
-use Rattle.rasta_core_run.specs.identity.Role.TheVariants as role
-use Rattle.rasta_core_run.specs.Bag.{lifetime}
-use Rattle.rasta_core_run.specs.Ends.{Sent, Opens, Sends, Receives, outcome, end_after, end_later, end_restarted}
-use Rattle.rasta_core_run.specs.Run.{Ends, called, later, restarted}
-use Rattle.rasta_core_run.specs.verdict.Verdict.TheVariants as verdict
-use Rattle.rasta_core_run.specs.Names.{Names, AreNames}
-use Rattle.rasta_core_run.specs.Sentences.{receipt_at}
-use Rattle.rasta_core_run.specs.Events.{Event, Calls, Passes, Restarts, happened, run, started, Start, IsAmong, IsDelivered, MayRun}
+use Rattle.rasta_core_spec.specs.SafetyCode.{code}
+use Rattle.rasta_core_spec.specs.Spelling.{payload, fields, text, writing}
+use Rattle.rasta_core_spec.specs.PduRead.{text_of, opening_of, disconnection_of, nothing_of, item_of, items_to_end, items_of, body_of, pdu_of as pdu_read, reading}
+use Rattle.rasta_core_spec.specs.Calls.{created, opens, opening, ticking, sending_item, acceptance, answer_to_send, hearing_bytes, receiving}
+use Rattle.rasta_core_spec.specs.Clock.{settled, deadline, quiet_until, state_at}
+use Rattle.rasta_core_spec.specs.PdusHandedOut.{header_of, pdu_of, sending, telling, limited, entered, beating, giving}
+use Rattle.rasta_core_spec.specs.Establishment.{beginning, requesting, meeting, judging, granting, joining}
+use Rattle.rasta_core_spec.specs.Receipt.{age, ahead, behind, still_waiting, taking, missing, handing, bringing, in_turn, admitting, testing, connected, asking, resting, by_state, hearing}
+use Rattle.rasta_core_spec.specs.identity.Role.{Role}
+use Rattle.rasta_core_spec.specs.identity.Role.TheVariants as role
+use Rattle.rasta_core_spec.specs.Bag.{lifetime}
+use Rattle.rasta_core_spec.specs.Ends.{Sent, Opens, Sends, Receives, outcome, end_after, end_later, end_restarted}
+use Rattle.rasta_core_spec.specs.Run.{Ends, called, later, restarted}
+use Rattle.rasta_core_spec.specs.verdict.Verdict.TheVariants as verdict
+use Rattle.rasta_core_spec.specs.Names.{Names, AreNames}
+use Rattle.rasta_core_spec.specs.Sentences.{receipt_at}
+use Rattle.rasta_core_spec.specs.Events.{Event, Calls, Passes, Restarts, happened, run, started, Start, IsAmong, IsDelivered, MayRun}
 
 abbrev pub names : Names
 names = record { key = record { 0 = 0x01234567 ∷ 0x89abcdef ∷ 0xfedcba98 ∷ 0x76543210 ∷ [] }; client = 1; server = 2 }

@@ -3,9 +3,9 @@ use Rattle.std.proofs.Common.{◌≡◌, ℕ, ◌+◌, ◌-◌, ◌^◌, ◌<◌
 use Rattle.std.specs.Prelude.{nat_le, if◌then◌else◌}
 use Rattle.std.proofs.lemmas.List.{length-append, append-nil}
 use Rattle.std.proofs.lemmas.Bool.{leb-true, leb-false}
-use Rattle.rasta_core_run.specs.Sequence.{wire}
-use Rattle.rasta_core_run.specs.pdu.Pdu.{Pdu}
-use Rattle.rasta_core_run.specs.body.Body.TheVariants.{RetransmissionResponse}
+use Rattle.rasta_core_spec.specs.Sequence.{wire}
+use Rattle.rasta_core_spec.specs.pdu.Pdu.{Pdu}
+use Rattle.rasta_core_spec.specs.body.Body.TheVariants.{RetransmissionResponse}
 use Rattle.rasta_core.specs.EndFlow.{IsAt, EndFlow, sent, later}
 use Rattle.rasta_core.specs.Order.{Brings, Carries, OpensOn, IsUnanswered, IsSent, Counts, Way}
 use Rattle.rasta_core.proofs.OrderTests.{by_test}

@@ -1,19 +1,19 @@
 -- What every link keeps, so that what it hands out are PDUs.
 use Rattle.std.proofs.Common.{◌≡◌, ℕ, zero, suc, ◌∙◌, ◌+◌, ◌<◌, Bool, true, false, List, [], ◌∷◌, nat_le, slice_index_or, if◌then◌else◌, refl, sym, ap, subst, arith}
-use Rattle.rasta_core_run.specs.State.{LinkState, is_open, is_asking}
-use Rattle.rasta_core_run.specs.PdusHandedOut.{header_of, pdu_of}
-use Rattle.rasta_core_run.specs.Receipt.{still_waiting, repeated, retagged}
-use Rattle.rasta_core_run.specs.identity.Identity.{Identity}
-use Rattle.rasta_core_run.specs.pdu.Pdu.{Pdu}
-use Rattle.rasta_core_run.specs.body.Body.{Body}
-use Rattle.rasta_core_run.specs.body.Body.TheVariants.{RetransmittedData}
-use Rattle.rasta_core_run.specs.Values.{IsPdu, IsBody}
-use Rattle.rasta_core_run.specs.Items.{IsItem, AreItems}
-use Rattle.rasta_core_run.specs.Each.{Each}
+use Rattle.rasta_core_spec.specs.State.{LinkState, is_open, is_asking}
+use Rattle.rasta_core_spec.specs.PdusHandedOut.{header_of, pdu_of}
+use Rattle.rasta_core_spec.specs.Receipt.{still_waiting, repeated, retagged}
+use Rattle.rasta_core_spec.specs.identity.Identity.{Identity}
+use Rattle.rasta_core_spec.specs.pdu.Pdu.{Pdu}
+use Rattle.rasta_core_spec.specs.body.Body.{Body}
+use Rattle.rasta_core_spec.specs.body.Body.TheVariants.{RetransmittedData}
+use Rattle.rasta_core_spec.specs.Values.{IsPdu, IsBody}
+use Rattle.rasta_core_spec.specs.Items.{IsItem, AreItems}
+use Rattle.rasta_core_spec.specs.Each.{Each}
 use Rattle.rasta_core.specs.Invariant.{IsSound}
 use Rattle.rasta_core.specs.TimedEnds.{Standing, Inside, Outside, IsInside, HasHeard, heard_stamp, standing}
 use Rattle.rasta_core.specs.Timely.{IsAnswering}
-use Rattle.rasta_core_run.specs.Sentences.{IsRequest}
+use Rattle.rasta_core_spec.specs.Sentences.{IsRequest}
 use Rattle.rasta_core.proofs.Phases.{TypeOf}
 use Rattle.rasta_core.proofs.Datagrams.{IsSpoken}
 

@@ -1,13 +1,13 @@
 -- What the state of a ready link says of where it stands.
 use Rattle.std.proofs.Common.{◌≡◌, ℕ, ◌⊎◌, inl, inr, ◌∙◌, ◌+◌, ◌-◌, ◌^◌, ◌<◌, ◌≤◌, min, Bool, true, false, ◌&&◌, nat_le, nat_lt, if◌then◌else◌, refl, ap, subst, arith, ltb-false, leb-true, leb-false}
 use Rattle.std.proofs.lemmas.Bool.Decides.{nat_tests}
-use Rattle.rasta_core_run.specs.Parameters.{time_limit, quiet_time, connection_limit}
-use Rattle.rasta_core_run.specs.State.{LinkState, is_open, is_up, is_asking, is_client}
-use Rattle.rasta_core_run.specs.Clock.{settled, deadline, open_state, state_at}
-use Rattle.rasta_core_run.specs.PdusHandedOut.{silent, telling, limited, entered, closed}
-use Rattle.rasta_core_run.specs.phase.State.{State}
-use Rattle.rasta_core_run.specs.phase.State.TheVariants as state
-use Rattle.rasta_core_run.specs.reason.Reason.TheVariants as reason
+use Rattle.rasta_core_spec.specs.Parameters.{time_limit, quiet_time, connection_limit}
+use Rattle.rasta_core_spec.specs.State.{LinkState, is_open, is_up, is_asking, is_client}
+use Rattle.rasta_core_spec.specs.Clock.{settled, deadline, open_state, state_at}
+use Rattle.rasta_core_spec.specs.PdusHandedOut.{silent, telling, limited, entered, closed}
+use Rattle.rasta_core_spec.specs.phase.State.{State}
+use Rattle.rasta_core_spec.specs.phase.State.TheVariants as state
+use Rattle.rasta_core_spec.specs.reason.Reason.TheVariants as reason
 use Rattle.rasta_core.specs.TimedEnds.{Standing, Outside, IsOutside, closed_at}
 use Rattle.rasta_core.proofs.Phases.{start_asking, up_up, requested_up, running_up, down_closed}
 use Rattle.rasta_core.specs.Invariant.{IsSound}

@@ -1,13 +1,13 @@
 -- What a list of calls at one clock does at an end.
 use Rattle.std.proofs.Common.{◌≡◌, ℕ, Bool, false, if◌then◌else◌, List, [], ◌∷◌, ◌++◌, Option, Some, None, append_assoc, append-nil, refl, sym, ap, subst, ◌∙◌}
-use Rattle.rasta_core_run.specs.State.{LinkState}
-use Rattle.rasta_core_run.specs.identity.Role.{Role}
-use Rattle.rasta_core_run.specs.identity.Role.TheVariants as role
-use Rattle.rasta_core_run.specs.Ends.{EndState, Call, Ticks, Opens, Closes, Sends, Receives, end_after, kept, newer, outcome, reading_of}
-use Rattle.rasta_core_run.specs.Events.{run}
-use Rattle.rasta_core_run.specs.Names.{partner_of}
-use Rattle.rasta_core_run.specs.Run.{Ends, called, end_of}
-use Rattle.rasta_core_run.specs.Steps.{EnterNone, IsAfter, Made, StaysIn, all_made, calls_at, enters_by, made_by}
+use Rattle.rasta_core_spec.specs.State.{LinkState}
+use Rattle.rasta_core_spec.specs.identity.Role.{Role}
+use Rattle.rasta_core_spec.specs.identity.Role.TheVariants as role
+use Rattle.rasta_core_spec.specs.Ends.{EndState, Call, Ticks, Opens, Closes, Sends, Receives, end_after, kept, newer, outcome, reading_of}
+use Rattle.rasta_core_spec.specs.Events.{run}
+use Rattle.rasta_core_spec.specs.Names.{partner_of}
+use Rattle.rasta_core_spec.specs.Run.{Ends, called, end_of}
+use Rattle.rasta_core_spec.specs.Steps.{EnterNone, IsAfter, Made, StaysIn, all_made, calls_at, enters_by, made_by}
 
 -- ---- one call
 

@@ -2,8 +2,8 @@
 use Rattle.std.proofs.Common.{◌≡◌, ℕ, ◌+◌, ◌-◌, ◌<◌, ◌≤◌, List, [], ◌∷◌, ◌++◌, length, refl, arith, ap, sym, ◌∙◌, append_assoc}
 use Rattle.std.specs.Prelude.{nat_le}
 use Rattle.std.proofs.lemmas.Bool.{leb-false}
-use Rattle.rasta_core_run.specs.Receipt.{still_waiting, retagged}
-use Rattle.rasta_core_run.specs.window.Unconfirmed.{Unconfirmed}
+use Rattle.rasta_core_spec.specs.Receipt.{still_waiting, retagged}
+use Rattle.rasta_core_spec.specs.window.Unconfirmed.{Unconfirmed}
 use Rattle.rasta_core.specs.EndFlow.{later, items_of}
 use Rattle.rasta_core.specs.Order.{Rises}
 use Rattle.rasta_core.proofs.OrderTests.{by_test}

@@ -1,14 +1,14 @@
 -- Taking a datagram keeps what is true of the two ends.
 use Rattle.std.proofs.Common.{◌≡◌, ℕ, ◌+◌, ◌*◌, ◌-◌, ◌^◌, ◌<◌, ◌≤◌, Some, sym, ap, subst, arith}
 use Rattle.std.proofs.lemmas.Option.{same_Some}
-use Rattle.rasta_core_run.specs.Sequence.{distance, stamp}
-use Rattle.rasta_core_run.specs.identity.Role.TheVariants as role
-use Rattle.rasta_core_run.specs.pdu.Pdu.{Pdu}
+use Rattle.rasta_core_spec.specs.Sequence.{distance, stamp}
+use Rattle.rasta_core_spec.specs.identity.Role.TheVariants as role
+use Rattle.rasta_core_spec.specs.pdu.Pdu.{Pdu}
 use Rattle.rasta_core.specs.TimedEnds.{Standing, Inside, Outside, Timed, Times, IsInside, HasHeard, own_stamp}
 use Rattle.rasta_core.specs.Moves.{asking, granting, hearing}
-use Rattle.rasta_core_run.specs.TrueClocks.{Offset}
+use Rattle.rasta_core_spec.specs.TrueClocks.{Offset}
 use Rattle.rasta_core.specs.Timely.{WasReadBy, WasReadThenBy, IsTimed, AreTimed, IsAnswering, IsKnown}
-use Rattle.rasta_core_run.specs.Sentences.{IsRequest}
+use Rattle.rasta_core_spec.specs.Sentences.{IsRequest}
 use Rattle.rasta_core.proofs.Reception.{Reads, IsDown, IsAlive, alive_newest, connection_fresh}
 
 heard_inside : (s : Standing) → HasHeard s → IsInside s

@@ -1,13 +1,13 @@
 -- Clocks that are steady between any two moments keep time, however short the events are.
 use Rattle.std.proofs.Common.{◌≡◌, ◌⊎◌, inl, inr, ℕ, ◌+◌, ◌*◌, ◌-◌, ◌≤◌, List, [], ◌∷◌, refl, sym, ◌∙◌, subst, arith}
 use native.Mathlib.Decide.{dec_lt}
-use Rattle.rasta_core_run.specs.Run.{Ends, called, later, lost, restarted}
-use Rattle.rasta_core_run.specs.Ends.{Call, end_after, end_later}
-use Rattle.rasta_core_run.specs.identity.Role.{Role}
-use Rattle.rasta_core_run.specs.identity.Role.TheVariants as role
-use Rattle.rasta_core_run.specs.Names.{Names, AreNames}
-use Rattle.rasta_core_run.specs.Events.{Event, Calls, Passes, Loses, Restarts, Elsewhere, May, happened, run, Start, started}
-use Rattle.rasta_core_run.specs.TrueClocks.{GoesOff, GoesOffSince, IsAtOnce, IsOffSince, IsSteady, KeepTime, MayAllCome, MayCome, Moment, Offset, StaysSteady, moment_of, moment_on, most_off, offsets_after, set}
+use Rattle.rasta_core_spec.specs.Run.{Ends, called, later, lost, restarted}
+use Rattle.rasta_core_spec.specs.Ends.{Call, end_after, end_later}
+use Rattle.rasta_core_spec.specs.identity.Role.{Role}
+use Rattle.rasta_core_spec.specs.identity.Role.TheVariants as role
+use Rattle.rasta_core_spec.specs.Names.{Names, AreNames}
+use Rattle.rasta_core_spec.specs.Events.{Event, Calls, Passes, Loses, Restarts, Elsewhere, May, happened, run, Start, started}
+use Rattle.rasta_core_spec.specs.TrueClocks.{GoesOff, GoesOffSince, IsAtOnce, IsOffSince, IsSteady, KeepTime, MayAllCome, MayCome, Moment, Offset, StaysSteady, moment_of, moment_on, most_off, offsets_after, set}
 use Rattle.rasta_core.specs.Invariant.{Timely, TimelyBy}
 use Rattle.rasta_core.specs.Ordered.{Ordered}
 use Rattle.rasta_core.proofs.Conversation.{WrittenIsRead}
@@ -17,7 +17,7 @@ use Rattle.rasta_core.proofs.BothEndsAfter.{Follows}
 
 -- ---- one clock
 
--- what becomes of the moment that a clock is behind
+-- what becomes of the moment that a clock is after
 record Slower (slow now : Moment) (old elapsed own : ℕ) : Type 0 where
   then_slow : Moment
   behind : ℕ

@@ -3,17 +3,17 @@ use Rattle.std.proofs.Common.{◌≡◌, ℕ, zero, suc, Bool, ◌⊎◌, ◌+�
 use Rattle.std.specs.Prelude.{nat_lt, ◌==◌}
 use Rattle.std.proofs.lemmas.Bool.{eqb-true}
 use Rattle.std.proofs.lemmas.List.{length-append, append-nil}
-use Rattle.rasta_core_run.specs.Parameters.{sequence_range, stops_at_greatest, connection_limit}
-use Rattle.rasta_core_run.specs.Sequence.{wire}
-use Rattle.rasta_core_run.specs.State.{LinkState, is_open, is_up, is_asking}
-use Rattle.rasta_core_run.specs.Clock.{open_state}
-use Rattle.rasta_core_run.specs.PdusHandedOut.{closed}
-use Rattle.rasta_core_run.specs.Receipt.{Receipt, ahead, behind, taking, still_waiting, answering, missing, handing, up, bringing, in_turn}
-use Rattle.rasta_core_run.specs.phase.State.TheVariants as state
-use Rattle.rasta_core_run.specs.pdu.Pdu.{Pdu}
-use Rattle.rasta_core_run.specs.body.Body.{Body}
-use Rattle.rasta_core_run.specs.body.Body.TheVariants.{ConnectionRequest, ConnectionResponse, RetransmissionRequest, RetransmissionResponse, DisconnectionRequest, Heartbeat, Data, RetransmittedData}
-use Rattle.rasta_core_run.specs.phase.Phase.{Phase}
+use Rattle.rasta_core_spec.specs.Parameters.{sequence_range, stops_at_greatest, connection_limit}
+use Rattle.rasta_core_spec.specs.Sequence.{wire}
+use Rattle.rasta_core_spec.specs.State.{LinkState, is_open, is_up, is_asking}
+use Rattle.rasta_core_spec.specs.Clock.{open_state}
+use Rattle.rasta_core_spec.specs.PdusHandedOut.{closed}
+use Rattle.rasta_core_spec.specs.Receipt.{Receipt, ahead, behind, taking, still_waiting, answering, missing, handing, up, bringing, in_turn}
+use Rattle.rasta_core_spec.specs.phase.State.TheVariants as state
+use Rattle.rasta_core_spec.specs.pdu.Pdu.{Pdu}
+use Rattle.rasta_core_spec.specs.body.Body.{Body}
+use Rattle.rasta_core_spec.specs.body.Body.TheVariants.{ConnectionRequest, ConnectionResponse, RetransmissionRequest, RetransmissionResponse, DisconnectionRequest, Heartbeat, Data, RetransmittedData}
+use Rattle.rasta_core_spec.specs.phase.Phase.{Phase}
 use Rattle.rasta_core.specs.EndFlow.{IsAt, EndFlow, sent}
 use Rattle.rasta_core.specs.Order.{Brings, Carries, IsClosing, BeginsByResponse, OpensOn, IsAsking, InOrder}
 use Rattle.rasta_core.specs.LinkAndFlow.{reads, HasJoined, joined, left, GoesOn}

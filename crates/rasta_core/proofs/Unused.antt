@@ -1,15 +1,15 @@
 -- What was given and taken before a connection: nothing.
 use Rattle.std.proofs.Common.{◌≡◌, ℕ, Bool, true, false, List, [], ◌∷◌, ◌++◌, Option, Some, None, refl, sym, ap, ◌∙◌}
 use Rattle.std.proofs.lemmas.Option.{same_Some}
-use Rattle.rasta_core_run.specs.State.{is_open}
-use Rattle.rasta_core_run.specs.identity.Role.{Role}
-use Rattle.rasta_core_run.specs.identity.Role.TheVariants as role
-use Rattle.rasta_core_run.specs.Ends.{Call, outcome, end_after, end_later, end_restarted, kept, newer}
-use Rattle.rasta_core_run.specs.Events.{Event, Calls, Passes, Loses, Restarts, Elsewhere, MayRun, Start, happened, run, started}
-use Rattle.rasta_core_run.specs.Names.{AreNames, Names}
-use Rattle.rasta_core_run.specs.Newest.{IsUnused}
-use Rattle.rasta_core_run.specs.Run.{Ends, end_of, called, later, lost, restarted}
-use Rattle.rasta_core_run.specs.Safe.{DoesNothing}
+use Rattle.rasta_core_spec.specs.State.{is_open}
+use Rattle.rasta_core_spec.specs.identity.Role.{Role}
+use Rattle.rasta_core_spec.specs.identity.Role.TheVariants as role
+use Rattle.rasta_core_spec.specs.Ends.{Call, outcome, end_after, end_later, end_restarted, kept, newer}
+use Rattle.rasta_core_spec.specs.Events.{Event, Calls, Passes, Loses, Restarts, Elsewhere, MayRun, Start, happened, run, started}
+use Rattle.rasta_core_spec.specs.Names.{AreNames, Names}
+use Rattle.rasta_core_spec.specs.Newest.{IsUnused}
+use Rattle.rasta_core_spec.specs.Run.{Ends, end_of, called, later, lost, restarted}
+use Rattle.rasta_core_spec.specs.Safe.{DoesNothing}
 use Rattle.rasta_core.specs.Invariant.{Timely}
 use Rattle.rasta_core.specs.Ordered.{Ordered, unbegun, alone, together}
 use Rattle.rasta_core.proofs.OutsideEntries.{does_nothing}

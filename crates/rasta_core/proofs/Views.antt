@@ -3,12 +3,12 @@ use Rattle.std.proofs.Common.{◌≡◌, ◌≢◌, refl, sym, ap, ◌∙◌, in
 use Rattle.std.specs.Prelude.{◌⊎◌, ◌==◌, if◌then◌else◌}
 use Rattle.std.proofs.lemmas.Bool.Decides.{nat_tests}
 use Rattle.std.proofs.lemmas.List.{append-nil, length-append, length-map}
-use Rattle.rasta_core_run.specs.identity.Role.{Role}
-use Rattle.rasta_core_run.specs.identity.Role.TheVariants.{Client, Server}
-use Rattle.rasta_core_run.specs.Bag.{is_copy, without_oldest}
-use Rattle.rasta_core_run.specs.Ends.{Sent, EndState, Call}
-use Rattle.rasta_core_run.specs.Run.{Ends, called, later, lost, restarted}
-use Rattle.rasta_core_run.specs.Events.{Elsewhere, IsAmong, happened}
+use Rattle.rasta_core_spec.specs.identity.Role.{Role}
+use Rattle.rasta_core_spec.specs.identity.Role.TheVariants.{Client, Server}
+use Rattle.rasta_core_spec.specs.Bag.{is_copy, without_oldest}
+use Rattle.rasta_core_spec.specs.Ends.{Sent, EndState, Call}
+use Rattle.rasta_core_spec.specs.Run.{Ends, called, later, lost, restarted}
+use Rattle.rasta_core_spec.specs.Events.{Elsewhere, IsAmong, happened}
 use Rattle.rasta_core.specs.Links.{IsAmongAll, Links, is_oldest_on, CallsOn, PassesFor, LosesAny, RestartsOn, OnLink, TwoEnds, happened_to, of_link, seen, sent_by, sent_on, without_oldest_of_all}
 
 pub same_number : (one other : ℕ) → (one == other) ≡ true → one ≡ other

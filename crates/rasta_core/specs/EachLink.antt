@@ -1,9 +1,9 @@
 -- The invariants of two ends for each link of a world, for the proofs.
 use Rattle.std.specs.Prelude.{ℕ, ◌<◌}
-use Rattle.rasta_core_run.specs.Each.{Each}
-use Rattle.rasta_core_run.specs.Names.{Names}
-use Rattle.rasta_core_run.specs.TrueClocks.{Offset}
-use Rattle.rasta_core_run.specs.identity.Role.{Role}
+use Rattle.rasta_core_spec.specs.Each.{Each}
+use Rattle.rasta_core_spec.specs.Names.{Names}
+use Rattle.rasta_core_spec.specs.TrueClocks.{Offset}
+use Rattle.rasta_core_spec.specs.identity.Role.{Role}
 use Rattle.rasta_core.specs.Invariant.{Timely, TimelyBy}
 use Rattle.rasta_core.specs.Ordered.{Ordered}
 use Rattle.rasta_core.specs.Links.{Links, seen}

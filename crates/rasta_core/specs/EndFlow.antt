@@ -1,7 +1,7 @@
 -- What an end has in one connection: the PDUs that it sent there, and what it gave and took.
 use Rattle.std.specs.Prelude.{◌≡◌, ℕ, zero, suc, nat_le, Bool, List, [], ◌∷◌, length, map, if◌then◌else◌}
-use Rattle.rasta_core_run.specs.window.Unconfirmed.{Unconfirmed}
-use Rattle.rasta_core_run.specs.pdu.Pdu.{Pdu}
+use Rattle.rasta_core_spec.specs.window.Unconfirmed.{Unconfirmed}
+use Rattle.rasta_core_spec.specs.pdu.Pdu.{Pdu}
 
 -- the PDU of this number, counted from 0
 abbrev pub IsAt : ℕ → Pdu → List Pdu → Type 0

@@ -1,19 +1,19 @@
 -- How a connection begins: the client's part before the server enters, and the server's part as it does.
 use Rattle.std.specs.Prelude.{◌≡◌, ℕ, ◌^◌, ◌<◌, ◌≤◌, ◌+◌, true, List, [], ◌++◌, ◌⊎◌, false}
-use Rattle.rasta_core_run.specs.Parameters.{most_sent}
-use Rattle.rasta_core_run.specs.State.{LinkState, is_open, is_asking, is_client}
-use Rattle.rasta_core_run.specs.Clock.{state_at}
-use Rattle.rasta_core_run.specs.Establishment.{granting}
-use Rattle.rasta_core_run.specs.phase.State.TheVariants as state
-use Rattle.rasta_core_run.specs.Receipt.{Receipt, refusing, accepting}
-use Rattle.rasta_core_run.specs.verdict.Verdict.{Verdict}
-use Rattle.rasta_core_run.specs.verdict.Verdict.TheVariants as verdict
-use Rattle.rasta_core_run.specs.body.Opening.{Opening}
+use Rattle.rasta_core_spec.specs.Parameters.{most_sent}
+use Rattle.rasta_core_spec.specs.State.{LinkState, is_open, is_asking, is_client}
+use Rattle.rasta_core_spec.specs.Clock.{state_at}
+use Rattle.rasta_core_spec.specs.Establishment.{granting}
+use Rattle.rasta_core_spec.specs.phase.State.TheVariants as state
+use Rattle.rasta_core_spec.specs.Receipt.{Receipt, refusing, accepting}
+use Rattle.rasta_core_spec.specs.verdict.Verdict.{Verdict}
+use Rattle.rasta_core_spec.specs.verdict.Verdict.TheVariants as verdict
+use Rattle.rasta_core_spec.specs.body.Opening.{Opening}
 use Rattle.rasta_core.specs.EndFlow.{IsAt, EndFlow, sent}
 use Rattle.rasta_core.specs.Order.{BeginsByResponse, IsSent, InOrder}
 use Rattle.rasta_core.specs.LinkAndFlow.{Keeps, IsNew, IsInside, Plays}
-use Rattle.rasta_core_run.specs.pdu.Pdu.{Pdu}
-use Rattle.rasta_core_run.specs.body.Body.TheVariants.{ConnectionRequest, RetransmissionRequest, RetransmissionResponse}
+use Rattle.rasta_core_spec.specs.pdu.Pdu.{Pdu}
+use Rattle.rasta_core_spec.specs.body.Body.TheVariants.{ConnectionRequest, RetransmissionRequest, RetransmissionResponse}
 
 -- The part of a client that has asked, and that the server hasn't entered yet: its request, perhaps with a closing.
 -- It has taken the response already, which is the first PDU of the server and brings nothing.

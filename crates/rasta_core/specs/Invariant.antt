@@ -1,19 +1,19 @@
 -- The invariant of two ends of a link and the datagrams between them, as far as time goes.
 use Rattle.std.specs.Prelude.{◌≡◌, ℕ, ◌^◌, ◌<◌, Ok}
-use Rattle.rasta_core_run.specs.State.{LinkState}
-use Rattle.rasta_core_run.specs.identity.Role.{Role}
-use Rattle.rasta_core_run.specs.identity.Role.TheVariants as role
-use Rattle.rasta_core_run.specs.Ends.{Sent, EndState, reading_of}
-use Rattle.rasta_core_run.specs.Run.{Ends}
-use Rattle.rasta_core_run.specs.pdu.Pdu.{Pdu}
-use Rattle.rasta_core_run.specs.Values.{IsPdu}
-use Rattle.rasta_core_run.specs.Items.{IsItem}
-use Rattle.rasta_core_run.specs.PduRead.{reading}
-use Rattle.rasta_core_run.specs.Each.{Each}
-use Rattle.rasta_core_run.specs.TrueClocks.{Offset}
+use Rattle.rasta_core_spec.specs.State.{LinkState}
+use Rattle.rasta_core_spec.specs.identity.Role.{Role}
+use Rattle.rasta_core_spec.specs.identity.Role.TheVariants as role
+use Rattle.rasta_core_spec.specs.Ends.{Sent, EndState, reading_of}
+use Rattle.rasta_core_spec.specs.Run.{Ends}
+use Rattle.rasta_core_spec.specs.pdu.Pdu.{Pdu}
+use Rattle.rasta_core_spec.specs.Values.{IsPdu}
+use Rattle.rasta_core_spec.specs.Items.{IsItem}
+use Rattle.rasta_core_spec.specs.PduRead.{reading}
+use Rattle.rasta_core_spec.specs.Each.{Each}
+use Rattle.rasta_core_spec.specs.TrueClocks.{Offset}
 use Rattle.rasta_core.specs.TimedEnds.{Past, Times, times_of}
-use Rattle.rasta_core_run.specs.Names.{Names, identity_of, name_of, partner_of}
-use Rattle.rasta_core_run.specs.Sentences.{IsOut}
+use Rattle.rasta_core_spec.specs.Names.{Names, identity_of, name_of, partner_of}
+use Rattle.rasta_core_spec.specs.Sentences.{IsOut}
 use Rattle.rasta_core.specs.Timely.{AreTimed, IsKnown}
 
 -- what every link keeps, so that what it hands out are PDUs

@@ -1,16 +1,16 @@
 -- The link of an end, and the part of that end in a connection.
 use Rattle.std.specs.Prelude.{◌≡◌, ℕ, ◌^◌, ◌<◌, ◌≤◌, Bool, true, false, List, [], ◌∷◌, ◌++◌, length, ◌⊎◌, Result, is_ok, if◌then◌else◌}
-use Rattle.rasta_core_run.specs.Parameters.{most_sent, stops_at_greatest}
-use Rattle.rasta_core_run.specs.State.{LinkState, is_open, is_up, is_asking}
-use Rattle.rasta_core_run.specs.Clock.{open_state}
-use Rattle.rasta_core_run.specs.PdusHandedOut.{Step}
-use Rattle.rasta_core_run.specs.Receipt.{Receipt}
-use Rattle.rasta_core_run.specs.fault.SendFault.{SendFault}
-use Rattle.rasta_core_run.specs.phase.State.{State}
-use Rattle.rasta_core_run.specs.phase.State.TheVariants as state
+use Rattle.rasta_core_spec.specs.Parameters.{most_sent, stops_at_greatest}
+use Rattle.rasta_core_spec.specs.State.{LinkState, is_open, is_up, is_asking}
+use Rattle.rasta_core_spec.specs.Clock.{open_state}
+use Rattle.rasta_core_spec.specs.PdusHandedOut.{Step}
+use Rattle.rasta_core_spec.specs.Receipt.{Receipt}
+use Rattle.rasta_core_spec.specs.fault.SendFault.{SendFault}
+use Rattle.rasta_core_spec.specs.phase.State.{State}
+use Rattle.rasta_core_spec.specs.phase.State.TheVariants as state
 use Rattle.rasta_core.specs.EndFlow.{EndFlow, sent}
 use Rattle.rasta_core.specs.Order.{BeginsByResponse, OpensOn, InOrder}
-use Rattle.rasta_core_run.specs.pdu.Pdu.{Pdu}
+use Rattle.rasta_core_spec.specs.pdu.Pdu.{Pdu}
 
 -- an end takes PDUs in turn, but where it has asked for a retransmission
 abbrev pub reads : State → Bool

@@ -1,17 +1,17 @@
 -- Many links over one list of datagrams. The links of a world have the numbers below their count.
 use Rattle.std.specs.Prelude.{◌≡◌, ◌≢◌, Bool, true, false, ℕ, ◌+◌, ◌<◌, ◌≤◌, ◌==◌, ◌&&◌, List, [], ◌∷◌, ◌++◌, length, map, ◌⊎◌, if◌then◌else◌}
-use Rattle.rasta_core_run.specs.Outbox.{spellings}
-use Rattle.rasta_core_run.specs.identity.Role.{Role}
-use Rattle.rasta_core_run.specs.identity.Role.TheVariants as role
-use Rattle.rasta_core_run.specs.Bag.{is_copy, lifetime}
-use Rattle.rasta_core_run.specs.Ends.{Sent, EndState, Call, Ticks, Opens, Closes, Sends, Receives, outcome, end_after, end_later, handed_out}
-use Rattle.rasta_core_run.specs.Run.{Ends, called, end_of, restarted}
-use Rattle.rasta_core_run.specs.Events.{Calls, Elsewhere, Event, IsWithinDrift, Loses, Passes, Restarts, Start, new_end}
-use Rattle.rasta_core_run.specs.Names.{AreNames, Names}
-use Rattle.rasta_core_run.specs.TrueClocks.{Offset, is_same, set}
-use Rattle.rasta_core_run.specs.key.Key.{Key}
-use Rattle.rasta_core_run.specs.Items.{IsItem}
-use Rattle.rasta_core_run.specs.SafetyCode.{IsIntact}
+use Rattle.rasta_core_spec.specs.Outbox.{spellings}
+use Rattle.rasta_core_spec.specs.identity.Role.{Role}
+use Rattle.rasta_core_spec.specs.identity.Role.TheVariants as role
+use Rattle.rasta_core_spec.specs.Bag.{is_copy, lifetime}
+use Rattle.rasta_core_spec.specs.Ends.{Sent, EndState, Call, Ticks, Opens, Closes, Sends, Receives, outcome, end_after, end_later, handed_out}
+use Rattle.rasta_core_spec.specs.Run.{Ends, called, end_of, restarted}
+use Rattle.rasta_core_spec.specs.Events.{Calls, Elsewhere, Event, IsWithinDrift, Loses, Passes, Restarts, Start, new_end}
+use Rattle.rasta_core_spec.specs.Names.{AreNames, Names}
+use Rattle.rasta_core_spec.specs.TrueClocks.{Offset, is_same, set}
+use Rattle.rasta_core_spec.specs.key.Key.{Key}
+use Rattle.rasta_core_spec.specs.Items.{IsItem}
+use Rattle.rasta_core_spec.specs.SafetyCode.{IsIntact}
 
 -- the two ends of a link
 pub record TwoEnds : Type 0 where

@@ -1,8 +1,8 @@
 -- What can happen to two ends, as far as time goes: each event is one of these, or some of them one after another.
 use Rattle.std.specs.Prelude.{ℕ, ◌+◌, true, false, Some}
-use Rattle.rasta_core_run.specs.identity.Role.{Role}
-use Rattle.rasta_core_run.specs.identity.Role.TheVariants as role
-use Rattle.rasta_core_run.specs.TrueClocks.{Offset}
+use Rattle.rasta_core_spec.specs.identity.Role.{Role}
+use Rattle.rasta_core_spec.specs.identity.Role.TheVariants as role
+use Rattle.rasta_core_spec.specs.TrueClocks.{Offset}
 use Rattle.rasta_core.specs.TimedEnds.{Inside, Outside, Timed, Times}
 
 abbrev pub with_timed : Role → Timed → Times → Times

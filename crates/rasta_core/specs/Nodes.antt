@@ -1,7 +1,7 @@
 -- A node of a world: the client of many links, or the server of one. What it does in a step, and how it is made anew.
 use Rattle.std.specs.Prelude.{ℕ, ◌==◌, Bool, true, false, List, [], ◌∷◌, map, if◌then◌else◌}
-use Rattle.rasta_core_run.specs.identity.Role.{Role}
-use Rattle.rasta_core_run.specs.Ends.{Call}
+use Rattle.rasta_core_spec.specs.identity.Role.{Role}
+use Rattle.rasta_core_spec.specs.Ends.{Call}
 use Rattle.rasta_core.specs.Links.{CallsOn, LinksEvent, RestartsOn}
 
 -- a call that a node makes at its end of a link

@@ -1,12 +1,12 @@
 -- Two ends as far as time goes: clocks, stamps, and when what was sent that they heard.
 -- All times but stamps are in microseconds; a stamp is an end's clock in milliseconds, modulo 2^32.
 use Rattle.std.specs.Prelude.{ℕ, Bool, true, false, Option, if◌then◌else◌}
-use Rattle.rasta_core_run.specs.State.{LinkState, is_open, is_asking}
-use Rattle.rasta_core_run.specs.identity.Role.{Role}
-use Rattle.rasta_core_run.specs.identity.Role.TheVariants as role
-use Rattle.rasta_core_run.specs.Ends.{EndState}
-use Rattle.rasta_core_run.specs.Run.{Ends}
-use Rattle.rasta_core_run.specs.TrueClocks.{Offset}
+use Rattle.rasta_core_spec.specs.State.{LinkState, is_open, is_asking}
+use Rattle.rasta_core_spec.specs.identity.Role.{Role}
+use Rattle.rasta_core_spec.specs.identity.Role.TheVariants as role
+use Rattle.rasta_core_spec.specs.Ends.{EndState}
+use Rattle.rasta_core_spec.specs.Run.{Ends}
+use Rattle.rasta_core_spec.specs.TrueClocks.{Offset}
 
 -- Where an end stands. Inside a connection: whether it still asks for it, the own stamp that the partner returned
 -- last, and the partner's stamp that it took last. Outside: when it left or was created, on its clock.

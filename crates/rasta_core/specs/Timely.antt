@@ -1,17 +1,17 @@
 -- The invariant of time: which stamps are how old, and which datagrams can still be delivered.
 use Rattle.std.specs.Prelude.{◌≡◌, ◌≢◌, ℕ, ◌+◌, ◌*◌, ◌≤◌, ◌<◌, Some}
-use Rattle.rasta_core_run.specs.Parameters.{time_limit}
-use Rattle.rasta_core_run.specs.Sequence.{stamp}
-use Rattle.rasta_core_run.specs.identity.Role.{Role}
-use Rattle.rasta_core_run.specs.identity.Role.TheVariants as role
-use Rattle.rasta_core_run.specs.Bag.{lifetime}
-use Rattle.rasta_core_run.specs.pdu.Pdu.{Pdu}
-use Rattle.rasta_core_run.specs.body.Body.{Body}
-use Rattle.rasta_core_run.specs.body.Body.TheVariants.{ConnectionRequest, DisconnectionRequest}
-use Rattle.rasta_core_run.specs.TrueClocks.{IsSmall, Offset, most_off}
+use Rattle.rasta_core_spec.specs.Parameters.{time_limit}
+use Rattle.rasta_core_spec.specs.Sequence.{stamp}
+use Rattle.rasta_core_spec.specs.identity.Role.{Role}
+use Rattle.rasta_core_spec.specs.identity.Role.TheVariants as role
+use Rattle.rasta_core_spec.specs.Bag.{lifetime}
+use Rattle.rasta_core_spec.specs.pdu.Pdu.{Pdu}
+use Rattle.rasta_core_spec.specs.body.Body.{Body}
+use Rattle.rasta_core_spec.specs.body.Body.TheVariants.{ConnectionRequest, DisconnectionRequest}
+use Rattle.rasta_core_spec.specs.TrueClocks.{IsSmall, Offset, most_off}
 use Rattle.rasta_core.specs.TimedEnds.{Timed, Times, IsInside, IsOutside, HasHeard, own_stamp, heard_stamp, closed_at, at_role}
-use Rattle.rasta_core_run.specs.Names.{partner_of}
-use Rattle.rasta_core_run.specs.Sentences.{IsRequest}
+use Rattle.rasta_core_spec.specs.Names.{partner_of}
+use Rattle.rasta_core_spec.specs.Sentences.{IsRequest}
 
 -- A clock that runs at least at 999 in 1000 of true time, and is off so far, read this stamp, in milliseconds, at this true
 -- time.

@@ -1,12 +1,12 @@
 -- A clock that runs fast, by events that are shorter than a millisecond.
 use Rattle.std.specs.Prelude.{ℕ, zero, suc, ◌+◌, ◌*◌, ◌-◌, ◌/◌, ◌≤◌, List, [], ◌∷◌}
-use Rattle.rasta_core_run.specs.Events.{Event, Passes}
+use Rattle.rasta_core_spec.specs.Events.{Event, Passes}
 
 -- what such a clock has after so many events of 100 microseconds: it gains one in each ten of them, which is 1 in 1000
 abbrev pub fast_clock : ℕ → ℕ
 fast_clock count = 100 * count + count / 10
 
--- so many of these events, behind this number of them: the client's clock runs fast, the server's is true
+-- so many of these events, after this number of them: the client's clock runs fast, the server's is true
 abbrev pub fast_from : ℕ → ℕ → List Event
 fast_from number zero = []
 fast_from number (suc count) = Passes 100 (fast_clock (suc number) - fast_clock number) 100 ∷ fast_from (suc number) count

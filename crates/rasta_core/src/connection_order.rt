@@ -1,23 +1,23 @@
 //! What holds of a connection in order, for the other laws.
 
 ghost use Rattle.std.specs.Prelude.{◌≡◌, ◌≤◌, ◌<◌, ◌^◌, ◌&&◌, ◌==◌, true, false, ℕ, List, [], ◌++◌, length, Ok, Err};
-ghost use Rattle.rasta_core_run.specs.Calls.{answer_to_send, closing_by, created, opening, opens, receiving, sending_item, ticking};
-ghost use Rattle.rasta_core_run.specs.Clock.{settled};
-ghost use Rattle.rasta_core_run.specs.Establishment.{granting, own_opening};
-ghost use Rattle.rasta_core_run.specs.Receipt.{hearing, refusing};
-ghost use Rattle.rasta_core_run.specs.PdusHandedOut.{entered, silent};
-ghost use Rattle.rasta_core_run.specs.State.{LinkState, confirmed_items, is_client, is_open};
-ghost use Rattle.rasta_core_run.specs.identity.Identity.{Identity};
-ghost use Rattle.rasta_core_run.specs.reason.Reason.{Reason};
-ghost use Rattle.rasta_core_run.specs.verdict.Verdict.{Verdict};
+ghost use Rattle.rasta_core_spec.specs.Calls.{answer_to_send, closing_by, created, opening, opens, receiving, sending_item, ticking};
+ghost use Rattle.rasta_core_spec.specs.Clock.{settled};
+ghost use Rattle.rasta_core_spec.specs.Establishment.{granting, own_opening};
+ghost use Rattle.rasta_core_spec.specs.Receipt.{hearing, refusing};
+ghost use Rattle.rasta_core_spec.specs.PdusHandedOut.{entered, silent};
+ghost use Rattle.rasta_core_spec.specs.State.{LinkState, confirmed_items, is_client, is_open};
+ghost use Rattle.rasta_core_spec.specs.identity.Identity.{Identity};
+ghost use Rattle.rasta_core_spec.specs.reason.Reason.{Reason};
+ghost use Rattle.rasta_core_spec.specs.verdict.Verdict.{Verdict};
 ghost use Rattle.rasta_core.specs.FirstPdus.{Asks, EarlyGoesOn, Grants, HearsOutside, IsEarly, PlaysEarly};
 ghost use Rattle.rasta_core.specs.Carried.{carried};
 ghost use Rattle.rasta_core.specs.Order.{InOrder, Way};
 ghost use Rattle.rasta_core.specs.EndFlow.{IsAt, IsOf, EndFlow};
 ghost use Rattle.rasta_core.specs.LinkAndFlow.{accepted, Plays, ReceiptGoesOn, StepGoesOn};
-ghost use Rattle.rasta_core_run.specs.PduRead.{reading};
-ghost use Rattle.rasta_core_run.specs.pdu_fault.PduFault.{PduFault};
-ghost use Rattle.rasta_core_run.specs.pdu.Pdu.{Pdu};
+ghost use Rattle.rasta_core_spec.specs.PduRead.{reading};
+ghost use Rattle.rasta_core_spec.specs.pdu_fault.PduFault.{PduFault};
+ghost use Rattle.rasta_core_spec.specs.pdu.Pdu.{Pdu};
 
 /// In each direction, what was taken is a beginning of what was given, and what an end holds to be confirmed is
 /// at most what its partner took.

@@ -1,5 +1,5 @@
 //! The link after RaSTA (DIN VDE V 0831-200): what is true of one link and of many links over one network after every list
-//! of events. One end stands in `rasta_core_link`, two ends with their datagrams in `rasta_core_run`; this is the door to
+//! of events. One end stands in `rasta_core_link`, two ends with their datagrams in `rasta_core_spec`; this is the door to
 //! all of it, and crates above name this one alone.
 #![tactic(auto)]
 
@@ -24,8 +24,9 @@ pub use one_link::{
     nothing_before_a_connection, order_is_safe, outside_until_it_enters, time_keeps_order,
     what_is_taken,
 };
-pub use rasta_core_run::{
-    Identity, Inbox, Link, Millis, Outbox, Reason, Role, SendFault, Sent, State, Verdict,
+pub use rasta_core_spec::{
+    CLOCK_LIMIT, Identity, Inbox, LATEST_CLOCK, LIFETIME, LIFETIME_MICROS, Link, MICROS, Millis,
+    Outbox, QUIET_TIME, ROUND, ROUND_MICROS, Reason, Role, SendFault, Sent, Start, State, Verdict,
 };
 pub use true_clocks::{
     a_fast_clock_keeps_time, drift_by_events_keeps_time, ends_keep_time_by_their_offsets,

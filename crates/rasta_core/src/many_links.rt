@@ -1,22 +1,22 @@
 //! Each link of a world, seen by itself: event by event, and after every list of events.
 
 ghost use Rattle.std.specs.Prelude.{◌≡◌, ◌≢◌, ℕ, ◌-◌, ◌^◌, ◌<◌, List, if◌then◌else◌};
-ghost use Rattle.rasta_core_run.specs.identity.Role.{Role};
-ghost use Rattle.rasta_core_run.specs.identity.Role.TheVariants as role;
+ghost use Rattle.rasta_core_spec.specs.identity.Role.{Role};
+ghost use Rattle.rasta_core_spec.specs.identity.Role.TheVariants as role;
 ghost use Rattle.rasta_core.specs.EachLink.{AreOrdered, AreTimely};
 ghost use Rattle.rasta_core.specs.Links.{AreLinks, LeavesClientOf, Links, LinksEvent, LinksStart, MayHappenTo, MayRunLinks, OnLink, RestartsOn, WasSent, begun, events_on, happened_to, run_links, run_on, seen, star, start_of};
 ghost use Rattle.rasta_core.specs.Nodes.{NodeCall, at_link, calls_of, is_among, restarts_of};
-ghost use Rattle.rasta_core_run.specs.Ends.{reading_of};
-ghost use Rattle.rasta_core_run.specs.Events.{AreForeign, IsDelivered, IsRun, MayRun, run};
-ghost use Rattle.rasta_core_run.specs.Given.{IsGiven};
-ghost use Rattle.rasta_core_run.specs.Names.{Names, partner_of};
-ghost use Rattle.rasta_core_run.specs.Newest.{IsNewest, IsUnused};
-ghost use Rattle.rasta_core_run.specs.Run.{end_of, restarted};
-ghost use Rattle.rasta_core_run.specs.Safe.{AreSafe};
-ghost use Rattle.rasta_core_run.specs.Sentences.{IsIn, IsOut};
-ghost use Rattle.rasta_core_run.specs.Steps.{EnterNone, IsAfter, StaysIn};
+ghost use Rattle.rasta_core_spec.specs.Ends.{reading_of};
+ghost use Rattle.rasta_core_spec.specs.Events.{AreForeign, IsDelivered, IsRun, MayRun, run};
+ghost use Rattle.rasta_core_spec.specs.Given.{IsGiven};
+ghost use Rattle.rasta_core_spec.specs.Names.{Names, partner_of};
+ghost use Rattle.rasta_core_spec.specs.Newest.{IsNewest, IsUnused};
+ghost use Rattle.rasta_core_spec.specs.Run.{end_of, restarted};
+ghost use Rattle.rasta_core_spec.specs.Safe.{AreSafe};
+ghost use Rattle.rasta_core_spec.specs.Sentences.{IsIn, IsOut};
+ghost use Rattle.rasta_core_spec.specs.Steps.{EnterNone, IsAfter, StaysIn};
 ghost use Rattle.rasta_core.specs.Invariant.{HasBeenOut};
-ghost use Rattle.rasta_core_run.specs.key.Key.{Key};
+ghost use Rattle.rasta_core_spec.specs.key.Key.{Key};
 
 use crate::{
     calls_at_one_clock, calls_follow_calls, every_event_keeps_order, every_event_keeps_time,

@@ -1,28 +1,28 @@
 //! The theorem of the link, for two ends that were just created and every list of events that may happen to them.
 
 ghost use Rattle.std.specs.Prelude.{◌≡◌, ◌≢◌, ◌⊎◌, ℕ, ◌+◌, ◌<◌, true, false, List, [], ◌∷◌, Some, None};
-ghost use Rattle.rasta_core_run.specs.identity.Role.{Role};
-ghost use Rattle.rasta_core_run.specs.identity.Role.TheVariants as role;
-ghost use Rattle.rasta_core_run.specs.State.{is_open};
-ghost use Rattle.rasta_core_run.specs.Ends.{Sent, Call, EndState, Receives, is_taken, outcome, reading_of};
-ghost use Rattle.rasta_core_run.specs.Steps.{EnterNone, IsAfter, StaysIn, calls_at};
-ghost use Rattle.rasta_core_run.specs.Run.{Ends, end_of, called, later};
-ghost use Rattle.rasta_core_run.specs.Events.{AreForeign, Event, IsDelivered, May, MayRun, Start, happened, run, started};
-ghost use Rattle.rasta_core_run.specs.Names.{AreNames, Names, partner_of};
+ghost use Rattle.rasta_core_spec.specs.identity.Role.{Role};
+ghost use Rattle.rasta_core_spec.specs.identity.Role.TheVariants as role;
+ghost use Rattle.rasta_core_spec.specs.State.{is_open};
+ghost use Rattle.rasta_core_spec.specs.Ends.{Sent, Call, EndState, Receives, is_taken, outcome, reading_of};
+ghost use Rattle.rasta_core_spec.specs.Steps.{EnterNone, IsAfter, StaysIn, calls_at};
+ghost use Rattle.rasta_core_spec.specs.Run.{Ends, end_of, called, later};
+ghost use Rattle.rasta_core_spec.specs.Events.{AreForeign, Event, IsDelivered, May, MayRun, Start, happened, run, started};
+ghost use Rattle.rasta_core_spec.specs.Names.{AreNames, Names, partner_of};
 ghost use Rattle.rasta_core.specs.Invariant.{Timely};
-ghost use Rattle.rasta_core_run.specs.Sentences.{IsOpening, IsOut, freshness, receipt_at};
-ghost use Rattle.rasta_core_run.specs.Given.{IsGiven};
+ghost use Rattle.rasta_core_spec.specs.Sentences.{IsOpening, IsOut, freshness, receipt_at};
+ghost use Rattle.rasta_core_spec.specs.Given.{IsGiven};
 ghost use Rattle.rasta_core.specs.Ordered.{Ordered};
-ghost use Rattle.rasta_core_run.specs.SafetyCode.{IsIntact};
-ghost use Rattle.rasta_core_run.specs.Newest.{IsNewest, IsUnused};
-ghost use Rattle.rasta_core_run.specs.Safe.{AreCounted, AreFew, AreSafe, DoesNothing, IsCountedAlone, IsIdle};
+ghost use Rattle.rasta_core_spec.specs.SafetyCode.{IsIntact};
+ghost use Rattle.rasta_core_spec.specs.Newest.{IsNewest, IsUnused};
+ghost use Rattle.rasta_core_spec.specs.Safe.{AreCounted, AreFew, AreSafe, DoesNothing, IsCountedAlone, IsIdle};
 
 use crate::{
     calls_carry_what_they_accept, calls_keep_order, client_alone, connection_begins,
     every_event_keeps_time, every_run_keeps_time, hearing_keeps_order, items_are_fresh,
     one_connection, opening_is_new, own_connection, partner_stays, parts_are_safe, starts_in_time,
 };
-use rasta_core_run::{read_was_written, written_is_read};
+use rasta_core_spec::{read_was_written, written_is_read};
 
 /// Two ends that were just created are in order, and every event that may happen keeps the order.
 pub fn every_event_keeps_order()

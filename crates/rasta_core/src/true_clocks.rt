@@ -2,26 +2,26 @@
 //! of real machines, however short the events are.
 
 ghost use Rattle.std.specs.Prelude.{◌≡◌, ◌⊎◌, ℕ, ◌-◌, ◌<◌, true, List};
-ghost use Rattle.rasta_core_run.specs.Events.{Event, IsWithinDrift, May, MayRun, Start, happened, run, started};
-ghost use Rattle.rasta_core_run.specs.Names.{AreNames, Names};
-ghost use Rattle.rasta_core_run.specs.Run.{Ends, later};
-ghost use Rattle.rasta_core_run.specs.Safe.{AreSafe};
-ghost use Rattle.rasta_core_run.specs.TrueClocks.{GoesOff, GoesOffSince, IsAtOnce, IsOffSince, IsSteady, KeepTime, MayAllCome, Moment, Offset, moment_of, moment_on, offsets_after, set};
-ghost use Rattle.rasta_core_run.specs.identity.Role.{Role};
-ghost use Rattle.rasta_core_run.specs.identity.Role.TheVariants as role;
+ghost use Rattle.rasta_core_spec.specs.Events.{Event, IsWithinDrift, May, MayRun, Start, happened, run, started};
+ghost use Rattle.rasta_core_spec.specs.Names.{AreNames, Names};
+ghost use Rattle.rasta_core_spec.specs.Run.{Ends, later};
+ghost use Rattle.rasta_core_spec.specs.Safe.{AreSafe};
+ghost use Rattle.rasta_core_spec.specs.TrueClocks.{GoesOff, GoesOffSince, IsAtOnce, IsOffSince, IsSteady, KeepTime, MayAllCome, Moment, Offset, moment_of, moment_on, offsets_after, set};
+ghost use Rattle.rasta_core_spec.specs.identity.Role.{Role};
+ghost use Rattle.rasta_core_spec.specs.identity.Role.TheVariants as role;
 ghost use Rattle.rasta_core.specs.Invariant.{Timely, TimelyBy};
 ghost use Rattle.rasta_core.specs.EachLink.{AreTimely, AreTimelyBy};
 ghost use Rattle.rasta_core.specs.Links.{AreAtOnce, AreLinks, Links, LinksEvent, LinksStart, MayRunLinks, PassesFor, all_offsets_on, begun, happened_to, run_links, seen};
 ghost use Rattle.rasta_core.specs.Nodes.{is_among, restarts_of};
-ghost use Rattle.rasta_core_run.specs.Given.{IsGiven};
-ghost use Rattle.rasta_core_run.specs.Newest.{IsNewest, IsUnused};
+ghost use Rattle.rasta_core_spec.specs.Given.{IsGiven};
+ghost use Rattle.rasta_core_spec.specs.Newest.{IsNewest, IsUnused};
 ghost use Rattle.rasta_core.specs.Ordered.{Ordered};
 ghost use Rattle.rasta_core.specs.Worked.{IsWithinDriftAnew, fast_clock, fast_from, runaway};
 
 use crate::{every_event_keeps_order, order_is_safe, time_keeps_order};
-use rasta_core_run::{read_was_written, written_is_read};
+use rasta_core_spec::{read_was_written, written_is_read};
 
-/// How far a clock is off between the moments behind it and now. Where it is steady since both, it is off no further than
+/// How far a clock is off between the moments after it and now. Where it is steady since both, it is off no further than
 /// ten microseconds.
 pub fn steady_clocks_are_off_little()
     ensures { (slow fast now : Moment) (old : Offset) (elapsed own : ℕ) → IsOffSince slow fast now old → IsSteady slow (moment_on elapsed own now)

@@ -2,22 +2,22 @@
 //! of what was sent at most 2000 ms before or isn't intact, losses and restarts.
 
 ghost use Rattle.std.specs.Prelude.{◌≡◌, ◌≢◌, ℕ, ◌+◌, ◌<◌, ◌≤◌, true, List, [], ◌∷◌, Option, Some, Ok};
-ghost use Rattle.rasta_core_run.specs.Clock.{settled};
-ghost use Rattle.rasta_core_run.specs.Parameters.{quiet_time};
-ghost use Rattle.rasta_core_run.specs.State.{is_up};
-ghost use Rattle.rasta_core_run.specs.identity.Role.{Role};
-ghost use Rattle.rasta_core_run.specs.identity.Role.TheVariants as role;
-ghost use Rattle.rasta_core_run.specs.Bag.{lifetime, newest_copy};
-ghost use Rattle.rasta_core_run.specs.Ends.{Call, Sent, Receives, is_taken, outcome, reading_of};
-ghost use Rattle.rasta_core_run.specs.Run.{Ends, end_of, called};
-ghost use Rattle.rasta_core_run.specs.Each.{Each};
-ghost use Rattle.rasta_core_run.specs.Events.{Event, IsDelivered, Restarts, May, MayCall, MayRun, Start, happened, run, started};
-ghost use Rattle.rasta_core_run.specs.Names.{AreNames, Names};
-ghost use Rattle.rasta_core_run.specs.Values.{IsPdu};
+ghost use Rattle.rasta_core_spec.specs.Clock.{settled};
+ghost use Rattle.rasta_core_spec.specs.Parameters.{quiet_time};
+ghost use Rattle.rasta_core_spec.specs.State.{is_up};
+ghost use Rattle.rasta_core_spec.specs.identity.Role.{Role};
+ghost use Rattle.rasta_core_spec.specs.identity.Role.TheVariants as role;
+ghost use Rattle.rasta_core_spec.specs.Bag.{lifetime, newest_copy};
+ghost use Rattle.rasta_core_spec.specs.Ends.{Call, Sent, Receives, is_taken, outcome, reading_of};
+ghost use Rattle.rasta_core_spec.specs.Run.{Ends, end_of, called};
+ghost use Rattle.rasta_core_spec.specs.Each.{Each};
+ghost use Rattle.rasta_core_spec.specs.Events.{Event, IsDelivered, Restarts, May, MayCall, MayRun, Start, happened, run, started};
+ghost use Rattle.rasta_core_spec.specs.Names.{AreNames, Names};
+ghost use Rattle.rasta_core_spec.specs.Values.{IsPdu};
 ghost use Rattle.rasta_core.specs.Invariant.{Timely, HasBeenOut};
-ghost use Rattle.rasta_core_run.specs.Sentences.{IsDownNow, LeavesClient, IsIn, IsOpening, IsOut, freshness, receipt_at};
+ghost use Rattle.rasta_core_spec.specs.Sentences.{IsDownNow, LeavesClient, IsIn, IsOpening, IsOut, freshness, receipt_at};
 
-use rasta_core_run::{read_was_written, written_is_read};
+use rasta_core_spec::{read_was_written, written_is_read};
 
 /// Two ends that were just created keep time, whatever their clocks and first sequence numbers.
 pub fn starts_in_time()

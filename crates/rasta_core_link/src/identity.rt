@@ -1,5 +1,6 @@
 //! Who the two ends of a link are.
 
+use crate::link::Millis;
 use rasta_pdu::Key;
 
 /// Which end opens: the client asks, the server answers.
@@ -30,4 +31,13 @@ pub struct Identity {
     pub partner: u32,
     /// The key of the network.
     pub key: Key,
+}
+
+/// How an end begins.
+#[derive(Clone, Copy, Debug)]
+pub struct Start {
+    /// The number of its first PDU.
+    pub first_sequence_number: u32,
+    /// The reading of its clock.
+    pub now: Millis,
 }

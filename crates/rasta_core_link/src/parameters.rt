@@ -13,7 +13,7 @@ pub(crate) const WINDOW_SIZE: usize = 20;
 pub(crate) const SEQUENCE_RANGE: u32 = 200;
 
 /// How long an end stays quiet after its creation and after every close.
-pub(crate) const QUIET_TIME: u64 = 6000;
+pub const QUIET_TIME: u64 = 6000;
 
 /// How many PDUs an end sends in a connection before it closes it.
 pub(crate) const CONNECTION_LIMIT: u32 = 2_147_483_000;

@@ -1,6 +1,6 @@
 //! What an end hands out: its PDUs, with their numbers and stamps.
 
-ghost use Rattle.std.specs.Prelude.{◌≡◌, ◌+◌, ◌^◌, ◌%◌, ◌<◌, ◌≤◌, length, IsTrue};
+ghost use Rattle.std.specs.Prelude.{◌≡◌, ◌+◌, ◌^◌, ◌%◌, ◌<◌, ◌≤◌, ◌&&◌, nat_le, length, IsTrue};
 ghost use Rattle.rasta_core_link.specs.Outbox.{HasRoomFor, posted};
 ghost use Rattle.rasta_core_link.specs.Parameters.{connection_limit, window_size};
 
@@ -113,6 +113,13 @@ impl Link {
         }
     }
 
+    /// Whether the next call closes it, whatever it is for: it has sent as many PDUs in its connection as an end may.
+    pub fn is_at_limit(&self) -> bool
+        ensures { result ≡ (is_open self.now.phase && nat_le connection_limit self.now.sent) }
+    {
+        self.phase.is_open() && self.sent >= CONNECTION_LIMIT
+    }
+
     /// An end that has sent so many PDUs in its connection closes it.
     #[tactic(auto, using(crate::proofs::OutboxPosts::posting), unfolding(crate::specs::PdusHandedOut::limited))]
     fn limit(&mut self, outbox: &mut Outbox)
@@ -120,7 +127,7 @@ impl Link {
         ensures link { self.new ≡ (limited self.old).link }
         ensures posted { outbox.new ≡ posted self.old.identity.key (limited self.old).pdus outbox.old }
     {
-        if self.phase.is_open() && self.sent >= CONNECTION_LIMIT {
+        if self.is_at_limit() {
             self.tell(Reason::Sequence, outbox);
         }
     }

@@ -1,18 +1,18 @@
 -- Who asks for a retransmission in a connection, and who answers. An end that misses a PDU asks its partner, and takes nothing in turn until
 -- the answer comes. Asks and answers are counted by their numbers: how often the network copies them, or loses them, doesn't matter.
 use Rattle.std.specs.Prelude.{◌≡◌, ℕ, ◌+◌, ◌≤◌, ◌<◌, ◌⊎◌, List, Some, Ok}
-use Rattle.rasta_core_run.specs.Ends.{Call, EndState, Receives, Sent}
-use Rattle.rasta_core_run.specs.Events.{Calls, Event, IsAmong}
-use Rattle.rasta_core_run.specs.Names.{Names}
-use Rattle.rasta_core_run.specs.PduRead.{reading}
-use Rattle.rasta_core_run.specs.Run.{Ends}
-use Rattle.rasta_core_run.specs.Sequence.{wire}
-use Rattle.rasta_core_run.specs.State.{LinkState}
-use Rattle.rasta_core_run.specs.identity.Role.{Role}
-use Rattle.rasta_core_run.specs.identity.Role.TheVariants as role
-use Rattle.rasta_core_run.specs.pdu.Pdu.{Pdu}
-use Rattle.rasta_core_run.specs.phase.Phase.TheVariants as phase
-use Rattle.rasta_core_run.specs.body.Body.TheVariants.{RetransmissionRequest, RetransmissionResponse}
+use Rattle.rasta_core_spec.specs.Ends.{Call, EndState, Receives, Sent}
+use Rattle.rasta_core_spec.specs.Events.{Calls, Event, IsAmong}
+use Rattle.rasta_core_spec.specs.Names.{Names}
+use Rattle.rasta_core_spec.specs.PduRead.{reading}
+use Rattle.rasta_core_spec.specs.Run.{Ends}
+use Rattle.rasta_core_spec.specs.Sequence.{wire}
+use Rattle.rasta_core_spec.specs.State.{LinkState}
+use Rattle.rasta_core_spec.specs.identity.Role.{Role}
+use Rattle.rasta_core_spec.specs.identity.Role.TheVariants as role
+use Rattle.rasta_core_spec.specs.pdu.Pdu.{Pdu}
+use Rattle.rasta_core_spec.specs.phase.Phase.TheVariants as phase
+use Rattle.rasta_core_spec.specs.body.Body.TheVariants.{RetransmissionRequest, RetransmissionResponse}
 use Rattle.rasta_core_recovery.specs.Confirming.{AreIn, reached_by}
 
 -- two ends as one of them sees them: itself, its partner, and what both have sent
@@ -84,8 +84,8 @@ pub record AreFew (names : Names) (view : View) : Type 0 where
   pub one_answer : (one other : ℕ) → AnswerComes names view one → AnswerComes names view other → one ≡ other
   pub not_both : (asked answered : ℕ) → AskComes names view asked → AnswerComes names view answered → ⊥
 
--- An end that waits asked last under this number: behind that it has asked no more, and answered nothing. Its partner hasn't passed the ask
--- yet, or the answer is still to come. And the partner has said a PDU behind the one that the end expects.
+-- An end that waits asked last under this number: after that it has asked no more, and answered nothing. Its partner hasn't passed the ask
+-- yet, or the answer is still to come. And the partner has said a PDU after the one that the end expects.
 pub record HasAsked (names : Names) (view : View) : Type 0 where
   pub number : ℕ
   pub ask : IsAsk names view number

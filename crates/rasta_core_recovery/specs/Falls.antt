@@ -1,22 +1,22 @@
--- Nothing that an end sends falls behind what it sent before: in a connection the numbers of its PDUs go on, and neither their stamps
+-- Nothing that an end sends falls after what it sent before: in a connection the numbers of its PDUs go on, and neither their stamps
 -- nor what they confirm and return falls.
 use Rattle.std.specs.Prelude.{◌≡◌, ℕ, ◌+◌, ◌-◌, ◌*◌, ◌≤◌, ◌<◌, true, false, List, [], ◌∷◌, Option, Some, Ok, if◌then◌else◌}
-use Rattle.rasta_core_run.specs.Bag.{lifetime}
-use Rattle.rasta_core_run.specs.Each.{Each}
-use Rattle.rasta_core_run.specs.Ends.{Sent, reading_of}
-use Rattle.rasta_core_run.specs.Names.{Names}
-use Rattle.rasta_core_run.specs.Run.{Ends}
-use Rattle.rasta_core_run.specs.Sequence.{stamp, wire}
-use Rattle.rasta_core_run.specs.State.{LinkState, is_asking}
-use Rattle.rasta_core_run.specs.identity.Role.{Role}
-use Rattle.rasta_core_run.specs.identity.Role.TheVariants as role
-use Rattle.rasta_core_run.specs.PduRead.{reading}
-use Rattle.rasta_core_run.specs.pdu.Pdu.{Pdu}
+use Rattle.rasta_core_spec.specs.Bag.{lifetime}
+use Rattle.rasta_core_spec.specs.Each.{Each}
+use Rattle.rasta_core_spec.specs.Ends.{Sent, reading_of}
+use Rattle.rasta_core_spec.specs.Names.{Names}
+use Rattle.rasta_core_spec.specs.Run.{Ends}
+use Rattle.rasta_core_spec.specs.Sequence.{stamp, wire}
+use Rattle.rasta_core_spec.specs.State.{LinkState, is_asking}
+use Rattle.rasta_core_spec.specs.identity.Role.{Role}
+use Rattle.rasta_core_spec.specs.identity.Role.TheVariants as role
+use Rattle.rasta_core_spec.specs.PduRead.{reading}
+use Rattle.rasta_core_spec.specs.pdu.Pdu.{Pdu}
 use Rattle.rasta_core.specs.Timely.{WasReadThen}
 use Rattle.rasta_core_recovery.specs.Confirming.{AreIn}
 
 -- Where the sender of a PDU stands as it has sent it: how many PDUs it has sent, what its clock reads, how many PDUs of its partner it
--- confirms behind the first, and the reading of its partner's clock whose stamp it returns.
+-- confirms after the first, and the reading of its partner's clock whose stamp it returns.
 pub record Stand : Type 0 where
   pub sent : ℕ
   pub now : ℕ
@@ -43,7 +43,7 @@ marks_of ends = record {
 abbrev pub unmarked : Marks
 unmarked = record { client = record { sent = 0; now = 0 }; server = record { sent = 0; now = 0 } }
 
--- what is confirmed and what is returned belong together: where a PDU from behind the marked moment is returned, so many are confirmed
+-- what is confirmed and what is returned belong together: where a PDU from after the marked moment is returned, so many are confirmed
 abbrev pub IsPaired : Mark → ℕ → ℕ → Type 0
 IsPaired mark confirms returns = confirms < mark.sent → returns ≤ mark.now
 
@@ -97,7 +97,7 @@ IsOf names speaker datagram at =
     datagram.sender ≡ speaker.who → speaker.connection ≡ Some datagram.connection → speaker.time ≤ datagram.at + lifetime → (pdu : Pdu) → reading names.key datagram.bytes ≡ Ok pdu
     → IsToldAt speaker datagram.at at pdu
 
--- how many PDUs of its partner an end confirms behind the first
+-- how many PDUs of its partner an end confirms after the first
 abbrev pub confirmed_by : LinkState → ℕ
 confirmed_by link = if is_asking link then 0 else link.expected - 1
 

@@ -1,13 +1,13 @@
 -- A first round, in which anything may come that was sent by then, before it or in it: in any order, again and again, or never.
 use Rattle.std.specs.Prelude.{◌≡◌, ℕ, ◌⊎◌, true, ◌+◌, List, [], ◌∷◌, ◌++◌, length}
-use Rattle.rasta_core_run.specs.identity.Role.{Role}
-use Rattle.rasta_core_run.specs.identity.Role.TheVariants as role
-use Rattle.rasta_core_run.specs.Each.{Each}
-use Rattle.rasta_core_run.specs.Ends.{Sent}
-use Rattle.rasta_core_run.specs.Events.{Event, IsAmong, MayRun, Passes, run}
-use Rattle.rasta_core_run.specs.Names.{Names}
-use Rattle.rasta_core_run.specs.Run.{Ends}
-use Rattle.rasta_core_run.specs.State.{is_open}
+use Rattle.rasta_core_spec.specs.identity.Role.{Role}
+use Rattle.rasta_core_spec.specs.identity.Role.TheVariants as role
+use Rattle.rasta_core_spec.specs.Each.{Each}
+use Rattle.rasta_core_spec.specs.Ends.{Sent}
+use Rattle.rasta_core_spec.specs.Events.{Event, IsAmong, MayRun, Passes, run}
+use Rattle.rasta_core_spec.specs.Names.{Names}
+use Rattle.rasta_core_spec.specs.Run.{Ends}
+use Rattle.rasta_core_spec.specs.State.{is_open}
 use Rattle.rasta_core_recovery.specs.Rounds.{Flow, IsBelowLimit, StayBelowLimit, comings, own_work}
 use Rattle.rasta_core_recovery.specs.Work.{AreAtWork, IsCall, IsWorkAt, calls_in, due_to, work_round}
 
@@ -32,7 +32,7 @@ pub record ComeFirst (names : Names) (due : List Sent) (f : Flow) : Type 0 where
 abbrev pub WereSaidBefore : Role → List Sent → List Sent → Type 0
 WereSaidBefore who sent due = Each (λ (d : Sent). d.sender ≡ who → IsAmong d sent) due
 
--- both ends are below the limit of PDUs before such a round, behind it, and after each of these good rounds behind it
+-- both ends are below the limit of PDUs before such a round, after it, and after each of these good rounds after it
 abbrev pub StayBelowLimitFrom : List Sent → ℕ → Flow → Type 0
 StayBelowLimitFrom due n f = IsBelowLimit f.ends.client × IsBelowLimit f.ends.server × StayBelowLimit n (round_of due f)
 

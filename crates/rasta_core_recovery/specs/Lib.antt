@@ -8,3 +8,4 @@ pub mod ServerConfirming
 pub mod Asks
 pub mod Falls
 pub mod LongAgo
+pub mod inside

@@ -1,14 +1,14 @@
 -- What an end sent and gave long ago doesn't wait any more.
 use Rattle.std.specs.Prelude.{ℕ, ◌≡◌, ◌≢◌, ◌+◌, ◌≤◌, ◌<◌, length, Ok}
-use Rattle.rasta_core_run.specs.Ends.{EndState, Receives}
-use Rattle.rasta_core_run.specs.Events.{Calls, Event}
-use Rattle.rasta_core_run.specs.Names.{Names}
-use Rattle.rasta_core_run.specs.PduRead.{reading}
-use Rattle.rasta_core_run.specs.Run.{Ends}
-use Rattle.rasta_core_run.specs.State.{LinkState}
-use Rattle.rasta_core_run.specs.body.Body.TheVariants.{RetransmissionRequest}
-use Rattle.rasta_core_run.specs.identity.Role.{Role}
-use Rattle.rasta_core_run.specs.pdu.Pdu.{Pdu}
+use Rattle.rasta_core_spec.specs.Ends.{EndState, Receives}
+use Rattle.rasta_core_spec.specs.Events.{Calls, Event}
+use Rattle.rasta_core_spec.specs.Names.{Names}
+use Rattle.rasta_core_spec.specs.PduRead.{reading}
+use Rattle.rasta_core_spec.specs.Run.{Ends}
+use Rattle.rasta_core_spec.specs.State.{LinkState}
+use Rattle.rasta_core_spec.specs.body.Body.TheVariants.{RetransmissionRequest}
+use Rattle.rasta_core_spec.specs.identity.Role.{Role}
+use Rattle.rasta_core_spec.specs.pdu.Pdu.{Pdu}
 use Rattle.rasta_core_recovery.specs.Confirming.{AreIn}
 use Rattle.rasta_core_recovery.specs.Falls.{WaitFrom}
 

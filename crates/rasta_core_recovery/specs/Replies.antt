@@ -1,12 +1,12 @@
 -- Two rounds at work, in the first of which the server gives an item, or the client says something.
 use Rattle.std.specs.Prelude.{◌≡◌, ℕ, true, List, ◌∷◌, ◌++◌, ◌<◌, ◌≤◌, is_ok}
-use Rattle.rasta_core_run.specs.Calls.{answer_to_send}
-use Rattle.rasta_core_run.specs.identity.Role.TheVariants as role
-use Rattle.rasta_core_run.specs.Each.{Each}
-use Rattle.rasta_core_run.specs.Ends.{EndState, Sends, reading_of}
-use Rattle.rasta_core_run.specs.Events.{Event, Calls, run}
-use Rattle.rasta_core_run.specs.Names.{Names}
-use Rattle.rasta_core_run.specs.Run.{Ends, later}
+use Rattle.rasta_core_spec.specs.Calls.{answer_to_send}
+use Rattle.rasta_core_spec.specs.identity.Role.TheVariants as role
+use Rattle.rasta_core_spec.specs.Each.{Each}
+use Rattle.rasta_core_spec.specs.Ends.{EndState, Sends, reading_of}
+use Rattle.rasta_core_spec.specs.Events.{Event, Calls, run}
+use Rattle.rasta_core_spec.specs.Names.{Names}
+use Rattle.rasta_core_spec.specs.Run.{Ends, later}
 use Rattle.rasta_core_recovery.specs.Rounds.{Flow}
 use Rattle.rasta_core_recovery.specs.Work.{HaveRoom, IsAtWork, LeavesOpen, work_round}
 
@@ -16,11 +16,11 @@ pub record StaysAtWork (names : Names) (f : Flow) (calls : List Event) : Type 0 
   pub opens : Each LeavesOpen calls
   pub room : HaveRoom calls (later 10000 10000 10000 f.ends)
 
--- the server is given an item behind these calls, and before those
+-- the server is given an item after these calls, and before those
 abbrev pub with_reply : List Event → List ℕ → List Event → List Event
 with_reply front item rest = front ++ Calls role.Server (Sends item) ∷ rest
 
--- two ends in a round, behind these calls of it
+-- two ends in a round, after these calls of it
 abbrev pub in_round : List Event → Flow → Ends
 in_round front f = run front (later 10000 10000 10000 f.ends)
 
@@ -28,11 +28,11 @@ in_round front f = run front (later 10000 10000 10000 f.ends)
 abbrev pub Accepts : EndState → Type 0
 Accepts end = is_ok (answer_to_send (reading_of end.clock) end.link) ≡ true
 
--- the client says something in a round of these calls, behind the first of them
+-- the client says something in a round of these calls, after the first of them
 abbrev pub ClientSpeaks : List Event → List Event → Flow → Type 0
 ClientSpeaks front rest f = (in_round front f).client.link.sent < (work_round (front ++ rest) f).ends.client.link.sent
 
--- in so many rounds a client that is up says something: its heartbeat is due 300 ms behind what it said last
+-- in so many rounds a client that is up says something: its heartbeat is due 300 ms after what it said last
 abbrev pub speaking_rounds : ℕ
 speaking_rounds = 30
 

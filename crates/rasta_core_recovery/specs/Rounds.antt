@@ -1,13 +1,13 @@
 -- Good rounds of two ends and the datagrams between them: all that was sent comes, in order, and each end ticks every 10 ms.
 use Rattle.std.specs.Prelude.{◌≡◌, ℕ, zero, suc, ◌+◌, ◌≤◌, ◌<◌, Bool, true, not, ◌&&◌, nat_le, List, [], ◌∷◌, ◌++◌, length, drop, if◌then◌else◌}
-use Rattle.rasta_core_run.specs.Parameters.{connection_limit}
-use Rattle.rasta_core_run.specs.State.{is_up, is_open}
-use Rattle.rasta_core_run.specs.identity.Role.TheVariants as role
-use Rattle.rasta_core_run.specs.Bag.{lifetime}
-use Rattle.rasta_core_run.specs.Ends.{Sent, EndState, Ticks, Opens, Receives}
-use Rattle.rasta_core_run.specs.Events.{Event, Calls, Passes, Start, run, started}
-use Rattle.rasta_core_run.specs.Names.{Names, partner_of}
-use Rattle.rasta_core_run.specs.Run.{Ends}
+use Rattle.rasta_core_spec.specs.Parameters.{connection_limit}
+use Rattle.rasta_core_spec.specs.State.{is_up, is_open}
+use Rattle.rasta_core_spec.specs.identity.Role.TheVariants as role
+use Rattle.rasta_core_spec.specs.Bag.{lifetime}
+use Rattle.rasta_core_spec.specs.Ends.{Sent, EndState, Ticks, Opens, Receives}
+use Rattle.rasta_core_spec.specs.Events.{Event, Calls, Passes, Start, run, started}
+use Rattle.rasta_core_spec.specs.Names.{Names, partner_of}
+use Rattle.rasta_core_spec.specs.Run.{Ends}
 
 -- two ends, and how many of the datagrams that were sent no round tries any more
 pub record Flow : Type 0 where
@@ -69,7 +69,7 @@ recovery_rounds = 1561
 abbrev pub gap_rounds : ℕ
 gap_rounds = 604
 
--- and both then stay up until at least so many rounds behind the one in which an end wasn't: more than 20 years. For an end to
+-- and both then stay up until at least so many rounds after the one in which an end wasn't: more than 20 years. For an end to
 -- which nothing is given says a PDU in 300 ms, and a connection has room for 2147483000.
 abbrev pub calm_rounds : ℕ
 calm_rounds = 64000000000

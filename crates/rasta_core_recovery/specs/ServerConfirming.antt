@@ -1,13 +1,13 @@
 -- How few items of a server wait whose client awaits answers: it never gives more than so many items beyond those that it has taken.
 use Rattle.std.specs.Prelude.{◌≡◌, ℕ, ◌+◌, ◌≤◌, true, false, length, Some, Ok}
-use Rattle.rasta_core_run.specs.Each.{Each}
-use Rattle.rasta_core_run.specs.Ends.{Sent}
-use Rattle.rasta_core_run.specs.Names.{Names}
-use Rattle.rasta_core_run.specs.Run.{Ends}
-use Rattle.rasta_core_run.specs.State.{is_open}
-use Rattle.rasta_core_run.specs.identity.Role.TheVariants as role
-use Rattle.rasta_core_run.specs.PduRead.{reading}
-use Rattle.rasta_core_run.specs.pdu.Pdu.{Pdu}
+use Rattle.rasta_core_spec.specs.Each.{Each}
+use Rattle.rasta_core_spec.specs.Ends.{Sent}
+use Rattle.rasta_core_spec.specs.Names.{Names}
+use Rattle.rasta_core_spec.specs.Run.{Ends}
+use Rattle.rasta_core_spec.specs.State.{is_open}
+use Rattle.rasta_core_spec.specs.identity.Role.TheVariants as role
+use Rattle.rasta_core_spec.specs.PduRead.{reading}
+use Rattle.rasta_core_spec.specs.pdu.Pdu.{Pdu}
 use Rattle.rasta_core.specs.Order.{IsClosing}
 use Rattle.rasta_core_recovery.specs.Confirming.{AreIn, IsNumbered}
 

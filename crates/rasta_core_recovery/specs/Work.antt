@@ -1,15 +1,15 @@
 -- Rounds of two ends at work: as good rounds, but that an end may be given items at any time, and may be closed.
 use Rattle.std.specs.Prelude.{◌≡◌, ℕ, ◌+◌, ◌^◌, ◌<◌, ◌≤◌, ◌&&◌, true, List, [], ◌∷◌, ◌++◌, length, drop, Some, if◌then◌else◌}
-use Rattle.rasta_core_run.specs.Parameters.{connection_limit}
-use Rattle.rasta_core_run.specs.State.{is_open, is_up}
-use Rattle.rasta_core_run.specs.identity.Role.{Role}
-use Rattle.rasta_core_run.specs.identity.Role.TheVariants as role
-use Rattle.rasta_core_run.specs.Each.{Each}
-use Rattle.rasta_core_run.specs.Ends.{Sent, EndState, Call, Ticks, Opens, Closes, Sends, Receives}
-use Rattle.rasta_core_run.specs.Events.{Event, Calls, Passes, Loses, Restarts, Elsewhere, MayRun, happened, run}
-use Rattle.rasta_core_run.specs.Given.{is_same}
-use Rattle.rasta_core_run.specs.Names.{Names, partner_of}
-use Rattle.rasta_core_run.specs.Run.{Ends, later}
+use Rattle.rasta_core_spec.specs.Parameters.{connection_limit}
+use Rattle.rasta_core_spec.specs.State.{is_open, is_up}
+use Rattle.rasta_core_spec.specs.identity.Role.{Role}
+use Rattle.rasta_core_spec.specs.identity.Role.TheVariants as role
+use Rattle.rasta_core_spec.specs.Each.{Each}
+use Rattle.rasta_core_spec.specs.Ends.{Sent, EndState, Call, Ticks, Opens, Closes, Sends, Receives}
+use Rattle.rasta_core_spec.specs.Events.{Event, Calls, Passes, Loses, Restarts, Elsewhere, MayRun, happened, run}
+use Rattle.rasta_core_spec.specs.Given.{is_same}
+use Rattle.rasta_core_spec.specs.Names.{Names, partner_of}
+use Rattle.rasta_core_spec.specs.Run.{Ends, later}
 use Rattle.rasta_core_recovery.specs.Rounds.{Flow, can_come}
 
 -- an end is called, or datagrams are sent on other links
@@ -52,7 +52,7 @@ IsBeforeTick (Closes why) = Unit {0}
 IsBeforeTick (Sends item) = Unit {0}
 IsBeforeTick (Receives bytes connection) = Unit {0}
 
--- and what behind it
+-- and what after it
 abbrev pub IsBehindTick : Call → Type 0
 IsBehindTick Ticks = ⊥
 IsBehindTick Opens = ⊥
@@ -90,7 +90,7 @@ due_to who time (first ∷ later) =
 abbrev pub HasRoom : EndState → Type 0
 HasRoom end = is_open end.link.phase ≡ true → end.link.sent < connection_limit
 
--- both have, before each of these events and behind the last
+-- both have, before each of these events and after the last
 abbrev pub HaveRoom : List Event → Ends → Type 0
 HaveRoom [] ends = HasRoom ends.client × HasRoom ends.server
 HaveRoom (first ∷ others) ends = HasRoom ends.client × HasRoom ends.server × HaveRoom others (happened first ends)

@@ -1,12 +1,12 @@
 -- Rounds of a client that goes wrong: it opens only where that is so of the number of PDUs that it sent in its last connection.
 -- Such a client is safe, and useless.
 use Rattle.std.specs.Prelude.{◌≡◌, ℕ, zero, suc, ◌+◌, ◌==◌, nat_lt, Bool, true, false, List, [], ◌∷◌, ◌++◌, length, drop}
-use Rattle.rasta_core_run.specs.Parameters.{connection_limit}
-use Rattle.rasta_core_run.specs.State.{is_open}
-use Rattle.rasta_core_run.specs.identity.Role.TheVariants as role
-use Rattle.rasta_core_run.specs.Ends.{Ticks, Opens}
-use Rattle.rasta_core_run.specs.Events.{Event, Calls, Passes, MayRun, Start, run, started}
-use Rattle.rasta_core_run.specs.Names.{Names}
+use Rattle.rasta_core_spec.specs.Parameters.{connection_limit}
+use Rattle.rasta_core_spec.specs.State.{is_open}
+use Rattle.rasta_core_spec.specs.identity.Role.TheVariants as role
+use Rattle.rasta_core_spec.specs.Ends.{Ticks, Opens}
+use Rattle.rasta_core_spec.specs.Events.{Event, Calls, Passes, MayRun, Start, run, started}
+use Rattle.rasta_core_spec.specs.Names.{Names}
 use Rattle.rasta_core_recovery.specs.Rounds.{AreUp, Flow, comings, flow_after, own_work}
 
 -- it asks once, and never again

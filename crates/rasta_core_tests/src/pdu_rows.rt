@@ -237,7 +237,7 @@ fn bytes_that_are_no_pdu_are_refused(rt: HostRuntime) {
     }
 }
 
-/// The PDU with one aspect, cut behind so many bytes.
+/// The PDU with one aspect, cut after so many bytes.
 fn cut_behind(length: usize) -> Bytes {
     let mut bytes = bytes_of(ONE_ASPECT);
     bytes.truncate(length);

@@ -126,6 +126,13 @@ pdu_found bytes pdu fits long length_right e =
     let whole : bytes ≡ text (value_of bytes a.0) = all_there bytes fits long ∙ spelled_by bytes (length (payload a.0) + 36) (type_of a.0) (payload a.0) len (sym f.number_is) f.spelled ∙ sym (value_text bytes a.0) in
     subst (λ (p : Pdu). IsPdu p × (bytes ≡ text p)) (ok_is (value_of bytes a.0) pdu a.2) (value_fits bytes a.0 fits f.fits, whole)
 
+-- the sender of what is read, whatever its bytes are
+pub sender_found : (bytes : List ℕ) (pdu : Pdu) → pdu_of bytes ≡ Ok pdu → u32_at 8 bytes ≡ pdu.sender
+unfolding pdu_of
+sender_found bytes pdu e =
+    let a = bind_ok (body_of (u16_at 2 bytes) (drop 28 bytes)) (λ body. Ok (value_of bytes body)) pdu e in
+    ap (λ (p : Pdu). p.sender) (ok_is (value_of bytes a.0) pdu a.2)
+
 -- ---- what is spelled so is read
 
 same_value : (pdu : Pdu) (a b c d e f : ℕ) → a ≡ pdu.receiver → b ≡ pdu.sender → c ≡ pdu.sequence_number → d ≡ pdu.confirmed_sequence_number → e ≡ pdu.time_stamp → f ≡ pdu.confirmed_time_stamp

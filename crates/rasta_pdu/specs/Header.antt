@@ -10,6 +10,10 @@ use Rattle.rasta_pdu.specs.Values.{IsPdu}
 abbrev pub receiver_of : List ℕ → ℕ
 receiver_of bytes = u32_at 4 bytes
 
+-- the identity of the sender
+abbrev pub sender_of : List ℕ → ℕ
+sender_of bytes = u32_at 8 bytes
+
 -- the type is that of a connection request
 abbrev pub is_request : List ℕ → Bool
 is_request bytes = u16_at 2 bytes == 6200

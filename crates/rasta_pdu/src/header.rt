@@ -1,7 +1,7 @@
 //! What the first bytes of a datagram say. They aren't judged: no length and no safety code is looked at.
 
 ghost use Rattle.std.specs.Prelude.{◌≡◌, ◌==◌, slice_index};
-ghost use Rattle.rasta_pdu.specs.Header.{AreOf, is_request, receiver_of};
+ghost use Rattle.rasta_pdu.specs.Header.{AreOf, is_request, receiver_of, sender_of};
 ghost use Rattle.rasta_pdu.specs.Spelling.{type_of};
 ghost use Rattle.rasta_pdu.specs.declared.pdu.Pdu.{Pdu};
 
@@ -27,6 +27,19 @@ pub fn receiver_of(bytes: &[u8]) -> u32
         byte_at(bytes, 5),
         byte_at(bytes, 6),
         byte_at(bytes, 7),
+    ])
+}
+
+/// The identity of the sender that a datagram names.
+pub fn sender_of(bytes: &[u8]) -> u32
+    ensures value { result ≡ sender_of bytes.now }
+    ensures written { (pdu : Pdu) → AreOf pdu bytes.now → result ≡ pdu.sender }
+{
+    u32::from_le_bytes([
+        byte_at(bytes, 8),
+        byte_at(bytes, 9),
+        byte_at(bytes, 10),
+        byte_at(bytes, 11),
     ])
 }
 

@@ -2,6 +2,7 @@
 
 ghost use Rattle.std.specs.Prelude.{◌≡◌, ◌≤◌, ◌↔◌, ℕ, List, length, Ok, Err, IsTrue};
 ghost use Rattle.rasta_pdu.specs.Faults.{IsFault};
+ghost use Rattle.rasta_pdu.specs.Header.{sender_of};
 ghost use Rattle.rasta_pdu.specs.PduRead.{reading};
 ghost use Rattle.rasta_pdu.specs.SafetyCode.{IsIntact, intact};
 ghost use Rattle.rasta_pdu.specs.Spelling.{Spells, writing};
@@ -35,6 +36,11 @@ pub fn read_was_written()
 pub fn the_first_fault_is_told()
     ensures { (key : Key) (bytes : List ℕ) (fault : PduFault) → IsBytes bytes
         → (reading key bytes ≡ Err fault) ↔ IsFault key bytes fault }
+{}
+
+/// What is read has the sender that its first bytes tell.
+pub fn the_sender_is_told()
+    ensures { (key : Key) (bytes : List ℕ) (pdu : Pdu) → reading key bytes ≡ Ok pdu → sender_of bytes ≡ pdu.sender }
 {}
 
 /// The test for intact bytes is true exactly of intact bytes.

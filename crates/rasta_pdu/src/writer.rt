@@ -21,6 +21,12 @@ use byteorder::{ByteOrder, LittleEndian};
 /// The bytes of one PDU, as they are sent: there is room for 256, of which a PDU takes at most 225.
 pub type Datagram = ArrayVec<u8, 256>;
 
+/// The longest datagram that an end hears whole: a longer one is no PDU.
+pub const LONGEST_DATAGRAM: usize = 512;
+
+/// The bytes of a datagram as they come from the network, whatever they are.
+pub type Received = ArrayVec<u8, LONGEST_DATAGRAM>;
+
 /// The bytes of a payload: at most three items of 61 bytes, each with its length.
 type Payload = ArrayVec<u8, 189>;
 

@@ -1,10 +1,11 @@
 -- What is told of a route's approach, and when it lets the route go.
 use Rattle.std.specs.Prelude.{◌≡◌, ◌+◌, ◌-◌, ◌^◌, ◌≤◌, ◌⊎◌, ◌||◌, ℕ, Bool, true, false, not, nat_le, min, List, [], ◌∷◌}
 use Rattle.std.specs.List.{Contains}
+use Rattle.release.specs.declared.approach.TheConstants.{APPROACH_TIME}
 
 -- The clock reading at which the approach time is over. Clocks stop at the greatest reading.
 abbrev pub approach_end : ℕ → ℕ
-approach_end ended_at = min (ended_at + 120000) (2 ^ 64 - 1)
+approach_end ended_at = min (ended_at + APPROACH_TIME) (2 ^ 64 - 1)
 
 -- The approach lets the route go: it was never told that a section is occupied or unknown, or its time is over.
 abbrev pub IsDue : List Bool → ℕ → ℕ → Type 0

@@ -1,4 +1,3 @@
-pub mod WorldAnswers
 pub mod Verdicts
 pub mod EventAnswers
 pub mod Noted

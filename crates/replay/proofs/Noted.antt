@@ -3,8 +3,8 @@ use Rattle.std.proofs.Common.{◌≡◌, ◌<◌, ◌≤◌, ◌+◌, ℕ, suc, 
 use Rattle.std.proofs.lemmas.List.{drop_more, drop_all, drop-drop, drop-set-lt, length-set, take_all, take_more_set}
 use Rattle.simulator.specs.layout.declared.ids.PointId.{PointId}
 use Rattle.simulator.specs.sci_telegram.declared.message.Side.{Side}
-use Rattle.simulator.specs.simulator_run.declared.round.FoundDriven.{FoundDriven}
-use Rattle.simulator.specs.simulator_run.Flow.{next_drive, next_drives}
+use Rattle.simulator.specs.simulator_spec.declared.round.FoundDriven.{FoundDriven}
+use Rattle.simulator.specs.simulator_spec.Flow.{next_drive, next_drives}
 
 one_more : (n : ℕ) → suc n ≡ n + 1
 one_more n = omega arith

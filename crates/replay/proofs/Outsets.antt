@@ -16,7 +16,7 @@ use Rattle.simulator.specs.sci_telegram.declared.message.Occupancy.{Occupancy}
 use Rattle.simulator.specs.sci_telegram.declared.message.Occupancy.TheVariants as occupancies
 use Rattle.simulator.specs.sci_telegram.declared.message.Position.{Position}
 use Rattle.simulator.specs.sci_telegram.declared.message.Position.TheVariants as positions
-use Rattle.simulator.specs.simulator_run.First.{IsOutsetOf, Outset, at_rest}
+use Rattle.simulator.specs.simulator_spec.First.{IsOutsetOf, Outset, at_rest}
 use Rattle.replay.specs.Outset.{LieAsSaid, LiesAs, line_in, lines_in, outset_of}
 
 -- ---- one place of a list

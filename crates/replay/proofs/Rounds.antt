@@ -2,12 +2,12 @@
 use Rattle.std.proofs.Common.{◌≡◌, ◌<◌, ◌≤◌, ◌-◌, ◌+◌, ℕ, suc, List, [], ◌∷◌, ◌++◌, length, take, drop, get_or, Option, Ok, Err, refl, ap, sym, ◌∙◌, subst, arith, append-nil, append_assoc}
 use Rattle.std.proofs.lemmas.List.{drop_more, drop_all, take_more}
 use Rattle.simulator.specs.simulator_event.declared.event.Event.TheVariants as event
-use Rattle.simulator.specs.simulator_event.declared.event.NodeId.{NodeId}
+use Rattle.simulator.specs.simulator_event.layout.declared.ids.NodeId.{NodeId}
 use Rattle.simulator.specs.simulator_event.refused.Refused.TheVariants.{OutOfMemory}
 use Rattle.simulator.specs.simulator_event.declared.reply.Answer.TheVariants.{Done}
-use Rattle.simulator.specs.simulator_run.declared.round.FoundDriven.{FoundDriven}
-use Rattle.simulator.specs.simulator_run.declared.round.RoundEvent.{RoundEvent}
-use Rattle.simulator.specs.simulator_run.Flow.{Flowable, Flowing, Flows, StopsIn, all_did, deliveries, delivery, did, goes, reach, reaches, round, rounds, stops, ticks}
+use Rattle.simulator.specs.simulator_spec.declared.round.FoundDriven.{FoundDriven}
+use Rattle.simulator.specs.simulator_spec.declared.round.RoundEvent.{RoundEvent}
+use Rattle.simulator.specs.simulator_spec.Flow.{Flowing, Flows, StopsIn, all_did, deliveries, delivery, did, goes, reach, reaches, round, rounds, stops, ticks}
 
 one_less : (index end : ℕ) → index < end → end - index ≡ suc (end - (index + 1))
 one_less index end h = omega arith
@@ -18,7 +18,7 @@ one_more n = omega arith
 none_left : (index end : ℕ) → end ≤ index → end - index ≡ 0
 none_left index end h = omega arith
 
--- some entries are added, and then those behind them
+-- some entries are added, and then those after them
 then_added : (old here later whole left new : List RoundEvent) → left ≡ here ++ later → new ≡ old ++ here → old ++ left ≡ whole → new ++ later ≡ whole
 then_added old here later whole left new split e before =
     ap (λ all. all ++ later) e ∙ append_assoc old here later ∙ ap (λ all. old ++ all) (sym split) ∙ before
@@ -83,40 +83,38 @@ reaches-all passed place drives old whole past before =
 
 -- ---- events one after the other
 
-module _ {State : Type 0} (station : Flowable State) where
-  all_did-one : (first : List RoundEvent) (one : RoundEvent) (flowing : Flowing State) → all_did station (first ++ one ∷ []) flowing ≡ did station one (all_did station first flowing)
-  unfolding all_did
-  all_did-one [] one flowing = refl
-  all_did-one (other ∷ first) one flowing = all_did-one first one (did station other flowing)
+all_did-one : (first : List RoundEvent) (one : RoundEvent) (flowing : Flowing) → all_did (first ++ one ∷ []) flowing ≡ did one (all_did first flowing)
+unfolding all_did
+all_did-one [] one flowing = refl
+all_did-one (other ∷ first) one flowing = all_did-one first one (did other flowing)
 
-  pub none_did : (flowing : Flowing State) → flowing ≡ all_did station [] flowing
-  unfolding all_did
-  none_did flowing = refl
+pub none_did : (flowing : Flowing) → flowing ≡ all_did [] flowing
+unfolding all_did
+none_did flowing = refl
 
-  pub did-next : (all : List RoundEvent) (index : ℕ) (one : RoundEvent) (old now new : Flowing State) → index < length all → one ≡ get_or all index one
-      → now ≡ all_did station (take index all) old → new ≡ did station one now → new ≡ all_did station (take (index + 1) all) old
-  did-next all index one old now new h at before e =
-      e ∙ ap (did station one) before
-      ∙ sym (all_did-one (take index all) one old)
-      ∙ ap (λ d. all_did station (take index all ++ d ∷ []) old) at
-      ∙ ap (λ first. all_did station first old) (sym (take_more all index one h))
+pub did-next : (all : List RoundEvent) (index : ℕ) (one : RoundEvent) (old now new : Flowing) → index < length all → one ≡ get_or all index one
+    → now ≡ all_did (take index all) old → new ≡ did one now → new ≡ all_did (take (index + 1) all) old
+did-next all index one old now new h at before e =
+    e ∙ ap (did one) before
+    ∙ sym (all_did-one (take index all) one old)
+    ∙ ap (λ d. all_did (take index all ++ d ∷ []) old) at
+    ∙ ap (λ first. all_did first old) (sym (take_more all index one h))
 
 -- ---- rounds one after the other
 
-module _ {State : Type 0} (station : Flowable State) where
-  pub rounds-none : (flowing : Flowing State) → flowing ≡ rounds station 0 flowing
-  unfolding rounds
-  rounds-none flowing = refl
+pub rounds-none : (flowing : Flowing) → flowing ≡ rounds 0 flowing
+unfolding rounds
+rounds-none flowing = refl
 
-  pub rounds-next : (count : ℕ) (flowing : Flowing State) → round station (rounds station count flowing) ≡ rounds station (count + 1) flowing
-  unfolding rounds
-  rounds-next count flowing = ap (λ (n : ℕ). rounds station n flowing) (one_more count)
+pub rounds-next : (count : ℕ) (flowing : Flowing) → round (rounds count flowing) ≡ rounds (count + 1) flowing
+unfolding rounds
+rounds-next count flowing = ap (λ (n : ℕ). rounds n flowing) (one_more count)
 
-  -- a flow goes to its end, or stops in a round
-  pub flow-goes : (count done : ℕ) (old new : Flowing State) → new ≡ rounds station done old → done ≡ count → Flows station count old (Ok Done) new
-  flow-goes count done old new e whole =
-      subst (Flows station count old (Ok Done)) (sym (e ∙ ap (λ (n : ℕ). rounds station n old) whole)) goes
+-- a flow goes to its end, or stops in a round
+pub flow-goes : (count done : ℕ) (old new : Flowing) → new ≡ rounds done old → done ≡ count → Flows count old (Ok Done) new
+flow-goes count done old new e whole =
+    subst (Flows count old (Ok Done)) (sym (e ∙ ap (λ (n : ℕ). rounds n old) whole)) goes
 
-  pub flow-stops : (count done : ℕ) (old now new : Flowing State) → now ≡ rounds station done old → done < count → StopsIn station now new
-      → Flows station count old (Err OutOfMemory) new
-  flow-stops count done old now new e less within = stops done less (subst (λ (from : Flowing State). StopsIn station from new) e within)
+pub flow-stops : (count done : ℕ) (old now new : Flowing) → now ≡ rounds done old → done < count → StopsIn now new
+    → Flows count old (Err OutOfMemory) new
+flow-stops count done old now new e less within = stops done less (subst (λ (from : Flowing). StopsIn from new) e within)

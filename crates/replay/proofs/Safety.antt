@@ -1,19 +1,19 @@
 -- Every world that comes from one that begins is reached by events that could happen.
 use Rattle.std.proofs.Common.{◌≡◌, refl, sym, subst, Option, Some, None}
 use Rattle.simulator.specs.layout.Entries.{Site}
-use Rattle.simulator.specs.ixl_rules.Table.{Table}
+use Rattle.simulator.specs.ixl_spec.Table.{Table}
 use Rattle.simulator.specs.ixl_table.Table.{IsTableOf, SitedTable}
 use Rattle.simulator.specs.layout.Once.{Once}
 use Rattle.simulator.specs.layout.Station.{IsStation}
 use Rattle.simulator.specs.simulator_event.declared.event.Event.{Event}
-use Rattle.simulator.specs.simulator_headline.Reached.{IsReached}
-use Rattle.simulator.specs.simulator_run.First.{IsOutsetOf, Outset, first_world, world_at}
-use Rattle.simulator.specs.simulator_run.Happens.{happens}
-use Rattle.simulator.specs.simulator_run.Refusals.{refusal}
-use Rattle.simulator.specs.simulator_run.Seen.{IsSnapshotOf}
-use Rattle.simulator.specs.simulator_run.State.{WorldState}
-use Rattle.simulator.specs.simulator_snapshot.Safe.{Safe}
-use Rattle.simulator.specs.simulator_snapshot.declared.snapshot.Snapshot.{Snapshot}
+use Rattle.simulator.specs.simulator_safety.Reached.{IsReached}
+use Rattle.simulator.specs.simulator_spec.First.{IsOutsetOf, Outset, first_world, world_at}
+use Rattle.simulator.specs.simulator_spec.Happens.{happens}
+use Rattle.simulator.specs.simulator_spec.Refusals.{refusal}
+use Rattle.simulator.specs.simulator_spec.Seen.{IsSnapshotOf}
+use Rattle.simulator.specs.simulator_spec.State.{WorldState}
+use Rattle.simulator.specs.simulator_event.Safe.{Safe}
+use Rattle.simulator.specs.simulator_event.declared.snapshot.Snapshot.{Snapshot}
 use Rattle.replay.specs.World.{begins, ComesFrom, goes_on, IsAt, IsFirst, IsSafe, Played, refusal_of, world_where}
 
 -- a world has the data of the first one, and events have led to it

@@ -1,6 +1,5 @@
 pub mod World
 pub mod ReplayedSession
-pub mod Sight
 pub mod Outset
 pub mod Transcript
 pub mod inside
@@ -10,10 +9,10 @@ pub use Rattle.replay_lines.specs as replay_lines
 pub use Rattle.simulator.specs as simulator
 pub use Rattle.station_check.specs as station_check
 pub use Rattle.simulator.specs.control_table as control_table
-pub use Rattle.simulator.specs.ixl_rules as ixl_rules
+pub use Rattle.simulator.specs.ixl_spec as ixl_spec
 pub use Rattle.simulator.specs.ixl_table as ixl_table
 pub use Rattle.simulator.specs.layout as layout
 pub use Rattle.simulator.specs.rasta_core as rasta_core
 pub use Rattle.simulator.specs.sci_telegram as sci_telegram
 pub use Rattle.simulator.specs.simulator_event as simulator_event
-pub use Rattle.simulator.specs.simulator_run as simulator_run
+pub use Rattle.simulator.specs.simulator_spec as simulator_spec

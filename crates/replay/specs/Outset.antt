@@ -8,7 +8,7 @@ use Rattle.replay_lines.specs.declared.outset.Begun.TheVariants as begun
 use Rattle.simulator.specs.layout.Entries.{Site}
 use Rattle.simulator.specs.sci_telegram.declared.message.Occupancy.TheVariants as occupancies
 use Rattle.simulator.specs.sci_telegram.declared.message.Position.TheVariants as positions
-use Rattle.simulator.specs.simulator_run.First.{Outset, at_rest}
+use Rattle.simulator.specs.simulator_spec.First.{Outset, at_rest}
 
 -- ---- step by step
 

@@ -1,27 +1,18 @@
--- A world to which events are tried one after another, and which lines play: how it begins, what it answers, and what is seen of it.
-use Rattle.std.specs.Prelude.{◌≡◌, ◌+◌, ℕ, List, Option, Some, None, Result, Ok, Err}
+-- A world to which events are tried one after another, and which lines play: how it begins, and what is seen of it.
+use Rattle.std.specs.Prelude.{◌≡◌, ◌+◌, ℕ, List}
 use Rattle.simulator.specs.layout.Entries.{Site}
 use Rattle.simulator.specs.layout.Once.{Once}
 use Rattle.simulator.specs.layout.Station.{IsStation}
 use Rattle.simulator.specs.ixl_table.Table.{IsTableOf}
 use Rattle.simulator.specs.simulator_event.declared.event.Event.{Event}
-use Rattle.simulator.specs.simulator_event.refused.Refused.{Refused}
-use Rattle.simulator.specs.simulator_event.declared.reply.Answer.{Answer}
-use Rattle.simulator.specs.World.{IsPicture, View}
-use Rattle.simulator.specs.simulator_run.First.{IsOutsetOf, Outset, first_world, world_at}
-use Rattle.simulator.specs.simulator_run.Flow.{stations}
-use Rattle.simulator.specs.simulator_run.Happens.{answered}
-use Rattle.simulator.specs.simulator_run.Seen.{IsSnapshotOf}
-pub use Rattle.simulator.specs.simulator_run.Tried.{Played, after, receiver, refusal_of, world_where}
-use Rattle.simulator.specs.simulator_snapshot.Safe.{Safe}
-use Rattle.simulator.specs.simulator_snapshot.declared.snapshot.Snapshot.{Snapshot}
+pub use Rattle.simulator.specs.World.{played}
+use Rattle.simulator.specs.simulator_spec.First.{IsOutsetOf, Outset, first_world, world_at}
+use Rattle.simulator.specs.simulator_spec.Seen.{IsSnapshotOf}
+pub use Rattle.simulator.specs.simulator_spec.Tried.{Played, after, answer, answer_where, arrival_in, driven, receiver, refusal_of, world_where, worlds}
+use Rattle.simulator.specs.simulator_event.Safe.{Safe}
+use Rattle.simulator.specs.simulator_event.declared.snapshot.Snapshot.{Snapshot}
 use Rattle.replay_lines.specs.Replay.{AllAgree, DiffersBehind}
 use Rattle.replay_lines.specs.declared.session.Entry.{Entry}
-use Rattle.replay.specs.Sight.{Sight}
-
--- a world as events are tried on it: how much room it has doesn't matter
-abbrev pub played : View → Played
-played world = record { sited = world.sited; run = world.run }
 
 -- ---- how it begins
 
@@ -43,30 +34,11 @@ pub record IsAt (site : Site) (outset : Outset) (first : Played) : Type 0 where
   pub fits : IsOutsetOf site outset
   pub run_is : first.run ≡ world_at first.sited.site first.sited.table outset
 
--- ---- what it answers
-
--- what is answered: why an event can't happen, or the answer where it happens
-abbrev pub answer_where : Option Refused → Answer → Result Answer Refused
-answer_where (Some why) answer = Err why
-answer_where None answer = Ok answer
-
--- what `World::apply` answers
-abbrev pub answer : Played → Event → Result Answer Refused
-answer world event = answer_where (refusal_of event world) (answered world.sited.site world.sited.table event world.run)
-
 -- ---- what is seen
 
 -- Whatever is seen of a world is safe: each signal that shows an aspect other than stop is protected by exactly one held route.
 abbrev pub IsSafe : Played → Type 0
 IsSafe world = (seen : Snapshot) → IsSnapshotOf world.sited.table world.run seen → Safe world.sited.site seen
-
-abbrev pub sight_of_worlds : Sight Played
-sight_of_worlds = record {
-  IsAt = IsAt;
-  answer = answer;
-  station = stations;
-  IsText = λ world. IsPicture world.sited world.run;
-}
 
 -- ---- events one after another
 
@@ -83,8 +55,8 @@ AllSafe first = (now : Played) → ComesFrom first now → IsSafe now
 
 -- each event of a session answers as it was recorded
 abbrev pub AnswersSame : Played → List Entry → Type 0
-AnswersSame first entries = AllAgree answer after first entries
+AnswersSame first entries = AllAgree worlds first entries
 
 -- the event of this line, counted from 1, is the first that answers otherwise than it was recorded
 abbrev pub AnswersOtherwiseAt : ℕ → Played → List Entry → Type 0
-AnswersOtherwiseAt line first entries = (n : ℕ) × (line ≡ n + 1) × DiffersBehind answer after n first entries
+AnswersOtherwiseAt line first entries = (n : ℕ) × (line ≡ n + 1) × DiffersBehind worlds n first entries

@@ -1,12 +1,11 @@
 //! For how long a point was found driven.
 
 ghost use Rattle.std.specs.Prelude.{◌≡◌};
-ghost use Rattle.simulator.specs.simulator_run.Flow.{next_drive, next_drives, position_of};
+ghost use Rattle.simulator.specs.simulator_spec.Flow.{next_drive, next_drives, position_of};
+ghost use Rattle.replay.specs.World.{driven, played};
 
-use crate::playable::Playable;
-use simulator::simulator_run::FoundDriven;
-use simulator::simulator_run::ixl_rules::control_table::layout::PointId;
-use simulator::simulator_run::ixl_rules::control_table::sci_telegram::{Position, Side};
+use simulator::simulator_spec::FoundDriven;
+use simulator::{PointId, Position, Side, World};
 
 /// At the ends of how many rounds one after the other a point is found driven before it comes to lie.
 pub(crate) const ROUNDS_DRIVEN: u8 = 50;
@@ -29,12 +28,23 @@ fn next_drive(found: Option<Side>, before: Option<FoundDriven>) -> Option<FoundD
     }
 }
 
+/// The side to which a point is driven, if there is such a point.
+fn driven(world: &World, point: PointId) -> Option<Side>
+    ensures { result ≡ driven (played world.now) point }
+{
+    if point.0 < world.table().layout().points().len() {
+        world.driven(point)
+    } else {
+        None
+    }
+}
+
 /// Notes at the end of a round which points are driven.
-pub(crate) fn note_drives<S: Playable>(station: &S, drives: &mut [Option<FoundDriven>])
-    ensures { drives.new ≡ next_drives (S.sight.station.driven (S.state station.now)) 0 drives.old }
+pub(crate) fn note_drives(world: &World, drives: &mut [Option<FoundDriven>])
+    ensures { drives.new ≡ next_drives (driven (played world.now)) 0 drives.old }
 {
     for place in 0..drives.len() {
-        let found = station.driven(PointId(place));
+        let found = driven(world, PointId(place));
         drives[place] = next_drive(found, drives[place]);
     }
 }

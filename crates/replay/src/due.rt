@@ -1,23 +1,22 @@
 //! The events of a round of a flow.
 
 ghost use Rattle.std.specs.Prelude.{◌≡◌, ◌++◌, ◌-◌, ◌+◌, ◌^◌, ◌<◌, IfOk, OnOk};
-ghost use Rattle.simulator.specs.simulator_run.Flow.{delivery, deliveries, reach, reaches, round_of_time, ticks};
+ghost use Rattle.simulator.specs.simulator_spec.Flow.{delivery, deliveries, reach, reaches, round_of_time, ticks};
+ghost use Rattle.replay.specs.World.{arrival_in, played};
 
 use crate::drive::{ROUNDS_DRIVEN, position_of};
-use crate::playable::Playable;
-use simulator::simulator_run::ixl_rules::control_table::layout::{Layout, PointId};
-use simulator::simulator_run::{FoundDriven, RoundEvent, nodes};
-use simulator::{ClockSteps, Event, NodeId, RawDatagram};
+use replay_lines::ROUND_MICROS;
+use simulator::simulator_spec::{FoundDriven, RoundEvent};
+use simulator::{
+    ClockSteps, Event, Layout, NodeId, Outgoing, PointId, RawDatagram, Station, World,
+};
 use std::alloc::{AllocError, Global};
-
-/// How many microseconds a round has.
-const ROUND_MICROS: u64 = 10000;
 
 /// The time of a round, at equal rates.
 pub(crate) fn round_of_time(alloc: Global, layout: &Layout) -> Result<Event, AllocError>
     ensures { IfOk result (λ event. event ≡ round_of_time layout.now) }
 {
-    let steps = vec![in alloc; ROUND_MICROS; nodes(layout)]?;
+    let steps = vec![in alloc; ROUND_MICROS; layout.nodes()]?;
     Ok(Event::Time {
         elapsed: ROUND_MICROS,
         clocks: ClockSteps::of(steps),
@@ -25,36 +24,36 @@ pub(crate) fn round_of_time(alloc: Global, layout: &Layout) -> Result<Event, All
 }
 
 /// Adds the delivery of the datagrams from one place up to another, in the order of sending.
-pub(crate) fn add_deliveries<S: Playable>(
+pub(crate) fn add_deliveries(
     alloc: Global,
-    station: &S,
+    world: &World,
     first: usize,
     end: usize,
     due: &mut Vec<RoundEvent>,
 ) -> Result<(), AllocError>
-    ensures { OnOk result (due.new.items ≡ due.old.items ++ deliveries (S.sight.station.arrival (S.state station.now)) first (end - first)) }
+    ensures { OnOk result (due.new.items ≡ due.old.items ++ deliveries (arrival_in (played world.now)) first (end - first)) }
 {
     for place in first..end {
-        add_delivery(alloc, station, place, due)?;
+        add_delivery(alloc, world, place, due)?;
     }
     Ok(())
 }
 
 /// Adds the delivery of the datagram at a place, unless it is lost.
-fn add_delivery<S: Playable>(
+fn add_delivery(
     alloc: Global,
-    station: &S,
+    world: &World,
     place: usize,
     due: &mut Vec<RoundEvent>,
 ) -> Result<(), AllocError>
     requires { place + 1 < 2 ^ 64 }
-    ensures { OnOk result (due.new.items ≡ due.old.items ++ delivery place (S.sight.station.arrival (S.state station.now) place)) }
+    ensures { OnOk result (due.new.items ≡ due.old.items ++ delivery place (arrival_in (played world.now) place)) }
 {
-    let Some((node, bytes)) = station.arrival(place) else {
+    let Some(Outgoing { to, bytes }) = world.arrival(place) else {
         return Ok(());
     };
     let bytes = RawDatagram::of(Vec::from_slice(alloc, bytes)?);
-    let event = Event::Deliver { node, bytes };
+    let event = Event::Deliver { node: to, bytes };
     let passed = place + 1;
     due.push(RoundEvent { event, passed })?;
     Ok(())

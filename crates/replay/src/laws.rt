@@ -6,12 +6,12 @@ ghost use Rattle.replay_lines.specs.Outset.{is_begun};
 ghost use Rattle.replay_lines.specs.Text.{lines_said};
 ghost use Rattle.replay_lines.specs.declared.line.SimLine.{SimLine as Said};
 ghost use Rattle.simulator.specs.layout.Entries.{Site};
-ghost use Rattle.simulator.specs.simulator_run.First.{Outset, at_rest};
+ghost use Rattle.simulator.specs.simulator_spec.First.{Outset, at_rest};
 ghost use Rattle.replay.specs.Outset.{LiesAs, outset_of};
 ghost use Rattle.replay.specs.World.{AllSafe, ComesFrom, IsAt, IsFirst, IsSafe, Played};
 
 use replay_lines::begun_lines_stand_first;
-use simulator::simulator_headline::reached_worlds_are_safe;
+use simulator::simulator_safety::reached_worlds_are_safe;
 
 /// The station of a file lies as the lines of the file say when it is started (*said*). Where none of them says how a point
 /// or a section begins, every point stands left and every section is clear (*rest*).

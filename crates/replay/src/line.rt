@@ -2,11 +2,11 @@
 
 ghost use Rattle.std.specs.Prelude.{ℕ, List, IfErr, OnOk};
 ghost use Rattle.std.specs.Io.KnownBytes.{Appends};
+ghost use Rattle.simulator.specs.World.{IsPicture};
+ghost use Rattle.station_check.specs.Failures.{IsLate};
 ghost use Rattle.replay.specs.Transcript.{Writes, answer_line, feed};
-ghost use Rattle.replay.specs.inside.Lines.{IsLate};
 ghost use Rattle.replay.specs.inside.Runs.{flowing_of};
 
-use crate::playable::Playable;
 use crate::run::Run;
 use replay_lines::{AnswerText, SimLine};
 use simulator::{Answer, Refused};
@@ -15,13 +15,13 @@ use std::alloc::Global;
 use std::io::Write;
 
 /// Carries out a line, and writes its answer or the picture.
-pub(crate) fn carry_out<S: Playable, W: Write>(
+pub(crate) fn carry_out<W: Write>(
     alloc: Global,
-    run: &mut Run<S>,
+    run: &mut Run,
     line: &SimLine,
     out: &mut W,
 ) -> Result<(), Failure>
-    ensures done { OnOk result ((text : List ℕ) × Writes S.sight (flowing_of S.state run.old) line.now text (flowing_of S.state run.new) × Appends (W.contents out.old) (W.contents out.new) text) }
+    ensures done { OnOk result ((text : List ℕ) × Writes (flowing_of run.old) line.now text (flowing_of run.new) × Appends (W.contents out.old) (W.contents out.new) text) }
     ensures failed { IfErr result IsLate }
 {
     match line {
@@ -40,29 +40,25 @@ pub(crate) fn carry_out<S: Playable, W: Write>(
 }
 
 /// Writes an answer.
-fn write_answer<S: Playable, W: Write>(
-    run: &Run<S>,
+fn write_answer<W: Write>(
+    run: &Run,
     answer: Result<Answer, Refused>,
     out: &mut W,
 ) -> Result<(), Failure>
-    ensures done { OnOk result (Appends (W.contents out.old) (W.contents out.new) (answer_line S.sight answer (flowing_of S.state run.now))) }
+    ensures done { OnOk result (Appends (W.contents out.old) (W.contents out.new) (answer_line answer (flowing_of run.now))) }
     ensures failed { IfErr result IsLate }
 {
-    let layout = run.station.layout();
+    let layout = run.world.table().layout();
     out.writeln(AnswerText { layout, answer })?;
     Ok(())
 }
 
 /// Writes the picture.
-fn write_picture<S: Playable, W: Write>(
-    alloc: Global,
-    run: &Run<S>,
-    out: &mut W,
-) -> Result<(), Failure>
-    ensures done { OnOk result ((text : List ℕ) × S.sight.IsText (S.state run.now.station) text × Appends (W.contents out.old) (W.contents out.new) (feed text)) }
+fn write_picture<W: Write>(alloc: Global, run: &Run, out: &mut W) -> Result<(), Failure>
+    ensures done { OnOk result ((text : List ℕ) × IsPicture run.now.world.sited run.now.world.run text × Appends (W.contents out.old) (W.contents out.new) (feed text)) }
     ensures failed { IfErr result IsLate }
 {
-    let picture = run.station.picture_text(alloc)?;
+    let picture = run.world.picture(alloc)?;
     out.writeln(picture.as_str())?;
     Ok(())
 }

@@ -1,13 +1,12 @@
 //! How the station of a file lies when it is started.
 
 ghost use Rattle.std.specs.Prelude.{◌≡◌, IfOk, slice_set};
-ghost use Rattle.simulator.specs.simulator_run.First.{IsOutsetOf, at_rest};
+ghost use Rattle.simulator.specs.simulator_spec.First.{IsOutsetOf, at_rest};
 ghost use Rattle.replay.specs.Outset.{begun_in, line_in, outset_of};
 ghost use Rattle.replay.specs.inside.Outsets.{outset_in};
 
 use replay_lines::{Begun, SimLine};
-use simulator::simulator_run::ixl_rules::control_table::layout::{Layout, PointId, SectionId};
-use simulator::simulator_run::ixl_rules::control_table::sci_telegram::{Occupancy, Position};
+use simulator::{Layout, Occupancy, PointId, Position, SectionId};
 use std::alloc::{AllocError, Global};
 
 /// Where each point stands when a station is started, and which sections are occupied.

@@ -1,41 +1,12 @@
 //! The replay of a session on a world.
 
-ghost use Rattle.std.specs.Prelude.{◌≡◌, ◌↔◌, ℕ, IfOk, OnErr};
-ghost use Rattle.replay_lines.specs.Replay.{Applies};
+ghost use Rattle.std.specs.Prelude.{◌≡◌, ◌↔◌, ℕ, IfOk};
 ghost use Rattle.replay_lines.specs.declared.agreement.Replayed.TheVariants.{Differs, Same};
-ghost use Rattle.simulator.specs.simulator_run.Tried.{Played, after};
-ghost use Rattle.replay.specs.World.{AnswersOtherwiseAt, AnswersSame, IsFirst, answer, played};
+ghost use Rattle.replay.specs.World.{AnswersOtherwiseAt, AnswersSame, IsFirst, Played, played};
 
-use replay_lines::{Apply, Entry, Replayed};
-use simulator::simulator_run::ixl_rules::control_table::Checked;
-use simulator::{Event, Refused, Reply, World};
+use replay_lines::{Entry, Replayed};
+use simulator::{Checked, World};
 use std::alloc::{AllocError, Global};
-
-/// A world to which the events of a session happen.
-#[derive(Drop)]
-struct ReplayedWorld(World);
-
-impl Apply for ReplayedWorld {
-    ghost State = { Played };
-
-    ghost state = { λ w. played w.0 };
-
-    ghost answer = { answer };
-
-    ghost after = { after };
-
-    fn apply(&mut self, event: &Event) -> Result<Reply, Refused> {
-        try_event(&mut self.0, event)
-    }
-}
-
-/// Applies an event to a world, which stays as it is where the event can't happen or memory is lacking.
-pub fn try_event(world: &mut World, event: &Event) -> Result<Reply, Refused>
-    ensures applies { Applies answer after event.now (played world.old) result (played world.new) }
-    ensures same { OnErr result (played world.new ≡ played world.old) }
-{
-    world.apply(event)
-}
 
 /// Applies a recorded session to the first world of a table, until an event answers otherwise than it was recorded. Only
 /// want of memory is an error.
@@ -50,10 +21,10 @@ pub fn replay(alloc: Global, checked: Checked, entries: &[Entry]) -> Result<Repl
 }
 
 /// The first world of a table.
-fn first_world(alloc: Global, checked: Checked) -> Result<ReplayedWorld, AllocError>
-    ensures { IfOk result (λ world. IsFirst checked (played world.0)) }
+pub fn first_world(alloc: Global, checked: Checked) -> Result<World, AllocError>
+    ensures { IfOk result (λ world. IsFirst checked (played world)) }
 {
     // Every checked layout is a station, in which no name stands twice.
     checked.layout();
-    Ok(ReplayedWorld(World::new(alloc, checked)?))
+    World::new(alloc, checked)
 }

@@ -1,42 +1,41 @@
 //! A station as the lines of a file drive it.
 
 ghost use Rattle.std.specs.Prelude.{◌≡◌, ◌/◌, ℕ, take, IfOk, OnOk, OnErr};
-ghost use Rattle.simulator.specs.simulator_run.First.{IsOutsetOf};
+ghost use Rattle.simulator.specs.simulator_spec.First.{IsOutsetOf};
 ghost use Rattle.replay.specs.inside.Outsets.{outset_in};
 ghost use Rattle.replay.specs.inside.Runs.{flowing_of};
 
 use crate::drive::note_drives;
 use crate::due::{add_deliveries, add_reaches, add_ticks, round_of_time};
 use crate::outset::Outset;
-use crate::playable::Playable;
 use replay_lines::{ROUND, recorded};
-use simulator::simulator_run::ixl_rules::control_table::Checked;
-use simulator::simulator_run::{FoundDriven, RoundEvent, nodes};
-use simulator::{Answer, Event, Refused};
+use simulator::simulator_spec::{FoundDriven, RoundEvent};
+use simulator::{Answer, Checked, Event, Refused, Station, World};
 use std::alloc::{AllocError, Global};
 
-/// A station, and how far the flows of time have come on it.
+/// A world, and how far the flows of time have come on it.
 #[derive(Drop)]
-pub(crate) struct Run<S> {
-    pub(crate) station: S,
+pub(crate) struct Run {
+    pub(crate) world: World,
     /// How many of the datagrams that were sent a flow has gone past.
     passed: usize,
     /// For how long each point was found driven.
     drives: Vec<Option<FoundDriven>>,
 }
 
-impl<S: Playable> Run<S> {
-    ghost use Rattle.simulator.specs.simulator_run.Flow.{Flows, StopsIn, all_did, did, due, rested, round};
+impl Run {
+    ghost use Rattle.simulator.specs.simulator_spec.Flow.{Flows, StopsIn, all_did, did, due, rested, round};
     ghost use Rattle.replay.specs.Transcript.{Answers, IsBeginning};
 
     /// A station that lies so when it is started, on which nothing has flowed.
     pub(crate) fn at(alloc: Global, table: Checked, outset: &Outset) -> Result<Self, AllocError>
         requires { IsOutsetOf table (outset_in outset.now) }
-        ensures { IfOk result (λ run. IsBeginning S.sight table (outset_in outset.now) (flowing_of S.state run)) }
+        ensures { IfOk result (λ run. IsBeginning table (outset_in outset.now) (flowing_of run)) }
     {
+        // Every checked layout is a station, in which no name stands twice.
         let points = table.layout().points().len();
         Ok(Run {
-            station: S::at(alloc, table, &outset.positions, &outset.occupancies)?,
+            world: World::at(alloc, table, &outset.positions, &outset.occupancies)?,
             passed: 0,
             drives: vec![in alloc; None; points]?,
         })
@@ -44,14 +43,14 @@ impl<S: Playable> Run<S> {
 
     /// Applies an event.
     pub(crate) fn event(&mut self, event: &Event) -> Result<Answer, Refused>
-        ensures { Answers S.sight event.now (flowing_of S.state self.old) result (flowing_of S.state self.new) }
+        ensures { Answers event.now (flowing_of self.old) result (flowing_of self.new) }
     {
-        recorded(self.station.apply(event))
+        recorded(Station::apply(&mut self.world, event))
     }
 
     /// Lets time flow for so many milliseconds.
     pub(crate) fn flow(&mut self, alloc: Global, length: u64) -> Result<Answer, Refused>
-        ensures { Flows S.sight.station (length / 10) (flowing_of S.state self.old) result (flowing_of S.state self.new) }
+        ensures { Flows (length / 10) (flowing_of self.old) result (flowing_of self.new) }
     {
         for _ in 0..length / ROUND {
             let Ok(()) = self.round(alloc) else {
@@ -63,8 +62,8 @@ impl<S: Playable> Run<S> {
 
     /// A round of a flow. Where memory is lacking it stops, in front of one of its events.
     fn round(&mut self, alloc: Global) -> Result<(), AllocError>
-        ensures ok { OnOk result (flowing_of S.state self.new ≡ round S.sight.station (flowing_of S.state self.old)) }
-        ensures err { OnErr result (StopsIn S.sight.station (flowing_of S.state self.old) (flowing_of S.state self.new)) }
+        ensures ok { OnOk result (flowing_of self.new ≡ round (flowing_of self.old)) }
+        ensures err { OnErr result (StopsIn (flowing_of self.old) (flowing_of self.new)) }
     {
         let due = self.due(alloc)?;
         self.apply_all(&due)?;
@@ -74,8 +73,8 @@ impl<S: Playable> Run<S> {
 
     /// Tries the events of a round, one after the other.
     fn apply_all(&mut self, due: &[RoundEvent]) -> Result<(), AllocError>
-        ensures ok { OnOk result (flowing_of S.state self.new ≡ all_did S.sight.station due.now (flowing_of S.state self.old)) }
-        ensures err { OnErr result ((count : ℕ) × (flowing_of S.state self.new ≡ all_did S.sight.station (take count due.now) (flowing_of S.state self.old))) }
+        ensures ok { OnOk result (flowing_of self.new ≡ all_did due.now (flowing_of self.old)) }
+        ensures err { OnErr result ((count : ℕ) × (flowing_of self.new ≡ all_did (take count due.now) (flowing_of self.old))) }
     {
         for one in due {
             self.apply(one)?;
@@ -85,28 +84,28 @@ impl<S: Playable> Run<S> {
 
     /// The events of a round that begins now.
     fn due(&self, alloc: Global) -> Result<Vec<RoundEvent>, AllocError>
-        ensures { IfOk result (λ all. all.items ≡ due S.sight.station (flowing_of S.state self.now)) }
+        ensures { IfOk result (λ all. all.items ≡ due (flowing_of self.now)) }
     {
-        let layout = self.station.layout();
-        let sent = self.station.sent();
+        let layout = self.world.table().layout();
+        let sent = self.world.sent_count();
         let event = round_of_time(alloc, layout)?;
         let mut due = Vec::new(alloc);
         due.push(RoundEvent {
             event,
             passed: self.passed,
         })?;
-        add_deliveries(alloc, &self.station, self.passed, sent, &mut due)?;
-        add_ticks(nodes(layout), sent, &mut due)?;
+        add_deliveries(alloc, &self.world, self.passed, sent, &mut due)?;
+        add_ticks(layout.nodes(), sent, &mut due)?;
         add_reaches(&self.drives, sent, &mut due)?;
         Ok(due)
     }
 
     /// Tries an event of a round: where it can't happen, it is passed over.
     fn apply(&mut self, one: &RoundEvent) -> Result<(), AllocError>
-        ensures ok { OnOk result (flowing_of S.state self.new ≡ did S.sight.station one.now (flowing_of S.state self.old)) }
-        ensures err { OnErr result (flowing_of S.state self.new ≡ flowing_of S.state self.old) }
+        ensures ok { OnOk result (flowing_of self.new ≡ did one.now (flowing_of self.old)) }
+        ensures err { OnErr result (flowing_of self.new ≡ flowing_of self.old) }
     {
-        match self.station.apply(&one.event) {
+        match Station::apply(&mut self.world, &one.event) {
             Err(Refused::OutOfMemory) => Err(AllocError),
             _ => {
                 self.passed = one.passed;
@@ -117,8 +116,8 @@ impl<S: Playable> Run<S> {
 
     /// A round ends: it is noted which points are driven.
     fn rest(&mut self)
-        ensures { flowing_of S.state self.new ≡ rested S.sight.station (flowing_of S.state self.old) }
+        ensures { flowing_of self.new ≡ rested (flowing_of self.old) }
     {
-        note_drives(&self.station, &mut self.drives);
+        note_drives(&self.world, &mut self.drives);
     }
 }

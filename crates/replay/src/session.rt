@@ -3,8 +3,8 @@
 ghost use Rattle.std.specs.Prelude.{◌≡◌, ◌⊎◌, ℕ, IsErr, IfErr, IfOk, OnOk, Some};
 ghost use Rattle.std.specs.Io.KnownBytes.{Appends};
 ghost use Rattle.replay_lines.specs.declared.agreement.Replayed.TheVariants.{Same, Differs as DiffersAt};
-ghost use Rattle.station_check.specs.Failures.{Leaves};
-ghost use Rattle.replay.specs.ReplayedSession.{CanReplay, Explained, Explains, IsReplayed, verdict_line, verdict_text};
+ghost use Rattle.station_check.specs.Failures.{Explained, Leaves};
+ghost use Rattle.replay.specs.ReplayedSession.{CanReplay, Explains, IsReplayed, verdict_line, verdict_text};
 
 use crate::laws::played_worlds_are_safe;
 use crate::replayed_world::replay;
@@ -31,15 +31,12 @@ pub fn replay_text<W: Write, E: Write>(
     ensures faulty { (CanReplay layout.now recording.now → ⊥) → (result ≡ 1) × (out.new ≡ out.old) }
     ensures silent { (result ≡ 1 → ⊥) → err.new ≡ err.old }
     // Only a beginning of the line was told where a write to `err` failed.
-    ensures explains { result ≡ 1 → Explained layout.now recording.now out.old out.new (E.contents err.old) (E.contents err.new) }
+    ensures explains { result ≡ 1 → Explained (Explains layout.now recording.now) result out.old out.new (E.contents err.old) (E.contents err.new) }
 {
     match verdict(alloc, layout, recording, out) {
         Ok(Replayed::Same) => 0,
         Ok(Replayed::Differs { .. }) => 3,
-        Err(failure) => {
-            tell(&failure, err);
-            1
-        }
+        Err(failure) => tell(&failure, err),
     }
 }
 

@@ -1,11 +1,13 @@
 //! Lines of events, applied to a world as it lies when it is started.
 
 ghost use Rattle.std.specs.Prelude.{◌≡◌, ◌≤◌};
-ghost use Rattle.replay.specs.Transcript.{CanPlay, Explained};
+ghost use Rattle.station_check.specs.Failures.{ExplainedParts};
+ghost use Rattle.replay.specs.Transcript.{CanPlay, Explains};
 ghost use Rattle.replay.specs.Simulated.{IsSimulated};
 
 use crate::laws::{played_worlds_are_safe, stations_lie_as_lines_say};
-use crate::simulated::Simulated;
+use crate::play::play;
+use station_check::tell;
 use std::alloc::Global;
 use std::io::Write;
 
@@ -26,9 +28,12 @@ pub fn sim_text<W: Write, E: Write>(
     ensures faulty { (CanPlay layout.now events.now → ⊥) → (result ≡ 1) × (out.new ≡ out.old) }
     ensures silent { result ≡ 0 → err.new ≡ err.old }
     // Only a beginning of the line was told where a write to `err` failed.
-    ensures explains { result ≡ 1 → Explained layout.now events.now out.old out.new (E.contents err.old) (E.contents err.new) }
+    ensures explains { result ≡ 1 → ExplainedParts (Explains layout.now events.now) result out.old out.new (E.contents err.old) (E.contents err.new) }
 {
     stations_lie_as_lines_say();
     played_worlds_are_safe();
-    crate::play_text::<Simulated, W, E>(alloc, layout, events, out, err)
+    match play(alloc, layout, events, out) {
+        Ok(()) => 0,
+        Err(failure) => tell(&failure, err),
+    }
 }

@@ -8,11 +8,11 @@ use Rattle.std.proofs.lemmas.List.Kept.{AllPairs-cons}
 use Rattle.std.proofs.lemmas.List.Elements.{Contains-append_left, Contains-append_right, Contains-append_cases}
 use Rattle.std.proofs.lemmas.Option.{slice_get-map}
 use Rattle.std.proofs.lemmas.Slice.Eq.{bytes_eq-Decides}
-use Rattle.ixl_rules.specs.sci_telegram.Names.{IsName, is_name_byte}
+use Rattle.ixl_spec.specs.sci_telegram.Names.{IsName, is_name_byte}
 use Rattle.replay_words.specs.Words.{is_without}
-use Rattle.ixl_rules.specs.layout.declared.entries.Point.{Point}
-use Rattle.ixl_rules.specs.layout.Entries.{Site, RouteEntry}
-use Rattle.ixl_rules.specs.layout.Once.{Distinct, Once, all_names}
+use Rattle.ixl_spec.specs.layout.declared.entries.Point.{Point}
+use Rattle.ixl_spec.specs.layout.Entries.{Site, RouteEntry}
+use Rattle.ixl_spec.specs.layout.Once.{Distinct, Once, all_names}
 use Rattle.replay_lines.specs.Names.{node_named, node_names, point_named, route_named, section_named}
 use Rattle.replay_lines.proofs.Places.{position-cons, position-map}
 

@@ -4,23 +4,23 @@ use Rattle.std.specs.Option.{option_map}
 use Rattle.std.specs.Fmt.{decimal}
 use Rattle.std.specs.List.{join_with_byte}
 use Rattle.std.proofs.lemmas.Bool.Decides.{nat_tests}
-use Rattle.ixl_rules.specs.layout.Entries.{Site}
+use Rattle.ixl_spec.specs.layout.Entries.{Site}
 use Rattle.simulator_event.specs.declared.event.Event.TheVariants.{Time}
 use Rattle.replay_lines.specs.Names.{node_names}
 use Rattle.replay_lines.specs.Written.{clock_words, event_line}
 use Rattle.replay_lines.specs.inside.Clocks.{clock_text, clock_texts}
 
--- each word behind a space
+-- each word after a space
 abbrev pub spaced : List (List ℕ) → List ℕ
 spaced [] = []
 spaced (word ∷ words) = 32 ∷ (word ++ spaced words)
 
--- words joined are the first, and the others each behind a space
+-- words joined are the first, and the others each after a space
 pub join-spaced : (word : List ℕ) (words : List (List ℕ)) → join_with_byte 32 (word ∷ words) ≡ word ++ spaced words
 join-spaced word [] = sym (append-nil word)
 join-spaced word (next ∷ words) = ap (λ rest. word ++ 32 ∷ rest) (join-spaced next words)
 
--- the texts of the clocks are the words of those that go on otherwise, each behind a space
+-- the texts of the clocks are the words of those that go on otherwise, each after a space
 clock_texts-words : (elapsed : ℕ) (all : List (List ℕ)) (place : ℕ) (names : List (List ℕ)) (steps : List ℕ)
     → ((k : ℕ) → slice_get all (place + k) ≡ slice_get names k) → length steps ≡ length names
     → clock_texts all elapsed place steps ≡ spaced (clock_words elapsed names steps)
@@ -60,7 +60,7 @@ drop-past zero (x ∷ xs) h = absurd (omega arith)
 drop-past (suc n) [] h = refl
 drop-past (suc n) (x ∷ xs) h = drop-past n xs (omega arith)
 
--- behind the last clock nothing is left
+-- after the last clock nothing is left
 pub nothing_left : (names : List (List ℕ)) (elapsed place : ℕ) (steps written whole : List ℕ) → length steps ≤ place
     → written ++ clock_texts names elapsed place (drop place steps) ≡ whole → written ≡ whole
 nothing_left names elapsed place steps written whole past e =

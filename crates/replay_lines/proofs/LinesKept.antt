@@ -3,7 +3,7 @@ use Rattle.std.proofs.Common.{◌≡◌, ◌∙◌, ℕ, Bool, false, if◌then�
 use Rattle.replay_words.specs.declared.fault.Fault.{Fault}
 use Rattle.replay_lines.specs.declared.text.SessionFault.{SessionFault}
 use Rattle.replay_words.specs.Cut.{is_passed_over}
-use Rattle.ixl_rules.specs.layout.Entries.{Site}
+use Rattle.ixl_spec.specs.layout.Entries.{Site}
 use Rattle.replay_lines.specs.declared.line.SimLine.{SimLine}
 use Rattle.replay_lines.specs.Text.{at_line, before, line_behind, said}
 

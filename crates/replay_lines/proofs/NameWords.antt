@@ -5,12 +5,12 @@ use Rattle.std.specs.Str.{bytes_eq}
 use Rattle.std.proofs.lemmas.List.Elements.{All-cons, All-contains, All-head, All-nil, All-tail}
 use Rattle.std.proofs.lemmas.Option.{slice_get-map}
 use Rattle.std.proofs.lemmas.Slice.Eq.{bytes_eq-Decides}
-use Rattle.ixl_rules.specs.sci_telegram.Names.{IsName, is_name_byte}
+use Rattle.ixl_spec.specs.sci_telegram.Names.{IsName, is_name_byte}
 use Rattle.replay_words.specs.Words.{is_without}
-use Rattle.ixl_rules.specs.layout.declared.entries.Point.{Point}
-use Rattle.ixl_rules.specs.layout.Entries.{Site, RouteEntry}
-use Rattle.ixl_rules.specs.layout.Once.{all_names}
-use Rattle.ixl_rules.specs.layout.Station.{IsStation}
+use Rattle.ixl_spec.specs.layout.declared.entries.Point.{Point}
+use Rattle.ixl_spec.specs.layout.Entries.{Site, RouteEntry}
+use Rattle.ixl_spec.specs.layout.Once.{all_names}
+use Rattle.ixl_spec.specs.layout.Station.{IsStation}
 use Rattle.replay_lines.specs.Names.{node_names, route_named}
 use Rattle.replay_lines.proofs.Apart.{get-contains, name_without_equals, name_without_space}
 use Rattle.replay_lines.proofs.Places.{position-cons}

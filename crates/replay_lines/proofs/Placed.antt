@@ -5,7 +5,7 @@ use Rattle.replay_words.specs.declared.fault.Fault.{Fault}
 use Rattle.replay_words.specs.declared.fault.Fault.TheVariants.{Name, Order}
 use Rattle.replay_words.specs.Fault.{◌>>=◌}
 use Rattle.replay_words.specs.Cut.{is_passed_over}
-use Rattle.ixl_rules.specs.layout.Entries.{Site}
+use Rattle.ixl_spec.specs.layout.Entries.{Site}
 use Rattle.replay_lines.specs.declared.line.SimLine.{SimLine}
 use Rattle.replay_lines.specs.declared.line.SimLine.TheVariants as said
 use Rattle.replay_lines.specs.declared.text.SessionFault.{SessionFault}

@@ -18,21 +18,24 @@ use Rattle.replay_words.specs.Fault.{both, ◌>>=◌}
 use Rattle.replay_words.specs.Cut.{name_and_number, words}
 use Rattle.replay_words.specs.Read.{decimal, hex_word, hexadecimal, hexadecimal_or_none}
 use Rattle.replay_words.specs.Words.{are_words, is_without}
-use Rattle.ixl_rules.specs.layout.declared.entries.Point.{Point}
-use Rattle.ixl_rules.specs.layout.declared.ids.PointId.{PointId}
-use Rattle.ixl_rules.specs.layout.declared.ids.RouteId.{RouteId}
-use Rattle.ixl_rules.specs.layout.declared.ids.SectionId.{SectionId}
-use Rattle.ixl_rules.specs.layout.Entries.{Site, RouteEntry}
-use Rattle.ixl_rules.specs.declared.command.Command.TheVariants as command
-use Rattle.ixl_rules.specs.sci_telegram.declared.message.Occupancy.TheVariants as occupancy
-use Rattle.ixl_rules.specs.sci_telegram.declared.message.Position.{Position}
-use Rattle.ixl_rules.specs.sci_telegram.declared.message.Position.TheVariants as position
+use Rattle.ixl_spec.specs.layout.declared.entries.Point.{Point}
+use Rattle.ixl_spec.specs.layout.declared.ids.PointId.{PointId}
+use Rattle.ixl_spec.specs.layout.declared.ids.RouteId.{RouteId}
+use Rattle.ixl_spec.specs.layout.declared.ids.SectionId.{SectionId}
+use Rattle.ixl_spec.specs.layout.Entries.{Site, RouteEntry}
+use Rattle.ixl_spec.specs.declared.command.Command.TheVariants as command
+use Rattle.ixl_spec.specs.rasta_core.time.TheConstants.{LATEST_CLOCK}
+use Rattle.ixl_spec.specs.rasta_pdu.declared.writer.TheConstants.{LONGEST_DATAGRAM}
+use Rattle.ixl_spec.specs.sci_telegram.Words.{position_word}
+use Rattle.ixl_spec.specs.sci_telegram.declared.message.Occupancy.TheVariants as occupancy
+use Rattle.ixl_spec.specs.sci_telegram.declared.message.Position.{Position}
+use Rattle.ixl_spec.specs.sci_telegram.declared.message.Position.TheVariants as position
 use Rattle.simulator_event.specs.declared.event.Event.{Event}
 use Rattle.simulator_event.specs.declared.event.Event.TheVariants.{Request, Occupy, Tick, Time, Deliver, Lose, Reach, Restart}
-use Rattle.simulator_event.specs.declared.event.NodeId.{NodeId}
+use Rattle.simulator_event.specs.layout.declared.ids.NodeId.{NodeId}
 use Rattle.replay_lines.specs.Names.{node_named, node_names, point_named, route_named, route_word, section_named}
 use Rattle.replay_lines.specs.Events.{are_formed, event as said, has_name, is_for, name_nodes, number_up_to, steps_set}
-use Rattle.replay_lines.specs.Written.{clock_words, event_line, event_words, position_word}
+use Rattle.replay_lines.specs.Written.{clock_words, event_line, event_words}
 use Rattle.replay_lines.specs.ReadAgain.{IsOfValues, event_read, route_read}
 
 -- what the crates below say of names, numbers and bytes
@@ -41,8 +44,8 @@ pub record Laws (site : Site) : Type 0 where
   pub parted : (name number : List ℕ) → is_without 61 name ≡ true → name_and_number (name ++ 61 ∷ number) ≡ Ok (name, number)
   pub number : (n : ℕ) → n < 2 ^ 64 → decimal (written n) ≡ Ok n
   pub number_word : (n : ℕ) → n < 2 ^ 64 → is_without 32 (written n) ≡ true
-  pub bytes : (bytes : List ℕ) → IsBytes bytes → length bytes ≤ 512 → hexadecimal_or_none (hex_word bytes) ≡ Ok bytes
-  pub some_bytes : (bytes : List ℕ) → IsBytes bytes → 0 < length bytes → length bytes ≤ 512 → hexadecimal (hex_word bytes) ≡ Ok bytes
+  pub bytes : (bytes : List ℕ) → IsBytes bytes → length bytes ≤ LONGEST_DATAGRAM → hexadecimal_or_none (hex_word bytes) ≡ Ok bytes
+  pub some_bytes : (bytes : List ℕ) → IsBytes bytes → 0 < length bytes → length bytes ≤ LONGEST_DATAGRAM → hexadecimal (hex_word bytes) ≡ Ok bytes
   pub bytes_word : (bytes : List ℕ) → is_without 32 (hex_word bytes) ≡ true
   pub nodes : (k : ℕ) (name : List ℕ) → slice_get (node_names site) k ≡ Some name → node_named site name ≡ Ok (record { 0 = k })
   pub sections : (k : ℕ) (name : List ℕ) → slice_get site.sections k ≡ Some name → section_named site name ≡ Ok (record { 0 = k })
@@ -156,7 +159,7 @@ module _ (site : Site) (laws : Laws site) where
     are = one_more (codes "tick") (name ∷ []) refl (one_more name [] (laws.node_words k name e) refl);
   }
 
-  deliver-says : (k : ℕ) (name bytes : List ℕ) → slice_get (node_names site) k ≡ Some name → IsBytes bytes → length bytes ≤ 512
+  deliver-says : (k : ℕ) (name bytes : List ℕ) → slice_get (node_names site) k ≡ Some name → IsBytes bytes → length bytes ≤ LONGEST_DATAGRAM
       → Says site (codes "deliver" ∷ name ∷ hex_word bytes ∷ []) (Deliver (record { 0 = k }) bytes)
   deliver-says k name bytes e are few = record {
     said_is =
@@ -166,7 +169,7 @@ module _ (site : Site) (laws : Laws site) where
     are = one_more (codes "deliver") (name ∷ hex_word bytes ∷ []) refl (one_more name (hex_word bytes ∷ []) (laws.node_words k name e) (one_more (hex_word bytes) [] (laws.bytes_word bytes) refl));
   }
 
-  lose-says : (bytes : List ℕ) → IsBytes bytes → 0 < length bytes → length bytes ≤ 512 → Says site (codes "lose" ∷ hex_word bytes ∷ []) (Lose bytes)
+  lose-says : (bytes : List ℕ) → IsBytes bytes → 0 < length bytes → length bytes ≤ LONGEST_DATAGRAM → Says site (codes "lose" ∷ hex_word bytes ∷ []) (Lose bytes)
   lose-says bytes are any few = record {
     said_is = ap (λ (r : Result (List ℕ) Fault). r >>= (λ of. Ok (Lose of))) (laws.some_bytes bytes are any few);
     some = omega arith;
@@ -200,15 +203,15 @@ module _ (site : Site) (laws : Laws site) where
       fits true h = refl
       fits false h = cc
 
-  restart-says : (k : ℕ) (name : List ℕ) (clock number : ℕ) → slice_get (node_names site) k ≡ Some name → clock ≤ 9000000000000 → number < 2 ^ 32
+  restart-says : (k : ℕ) (name : List ℕ) (clock number : ℕ) → slice_get (node_names site) k ≡ Some name → clock ≤ LATEST_CLOCK → number < 2 ^ 32
       → Says site (codes "restart" ∷ name ∷ written clock ∷ written number ∷ []) (Restart (record { 0 = k }) clock number)
   restart-says k name clock number e early small =
       let clock_small : clock < 2 ^ 64 = omega (arith, early) in
       let number_small : number < 2 ^ 64 = omega (arith, small) in
       record {
         said_is =
-            ap (λ (r : Result NodeId Fault). both r (both (number_up_to 9000000000000 (written clock)) (number_up_to 4294967295 (written number))) >>= (λ of. Ok (Restart of.0 of.1.0 of.1.1))) (laws.nodes k name e)
-            ∙ ap (λ (r : Result ℕ Fault). both (Ok (record { 0 = k })) (both r (number_up_to 4294967295 (written number))) >>= (λ (of : NodeId × (ℕ × ℕ)). Ok (Restart of.0 of.1.0 of.1.1))) (up_to 9000000000000 clock clock_small early)
+            ap (λ (r : Result NodeId Fault). both r (both (number_up_to LATEST_CLOCK (written clock)) (number_up_to 4294967295 (written number))) >>= (λ of. Ok (Restart of.0 of.1.0 of.1.1))) (laws.nodes k name e)
+            ∙ ap (λ (r : Result ℕ Fault). both (Ok (record { 0 = k })) (both r (number_up_to 4294967295 (written number))) >>= (λ (of : NodeId × (ℕ × ℕ)). Ok (Restart of.0 of.1.0 of.1.1))) (up_to LATEST_CLOCK clock clock_small early)
             ∙ ap (λ (r : Result ℕ Fault). both (Ok (record { 0 = k })) (both (Ok clock) r) >>= (λ (of : NodeId × (ℕ × ℕ)). Ok (Restart of.0 of.1.0 of.1.1))) (up_to 4294967295 number number_small (omega (arith, small)));
         some = omega arith;
         are =
@@ -241,7 +244,7 @@ module _ (site : Site) (laws : Laws site) where
   later : (place : ℕ) (name : List ℕ) (names : List (List ℕ)) → Follow place (name ∷ names) → Follow (suc place) names
   later place name names same k = ap (slice_get (node_names site)) (omega arith) ∙ same (suc k)
 
-  -- no word behind that of a node names it
+  -- no word after that of a node names it
   none_has : (p : ℕ) (name : List ℕ) → slice_get (node_names site) p ≡ Some name → (elapsed q : ℕ) (names : List (List ℕ)) (steps : List ℕ) → p < q → Follow q names
       → list_any (has_name name) (clock_words elapsed names steps) ≡ false
   none_has p name at elapsed q [] [] less same = refl
@@ -366,20 +369,20 @@ module _ (site : Site) (laws : Laws site) where
       let passed = kept (length steps == length (node_names site)) _ ws e in
       says-same site ws _ _ (sym (same_Some _ ws passed.1)) (time-says elapsed steps values.0 values.1 (eqb-true (length steps) (length (node_names site)) passed.0))
   words-say (Deliver node bytes) values ws e =
-      let passed = kept (nat_le (length bytes) 512) _ ws e in
+      let passed = kept (nat_le (length bytes) LONGEST_DATAGRAM) _ ws e in
       let found = mapped _ (slice_get (node_names site) node.0) ws passed.1 in
-      says-same site ws _ _ found.2 (deliver-says node.0 found.0 bytes found.1 values (within (length bytes) 512 passed.0))
+      says-same site ws _ _ found.2 (deliver-says node.0 found.0 bytes found.1 values (within (length bytes) LONGEST_DATAGRAM passed.0))
   words-say (Lose bytes) values ws e =
-      let passed = kept (nat_lt 0 (length bytes) && nat_le (length bytes) 512) _ ws e in
-      let tests = two_tests (nat_lt 0 (length bytes)) (nat_le (length bytes) 512) passed.0 in
-      says-same site ws _ _ (sym (same_Some _ ws passed.1)) (lose-says bytes values (below 0 (length bytes) tests.0) (within (length bytes) 512 tests.1))
+      let passed = kept (nat_lt 0 (length bytes) && nat_le (length bytes) LONGEST_DATAGRAM) _ ws e in
+      let tests = two_tests (nat_lt 0 (length bytes)) (nat_le (length bytes) LONGEST_DATAGRAM) passed.0 in
+      says-same site ws _ _ (sym (same_Some _ ws passed.1)) (lose-says bytes values (below 0 (length bytes) tests.0) (within (length bytes) LONGEST_DATAGRAM tests.1))
   words-say (Reach point lies) values ws e =
       let found = mapped _ (slice_get site.points point.0) ws e in
       says-same site ws _ _ found.2 (reach-says point.0 found.0 lies found.1)
   words-say (Restart node clock number) values ws e =
-      let passed = kept (nat_le clock 9000000000000) _ ws e in
+      let passed = kept (nat_le clock LATEST_CLOCK) _ ws e in
       let found = mapped _ (slice_get (node_names site) node.0) ws passed.1 in
-      says-same site ws _ _ found.2 (restart-says node.0 found.0 clock number found.1 (within clock 9000000000000 passed.0) values)
+      says-same site ws _ _ found.2 (restart-says node.0 found.0 clock number found.1 (within clock LATEST_CLOCK passed.0) values)
 
   pub line-says : (event : Event) → IsOfValues event → (line : List ℕ) → event_line site event ≡ Some line → said site (words line) ≡ Ok (event_read site event)
   line-says event values line e =

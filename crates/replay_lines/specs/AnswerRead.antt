@@ -6,10 +6,10 @@ use Rattle.replay_words.specs.declared.fault.Fault.{Fault}
 use Rattle.replay_words.specs.declared.fault.Fault.TheVariants as fault
 use Rattle.replay_words.specs.Fault.{◌>>=◌}
 use Rattle.replay_words.specs.Read.{decimal}
-use Rattle.ixl_rules.specs.layout.Entries.{Site}
-use Rattle.ixl_rules.specs.layout.declared.ids.RouteId.{RouteId}
-use Rattle.ixl_rules.specs.declared.command.Refusal.{Refusal}
-use Rattle.ixl_rules.specs.declared.command.Refusal.TheVariants as refusal
+use Rattle.ixl_spec.specs.layout.Entries.{Site}
+use Rattle.ixl_spec.specs.layout.declared.ids.RouteId.{RouteId}
+use Rattle.ixl_spec.specs.declared.command.Refusal.{Refusal}
+use Rattle.ixl_spec.specs.declared.command.Refusal.TheVariants as refusal
 use Rattle.simulator_event.specs.Refused.{numbered}
 use Rattle.simulator_event.specs.declared.event.Event.{Event}
 use Rattle.simulator_event.specs.declared.event.Event.TheVariants.{Request}
@@ -58,7 +58,7 @@ named_refusal site number name =
     else if number == 7 then point_unavailable site name
     else Err fault.Answer
 
--- ---- answers, by the words behind the first
+-- ---- answers, by the words after the first
 
 abbrev pub ok : List (List ℕ) → Result (Result Answer Why) Fault
 ok [] = Ok (Ok Done)
@@ -68,7 +68,7 @@ abbrev pub accepted : List (List ℕ) → Result (Result Answer Why) Fault
 accepted [] = Ok (Ok Accepted)
 accepted other = Err fault.Answer
 
--- the refusal of a number, by the words behind the number
+-- the refusal of a number, by the words after the number
 abbrev pub refusal_of : Site → ℕ → List (List ℕ) → Result Refusal Fault
 refusal_of site number [] = unnamed_refusal number
 refusal_of site number (name ∷ []) = named_refusal site number name

@@ -6,21 +6,16 @@
 --     no N                  the event couldn't happen, by number
 use Rattle.std.specs.Prelude.{ℕ, List, ◌∷◌, ◌++◌, codes, Option, Some, None, Result, Ok, Err}
 use Rattle.std.specs.Fmt.{decimal}
-use Rattle.ixl_rules.specs.layout.Entries.{Site}
-use Rattle.ixl_rules.specs.Commands.{refusal_number}
-use Rattle.ixl_rules.specs.declared.command.Refusal.{Refusal}
-use Rattle.ixl_rules.specs.declared.command.Refusal.TheVariants.{Conflict, NotClear, PointUnavailable}
+use Rattle.ixl_spec.specs.layout.Entries.{Site}
+use Rattle.ixl_spec.specs.Commands.{refusal_number}
+use Rattle.ixl_spec.specs.declared.command.Refusal.{Refusal}
+use Rattle.ixl_spec.specs.declared.command.Refusal.TheVariants.{Conflict, NotClear, PointUnavailable}
 use Rattle.simulator_event.specs.Refused.{number_of}
 use Rattle.simulator_event.specs.refused.Refused.{Refused as Why}
 use Rattle.simulator_event.specs.declared.reply.Answer.{Answer}
 use Rattle.simulator_event.specs.declared.reply.Answer.TheVariants.{Done, Accepted, Refused}
-use Rattle.simulator_event.specs.declared.reply.Reply.{Reply}
+pub use Rattle.simulator_event.specs.Station.{recorded}
 use Rattle.replay_lines.specs.Names.{point_word, route_word, section_word}
-
--- what a line tells: all but how many datagrams were sent
-abbrev pub recorded : Result Reply Why → Result Answer Why
-recorded (Ok reply) = Ok reply.answer
-recorded (Err why) = Err why
 
 -- the name of what a command was refused for, if it is told
 abbrev pub refusal_name : Site → Refusal → Option (List ℕ)
@@ -29,7 +24,7 @@ refusal_name site (NotClear section) = Some (section_word site section)
 refusal_name site (PointUnavailable point) = Some (point_word site point)
 refusal_name site _ = None
 
--- the number of a refusal, and the name behind it
+-- the number of a refusal, and the name after it
 abbrev pub numbered : ℕ → Option (List ℕ) → List ℕ
 numbered number (Some name) = codes "refused " ++ (decimal number ++ 32 ∷ name)
 numbered number None = codes "refused " ++ decimal number

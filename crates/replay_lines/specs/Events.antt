@@ -11,17 +11,19 @@
 --     restart NODE CLOCK SN               Restart; at most 9000000000000, and 4294967295
 use Rattle.std.specs.Prelude.{ℕ, nat_le, Bool, false, if◌then◌else◌, List, [], ◌∷◌, length, replicate, slice_set, codes, Result, Ok, Err}
 use Rattle.std.specs.List.{list_any}
+use Rattle.std.specs.Option.{ok_or}
 use Rattle.std.specs.Str.{bytes_eq}
 use Rattle.replay_words.specs.declared.fault.Fault.{Fault}
 use Rattle.replay_words.specs.declared.fault.Fault.TheVariants.{Words, Name, Number}
 use Rattle.replay_words.specs.Fault.{both, ◌>>=◌}
 use Rattle.replay_words.specs.Cut.{name_and_number}
 use Rattle.replay_words.specs.Read.{decimal, hexadecimal, hexadecimal_or_none}
-use Rattle.ixl_rules.specs.layout.Entries.{Site}
-use Rattle.ixl_rules.specs.declared.command.Command.TheVariants as command
-use Rattle.ixl_rules.specs.sci_telegram.declared.message.Occupancy.TheVariants as occupancy
-use Rattle.ixl_rules.specs.sci_telegram.declared.message.Position.{Position}
-use Rattle.ixl_rules.specs.sci_telegram.declared.message.Position.TheVariants as position
+use Rattle.ixl_spec.specs.layout.Entries.{Site}
+use Rattle.ixl_spec.specs.declared.command.Command.TheVariants as command
+use Rattle.ixl_spec.specs.sci_telegram.declared.message.Occupancy.TheVariants as occupancy
+use Rattle.ixl_spec.specs.sci_telegram.declared.message.Position.{Position}
+use Rattle.ixl_spec.specs.sci_telegram.Words.{position_of_word}
+use Rattle.ixl_spec.specs.rasta_core.time.TheConstants.{LATEST_CLOCK}
 use Rattle.simulator_event.specs.declared.event.Event.{Event}
 use Rattle.simulator_event.specs.declared.event.Event.TheVariants.{Request, Occupy, Tick, Time, Deliver, Lose, Reach, Restart}
 use Rattle.replay_lines.specs.Names.{node_named, node_names, point_named, route_named, section_named}
@@ -30,11 +32,7 @@ use Rattle.replay_lines.specs.Names.{node_named, node_names, point_named, route_
 
 -- where a point stands, or comes to lie
 abbrev pub position_named : List ℕ → Result Position Fault
-position_named word =
-    if bytes_eq word (codes "left") then Ok position.Left
-    else if bytes_eq word (codes "right") then Ok position.Right
-    else if bytes_eq word (codes "none") then Ok position.NoEndPosition
-    else Err Words
+position_named word = ok_or (position_of_word word) Words
 
 -- a number that is at most `most`
 abbrev pub number_up_to : ℕ → List ℕ → Result ℕ Fault
@@ -77,7 +75,7 @@ steps_set site (word ∷ more) steps = do
   step ← decimal sides.1
   steps_set site more (slice_set steps node.0 step)
 
--- ---- events, by the words behind the first
+-- ---- events, by the words after the first
 
 abbrev pub set : Site → List (List ℕ) → Result Event Fault
 set site (route ∷ []) = Ok (Request (command.Request (route_named site route)))
@@ -139,7 +137,7 @@ reach site other = Err Words
 
 abbrev pub restart : Site → List (List ℕ) → Result Event Fault
 restart site (node ∷ clock ∷ number ∷ []) = do
-  of ← both (node_named site node) (both (number_up_to 9000000000000 clock) (number_up_to 4294967295 number))
+  of ← both (node_named site node) (both (number_up_to LATEST_CLOCK clock) (number_up_to 4294967295 number))
   Ok (Restart of.0 of.1.0 of.1.1)
 restart site other = Err Words
 

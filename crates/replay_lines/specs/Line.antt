@@ -11,7 +11,7 @@ use Rattle.replay_words.specs.declared.fault.Fault.TheVariants.{Words, Number}
 use Rattle.replay_words.specs.Fault.{◌>>=◌}
 use Rattle.replay_words.specs.Cut.{words}
 use Rattle.replay_words.specs.Read.{decimal}
-use Rattle.ixl_rules.specs.layout.Entries.{Site}
+use Rattle.ixl_spec.specs.layout.Entries.{Site}
 use Rattle.replay_lines.specs.declared.line.SimLine.{SimLine}
 use Rattle.replay_lines.specs.declared.line.SimLine.TheVariants as said
 use Rattle.replay_lines.specs.Events.{event}

@@ -5,16 +5,12 @@ use Rattle.std.specs.List.{position}
 use Rattle.std.specs.Str.{bytes_eq}
 use Rattle.replay_words.specs.declared.fault.Fault.{Fault}
 use Rattle.replay_words.specs.declared.fault.Fault.TheVariants.{Name}
-use Rattle.ixl_rules.specs.layout.Entries.{Site}
-use Rattle.ixl_rules.specs.layout.declared.ids.PointId.{PointId}
-use Rattle.ixl_rules.specs.layout.declared.ids.RouteId.{RouteId}
-use Rattle.ixl_rules.specs.layout.declared.ids.SectionId.{SectionId}
-use Rattle.simulator_event.specs.declared.event.NodeId.{NodeId}
-
--- the names of the nodes: the station, the signals, the points and the detectors, each in layout order
-abbrev pub node_names : Site → List (List ℕ)
-node_names site =
-    site.station.name ∷ (map (λ s. s.name) site.signals ++ (map (λ p. p.name) site.points ++ map (λ d. d.name) site.detectors))
+use Rattle.ixl_spec.specs.layout.Entries.{Site}
+pub use Rattle.ixl_spec.specs.layout.Nodes.{node_names}
+use Rattle.ixl_spec.specs.layout.declared.ids.PointId.{PointId}
+use Rattle.ixl_spec.specs.layout.declared.ids.RouteId.{RouteId}
+use Rattle.ixl_spec.specs.layout.declared.ids.SectionId.{SectionId}
+use Rattle.simulator_event.specs.layout.declared.ids.NodeId.{NodeId}
 
 -- what stands at a place that was found; fault 2 where none was
 abbrev pub found_at : {A : Type 0} → (ℕ → A) → Option ℕ → Result A Fault
@@ -33,7 +29,7 @@ section_named site word = found_at (λ place. record { 0 = place }) (position (�
 abbrev pub point_named : Site → List ℕ → Result PointId Fault
 point_named site word = found_at (λ place. record { 0 = place }) (position (λ p. bytes_eq p.name word) site.points)
 
--- the route of a name; every word that names none stands for the one behind the last
+-- the route of a name; every word that names none stands for the one after the last
 abbrev pub route_named : Site → List ℕ → RouteId
 route_named site word = record { 0 = unwrap_or (position (λ r. bytes_eq r.name word) site.routes) (length site.routes) }
 

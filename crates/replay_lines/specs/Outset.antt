@@ -3,15 +3,14 @@
 --
 --     begins POINT left|right|none
 --     begins SECTION clear|occupied
-use Rattle.std.specs.Prelude.{◌≡◌, ℕ, ◌==◌, ◌++◌, if◌then◌else◌, Bool, true, false, List, [], ◌∷◌, codes, Result, Ok, Err}
+use Rattle.std.specs.Prelude.{◌≡◌, ℕ, ◌==◌, ◌++◌, if◌then◌else◌, Bool, true, false, List, [], ◌∷◌, Option, Some, None, Result, Ok, Err}
 use Rattle.std.specs.List.{list_all, list_any}
-use Rattle.std.specs.Str.{bytes_eq}
 use Rattle.replay_words.specs.declared.fault.Fault.{Fault}
 use Rattle.replay_words.specs.declared.fault.Fault.TheVariants.{Words, Name, Order}
 use Rattle.replay_words.specs.Fault.{◌>>=◌}
-use Rattle.ixl_rules.specs.layout.Entries.{Site}
-use Rattle.ixl_rules.specs.sci_telegram.declared.message.Occupancy.{Occupancy}
-use Rattle.ixl_rules.specs.sci_telegram.declared.message.Occupancy.TheVariants as occupancy
+use Rattle.ixl_spec.specs.layout.Entries.{Site}
+use Rattle.ixl_spec.specs.sci_telegram.declared.message.Occupancy.{Occupancy}
+use Rattle.ixl_spec.specs.sci_telegram.Words.{occupancy_of_word}
 use Rattle.replay_lines.specs.declared.line.SimLine.{SimLine}
 use Rattle.replay_lines.specs.declared.line.SimLine.TheVariants as said
 use Rattle.replay_lines.specs.declared.outset.Begun.{Begun}
@@ -32,12 +31,12 @@ point_begun site name side = do
   of ← point_named site name
   Ok (begun.Point of position)
 
--- by the words behind the first; the last one says whether the other names a section or a point
+-- by the words after the first; the last one says whether the other names a section or a point
 abbrev pub begins : Site → List (List ℕ) → Result Begun Fault
-begins site (name ∷ lies ∷ []) =
-    if bytes_eq lies (codes "clear") then section_begun site name occupancy.Clear
-    else if bytes_eq lies (codes "occupied") then section_begun site name occupancy.Occupied
-    else point_begun site name lies
+begins site (name ∷ lies ∷ []) = begun_by (occupancy_of_word lies) where
+  begun_by : Option Occupancy → Result Begun Fault
+  begun_by (Some occupancy) = section_begun site name occupancy
+  begun_by None = point_begun site name lies
 begins site other = Err Words
 
 -- ---- its place
@@ -58,7 +57,7 @@ abbrev pub begins_same : Begun → SimLine → Bool
 begins_same this (said.Begins other) = name_same this other
 begins_same this line = false
 
--- Where a line may stand. One that says how a point or a section begins stands behind such lines alone, and none of them
+-- Where a line may stand. One that says how a point or a section begins stands after such lines alone, and none of them
 -- names the same.
 abbrev pub may_stand : List SimLine → SimLine → Result (Unit {0}) Fault
 may_stand earlier (said.Begins this) =
@@ -69,12 +68,12 @@ may_stand earlier line = Ok tt
 
 -- ---- the places of all
 
--- A line that says how a point or a section begins stands behind such lines alone, and none of them names the same.
+-- A line that says how a point or a section begins stands after such lines alone, and none of them names the same.
 abbrev pub StandsBehind : List SimLine → SimLine → Type 0
 StandsBehind earlier (said.Begins this) = (list_all is_begun earlier ≡ true) × (list_any (begins_same this) earlier ≡ false)
 StandsBehind earlier line = Unit {0}
 
--- so it is with each of the lines behind earlier ones
+-- so it is with each of the lines after earlier ones
 abbrev pub AllStandBehind : List SimLine → List SimLine → Type 0
 AllStandBehind earlier [] = Unit {0}
 AllStandBehind earlier (line ∷ later) = StandsBehind earlier line × AllStandBehind (earlier ++ line ∷ []) later

@@ -2,14 +2,14 @@
 use Rattle.std.specs.Prelude.{◌^◌, ◌<◌, nat_lt, if◌then◌else◌, length}
 use Rattle.std.specs.List.{All}
 use Rattle.hex.specs.Hex.{IsBytes}
-use Rattle.ixl_rules.specs.layout.Entries.{Site}
-use Rattle.ixl_rules.specs.layout.declared.ids.RouteId.{RouteId}
-use Rattle.ixl_rules.specs.declared.command.Command.{Command}
-use Rattle.ixl_rules.specs.declared.command.Command.TheVariants as command
+use Rattle.ixl_spec.specs.layout.Entries.{Site}
+use Rattle.ixl_spec.specs.layout.declared.ids.RouteId.{RouteId}
+use Rattle.ixl_spec.specs.declared.command.Command.{Command}
+use Rattle.ixl_spec.specs.declared.command.Command.TheVariants as command
 use Rattle.simulator_event.specs.declared.event.Event.{Event}
 use Rattle.simulator_event.specs.declared.event.Event.TheVariants.{Request, Time, Deliver, Lose, Restart}
 
--- all routes that the table lacks are one, that behind the last
+-- all routes that the table lacks are one, that after the last
 abbrev pub route_read : Site → RouteId → RouteId
 route_read site route = if nat_lt route.0 (length site.routes) then route else record { 0 = length site.routes }
 

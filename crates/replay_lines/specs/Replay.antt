@@ -1,30 +1,20 @@
 -- Whether the events of a session answer as it was recorded.
-use Rattle.std.specs.Prelude.{◌≡◌, ◌≢◌, ◌⊎◌, ℕ, suc, ◌+◌, List, [], ◌∷◌, Result, Err}
-use Rattle.simulator_event.specs.declared.event.Event.{Event}
-use Rattle.simulator_event.specs.refused.Refused.{Refused}
-use Rattle.simulator_event.specs.refused.Refused.TheVariants.{OutOfMemory}
-use Rattle.simulator_event.specs.declared.reply.Answer.{Answer}
-use Rattle.simulator_event.specs.declared.reply.Reply.{Reply}
-use Rattle.replay_lines.specs.Answers.{recorded}
+use Rattle.std.specs.Prelude.{◌≡◌, ◌≢◌, ℕ, suc, ◌+◌, List, [], ◌∷◌}
+use Rattle.simulator_event.specs.Station.{Behaviour}
 use Rattle.replay_lines.specs.declared.session.Entry.{Entry}
 use Rattle.replay_lines.specs.declared.agreement.Replayed.{Replayed as Verdict}
 use Rattle.replay_lines.specs.declared.agreement.Replayed.TheVariants.{Same, Differs}
 
-module _ {State : Type 0} (answer : State → Event → Result Answer Refused) (after : State → Event → State) where
-  -- an event is answered and happens, or memory is lacking and nothing happens
-  abbrev pub Applies : Event → State → Result Reply Refused → State → Type 0
-  Applies event old reply new =
-      ((recorded reply ≡ answer old event) × (new ≡ after old event)) ⊎ ((reply ≡ Err OutOfMemory) × (new ≡ old))
-
+module _ {State : Type 0} (does : Behaviour State) where
   -- each event answers as it was recorded
   pub data AllAgree : State → List Entry → Type 0 where
     none : {old : State} → AllAgree old []
-    agrees : {old : State} {entry : Entry} {more : List Entry} → answer old entry.event ≡ entry.answer → AllAgree (after old entry.event) more → AllAgree old (entry ∷ more)
+    agrees : {old : State} {entry : Entry} {more : List Entry} → does.answer old entry.event ≡ entry.answer → AllAgree (does.after old entry.event) more → AllAgree old (entry ∷ more)
 
-  -- the event behind so many answers otherwise, and each before it as it was recorded
+  -- the event after so many answers otherwise, and each before it as it was recorded
   pub data DiffersBehind : ℕ → State → List Entry → Type 0 where
-    differs : {old : State} {entry : Entry} {more : List Entry} → answer old entry.event ≢ entry.answer → DiffersBehind 0 old (entry ∷ more)
-    behind : {n : ℕ} {old : State} {entry : Entry} {more : List Entry} → answer old entry.event ≡ entry.answer → DiffersBehind n (after old entry.event) more → DiffersBehind (suc n) old (entry ∷ more)
+    differs : {old : State} {entry : Entry} {more : List Entry} → does.answer old entry.event ≢ entry.answer → DiffersBehind 0 old (entry ∷ more)
+    behind : {n : ℕ} {old : State} {entry : Entry} {more : List Entry} → does.answer old entry.event ≡ entry.answer → DiffersBehind n (does.after old entry.event) more → DiffersBehind (suc n) old (entry ∷ more)
 
   -- what is told of a session: lines count from 1
   abbrev pub Judges : State → List Entry → Verdict → Type 0

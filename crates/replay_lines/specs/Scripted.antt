@@ -3,7 +3,7 @@ use Rattle.std.specs.Prelude.{ℕ, ◌||◌, Bool, if◌then◌else◌, List, []
 use Rattle.std.specs.Str.{bytes_eq}
 use Rattle.replay_words.specs.declared.fault.Fault.{Fault}
 use Rattle.replay_words.specs.declared.fault.Fault.TheVariants.{Words}
-use Rattle.ixl_rules.specs.layout.Entries.{Site}
+use Rattle.ixl_spec.specs.layout.Entries.{Site}
 use Rattle.simulator_event.specs.declared.event.Event.{Event}
 use Rattle.replay_lines.specs.Events.{event}
 

@@ -4,7 +4,7 @@ use Rattle.std.specs.List.{enumerate_from}
 use Rattle.replay_words.specs.declared.fault.Fault.{Fault}
 use Rattle.replay_words.specs.Fault.{◌>>=◌}
 use Rattle.replay_words.specs.Cut.{event_and_answer, lines, words}
-use Rattle.ixl_rules.specs.layout.Entries.{Site}
+use Rattle.ixl_spec.specs.layout.Entries.{Site}
 use Rattle.replay_lines.specs.declared.text.SessionFault.{SessionFault}
 use Rattle.replay_lines.specs.Events.{event}
 use Rattle.replay_lines.specs.Text.{at_line}

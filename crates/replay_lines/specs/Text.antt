@@ -6,7 +6,7 @@ use Rattle.replay_words.specs.Fault.{number_of, ◌>>=◌}
 use Rattle.replay_words.specs.declared.fault.Fault.{Fault}
 use Rattle.replay_words.specs.declared.fault.Fault.TheVariants.{Memory}
 use Rattle.replay_words.specs.Cut.{lines, is_passed_over}
-use Rattle.ixl_rules.specs.layout.Entries.{Site}
+use Rattle.ixl_spec.specs.layout.Entries.{Site}
 use Rattle.replay_lines.specs.declared.line.SimLine.{SimLine}
 use Rattle.replay_lines.specs.declared.text.SessionFault.{SessionFault}
 use Rattle.replay_lines.specs.Line.{line}
@@ -18,19 +18,19 @@ at_line number (Ok said) (Ok more) = Ok (said ∷ more)
 at_line number (Ok said) (Err later) = Err later
 at_line number (Err fault) more = Err (record { line = number; number = number_of fault })
 
--- what a line says behind earlier ones, if it may stand there
+-- what a line says after earlier ones, if it may stand there
 abbrev pub line_behind : Site → List SimLine → List ℕ → Result SimLine Fault
 line_behind site earlier text = do
   this ← line site text
   stands ← may_stand earlier this
   Ok this
 
--- what a line says before those behind it, or its fault
+-- what a line says before those after it, or its fault
 abbrev pub before : ℕ → Result SimLine Fault → (SimLine → Result (List SimLine) SessionFault) → Result (List SimLine) SessionFault
 before number (Ok this) more = at_line number (Ok this) (more this)
 before number (Err fault) more = Err (record { line = number; number = number_of fault })
 
--- what numbered lines say behind earlier ones, or the fault of the first faulty one
+-- what numbered lines say after earlier ones, or the fault of the first faulty one
 abbrev pub said : Site → List SimLine → List (ℕ × List ℕ) → Result (List SimLine) SessionFault
 said site earlier [] = Ok []
 said site earlier (l ∷ more) =

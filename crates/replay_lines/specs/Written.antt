@@ -5,14 +5,15 @@ use Rattle.std.specs.Option.{option_map}
 use Rattle.std.specs.List.{join_with_byte}
 use Rattle.std.specs.Fmt.{decimal}
 use Rattle.replay_words.specs.Read.{hex_word}
-use Rattle.ixl_rules.specs.layout.Entries.{Site}
-use Rattle.ixl_rules.specs.layout.declared.ids.RouteId.{RouteId}
-use Rattle.ixl_rules.specs.declared.command.Command.{Command}
-use Rattle.ixl_rules.specs.declared.command.Command.TheVariants as command
-use Rattle.ixl_rules.specs.sci_telegram.declared.message.Occupancy.{Occupancy}
-use Rattle.ixl_rules.specs.sci_telegram.declared.message.Occupancy.TheVariants as occupancy
-use Rattle.ixl_rules.specs.sci_telegram.declared.message.Position.{Position}
-use Rattle.ixl_rules.specs.sci_telegram.declared.message.Position.TheVariants as position
+use Rattle.ixl_spec.specs.layout.Entries.{Site}
+use Rattle.ixl_spec.specs.layout.declared.ids.RouteId.{RouteId}
+use Rattle.ixl_spec.specs.declared.command.Command.{Command}
+use Rattle.ixl_spec.specs.declared.command.Command.TheVariants as command
+use Rattle.ixl_spec.specs.sci_telegram.declared.message.Occupancy.{Occupancy}
+use Rattle.ixl_spec.specs.sci_telegram.declared.message.Occupancy.TheVariants as occupancy
+use Rattle.ixl_spec.specs.sci_telegram.Words.{position_word}
+use Rattle.ixl_spec.specs.rasta_core.time.TheConstants.{LATEST_CLOCK}
+use Rattle.ixl_spec.specs.rasta_pdu.declared.writer.TheConstants.{LONGEST_DATAGRAM}
 use Rattle.simulator_event.specs.declared.event.Event.{Event}
 use Rattle.simulator_event.specs.declared.event.Event.TheVariants.{Request, Occupy, Tick, Time, Deliver, Lose, Reach, Restart}
 use Rattle.replay_lines.specs.Names.{node_names, route_word}
@@ -22,14 +23,10 @@ command_words site (command.Request route) = codes "set" ∷ route_word site rou
 command_words site (command.Cancel route) = codes "cancel" ∷ route_word site route ∷ []
 command_words site command.Resume = codes "resume" ∷ []
 
-abbrev pub occupancy_word : Occupancy → List ℕ
-occupancy_word occupancy.Occupied = codes "occupy"
-occupancy_word occupancy.Clear = codes "clear"
-
-abbrev pub position_word : Position → List ℕ
-position_word position.Left = codes "left"
-position_word position.Right = codes "right"
-position_word position.NoEndPosition = codes "none"
+-- an event and a contact say by a verb what becomes of a section
+abbrev pub occupancy_verb : Occupancy → List ℕ
+occupancy_verb occupancy.Occupied = codes "occupy"
+occupancy_verb occupancy.Clear = codes "clear"
 
 -- a word `NODE=E` for each clock that goes on otherwise than true time
 abbrev pub clock_words : ℕ → List (List ℕ) → List ℕ → List (List ℕ)
@@ -40,26 +37,26 @@ clock_words elapsed names steps = []
 
 abbrev pub lose_words : List ℕ → Option (List (List ℕ))
 lose_words bytes =
-    if nat_lt 0 (length bytes) && nat_le (length bytes) 512 then Some (codes "lose" ∷ hex_word bytes ∷ []) else None
+    if nat_lt 0 (length bytes) && nat_le (length bytes) LONGEST_DATAGRAM then Some (codes "lose" ∷ hex_word bytes ∷ []) else None
 
 -- the words of an event; none where a node, a section or a point isn't there, or a number or a length lies outside its bounds
 abbrev pub event_words : Site → Event → Option (List (List ℕ))
 event_words site (Request of) = Some (command_words site of)
-event_words site (Occupy section occupancy) = option_map (λ name. occupancy_word occupancy ∷ name ∷ []) (slice_get site.sections section.0)
+event_words site (Occupy section occupancy) = option_map (λ name. occupancy_verb occupancy ∷ name ∷ []) (slice_get site.sections section.0)
 event_words site (Tick node) = option_map (λ name. codes "tick" ∷ name ∷ []) (slice_get (node_names site) node.0)
 event_words site (Time elapsed steps) =
     if length steps == length (node_names site)
     then Some (codes "time" ∷ decimal elapsed ∷ clock_words elapsed (node_names site) steps)
     else None
 event_words site (Deliver node bytes) =
-    if nat_le (length bytes) 512
+    if nat_le (length bytes) LONGEST_DATAGRAM
     then option_map (λ name. codes "deliver" ∷ name ∷ hex_word bytes ∷ []) (slice_get (node_names site) node.0)
     else None
 event_words site (Lose bytes) = lose_words bytes
 event_words site (Reach point position) =
     option_map (λ p. codes "reach" ∷ p.name ∷ position_word position ∷ []) (slice_get site.points point.0)
 event_words site (Restart node clock number) =
-    if nat_le clock 9000000000000
+    if nat_le clock LATEST_CLOCK
     then option_map (λ name. codes "restart" ∷ name ∷ decimal clock ∷ decimal number ∷ []) (slice_get (node_names site) node.0)
     else None
 

@@ -1,36 +1,12 @@
 //! The replay of a session.
 
-ghost use Rattle.std.specs.Prelude.{◌≡◌, ◌↔◌, IsTrue, IfOk, List};
-ghost use Rattle.replay_lines.specs.Replay.{Applies, Judges};
+ghost use Rattle.std.specs.Prelude.{◌≡◌, ◌↔◌, IsTrue, IfOk, OnOk, List};
+ghost use Rattle.replay_lines.specs.Replay.{Judges};
 
 use crate::recorded;
 use crate::session::Entry;
-use simulator_event::{Answer, Event, Refused, Reply};
+use simulator_event::{Answer, Refused, Station};
 use std::alloc::AllocError;
-
-/// A station to which events happen.
-pub trait Apply {
-    ghost use Rattle.std.specs.Prelude.{Result};
-    ghost use Rattle.simulator_event.specs.declared.event.Event.{Event};
-    ghost use Rattle.simulator_event.specs.refused.Refused.{Refused};
-    ghost use Rattle.simulator_event.specs.declared.reply.Answer.{Answer};
-
-    /// What answers depend on.
-    ghost State: { Type 0 };
-
-    /// How it is now.
-    ghost state: { Self → State };
-
-    /// What it answers to an event.
-    ghost answer: { State → Event → Result Answer Refused };
-
-    /// How it is after an event.
-    ghost after: { State → Event → State };
-
-    /// Applies an event. Want of memory is answered instead where it is lacking, and nothing has happened then.
-    fn apply(&mut self, event: &Event) -> Result<Reply, Refused>
-        ensures { Applies answer after event.now (state self.old) result (state self.new) };
-}
 
 /// Whether a replay answers as it was recorded.
 #[derive(Clone, Copy, Debug, PartialEq, Eq)]
@@ -43,8 +19,8 @@ pub enum Replayed {
 
 /// Applies the events of a session, until one answers otherwise than it was recorded. Want of memory is
 /// told instead where it is lacking.
-pub fn replay<S: Apply>(station: &mut S, entries: &[Entry]) -> Result<Replayed, AllocError>
-    ensures { IfOk result (Judges S.answer S.after (S.state station.old) entries.now) }
+pub fn replay<S: Station>(station: &mut S, entries: &[Entry]) -> Result<Replayed, AllocError>
+    ensures { IfOk result (Judges S.does (S.state station.old) entries.now) }
 {
     for (place, entry) in entries.iter().enumerate() {
         if !agrees(station, entry)? {
@@ -55,9 +31,11 @@ pub fn replay<S: Apply>(station: &mut S, entries: &[Entry]) -> Result<Replayed, 
     Ok(Replayed::Same)
 }
 
-// Applies the event of an entry, and tells whether it answers as it was recorded.
-fn agrees<S: Apply>(station: &mut S, entry: &Entry) -> Result<bool, AllocError>
-    ensures { IfOk result (λ same. (IsTrue same ↔ (S.answer (S.state station.old) entry.now.event ≡ entry.now.answer)) × (S.state station.new ≡ S.after (S.state station.old) entry.now.event)) }
+/// Applies the event of an entry, and tells whether it answers as it was recorded. One that can't happen leaves the station as
+/// it is.
+pub fn agrees<S: Station>(station: &mut S, entry: &Entry) -> Result<bool, AllocError>
+    ensures same { IfOk result (λ same. IsTrue same ↔ (S.does.answer (S.state station.old) entry.now.event ≡ entry.now.answer)) }
+    ensures happens { OnOk result (S.state station.new ≡ S.does.after (S.state station.old) entry.now.event) }
 {
     let answer = recorded(station.apply(&entry.event));
     if let Err(Refused::OutOfMemory) = answer {

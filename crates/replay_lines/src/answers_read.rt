@@ -4,8 +4,7 @@ ghost use Rattle.std.specs.Prelude.{◌≡◌};
 ghost use Rattle.replay_lines.specs.AnswerRead.{accepted, answer, can_answer, named_refusal, no, ok, refused, route_in_table, said, unnamed_refusal};
 
 use crate::{point_named, route_named, section_named};
-use ixl_rules::Refusal;
-use ixl_rules::control_table::layout::{Layout, RouteId};
+use ixl_spec::{Layout, Refusal, RouteId};
 use replay_words::{Fault, Words, decimal};
 use simulator_event::{Answer, Event, Refused};
 

@@ -5,8 +5,7 @@ ghost use Rattle.std.specs.Option.{option_map};
 ghost use Rattle.replay_lines.specs.Answers.{refusal_name};
 
 use crate::{point_word, route_word, section_word};
-use ixl_rules::Refusal;
-use ixl_rules::control_table::layout::Layout;
+use ixl_spec::{Layout, Refusal};
 use simulator_event::{Answer, Refused};
 use std::fmt;
 

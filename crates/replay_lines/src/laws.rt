@@ -2,10 +2,10 @@
 
 ghost use Rattle.std.specs.Prelude.{◌≡◌, ℕ, List, [], Some, Ok, codes, length, slice_get, true};
 ghost use Rattle.replay_words.specs.Words.{is_without};
-ghost use Rattle.ixl_rules.specs.layout.declared.entries.Point.{Point};
-ghost use Rattle.ixl_rules.specs.layout.Entries.{Site, RouteEntry};
-ghost use Rattle.ixl_rules.specs.layout.Once.{Once};
-ghost use Rattle.ixl_rules.specs.layout.Station.{IsStation};
+ghost use Rattle.ixl_spec.specs.layout.declared.entries.Point.{Point};
+ghost use Rattle.ixl_spec.specs.layout.Entries.{Site, RouteEntry};
+ghost use Rattle.ixl_spec.specs.layout.Once.{Once};
+ghost use Rattle.ixl_spec.specs.layout.Station.{IsStation};
 ghost use Rattle.replay_lines.specs.Names.{node_named, node_names, point_named, route_named, section_named};
 ghost use Rattle.replay_lines.specs.Outset.{AllStandBehind};
 ghost use Rattle.replay_lines.specs.Text.{lines_said};

@@ -6,13 +6,10 @@ ghost use Rattle.replay_lines.specs.Line.{beginning, flow, happening, line, mill
 
 use crate::outset::{Begun, read_begun};
 use crate::words::read_event;
-use ixl_rules::control_table::layout::Layout;
+use ixl_spec::{Layout, ROUND};
 use replay_words::{Fault, Words, decimal};
 use simulator_event::Event;
 use std::alloc::Global;
-
-/// The length of a round of a flow, in milliseconds.
-pub const ROUND: u64 = 10;
 
 // The bounds of a flow, in milliseconds.
 const SHORTEST_FLOW: u64 = 10;

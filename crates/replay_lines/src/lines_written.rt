@@ -5,20 +5,17 @@ ghost use Rattle.std.specs.Option.{option_map};
 ghost use Rattle.std.specs.List.{join_with_byte};
 ghost use Rattle.simulator_event.specs.declared.event.Event.TheVariants.{Deliver, Occupy, Reach, Restart, Tick, Time};
 ghost use Rattle.replay_lines.specs.Names.{node_names};
-ghost use Rattle.replay_lines.specs.Written.{command_words, event_line, lose_words};
+ghost use Rattle.replay_lines.specs.Written.{command_words, event_line, lose_words, occupancy_verb};
 ghost use Rattle.replay_lines.specs.inside.Clocks.{clock_text};
 
-use crate::{node_count, node_name, route_word};
-use ixl_rules::Command;
-use ixl_rules::control_table::Checked;
-use ixl_rules::control_table::layout::{Layout, PointId, SectionId};
-use ixl_rules::control_table::sci_telegram::{Occupancy, Position};
-use replay_words::{LONGEST, hex_word};
+use crate::route_word;
+use ixl_spec::{
+    Checked, Command, LATEST_CLOCK, LONGEST_DATAGRAM, Layout, Occupancy, PointId, Position,
+    SectionId,
+};
+use replay_words::hex_word;
 use simulator_event::{Event, NodeId};
 use std::alloc::{AllocError, Global};
-
-// The latest clock with which a node is made anew, in milliseconds.
-const LATEST_CLOCK: u64 = 9_000_000_000_000;
 
 /// The line of an event, without a line feed. There is none where a node, a section or a point isn't
 /// there, or a number or a length lies outside the bounds of a line.
@@ -62,6 +59,16 @@ fn command_line(alloc: Global, layout: &Layout, command: Command) -> Result<Stri
     }
 }
 
+/// The verb by which an event and a contact say what becomes of a section. It isn't the word for its state.
+pub fn occupancy_verb(occupancy: Occupancy) -> &'static str
+    ensures { result.now ≡ occupancy_verb occupancy }
+{
+    match occupancy {
+        Occupancy::Occupied => "occupy",
+        Occupancy::Clear => "clear",
+    }
+}
+
 fn occupy_line(
     alloc: Global,
     layout: &Layout,
@@ -73,10 +80,7 @@ fn occupy_line(
     let Some(name) = layout.sections().get(section.0) else {
         return Ok(None);
     };
-    let word = match occupancy {
-        Occupancy::Occupied => "occupy",
-        Occupancy::Clear => "clear",
-    };
+    let word = occupancy_verb(occupancy);
     let name = name.as_str();
     Ok(Some(format!(in alloc; "{word} {name}")?))
 }
@@ -84,7 +88,7 @@ fn occupy_line(
 fn tick_line(alloc: Global, layout: &Layout, node: NodeId) -> Result<Option<String>, AllocError>
     ensures { IfOk result (λ line. option_map string_bytes line ≡ event_line layout.now (Tick node)) }
 {
-    let Some(name) = node_name(layout, node) else {
+    let Some(name) = layout.node_name(node) else {
         return Ok(None);
     };
     let name = name.as_str();
@@ -99,7 +103,7 @@ fn time_line(
 ) -> Result<Option<String>, AllocError>
     ensures { IfOk result (λ line. option_map string_bytes line ≡ event_line layout.now (Time elapsed steps.now)) }
 {
-    if steps.len() != node_count(layout) {
+    if steps.len() != layout.nodes() {
         return Ok(None);
     }
     let mut line = format!(in alloc; "time {elapsed}")?;
@@ -122,7 +126,7 @@ fn push_clock(
     if step == elapsed {
         return Ok(());
     }
-    match node_name(layout, node) {
+    match layout.node_name(node) {
         Some(name) => {
             let name = name.as_str();
             write!(line, " {name}={step}")
@@ -139,10 +143,10 @@ fn deliver_line(
 ) -> Result<Option<String>, AllocError>
     ensures { IfOk result (λ line. option_map string_bytes line ≡ event_line layout.now (Deliver node bytes.now)) }
 {
-    if bytes.len() > LONGEST {
+    if bytes.len() > LONGEST_DATAGRAM {
         return Ok(None);
     }
-    let Some(name) = node_name(layout, node) else {
+    let Some(name) = layout.node_name(node) else {
         return Ok(None);
     };
     let name = name.as_str();
@@ -154,7 +158,7 @@ fn deliver_line(
 fn lose_line(alloc: Global, bytes: &[u8]) -> Result<Option<String>, AllocError>
     ensures { IfOk result (λ line. option_map string_bytes line ≡ option_map (join_with_byte 32) (lose_words bytes.now)) }
 {
-    if bytes.is_empty() || bytes.len() > LONGEST {
+    if bytes.is_empty() || bytes.len() > LONGEST_DATAGRAM {
         return Ok(None);
     }
     let word = hex_word(alloc, bytes)?;
@@ -173,11 +177,7 @@ fn reach_line(
     let Some(point) = layout.points().get(point.0) else {
         return Ok(None);
     };
-    let word = match position {
-        Position::Left => "left",
-        Position::Right => "right",
-        Position::NoEndPosition => "none",
-    };
+    let word = position.word();
     let name = point.name.as_str();
     Ok(Some(format!(in alloc; "reach {name} {word}")?))
 }
@@ -194,7 +194,7 @@ fn restart_line(
     if clock > LATEST_CLOCK {
         return Ok(None);
     }
-    let Some(name) = node_name(layout, node) else {
+    let Some(name) = layout.node_name(node) else {
         return Ok(None);
     };
     let name = name.as_str();

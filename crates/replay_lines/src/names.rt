@@ -1,14 +1,23 @@
-//! Sections, points and routes by their names.
+//! Nodes, sections, points and routes by their names.
 
-ghost use Rattle.std.specs.Prelude.{◌≡◌, ◌<◌, length, true, IfSome};
+ghost use Rattle.std.specs.Prelude.{◌≡◌, true};
 ghost use Rattle.replay_words.specs.Words.{is_without};
 ghost use Rattle.std.specs.List.{position};
 ghost use Rattle.std.specs.Str.{bytes_eq};
-ghost use Rattle.replay_lines.specs.Names.{point_named, point_word, route_named, route_word, section_named, section_word};
+ghost use Rattle.replay_lines.specs.Names.{node_named, point_named, point_word, route_named, route_word, section_named, section_word};
 
-use ixl_rules::control_table::layout::{Layout, Point, PointId, Route, RouteId, SectionId};
-use ixl_rules::control_table::sci_telegram::Name;
+use ixl_spec::{Layout, Name, NodeId, Point, PointId, Route, RouteId, SectionId};
 use replay_words::Fault;
+
+/// The node that a word names; fault 2 where there is none.
+pub fn node_named(layout: &Layout, word: &str) -> Result<NodeId, Fault>
+    ensures { result ≡ node_named layout.now word.now }
+{
+    match layout.node_named(word) {
+        Some(node) => Ok(node),
+        None => Err(Fault::Name),
+    }
+}
 
 /// The section that a word names; fault 2 where there is none.
 pub fn section_named(layout: &Layout, word: &str) -> Result<SectionId, Fault>
@@ -30,7 +39,7 @@ pub fn point_named(layout: &Layout, word: &str) -> Result<PointId, Fault>
     }
 }
 
-/// The route that a word names. Every word that names none stands for the one behind the last.
+/// The route that a word names. Every word that names none stands for the one after the last.
 pub fn route_named(layout: &Layout, word: &str) -> RouteId
     ensures { result ≡ route_named layout.now word.now }
 {
@@ -83,7 +92,7 @@ pub fn name_word(name: &Name) -> &str
 
 /// Whether a word is this name.
 #[tactic(auto, using(crate::proofs::Places::tested))]
-pub(crate) fn is_called(name: &Name, word: &str) -> bool
+fn is_called(name: &Name, word: &str) -> bool
     ensures { result ≡ bytes_eq name.now word.now }
 {
     name.bytes() == word.as_bytes()
@@ -95,10 +104,8 @@ fn section_place(sections: &[Name], word: &str) -> Option<usize>
     sections.iter().position(|name| is_called(name, word))
 }
 
-/// The place of the point of this name.
-pub(crate) fn point_place(points: &[Point], word: &str) -> Option<usize>
-    ensures place { result ≡ position (λ p. bytes_eq p.name word.now) points.now }
-    ensures there { IfSome result (λ place. place < length points.now) }
+fn point_place(points: &[Point], word: &str) -> Option<usize>
+    ensures { result ≡ position (λ p. bytes_eq p.name word.now) points.now }
 {
     points.iter().position(|point| is_called(&point.name, word))
 }

@@ -7,8 +7,7 @@ ghost use Rattle.replay_lines.specs.Outset.{begins, begins_same, is_begun, may_s
 use crate::line::SimLine;
 use crate::names::{point_named, section_named};
 use crate::words::position_named;
-use ixl_rules::control_table::layout::{Layout, PointId, SectionId};
-use ixl_rules::control_table::sci_telegram::{Occupancy, Position};
+use ixl_spec::{Layout, Occupancy, PointId, Position, SectionId};
 use replay_words::{Fault, Words};
 
 /// A point or a section, and how it lies when the station is started.
@@ -24,17 +23,16 @@ pub enum Begun {
     },
 }
 
-/// What the words behind the first say, or their lowest fault.
+/// What the words after the first say, or their lowest fault.
 pub(crate) fn read_begun(layout: &Layout, mut words: Words<'_>) -> Result<Begun, Fault>
     ensures { result ≡ begins layout.now words.entry }
 {
     let (Some(name), Some(lies), None) = (words.next(), words.next(), words.next()) else {
         return Err(Fault::Words);
     };
-    match lies {
-        "clear" => section_begun(layout, name, Occupancy::Clear),
-        "occupied" => section_begun(layout, name, Occupancy::Occupied),
-        _ => point_begun(layout, name, lies),
+    match Occupancy::of_word(lies) {
+        Some(occupancy) => section_begun(layout, name, occupancy),
+        None => point_begun(layout, name, lies),
     }
 }
 
@@ -55,7 +53,7 @@ fn point_begun(layout: &Layout, name: &str, side: &str) -> Result<Begun, Fault>
     Ok(Begun::Point { point, position })
 }
 
-/// Whether a line may stand behind earlier ones: one that says how a point or a section begins stands behind such lines
+/// Whether a line may stand after earlier ones: one that says how a point or a section begins stands after such lines
 /// alone, of which none names the same.
 pub(crate) fn may_stand(earlier: &[SimLine], line: &SimLine) -> Result<(), Fault>
     ensures { result ≡ may_stand earlier.now line.now }

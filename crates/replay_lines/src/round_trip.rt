@@ -2,9 +2,9 @@
 
 ghost use Rattle.std.specs.Prelude.{◌≡◌, List, ℕ, Ok, Some};
 ghost use Rattle.replay_words.specs.Cut.{words};
-ghost use Rattle.ixl_rules.specs.layout.Entries.{Site};
-ghost use Rattle.ixl_rules.specs.layout.Once.{Once};
-ghost use Rattle.ixl_rules.specs.layout.Station.{IsStation};
+ghost use Rattle.ixl_spec.specs.layout.Entries.{Site};
+ghost use Rattle.ixl_spec.specs.layout.Once.{Once};
+ghost use Rattle.ixl_spec.specs.layout.Station.{IsStation};
 ghost use Rattle.replay_lines.specs.Events.{event as event_said};
 ghost use Rattle.replay_lines.specs.Written.{event_line};
 ghost use Rattle.replay_lines.specs.ReadAgain.{IsOfValues, event_read};
@@ -17,7 +17,7 @@ use replay_words::{
 };
 
 /// The line of an event is read as this event; a command on a route that the table lacks is read as one on the route
-/// behind its last.
+/// after its last.
 pub fn written_events_are_read_again()
     ensures { (site : Site) → Once site → IsStation site → (event : Event) → IsOfValues event → (line : List ℕ) → event_line site event ≡ Some line → event_said site (words line) ≡ Ok (event_read site event) }
 {

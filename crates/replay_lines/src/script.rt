@@ -7,8 +7,7 @@ ghost use Rattle.replay_lines.specs.Text.{Tells};
 ghost use Rattle.replay_lines.specs.Script.{script, timed, timed_line};
 
 use crate::{SessionFault, read_script_event};
-use ixl_rules::control_table::Checked;
-use ixl_rules::control_table::layout::Layout;
+use ixl_spec::{Checked, Layout};
 use replay_words::{Fault, Lines, Words, both, decimal};
 use simulator_event::Event;
 use std::alloc::Global;
@@ -38,7 +37,7 @@ pub fn read_script(
     Ok(events)
 }
 
-// Keeps the event of one line behind those before it, of which the last has the time `latest`, and tells its
+// Keeps the event of one line after those before it, of which the last has the time `latest`, and tells its
 // time.
 fn keep_event(
     table: &Checked,
@@ -54,7 +53,7 @@ fn keep_event(
     Ok(time)
 }
 
-// What a line of a script says behind one of the time `latest`.
+// What a line of a script says after one of the time `latest`.
 fn timed_line(layout: &Layout, line: &str, latest: u64) -> Result<(u64, Event), Fault>
     ensures { result ≡ timed_line layout.now latest line.now }
 {

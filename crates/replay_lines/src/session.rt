@@ -6,8 +6,7 @@ ghost use Rattle.replay_lines.specs.Text.{Tells};
 ghost use Rattle.replay_lines.specs.Session.{entry, session};
 
 use crate::{SessionFault, read_answer, read_event};
-use ixl_rules::control_table::Checked;
-use ixl_rules::control_table::layout::Layout;
+use ixl_spec::{Checked, Layout};
 use replay_words::{Fault, Lines, event_and_answer};
 use simulator_event::{Answer, Event, Refused};
 use std::alloc::Global;
@@ -47,7 +46,7 @@ pub fn read_session(alloc: Global, table: &Checked, text: &str) -> Result<Vec<En
     Ok(entries)
 }
 
-// Keeps the entry of one line behind those before it.
+// Keeps the entry of one line after those before it.
 fn keep_entry(
     alloc: Global,
     table: &Checked,

@@ -6,8 +6,7 @@ ghost use Rattle.replay_lines.specs.Text.{Tells, line_behind, lines_said};
 
 use crate::line::{SimLine, read_line};
 use crate::outset::may_stand;
-use ixl_rules::control_table::Checked;
-use ixl_rules::control_table::layout::Layout;
+use ixl_spec::{Checked, Layout};
 use replay_words::{Fault, Lines, is_passed_over};
 use std::alloc::Global;
 use std::error::Error;
@@ -59,7 +58,7 @@ pub fn read_lines(alloc: Global, table: &Checked, text: &str) -> Result<Vec<SimL
     Ok(said)
 }
 
-// Keeps what one line says behind those before it.
+// Keeps what one line says after those before it.
 fn keep_line(
     alloc: Global,
     table: &Checked,
@@ -74,7 +73,7 @@ fn keep_line(
     Ok(())
 }
 
-// What a line says behind earlier ones.
+// What a line says after earlier ones.
 fn line_behind(
     alloc: Global,
     layout: &Layout,

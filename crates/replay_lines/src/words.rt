@@ -7,18 +7,13 @@ ghost use Rattle.replay_lines.specs.Events.{are_formed, cancel, clear, deliver, 
 ghost use Rattle.replay_lines.specs.Given.{Gives};
 ghost use Rattle.replay_lines.specs.Scripted.{script_event};
 
-use crate::{node_count, node_named, point_named, route_named, section_named};
-use ixl_rules::Command;
-use ixl_rules::control_table::layout::Layout;
-use ixl_rules::control_table::sci_telegram::{Occupancy, Position};
+use crate::{node_named, point_named, route_named, section_named};
+use ixl_spec::{Command, LATEST_CLOCK, Layout, Occupancy, Position};
 use replay_words::{
     Bytes, Fault, Words, both, decimal, hexadecimal, hexadecimal_or_none, name_and_number,
 };
 use simulator_event::{ClockSteps, Event, RawDatagram};
 use std::alloc::{AllocError, Global};
-
-// The latest clock with which a node is made anew, in milliseconds.
-const LATEST_CLOCK: u64 = 9_000_000_000_000;
 
 /// The event that the words of a line say, or the lowest fault of the words. Fault 7 comes only where
 /// memory was refused.
@@ -193,17 +188,12 @@ fn restart(layout: &Layout, mut words: Words<'_>) -> Result<Event, Fault>
 pub(crate) fn position_named(word: &str) -> Result<Position, Fault>
     ensures { result ≡ position_named word.now }
 {
-    match word {
-        "left" => Ok(Position::Left),
-        "right" => Ok(Position::Right),
-        "none" => Ok(Position::NoEndPosition),
-        _ => Err(Fault::Words),
-    }
+    Position::of_word(word).ok_or(Fault::Words)
 }
 
 // A clock reading, in milliseconds.
 fn clock_reading(word: &str) -> Result<u64, Fault>
-    ensures { result ≡ number_up_to 9000000000000 word.now }
+    ensures { result ≡ number_up_to LATEST_CLOCK word.now }
 {
     let clock = decimal(word)?;
     if clock > LATEST_CLOCK {
@@ -269,7 +259,7 @@ fn is_named(name: &str, words: Words<'_>) -> bool
 fn steps(alloc: Global, layout: &Layout, elapsed: u64, words: Words<'_>) -> Result<Vec<u64>, Fault>
     ensures { Gives (λ steps. steps.items) (steps_set layout.now words.entry (replicate (length (node_names layout.now)) elapsed)) result }
 {
-    let mut steps = vec![in alloc; elapsed; node_count(layout)]?;
+    let mut steps = vec![in alloc; elapsed; layout.nodes()]?;
     for word in words {
         let (name, number) = name_and_number(word)?;
         let node = node_named(layout, name)?;

@@ -4,6 +4,7 @@ use Rattle.std.specs.Str.{all_ascii_digits, bytes_eq}
 use Rattle.std.specs.Str.Parse.{digits_value}
 use Rattle.hex.specs.declared.error.FromHexError.{FromHexError}
 use Rattle.hex.specs.Hex.{decode_of, encode_lower}
+use Rattle.rasta_pdu.specs.declared.writer.TheConstants.{LONGEST_DATAGRAM}
 use Rattle.replay_words.specs.declared.fault.Fault.{Fault}
 use Rattle.replay_words.specs.declared.fault.Fault.TheVariants.{Number, Hexadecimal}
 
@@ -16,7 +17,7 @@ decimal word =
 
 -- the bytes that were read, if they are 1 to 512
 abbrev pub within_bounds : Result (List ℕ) FromHexError → Result (List ℕ) Fault
-within_bounds (Ok bytes) = if nat_lt 0 (length bytes) && nat_le (length bytes) 512 then Ok bytes else Err Hexadecimal
+within_bounds (Ok bytes) = if nat_lt 0 (length bytes) && nat_le (length bytes) LONGEST_DATAGRAM then Ok bytes else Err Hexadecimal
 within_bounds (Err e) = Err Hexadecimal
 
 -- the 1 to 512 bytes that hexadecimal digits spell, two a byte, in either case

@@ -6,6 +6,7 @@ ghost use Rattle.std.specs.List.{join_with_byte};
 ghost use Rattle.replay_words.specs.Cut.{words, name_and_number};
 ghost use Rattle.replay_words.specs.Read.{decimal, hex_word, hexadecimal, hexadecimal_or_none};
 ghost use Rattle.hex.specs.Hex.{IsBytes};
+ghost use Rattle.rasta_pdu.specs.declared.writer.TheConstants.{LONGEST_DATAGRAM};
 ghost use Rattle.replay_words.specs.Words.{are_words, is_without};
 
 /// Words without spaces are the words of the line that they make, parted by single spaces.
@@ -30,7 +31,7 @@ pub fn a_name_and_its_number_are_parted_again()
 /// Bytes are read as they were written, in a word without spaces.
 #[tactic(auto, using(crate::proofs::Spelled::bytes_read, crate::proofs::Spelled::some_bytes_read, crate::proofs::Written::bytes_word))]
 pub fn bytes_are_read_again()
-    ensures any { (bytes : List ℕ) → IsBytes bytes → length bytes ≤ 512 → hexadecimal_or_none (hex_word bytes) ≡ Ok bytes }
-    ensures some { (bytes : List ℕ) → IsBytes bytes → 0 < length bytes → length bytes ≤ 512 → hexadecimal (hex_word bytes) ≡ Ok bytes }
+    ensures any { (bytes : List ℕ) → IsBytes bytes → length bytes ≤ LONGEST_DATAGRAM → hexadecimal_or_none (hex_word bytes) ≡ Ok bytes }
+    ensures some { (bytes : List ℕ) → IsBytes bytes → 0 < length bytes → length bytes ≤ LONGEST_DATAGRAM → hexadecimal (hex_word bytes) ≡ Ok bytes }
     ensures word { (bytes : List ℕ) → is_without 32 (hex_word bytes) ≡ true }
 {}

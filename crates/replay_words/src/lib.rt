@@ -13,5 +13,5 @@ pub use laws::{
     a_name_and_its_number_are_parted_again, a_number_is_read_again, bytes_are_read_again,
     joined_words_are_read_again,
 };
-pub use read::{Bytes, LONGEST, decimal, hex_word, hexadecimal, hexadecimal_or_none};
+pub use read::{Bytes, decimal, hex_word, hexadecimal, hexadecimal_or_none};
 pub use writer::write_as_taken;

@@ -6,16 +6,14 @@ ghost use Rattle.replay_words.specs.Read.{decimal, hexadecimal, hexadecimal_or_n
 
 use crate::fault::Fault;
 use arrayvec::ArrayVec;
+use rasta_pdu::{LONGEST_DATAGRAM, Received};
 use std::alloc::{AllocError, Global};
 
 // The fewest bytes that hexadecimal digits spell.
 const SHORTEST: usize = 1;
 
-/// The longest run of bytes that a line may hold.
-pub const LONGEST: usize = 512;
-
 /// The bytes of a line.
-pub type Bytes = ArrayVec<u8, LONGEST>;
+pub type Bytes = Received;
 
 /// The number below 2^64 that `word` spells in one or more decimal digits, without a sign; fault 3
 /// otherwise. Leading zeros are read.
@@ -34,10 +32,10 @@ pub fn hexadecimal(word: &str) -> Result<Bytes, Fault>
     ensures { MatchResult result (λ bytes. hexadecimal word.now ≡ Ok bytes.items) (λ fault. hexadecimal word.now ≡ Err fault) }
 {
     let length = word.len() / 2;
-    if length < SHORTEST || length > LONGEST {
+    if length < SHORTEST || length > LONGEST_DATAGRAM {
         return Err(Fault::Hexadecimal);
     }
-    let mut buffer = [0; LONGEST];
+    let mut buffer = [0; LONGEST_DATAGRAM];
     let decoded = &mut buffer[..length];
     hex::decode_to_slice(word, decoded).map_err(|_| Fault::Hexadecimal)?;
     ArrayVec::try_from(&*decoded).map_err(|_| Fault::Hexadecimal)
@@ -58,7 +56,7 @@ pub fn hexadecimal_or_none(word: &str) -> Result<Bytes, Fault>
 /// [`hexadecimal_or_none`] reads it back.
 pub fn hex_word(alloc: Global, bytes: &[u8]) -> Result<String, AllocError>
     ensures word { IfOk result (λ word. string_bytes word ≡ hex_word bytes.now) }
-    ensures read_back { IfOk result (λ word. length bytes.now ≤ 512 → hexadecimal_or_none (string_bytes word) ≡ Ok bytes.now) }
+    ensures read_back { IfOk result (λ word. length bytes.now ≤ LONGEST_DATAGRAM → hexadecimal_or_none (string_bytes word) ≡ Ok bytes.now) }
     ensures no_space { IfOk result (λ word. is_without 32 (string_bytes word) ≡ true) }
 {
     if bytes.is_empty() {

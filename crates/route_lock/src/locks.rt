@@ -12,10 +12,9 @@ ghost use Rattle.route_lock.specs.Locks.{AllApart, AreAllSections, Blocks, Holds
 ghost use Rattle.route_lock.specs.Rows.{IsFirstRowsFault, IsRowsFault, NoneBlocks, RowsBlock};
 
 use crate::rows::{Locked, all_of, facts_of, rows_of};
-use control_table::bit_row::BitRow;
-use control_table::layout::{PointId, RouteId};
-use control_table::sci_telegram::Side;
-use control_table::{Checked, RouteMasks, a_route_leads_over_sections_that_are_there};
+use control_table::{
+    BitRow, Checked, PointId, RouteId, RouteMasks, Side, a_route_leads_over_sections_that_are_there,
+};
 use std::alloc::{AllocError, Global};
 use std::marker::Model;
 use thiserror::Error;

@@ -9,10 +9,9 @@ ghost use Rattle.control_table.specs.bit_row.Places.{Has};
 ghost use Rattle.control_table.specs.Table.{LeadsOver, Sound};
 ghost use Rattle.route_lock.specs.Rows.{AreRows, AwaitsOne, HoldsBy, RowsBlock, RowsClash, all_of, join, none};
 
-use control_table::bit_row::BitRow;
-use control_table::layout::{PointId, RouteId};
-use control_table::sci_telegram::Side;
-use control_table::{Checked, RouteMasks, required_points_are_there};
+use control_table::{
+    BitRow, Checked, PointId, RouteId, RouteMasks, Side, required_points_are_there,
+};
 
 /// What one route locks, or what all routes lock together.
 #[derive(Clone, Copy, Debug)]

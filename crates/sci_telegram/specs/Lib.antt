@@ -3,3 +3,4 @@ pub mod Messages
 pub mod Telegrams
 pub mod TelegramRead
 pub mod Faults
+pub mod Words

@@ -11,13 +11,14 @@ mod name;
 mod reader;
 mod telegram;
 mod types;
+mod words;
 mod writer;
 
 pub use fault::SciFault;
 pub use laws::{first_fault_is_read, one_spelling_each, read_was_written, written_is_read};
 pub use message::{
     Agreement, Aspect, DetectionMessage, Initialisation, Message, Occupancy, PointMessage,
-    Position, Protocol, Side, SignalMessage,
+    Position, Protocol, SLOW_SINCE, Side, SignalMessage,
 };
 pub use name::Name;
 pub use reader::read;

@@ -37,12 +37,15 @@ pub enum Position {
     NoEndPosition,
 }
 
+/// The version of the telegrams that first has the aspect slow.
+pub const SLOW_SINCE: u8 = 2;
+
 /// What a signal shows to a train.
 #[derive(Clone, Copy, Debug, PartialEq, Eq)]
 pub enum Aspect {
     Stop,
     Proceed,
-    /// Proceed at low speed. Telegrams of version 1 don't have it.
+    /// Proceed at low speed. Telegrams have it from version `SLOW_SINCE` on.
     Slow,
 }
 

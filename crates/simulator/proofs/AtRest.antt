@@ -1,11 +1,11 @@
 -- A station that lies at rest: every point stands left, and every section is clear.
 use Rattle.std.proofs.Common.{◌≡◌, ℕ, List, [], ◌∷◌, length, map, replicate, refl, sym, ap, ◌∙◌}
-use Rattle.simulator_ixl.specs.layout.Entries.{Site}
-use Rattle.simulator_ixl.specs.sci_telegram.declared.message.Occupancy.{Occupancy}
-use Rattle.simulator_ixl.specs.sci_telegram.declared.message.Occupancy.TheVariants as occupancies
-use Rattle.simulator_ixl.specs.sci_telegram.declared.message.Position.{Position}
-use Rattle.simulator_ixl.specs.sci_telegram.declared.message.Position.TheVariants as positions
-use Rattle.simulator_ixl.specs.simulator_run.First.{Outset, at_rest}
+use Rattle.ixl_state.specs.layout.Entries.{Site}
+use Rattle.ixl_state.specs.sci_telegram.declared.message.Occupancy.{Occupancy}
+use Rattle.ixl_state.specs.sci_telegram.declared.message.Occupancy.TheVariants as occupancies
+use Rattle.ixl_state.specs.sci_telegram.declared.message.Position.{Position}
+use Rattle.ixl_state.specs.sci_telegram.declared.message.Position.TheVariants as positions
+use Rattle.simulator_spec.specs.First.{Outset, at_rest}
 
 as_many : {A B : Type 0} (one : B) (xs : List A) → replicate (length xs) one ≡ map (λ x. one) xs
 as_many one [] = refl

@@ -1,13 +1,13 @@
 -- The contact of a section comes to the detector that reports it.
 use Rattle.std.proofs.Common.{◌≡◌, sym, ap, subst, ℕ, ◌<◌, length, slice_get, slice_index_or, Some, arith}
 use Rattle.std.proofs.lemmas.Option.{slice_get-get_or, slice_get_within}
-use Rattle.simulator_ixl.specs.layout.Entries.{Site}
-use Rattle.simulator_ixl.specs.ixl_rules.Table.{Table}
-use Rattle.simulator_ixl.specs.ixl_table.Table.{IsTableOf, SitedTable}
-use Rattle.simulator_ixl.specs.sci_telegram.declared.message.Occupancy.{Occupancy}
-use Rattle.simulator_ixl.specs.object_host.declared.input.Input.TheVariants as inputs
-use Rattle.simulator_ixl.specs.object_host.declared.sense.Sense.TheVariants as sense
-use Rattle.simulator_ixl.specs.simulator_run.Happens.{detector_stepped, sensed_by}
+use Rattle.ixl_state.specs.layout.Entries.{Site}
+use Rattle.ixl_state.specs.ixl_spec.Table.{Table}
+use Rattle.ixl_state.specs.ixl_table.Table.{IsTableOf, SitedTable}
+use Rattle.ixl_state.specs.sci_telegram.declared.message.Occupancy.{Occupancy}
+use Rattle.simulator_spec.specs.object_host.declared.input.Input.TheVariants as inputs
+use Rattle.simulator_spec.specs.object_host.declared.sense.Sense.TheVariants as sense
+use Rattle.simulator_spec.specs.Happens.{detector_stepped, sensed_by}
 use Rattle.simulator.specs.inside.Parts.{Goes, seen}
 use Rattle.simulator.specs.declared.parts.Parts.{Parts}
 use Rattle.simulator.proofs.PartsOfWorld.{goes_as}

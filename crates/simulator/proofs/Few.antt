@@ -4,14 +4,14 @@ use Rattle.std.specs.Prelude.{Option, slice_get}
 use Rattle.std.specs.Option.{option_map}
 use Rattle.std.proofs.lemmas.List.{map_more}
 use Rattle.std.proofs.lemmas.Option.{same_Some, slice_get-get_or}
-use Rattle.simulator_ixl.specs.sci_telegram.declared.message.Aspect.{Aspect}
-use Rattle.simulator_ixl.specs.sci_telegram.declared.message.Side.{Side}
-use Rattle.simulator_ixl.specs.point_ctl.Drive.{PointState}
-use Rattle.simulator_ixl.specs.signal_ctl.Signal.{SignalState}
-use Rattle.simulator_ixl.specs.simulator_snapshot.declared.snapshot.Shown.{Shown}
-use Rattle.simulator_ixl.specs.simulator_run.Refusals.{driven_at, driven_by}
-use Rattle.simulator_ixl.specs.simulator_run.Seen.{as_shown, shown_by}
-use Rattle.simulator_ixl.specs.simulator_run.State.{ClockedControllerState}
+use Rattle.ixl_state.specs.sci_telegram.declared.message.Aspect.{Aspect}
+use Rattle.ixl_state.specs.sci_telegram.declared.message.Side.{Side}
+use Rattle.simulator_spec.specs.point_ctl.Drive.{PointState}
+use Rattle.simulator_spec.specs.signal_ctl.Signal.{SignalState}
+use Rattle.simulator_spec.specs.simulator_event.declared.snapshot.Shown.{Shown}
+use Rattle.simulator_spec.specs.Refusals.{driven_at, driven_by}
+use Rattle.simulator_spec.specs.Seen.{as_shown, shown_by}
+use Rattle.simulator_spec.specs.State.{ClockedControllerState}
 
 -- the next signal
 pub shown_next : (servers : List (ClockedControllerState SignalState)) (shows : List Shown) (place : ℕ) (aspect : Aspect) → place < length servers → option_map shown_by (slice_get servers place) ≡ Some aspect → shows ≡ map as_shown (take place servers)

@@ -1,3 +1,8 @@
+mod Clocks
+mod Made
+mod Pairs
+mod Places
+mod DatagramsSent
 mod Below
 mod ContactReaches
 mod Few
@@ -10,3 +15,4 @@ mod Whole
 mod Within
 mod Promise
 mod AtRest
+mod WorldAnswers

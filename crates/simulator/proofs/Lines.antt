@@ -4,28 +4,29 @@ use Rattle.std.specs.Option.{option_map}
 use Rattle.std.proofs.lemmas.List.{drop_all, drop_more}
 use Rattle.std.proofs.lemmas.Option.{get_or_from_slice_get, slice_get_within}
 use Rattle.std.proofs.lemmas.Option.{same_Some}
-use Rattle.simulator_ixl.specs.sci_telegram.declared.message.Aspect.{Aspect}
-use Rattle.simulator_ixl.specs.sci_telegram.declared.message.Occupancy.{Occupancy}
-use Rattle.simulator_ixl.specs.sci_telegram.declared.message.Position.{Position}
-use Rattle.simulator_ixl.specs.sci_telegram.declared.message.Side.{Side}
-use Rattle.simulator_ixl.specs.layout.declared.entries.Point.{Point}
-use Rattle.simulator_ixl.specs.layout.declared.entries.Signal.{Signal}
-use Rattle.simulator_ixl.specs.layout.Entries.{Site, RouteEntry}
-use Rattle.simulator_ixl.specs.ixl_rules.State.{RouteState}
-use Rattle.simulator_ixl.specs.ixl_rules.View.{is_set}
-use Rattle.simulator_ixl.specs.point_ctl.Drive.{PointState}
-use Rattle.simulator_ixl.specs.signal_ctl.Signal.{SignalState}
-use Rattle.simulator_ixl.specs.simulator_snapshot.declared.snapshot.Held.{Held}
-use Rattle.simulator_ixl.specs.simulator_run.Picture.{aspect_text, authority_text, driven_text, occupancy_text, point_lines, position_text, route_lines, route_name, section_lines, set_text, signal_lines}
-use Rattle.simulator_ixl.specs.simulator_run.Refusals.{driven_at, driven_by}
-use Rattle.simulator_ixl.specs.simulator_run.Seen.{shown_by}
-use Rattle.simulator_ixl.specs.simulator_run.State.{ClockedControllerState}
+use Rattle.ixl_state.specs.sci_telegram.declared.message.Aspect.{Aspect}
+use Rattle.ixl_state.specs.sci_telegram.declared.message.Occupancy.{Occupancy}
+use Rattle.ixl_state.specs.sci_telegram.declared.message.Position.{Position}
+use Rattle.ixl_state.specs.sci_telegram.declared.message.Side.{Side}
+use Rattle.ixl_state.specs.layout.declared.entries.Point.{Point}
+use Rattle.ixl_state.specs.layout.declared.entries.Signal.{Signal}
+use Rattle.ixl_state.specs.layout.Entries.{Site, RouteEntry}
+use Rattle.ixl_state.specs.ixl_spec.State.{RouteState}
+use Rattle.ixl_state.specs.ixl_spec.View.{is_set}
+use Rattle.simulator_spec.specs.point_ctl.Drive.{PointState}
+use Rattle.simulator_spec.specs.signal_ctl.Signal.{SignalState}
+use Rattle.simulator_spec.specs.simulator_event.declared.snapshot.Held.{Held}
+use Rattle.simulator_spec.specs.Picture.{authority_text, driven_text, point_lines, route_lines, route_name, section_lines, set_text, signal_lines}
+use Rattle.simulator_spec.specs.sci_telegram.Words.{aspect_word, occupancy_word, position_word}
+use Rattle.simulator_spec.specs.Refusals.{driven_at, driven_by}
+use Rattle.simulator_spec.specs.Seen.{shown_by}
+use Rattle.simulator_spec.specs.State.{ClockedControllerState}
 use Rattle.simulator.specs.inside.Lines.{point_line, route_line, section_line, signal_line}
 
 one_more : (n : ℕ) → suc n ≡ n + 1
 one_more n = omega arith
 
--- some text is added, and then what is behind it
+-- some text is added, and then what is after it
 then_added : (old here later whole left new : List ℕ) → left ≡ here ++ later → new ≡ old ++ here → old ++ left ≡ whole → new ++ later ≡ whole
 then_added old here later whole left new split e before =
     ap (λ all. all ++ later) e ∙ append_assoc old here later ∙ ap (λ all. old ++ all) (sym split) ∙ before
@@ -72,9 +73,9 @@ signals-add site held place signals servers signal aspect old new whole within a
     in let split : signal_lines site held place (drop place signals) (drop place servers) ≡ signal_line signal.name aspect route ++ later =
     ap (λ left. signal_lines site held place left (drop place servers)) (drop_more signals place signal within ∙ ap (λ s. s ∷ drop (place + 1) signals) (sym at))
     ∙ ap (λ left. signal_lines site held place (signal ∷ drop (place + 1) signals) left) (dropped servers place server.0 server.1)
-    ∙ ap (λ (a : Aspect). codes "\nsignal " ++ (signal.name ++ (codes " " ++ (aspect_text a ++ (codes " " ++ (route ++ signal_lines site held (suc place) (drop (place + 1) signals) (drop (place + 1) servers))))))) server.2
-    ∙ ap (λ (n : ℕ). codes "\nsignal " ++ (signal.name ++ (codes " " ++ (aspect_text aspect ++ (codes " " ++ (route ++ signal_lines site held n (drop (place + 1) signals) (drop (place + 1) servers))))))) (one_more place)
-    ∙ sym (six (codes "\nsignal ") signal.name (codes " ") (aspect_text aspect) (codes " ") route later)
+    ∙ ap (λ (a : Aspect). codes "\nsignal " ++ (signal.name ++ (codes " " ++ (aspect_word a ++ (codes " " ++ (route ++ signal_lines site held (suc place) (drop (place + 1) signals) (drop (place + 1) servers))))))) server.2
+    ∙ ap (λ (n : ℕ). codes "\nsignal " ++ (signal.name ++ (codes " " ++ (aspect_word aspect ++ (codes " " ++ (route ++ signal_lines site held n (drop (place + 1) signals) (drop (place + 1) servers))))))) (one_more place)
+    ∙ sym (six (codes "\nsignal ") signal.name (codes " ") (aspect_word aspect) (codes " ") route later)
     in then_added old (signal_line signal.name aspect route) later whole (signal_lines site held place (drop place signals) (drop place servers)) new split e before
 
 pub signals-all : (site : Site) (held : List Held) (place : ℕ) (signals : List Signal) (servers : List (ClockedControllerState SignalState)) (old whole : List ℕ)
@@ -107,8 +108,8 @@ points-add place points positions servers point position driven old new whole wi
     ap (λ left. point_lines left (drop place positions) (drop place servers)) (drop_more points place point within ∙ ap (λ s. s ∷ drop (place + 1) points) (sym at))
     ∙ ap (λ left. point_lines (point ∷ drop (place + 1) points) left (drop place servers)) (dropped positions place position stands)
     ∙ ap (λ left. point_lines (point ∷ drop (place + 1) points) (position ∷ drop (place + 1) positions) left) (dropped servers place server.0 server.1)
-    ∙ ap (λ (d : Option Side). codes "\npoint " ++ (point.name ++ (codes " " ++ (position_text position ++ (driven_text d ++ later))))) (sym (driven_is servers place server.0 server.1) ∙ sym is_driven)
-    ∙ sym (five (codes "\npoint ") point.name (codes " ") (position_text position) (driven_text driven) later)
+    ∙ ap (λ (d : Option Side). codes "\npoint " ++ (point.name ++ (codes " " ++ (position_word position ++ (driven_text d ++ later))))) (sym (driven_is servers place server.0 server.1) ∙ sym is_driven)
+    ∙ sym (five (codes "\npoint ") point.name (codes " ") (position_word position) (driven_text driven) later)
     in then_added old (point_line point.name position driven) later whole (point_lines (drop place points) (drop place positions) (drop place servers)) new split e before
 
 pub points-all : (place : ℕ) (points : List Point) (positions : List Position) (servers : List (ClockedControllerState PointState)) (old whole : List ℕ)
@@ -129,7 +130,7 @@ sections-add place names occupancies name occupancy old new whole within at is e
     in let split : section_lines (drop place names) (drop place occupancies) ≡ section_line name occupancy ++ later =
     ap (λ left. section_lines left (drop place occupancies)) (drop_more names place name within ∙ ap (λ n. n ∷ drop (place + 1) names) (sym at))
     ∙ ap (λ left. section_lines (name ∷ drop (place + 1) names) left) (dropped occupancies place occupancy is)
-    ∙ sym (four (codes "\nsection ") name (codes " ") (occupancy_text occupancy) later)
+    ∙ sym (four (codes "\nsection ") name (codes " ") (occupancy_word occupancy) later)
     in then_added old (section_line name occupancy) later whole (section_lines (drop place names) (drop place occupancies)) new split e before
 
 pub sections-all : (place : ℕ) (names : List (List ℕ)) (occupancies : List Occupancy) (old whole : List ℕ)

@@ -3,35 +3,35 @@ use Rattle.std.proofs.Common.{◌≡◌, refl, sym, ap, ◌∙◌, ℕ, ◌≤�
 use Rattle.std.specs.Prelude.{if◌then◌else◌, is_none, nat_le, nat_lt, slice_get, slice_set}
 use Rattle.std.specs.List.{list_all}
 use Rattle.std.proofs.lemmas.List.{length-append}
-use Rattle.simulator_ixl.specs.sci_telegram.declared.message.Occupancy.{Occupancy}
-use Rattle.simulator_ixl.specs.layout.declared.entries.Point.{Point as PointEntry}
-use Rattle.simulator_ixl.specs.layout.declared.entries.Signal.{Signal as SignalEntry}
-use Rattle.simulator_ixl.specs.layout.Entries.{DetectorEntry, Site}
-use Rattle.simulator_ixl.specs.rasta_pdu.SafetyCode.{intact}
-use Rattle.simulator_ixl.specs.rasta_core.Bag.{has_copy, is_copy}
-use Rattle.simulator_ixl.specs.rasta_core.Links.{OnLink, without_oldest_of_all}
-use Rattle.simulator_ixl.specs.object_host.Behaviour.{Behaviour}
-use Rattle.simulator_ixl.specs.object_host.declared.input.Input.{Input}
-use Rattle.simulator_ixl.specs.object_host.declared.input.Input.TheVariants as inputs
-use Rattle.simulator_ixl.specs.object_host.declared.sense.Sense.TheVariants as sense
-use Rattle.simulator_ixl.specs.signal_ctl.Signal.{signal_behaviour}
-use Rattle.simulator_ixl.specs.point_ctl.Controlled.{point_behaviour}
-use Rattle.simulator_ixl.specs.tds_ctl.Controlled.{detection_behaviour}
-use Rattle.simulator_ixl.specs.ixl_rules.Step as ixl
-use Rattle.simulator_ixl.specs.ixl_rules.Table.{Table}
-use Rattle.simulator_ixl.specs.simulator_event.declared.event.Event.{Event}
-use Rattle.simulator_ixl.specs.simulator_event.declared.event.Event.TheVariants as event
-use Rattle.simulator_ixl.specs.simulator_event.refused.Refused.{Refused}
-use Rattle.simulator_ixl.specs.simulator_event.refused.Refused.TheVariants as refused
-use Rattle.simulator_ixl.specs.simulator_field.Controllers.{world_of}
-use Rattle.simulator_ixl.specs.simulator_run.First.{Beginning}
-use Rattle.simulator_ixl.specs.simulator_run.Happens.{Stepped, coming, delivered_to, detector_anew, detector_stepped, happens, interlocking_stepped, made_anew, passed, point_anew, point_stepped, sensed_by, signal_anew, signal_stepped, stepped_at, ticked_at}
-use Rattle.simulator_ixl.specs.simulator_run.Network.{connection_of, copy_of, datagrams_of}
-use Rattle.simulator_ixl.specs.simulator_run.Nodes.{Node, Interlocking, Signal, Point, Detector, detector_link, key_of, node_at, nodes, point_link}
-use Rattle.simulator_ixl.specs.simulator_run.Refusals.{all_within, clock_limit, driven_at, is_missing, keeps_time, may_reach, refusal, refusal_of_time, refused_where}
-use Rattle.simulator_ixl.specs.simulator_run.Controllers.{controller_after, sent_by_controller, step_of}
-use Rattle.simulator_ixl.specs.simulator_run.State.{ClockedControllerState, WorldState}
-use Rattle.simulator_ixl.specs.simulator_run.Interlocking.{Sending, interlocking_step, sending_all, sending_one}
+use Rattle.ixl_state.specs.sci_telegram.declared.message.Occupancy.{Occupancy}
+use Rattle.ixl_state.specs.layout.declared.entries.Point.{Point as PointEntry}
+use Rattle.ixl_state.specs.layout.declared.entries.Signal.{Signal as SignalEntry}
+use Rattle.ixl_state.specs.layout.Entries.{DetectorEntry, Site}
+use Rattle.ixl_state.specs.rasta_pdu.SafetyCode.{intact}
+use Rattle.ixl_state.specs.rasta_core.Bag.{has_copy, is_copy}
+use Rattle.ixl_state.specs.rasta_core.Links.{OnLink, without_oldest_of_all}
+use Rattle.simulator_spec.specs.object_host.Behaviour.{Behaviour}
+use Rattle.simulator_spec.specs.object_host.declared.input.Input.{Input}
+use Rattle.simulator_spec.specs.object_host.declared.input.Input.TheVariants as inputs
+use Rattle.simulator_spec.specs.object_host.declared.sense.Sense.TheVariants as sense
+use Rattle.simulator_spec.specs.signal_ctl.Signal.{signal_behaviour}
+use Rattle.simulator_spec.specs.point_ctl.Controlled.{point_behaviour}
+use Rattle.simulator_spec.specs.tds_ctl.Controlled.{detection_behaviour}
+use Rattle.ixl_state.specs.ixl_spec.Step as ixl
+use Rattle.ixl_state.specs.ixl_spec.Table.{Table}
+use Rattle.simulator_spec.specs.simulator_event.declared.event.Event.{Event}
+use Rattle.simulator_spec.specs.simulator_event.declared.event.Event.TheVariants as event
+use Rattle.simulator_spec.specs.simulator_event.refused.Refused.{Refused}
+use Rattle.simulator_spec.specs.simulator_event.refused.Refused.TheVariants as refused
+use Rattle.simulator_field.specs.Field.{world_of}
+use Rattle.simulator_spec.specs.First.{Beginning}
+use Rattle.simulator_spec.specs.Happens.{Stepped, coming, delivered_to, detector_anew, detector_stepped, happens, interlocking_stepped, made_anew, passed, point_anew, point_stepped, sensed_by, signal_anew, signal_stepped, stepped_at, ticked_at}
+use Rattle.simulator_spec.specs.Network.{connection_of, copy_of, datagrams_of}
+use Rattle.simulator_spec.specs.Nodes.{Node, Interlocking, Signal, Point, Detector, detector_link, key_of, node_at, nodes, point_link}
+use Rattle.simulator_spec.specs.Refusals.{all_within, clock_limit, driven_at, is_missing, keeps_time, may_reach, refusal, refusal_of_time, refused_where}
+use Rattle.simulator_spec.specs.Controllers.{controller_after, sent_by_controller, step_of}
+use Rattle.simulator_spec.specs.State.{ClockedControllerState, WorldState}
+use Rattle.simulator_spec.specs.Interlocking.{Sending, interlocking_step, sending_all, sending_one}
 use Rattle.simulator.specs.inside.Parts.{Goes, seen}
 use Rattle.simulator.specs.declared.parts.Parts.{Parts}
 
@@ -126,7 +126,7 @@ all_sent site time (first ∷ others) sending =
 station_sends : (site : Site) (table : Table) (input : ixl.Input) (world : WorldState) → length world.sent ≤ length (interlocking_stepped site table input world).sent
 unfolding interlocking_stepped
 station_sends site table input world =
-    all_sent site world.time (interlocking_step site table input world.station).outbox.datagrams (record { connections = world.station.connections; sent = world.sent })
+    all_sent site world.time (interlocking_step site table input world.interlocking).outbox.datagrams (record { connections = world.interlocking.connections; sent = world.sent })
 
 tick_sends : (site : Site) (table : Table) (at : Option Node) (world : WorldState) → length world.sent ≤ length (ticked_at site table at world).sent
 tick_sends site table None world = least (length world.sent)
@@ -198,9 +198,9 @@ happening_sends site table (event.Restart node clock first) world =
 
 -- where an event happened, as many datagrams are there as before
 pub goes_on : (site : Site) (table : Table) (e : Event) (old new : Parts) (before after : ℕ) → Goes (happens site table e) old new
-    → before ≡ length old.controllers.network.sent → after ≡ length new.controllers.network.sent → before ≤ after
+    → before ≡ length old.field.network.sent → after ≡ length new.field.network.sent → before ≤ after
 unfolding world_of
 goes_on site table e old new before after goes is_before is_after =
-    let sent : length new.controllers.network.sent ≡ length (happens site table e (seen old)).sent = ap (λ (w : WorldState). length w.sent) goes.world
-    in let more : length old.controllers.network.sent ≤ length (happens site table e (seen old)).sent = happening_sends site table e (seen old)
+    let sent : length new.field.network.sent ≡ length (happens site table e (seen old)).sent = ap (λ (w : WorldState). length w.sent) goes.world
+    in let more : length old.field.network.sent ≤ length (happens site table e (seen old)).sent = happening_sends site table e (seen old)
     in omega (arith, is_before, is_after, sent, more)

@@ -1,27 +1,27 @@
 -- What happens to the parts of a world is what happens to the world.
 use Rattle.std.proofs.Common.{◌≡◌, refl, sym, ap, ◌∙◌, subst, ℕ, List, arith, Option, Some, None}
-use Rattle.simulator_ixl.specs.layout.Entries.{Site}
-use Rattle.simulator_ixl.specs.ixl_rules.Step as ixl
-use Rattle.simulator_ixl.specs.ixl_rules.Table.{Table}
-use Rattle.simulator_ixl.specs.ixl_table.Table.{SitedTable}
-use Rattle.simulator_ixl.specs.object_host.Behaviour.{Behaviour}
-use Rattle.simulator_ixl.specs.object_host.Step.{beating, given, host_step}
-use Rattle.simulator_ixl.specs.object_host.declared.input.Input.{Input}
-use Rattle.simulator_ixl.specs.object_host.declared.input.Input.TheVariants as inputs
-use Rattle.simulator_ixl.specs.rasta_core.Links.{OnLink}
-use Rattle.simulator_ixl.specs.signal_ctl.Signal.{signal_behaviour}
-use Rattle.simulator_ixl.specs.point_ctl.Controlled.{point_behaviour}
-use Rattle.simulator_ixl.specs.tds_ctl.Controlled.{detection_behaviour}
-use Rattle.simulator_ixl.specs.simulator_field.Network.{NetworkState}
-use Rattle.simulator_ixl.specs.simulator_field.Controllers.{AreOf, world_of}
-use Rattle.simulator_ixl.specs.simulator_run.Happens.{Stepped, coming, delivered_to, detector_stepped, interlocking_stepped, point_stepped, signal_stepped, stepped_at}
-use Rattle.simulator_ixl.specs.simulator_run.Nodes.{Detector, Node, Point, Signal, detector_link, point_link}
-use Rattle.simulator_ixl.specs.signal_ctl.Signal.{SignalState}
-use Rattle.simulator_ixl.specs.point_ctl.Drive.{PointState}
-use Rattle.simulator_ixl.specs.tds_ctl.declared.section.Section.{Section}
+use Rattle.ixl_state.specs.layout.Entries.{Site}
+use Rattle.ixl_state.specs.ixl_spec.Step as ixl
+use Rattle.ixl_state.specs.ixl_spec.Table.{Table}
+use Rattle.ixl_state.specs.ixl_table.Table.{SitedTable}
+use Rattle.simulator_spec.specs.object_host.Behaviour.{Behaviour}
+use Rattle.simulator_spec.specs.object_host.Step.{beating, given, host_step}
+use Rattle.simulator_spec.specs.object_host.declared.input.Input.{Input}
+use Rattle.simulator_spec.specs.object_host.declared.input.Input.TheVariants as inputs
+use Rattle.ixl_state.specs.rasta_core.Links.{OnLink}
+use Rattle.simulator_spec.specs.signal_ctl.Signal.{signal_behaviour}
+use Rattle.simulator_spec.specs.point_ctl.Controlled.{point_behaviour}
+use Rattle.simulator_spec.specs.tds_ctl.Controlled.{detection_behaviour}
+use Rattle.simulator_field.specs.Network.{NetworkState}
+use Rattle.simulator_field.specs.Field.{AreOf, world_of}
+use Rattle.simulator_spec.specs.Happens.{Stepped, coming, delivered_to, detector_stepped, interlocking_stepped, point_stepped, signal_stepped, stepped_at}
+use Rattle.simulator_spec.specs.Nodes.{Detector, Node, Point, Signal, detector_link, point_link}
+use Rattle.simulator_spec.specs.signal_ctl.Signal.{SignalState}
+use Rattle.simulator_spec.specs.point_ctl.Drive.{PointState}
+use Rattle.simulator_spec.specs.tds_ctl.declared.section.Section.{Section}
 use Rattle.std.specs.Prelude.{slice_get}
-use Rattle.simulator_ixl.specs.simulator_run.State.{ClockedControllerState, ClockedInterlockingState, WorldState}
-use Rattle.simulator_ixl.specs.Interlocking.{ClockedInterlockingView, HasSteppedAndSent, done_by, sending_after}
+use Rattle.simulator_spec.specs.State.{ClockedControllerState, ClockedInterlockingState, WorldState}
+use Rattle.simulator.specs.Interlocking.{ClockedInterlockingView, HasSteppedAndSent, done_by, sending_after}
 use Rattle.simulator.specs.inside.Parts.{Goes, IsWhole, site_of, room_of, seen, table_of}
 use Rattle.simulator.specs.declared.parts.Parts.{Parts}
 
@@ -30,7 +30,7 @@ pub goes_as : (does other : WorldState → WorldState) (old new : Parts) → Goe
 goes_as does other old new goes same = record { world = goes.world ∙ same; sited = goes.sited; whole = goes.whole; room = goes.room }
 
 -- one thing happens before another, which takes no memory
-pub goes_behind : (first does : WorldState → WorldState) (old middle new : Parts) → seen middle ≡ first (seen old) → middle.station.sited ≡ old.station.sited → room_of middle ≡ room_of old → Goes does middle new
+pub goes_behind : (first does : WorldState → WorldState) (old middle new : Parts) → seen middle ≡ first (seen old) → middle.interlocking.sited ≡ old.interlocking.sited → room_of middle ≡ room_of old → Goes does middle new
     → Goes (λ world. does (first world)) old new
 goes_behind first does old middle new before sited room goes = record {
   world = goes.world ∙ ap does before;
@@ -41,35 +41,35 @@ goes_behind first does old middle new before sited room goes = record {
 
 -- ---- the interlocking
 
-stepped_world : (input : ixl.Input) (old new : ClockedInterlockingView) (before after : NetworkState) (answer : ixl.Reply) (world : WorldState) → old.station ≡ world.station → before.time ≡ world.time → before.sent ≡ world.sent
+stepped_world : (input : ixl.Input) (old new : ClockedInterlockingView) (before after : NetworkState) (answer : ixl.Reply) (world : WorldState) → old.interlocking ≡ world.interlocking → before.time ≡ world.time → before.sent ≡ world.sent
     → HasSteppedAndSent input old before new after answer
-    → record world { time = after.time; station = new.station; sent = after.sent } ≡ interlocking_stepped old.sited.site old.sited.table input world
+    → record world { time = after.time; interlocking = new.interlocking; sent = after.sent } ≡ interlocking_stepped old.sited.site old.sited.table input world
 unfolding interlocking_stepped
 stepped_world input old new before after answer world is_station is_time is_sent stepped =
-    let Made : ℕ → ClockedInterlockingState → List OnLink → WorldState = λ t s n. record world { time = t; station = s; sent = n }
+    let Made : ℕ → ClockedInterlockingState → List OnLink → WorldState = λ t s n. record world { time = t; interlocking = s; sent = n }
     in let Done : ClockedInterlockingState → ℕ → List OnLink → WorldState = λ s t n.
-    let view : ClockedInterlockingView = record { sited = old.sited; station = s }
+    let view : ClockedInterlockingView = record { sited = old.sited; interlocking = s }
     in let network : NetworkState = record { time = t; sent = n; room = before.room }
-    in record world { station = record s { ixl = (done_by input view).ixl; connections = (sending_after input view network).connections }; sent = (sending_after input view network).sent }
-    in ap (λ t. Made t new.station after.sent) (stepped.time ∙ is_time)
-    ∙ ap (λ s. Made world.time s after.sent) stepped.station
-    ∙ ap (Made world.time (record old.station { ixl = (done_by input old).ixl; connections = (sending_after input old before).connections })) stepped.sent
+    in record world { interlocking = record s { ixl = (done_by input view).ixl; connections = (sending_after input view network).connections }; sent = (sending_after input view network).sent }
+    in ap (λ t. Made t new.interlocking after.sent) (stepped.time ∙ is_time)
+    ∙ ap (λ s. Made world.time s after.sent) stepped.interlocking
+    ∙ ap (Made world.time (record old.interlocking { ixl = (done_by input old).ixl; connections = (sending_after input old before).connections })) stepped.sent
     ∙ ap (λ s. Done s before.time before.sent) is_station
-    ∙ ap (λ t. Done world.station t before.sent) is_time
-    ∙ ap (λ n. Done world.station world.time n) is_sent
+    ∙ ap (λ t. Done world.interlocking t before.sent) is_time
+    ∙ ap (λ n. Done world.interlocking world.time n) is_sent
 
-same_whole : (sited other : SitedTable) (parts : Parts) (network : NetworkState) → other ≡ sited → AreOf sited.site parts.controllers → AreOf other.site (record parts.controllers { network = network })
+same_whole : (sited other : SitedTable) (parts : Parts) (network : NetworkState) → other ≡ sited → AreOf sited.site parts.field → AreOf other.site (record parts.field { network = network })
 same_whole sited other parts network same whole =
-    let Of : SitedTable → Type 0 = λ p. AreOf p.site (record parts.controllers { network = network })
+    let Of : SitedTable → Type 0 = λ p. AreOf p.site (record parts.field { network = network })
     in subst Of (sym same) (record { signals = whole.signals; points = whole.points; detectors = whole.detectors; positions = whole.positions; occupancies = whole.occupancies })
 
-pub station_goes : (input : ixl.Input) (old : Parts) (station : ClockedInterlockingView) (network : NetworkState) (answer : ixl.Reply) → IsWhole old → HasSteppedAndSent input old.station old.controllers.network station network answer
-    → Goes (interlocking_stepped (site_of old) (table_of old) input) old (record old { station = station; controllers = record old.controllers { network = network } })
+pub station_goes : (input : ixl.Input) (old : Parts) (station : ClockedInterlockingView) (network : NetworkState) (answer : ixl.Reply) → IsWhole old → HasSteppedAndSent input old.interlocking old.field.network station network answer
+    → Goes (interlocking_stepped (site_of old) (table_of old) input) old (record old { interlocking = station; field = record old.field { network = network } })
 unfolding world_of
 station_goes input old station network answer whole stepped = record {
-  world = stepped_world input old.station station old.controllers.network network answer (world_of old.station.station old.frozen.items old.controllers) refl refl refl stepped;
+  world = stepped_world input old.interlocking station old.field.network network answer (world_of old.interlocking.interlocking old.frozen.items old.field) refl refl refl stepped;
   sited = stepped.sited;
-  whole = same_whole old.station.sited station.sited old network stepped.sited whole;
+  whole = same_whole old.interlocking.sited station.sited old network stepped.sited whole;
   room = stepped.room;
 }
 

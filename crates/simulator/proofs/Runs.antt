@@ -2,20 +2,20 @@
 use Rattle.std.proofs.Common.{◌≡◌, refl, sym, ◌∙◌, ℕ, zero, suc, ◌+◌, ◌≤◌, ◌<◌, inl, inr, ap, subst, add-zero, arith, Bool, List, [], ◌∷◌, ◌++◌, length, Some, None, Result, Ok, Err}
 use Rattle.std.specs.Prelude.{OnOk, OnErr, IfErr, IsTrue, is_ok, ◌⊎◌, if◌then◌else◌, slice_get}
 use Rattle.std.specs.Option.{option_map}
-use Rattle.simulator_ixl.specs.ixl_rules.State.{IxlState, RouteState}
-use Rattle.simulator_ixl.specs.ixl_rules.View.{is_set}
-use Rattle.simulator_ixl.specs.ixl_state.State.{AtRoute}
-use Rattle.simulator_ixl.specs.ixl_table.Table.{SitedTable}
-use Rattle.simulator_ixl.specs.simulator_event.declared.event.Event.{Event}
-use Rattle.simulator_ixl.specs.simulator_event.declared.reply.Reply.{Reply}
-use Rattle.simulator_ixl.specs.simulator_event.refused.Refused.{Refused}
-use Rattle.simulator_ixl.specs.simulator_event.refused.Refused.TheVariants.{OutOfMemory}
-use Rattle.simulator_ixl.specs.simulator_run.Happens.{happens, is_restart}
-use Rattle.simulator_ixl.specs.simulator_run.Refusals.{refusal}
+use Rattle.ixl_state.specs.ixl_spec.State.{IxlState, RouteState}
+use Rattle.ixl_state.specs.ixl_spec.View.{is_set}
+use Rattle.ixl_state.specs.State.{AtRoute}
+use Rattle.ixl_state.specs.ixl_table.Table.{SitedTable}
+use Rattle.simulator_spec.specs.simulator_event.declared.event.Event.{Event}
+use Rattle.simulator_spec.specs.simulator_event.declared.reply.Reply.{Reply}
+use Rattle.simulator_spec.specs.simulator_event.refused.Refused.{Refused}
+use Rattle.simulator_spec.specs.simulator_event.refused.Refused.TheVariants.{OutOfMemory}
+use Rattle.simulator_spec.specs.Happens.{happens, is_restart}
+use Rattle.simulator_spec.specs.Refusals.{refusal}
 use Rattle.simulator.specs.Runs.{Goes, Runs, Stays, stops, refuses, lacks_memory, accepts}
 use Rattle.simulator.specs.World.{View}
 
--- one event after a run: its own run comes behind
+-- one event after a run: its own run comes after
 run_then : (events : List Event) (event : Event) (first middle last : View) (count more : ℕ) → Runs events first count middle → Runs (event ∷ []) middle more last → Runs (events ++ event ∷ []) first (more + count) last
 run_then _ event _ middle last _ more (stops) one = rw add-zero one
 run_then _ event _ middle last _ more (refuses {later = later} {next = next} {count = count} why stays rest) one =

@@ -5,11 +5,11 @@ use Rattle.std.specs.List.{list_all}
 use Rattle.std.proofs.lemmas.Bool.{and_parts, false≢true}
 use Rattle.std.proofs.lemmas.Bool.Decides.{nat_tests}
 use Rattle.std.proofs.lemmas.List.{drop_all, drop_more, length-drop}
-use Rattle.simulator_ixl.specs.layout.Entries.{Site}
-use Rattle.simulator_ixl.specs.simulator_event.refused.Refused.{Refused}
-use Rattle.simulator_ixl.specs.simulator_run.Nodes.{nodes}
-use Rattle.simulator_ixl.specs.simulator_run.Refusals.{all_within, are_within, clock_limit, keeps_time, refusal_of_time, refused_where}
-use Rattle.simulator_ixl.specs.simulator_run.State.{ClockedControllerState, WorldState}
+use Rattle.ixl_state.specs.layout.Entries.{Site}
+use Rattle.simulator_spec.specs.simulator_event.refused.Refused.{Refused}
+use Rattle.simulator_spec.specs.Nodes.{nodes}
+use Rattle.simulator_spec.specs.Refusals.{all_within, are_within, clock_limit, keeps_time, refusal_of_time, refused_where}
+use Rattle.simulator_spec.specs.State.{ClockedControllerState, WorldState}
 
 -- ---- tests
 
@@ -83,13 +83,13 @@ module _ {Object : Type 0} where
 pub all_told : (world : WorldState) (steps of_controllers of_points of_detectors : List ℕ) (first : ℕ) (station signals points detectors : Bool)
     → steps ≡ first ∷ of_controllers → of_points ≡ drop (length world.signals) of_controllers → of_detectors ≡ drop (length world.points) of_points
     → length world.signals ≤ length of_controllers → length world.points ≤ length of_points → length world.detectors ≤ length of_detectors
-    → station ≡ nat_le (world.station.clock + first) clock_limit → signals ≡ are_within world.signals of_controllers (λ rest. true)
+    → station ≡ nat_le (world.interlocking.clock + first) clock_limit → signals ≡ are_within world.signals of_controllers (λ rest. true)
     → points ≡ are_within world.points of_points (λ rest. true) → detectors ≡ are_within world.detectors of_detectors (λ rest. true)
     → (station && (signals && (points && detectors))) ≡ all_within world steps
 all_told world steps of_controllers of_points of_detectors first station signals points detectors steps_are points_are detectors_are enough_signals enough_points enough_detectors station_is signals_is points_is detectors_is =
     let detectors_last : List ℕ → Bool = λ s. are_within world.detectors s (λ rest. true)
     in let points_then : List ℕ → Bool = λ s. are_within world.points s detectors_last
-    in let within : Bool = nat_le (world.station.clock + first) clock_limit
+    in let within : Bool = nat_le (world.interlocking.clock + first) clock_limit
     in ap (λ b. b && (signals && (points && detectors))) station_is
     ∙ ap (λ b. within && (b && (points && detectors))) signals_is
     ∙ ap (λ b. within && (are_within world.signals of_controllers (λ rest. true) && b))
@@ -151,7 +151,7 @@ third_fails a b c (inr (inr fails)) holds = absurd (false≢true (sym fails ∙ 
 pub all_so : (world : WorldState) (steps of_controllers of_points of_detectors : List ℕ) (first : ℕ) (station signals points detectors found : Bool)
     → steps ≡ first ∷ of_controllers → of_points ≡ drop (length world.signals) of_controllers → of_detectors ≡ drop (length world.points) of_points
     → length world.signals + length world.points + length world.detectors ≡ length of_controllers
-    → station ≡ nat_le (world.station.clock + first) clock_limit → signals ≡ are_within world.signals of_controllers (λ rest. true)
+    → station ≡ nat_le (world.interlocking.clock + first) clock_limit → signals ≡ are_within world.signals of_controllers (λ rest. true)
     → points ≡ are_within world.points of_points (λ rest. true) → detectors ≡ are_within world.detectors of_detectors (λ rest. true)
     → found ≡ (((station && signals) && points) && detectors)
     → found ≡ all_within world steps
@@ -164,7 +164,7 @@ all_so world steps of_controllers of_points of_detectors first station signals p
 
 -- what is so of each kind where it is so of all
 pub record EachWithin (world : WorldState) (first : ℕ) (steps : List ℕ) : Type 0 where
-  pub station : world.station.clock + first ≤ clock_limit
+  pub station : world.interlocking.clock + first ≤ clock_limit
   pub signals : are_within world.signals steps (λ rest. true) ≡ true
   pub points : are_within world.points (drop (length world.signals) steps) (λ rest. true) ≡ true
   pub detectors : are_within world.detectors (drop (length world.points) (drop (length world.signals) steps)) (λ rest. true) ≡ true
@@ -176,7 +176,7 @@ each_within world all steps first all_are each within =
     in let left = length-drop (length world.signals) steps
     in let detectors_last : List ℕ → Bool = λ s. are_within world.detectors s (λ rest. true)
     in let points_then : List ℕ → Bool = λ s. are_within world.points s detectors_last
-    in let one = and_parts (nat_le (world.station.clock + first) clock_limit) (are_within world.signals steps points_then) (sym (ap (all_within world) all_are) ∙ within)
+    in let one = and_parts (nat_le (world.interlocking.clock + first) clock_limit) (are_within world.signals steps points_then) (sym (ap (all_within world) all_are) ∙ within)
     in let two = and_parts (are_within world.signals steps (λ rest. true)) (points_then of_points) (sym (within_then world.signals steps points_then (omega (arith, each))) ∙ one.1)
     in let three = and_parts (are_within world.points of_points (λ rest. true)) (detectors_last (drop (length world.points) of_points)) (sym (within_then world.points of_points detectors_last (omega (arith, each, left))) ∙ two.1)
-    in record { station = le_told (world.station.clock + first) clock_limit one.0; signals = two.0; points = three.0; detectors = three.1 }
+    in record { station = le_told (world.interlocking.clock + first) clock_limit one.0; signals = two.0; points = three.0; detectors = three.1 }

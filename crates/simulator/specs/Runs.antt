@@ -1,9 +1,9 @@
 -- A list of events applied to a world, one after another.
 use Rattle.std.specs.Prelude.{◌≡◌, ℕ, ◌+◌, ◌≤◌, ◌<◌, IsTrue, List, [], ◌∷◌, Some, None}
-use Rattle.simulator_ixl.specs.simulator_event.declared.event.Event.{Event}
-use Rattle.simulator_ixl.specs.simulator_event.refused.Refused.{Refused}
-use Rattle.simulator_ixl.specs.simulator_run.Happens.{happens, is_restart}
-use Rattle.simulator_ixl.specs.simulator_run.Refusals.{refusal}
+use Rattle.simulator_spec.specs.simulator_event.declared.event.Event.{Event}
+use Rattle.simulator_spec.specs.simulator_event.refused.Refused.{Refused}
+use Rattle.simulator_spec.specs.Happens.{happens, is_restart}
+use Rattle.simulator_spec.specs.Refusals.{refusal}
 use Rattle.simulator.specs.World.{View}
 
 -- An event was refused or lacked memory: nothing has changed, but there may be more room.

@@ -1,15 +1,20 @@
 -- A world as its contracts see it.
 use Rattle.std.specs.Prelude.{◌≡◌, ℕ, List, true}
-use Rattle.simulator_ixl.specs.ixl_table.Table.{SitedTable}
-use Rattle.simulator_ixl.specs.simulator_run.Picture.{picture_text}
-use Rattle.simulator_ixl.specs.simulator_run.Seen.{IsSnapshotOf}
-use Rattle.simulator_ixl.specs.simulator_run.State.{WorldState, WorldView}
-use Rattle.simulator_ixl.specs.simulator_snapshot.Safe.{Safe}
-use Rattle.simulator_ixl.specs.simulator_snapshot.declared.snapshot.Snapshot.{Snapshot}
+use Rattle.ixl_state.specs.ixl_table.Table.{SitedTable}
+use Rattle.simulator_spec.specs.Picture.{picture_text}
+use Rattle.simulator_spec.specs.Seen.{IsSnapshotOf}
+use Rattle.simulator_spec.specs.State.{WorldState, WorldView}
+use Rattle.simulator_spec.specs.Tried.{Played}
+use Rattle.simulator_spec.specs.simulator_event.Safe.{Safe}
+use Rattle.simulator_spec.specs.simulator_event.declared.snapshot.Snapshot.{Snapshot}
 
 -- its table, its state, and how many steps have their memory already
 abbrev pub View : Type 0
 View = WorldView SitedTable
+
+-- a world as events are tried on it: how much room it has doesn't matter
+abbrev pub played : View → Played
+played world = record { sited = world.sited; run = world.run }
 
 -- Whatever is seen of a world is safe: each signal that shows an aspect other than stop is protected by exactly one held route.
 abbrev pub IsSafeWorld : View → Type 0

@@ -1,14 +1,14 @@
 //! Events are applied.
 
 ghost use Rattle.std.specs.Prelude.{◌≡◌, ◌≤◌, ◌<◌, ◌+◌, ◌⊎◌, Err, IfErr, IfOk, IsTrue, None, OnErr, OnOk, Some};
-ghost use Rattle.simulator_ixl.specs.simulator_event.refused.Refused.TheVariants.{OutOfMemory};
-ghost use Rattle.simulator_ixl.specs.simulator_run.Happens.{happens, is_restart, reply_to};
-ghost use Rattle.simulator_ixl.specs.simulator_run.Refusals.{refusal};
+ghost use Rattle.simulator_spec.specs.simulator_event.refused.Refused.TheVariants.{OutOfMemory};
+ghost use Rattle.simulator_spec.specs.Happens.{happens, is_restart, reply_to};
+ghost use Rattle.simulator_spec.specs.Refusals.{refusal};
 ghost use Rattle.simulator.specs.inside.Parts.{IsWhole, site_of, seen, steps_of, table_of};
 
+use crate::clocked_interlocking::MOST_SENT;
 use crate::parts::Parts;
-use simulator_ixl::MOST_SENT;
-use simulator_ixl::simulator_run::simulator_event::{Event, Refused, Reply};
+use simulator_spec::{Event, Refused, Reply};
 use std::alloc::AllocError;
 
 impl Parts {
@@ -16,7 +16,7 @@ impl Parts {
     pub(crate) fn room(&self) -> usize
         ensures { result ≡ steps_of self.now }
     {
-        self.controllers.network.room() / MOST_SENT
+        self.field.network.room() / MOST_SENT
     }
 
     /// Makes memory for at least so many steps; nothing else changes.
@@ -26,14 +26,14 @@ impl Parts {
         ensures room { OnOk result (steps ≤ steps_of self.new) }
         ensures more { steps_of self.old ≤ steps_of self.new }
         ensures same { seen self.new ≡ seen self.old }
-        ensures sited { self.new.station.sited ≡ self.old.station.sited }
+        ensures sited { self.new.interlocking.sited ≡ self.old.interlocking.sited }
         ensures whole { IsWhole self.new }
     {
         if steps <= self.room() {
             return Ok(());
         }
         match steps.checked_mul(MOST_SENT) {
-            Some(datagrams) => self.controllers.network.reserve(datagrams),
+            Some(datagrams) => self.field.network.reserve(datagrams),
             // So many have no memory anywhere.
             None => Err(AllocError),
         }
@@ -49,7 +49,7 @@ impl Parts {
         ensures refused { IfErr result (λ why. (refusal (site_of self.old) event.now (seen self.old) ≡ Some why) ⊎ ((why ≡ OutOfMemory) × (refusal (site_of self.old) event.now (seen self.old) ≡ None))) }
         ensures memory { result ≡ Err OutOfMemory → 0 < steps_of self.old → IsTrue (is_restart event.now) }
         ensures same { OnErr result (seen self.new ≡ seen self.old) }
-        ensures sited { self.new.station.sited ≡ self.old.station.sited }
+        ensures sited { self.new.interlocking.sited ≡ self.old.interlocking.sited }
         ensures room { steps_of self.old ≤ steps_of self.new + 1 }
         ensures kept { OnErr result (steps_of self.old ≤ steps_of self.new) }
         ensures whole { IsWhole self.new }
@@ -58,10 +58,10 @@ impl Parts {
         if self.room() == 0 && self.reserve(1).is_err() {
             return Err(Refused::OutOfMemory);
         }
-        let before = self.controllers.network.len();
+        let before = self.field.network.len();
         match self.happen(event, found) {
             Ok(answer) => {
-                let added = self.controllers.network.len() - before;
+                let added = self.field.network.len() - before;
                 Ok(Reply { answer, added })
             }
             Err(_) => Err(Refused::OutOfMemory),

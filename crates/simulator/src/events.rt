@@ -1,19 +1,19 @@
 //! What each event does.
 
 ghost use Rattle.std.specs.Prelude.{◌≡◌, ◌≤◌, IfOk, IsTrue, None, OnErr, OnOk};
-ghost use Rattle.simulator_ixl.specs.rasta_core.Links.{without_oldest_of_all};
-ghost use Rattle.simulator_ixl.specs.simulator_event.declared.event.Event.TheVariants as events;
-ghost use Rattle.simulator_ixl.specs.simulator_run.Happens.{answered, delivered_to, happens, is_restart, passed};
-ghost use Rattle.simulator_ixl.specs.simulator_run.Network.{connection_of, copy_of};
-ghost use Rattle.simulator_ixl.specs.simulator_run.Nodes.{node_at};
-ghost use Rattle.simulator_ixl.specs.simulator_run.Refusals.{refusal, refusal_of_time};
-ghost use Rattle.simulator_ixl.specs.simulator_run.State.{WorldState};
+ghost use Rattle.ixl_state.specs.rasta_core.Links.{without_oldest_of_all};
+ghost use Rattle.simulator_spec.specs.simulator_event.declared.event.Event.TheVariants as events;
+ghost use Rattle.simulator_spec.specs.Happens.{answered, delivered_to, happens, is_restart, passed};
+ghost use Rattle.simulator_spec.specs.Network.{connection_of, copy_of};
+ghost use Rattle.simulator_spec.specs.Nodes.{node_at};
+ghost use Rattle.simulator_spec.specs.Refusals.{refusal, refusal_of_time};
+ghost use Rattle.simulator_spec.specs.State.{WorldState};
 ghost use Rattle.simulator.specs.inside.EventTest.{Finds};
 ghost use Rattle.simulator.specs.inside.Parts.{Goes, IsWhole, site_of, room_of, seen, table_of};
 
 use crate::found::Found;
 use crate::parts::Parts;
-use simulator_ixl::simulator_run::simulator_event::{Answer, Event, NodeId};
+use simulator_spec::{Answer, Event, NodeId};
 use std::alloc::AllocError;
 
 impl Parts {
@@ -24,8 +24,8 @@ impl Parts {
         ensures { Goes (passed elapsed steps.now) self.old self.new }
     {
         let (of_station, of_controllers) = steps.split_at(1);
-        self.station.pass(of_station[0]);
-        self.controllers.pass(elapsed, of_controllers);
+        self.interlocking.pass(of_station[0]);
+        self.field.pass(elapsed, of_controllers);
     }
 
     /// Bytes come to a node, of which their connection was found.
@@ -50,7 +50,7 @@ impl Parts {
     {
         // Nothing else is found of a loss.
         if let Found::Place(place) = found {
-            self.controllers.network.lose(place);
+            self.field.network.lose(place);
         }
     }
 

@@ -3,31 +3,47 @@
 #![tactic(auto)]
 
 mod application;
+mod clocked_interlocking;
+mod connections;
 mod events;
 mod found;
+mod held;
 mod node_steps;
-mod nodes;
 mod parts;
 mod picture;
 mod refusals;
 mod restarts;
 mod sight;
+mod station;
 mod time_limits;
 mod words;
 mod world;
 
+pub use station::receiver;
 pub use world::World;
 
 // What happens to a world, what it answers, and what is seen of it.
-pub use simulator_ixl::simulator_run::simulator_event::{
-    Answer, ClockSteps, Event, NodeId, RawDatagram, Refused, Reply,
+pub use simulator_spec::simulator_event::{
+    Answer, ClockSteps, Event, Held, NodeId, Outgoing, RawDatagram, Refused, Reply, Shown,
+    Snapshot, Stands, Station,
 };
-pub use simulator_ixl::simulator_run::simulator_snapshot::{Held, Shown, Snapshot, Stands};
 
 // The same for one client and one server.
 pub use simulator_pair::{Pair, PairAnswer, PairEvent, PairReply};
 
 // What crates above need of the crates below.
-pub use simulator_headline;
-pub use simulator_ixl::{simulator_field, simulator_run};
+pub use simulator_field;
 pub use simulator_pair;
+pub use simulator_safety;
+pub use simulator_spec;
+
+// The everyday items of the crates below.
+pub use simulator_field::{Network, SentOn};
+pub use simulator_spec::ixl_spec::control_table::check;
+pub use simulator_spec::{
+    Aspect, BitRow, BorderId, CLOCK_LIMIT, Checked, Command, Datagram, Detector, DetectorId,
+    HOLD_TIME, Key, LATEST_CLOCK, LIFETIME, LIFETIME_MICROS, LONGEST_DATAGRAM, Layout, MICROS,
+    Millis, Name, Node, Occupancy, Outbox, Phase, Point, PointId, Position, Protocol, QUIET_TIME,
+    ROUND, ROUND_MICROS, Refusal, Role, Route, RouteId, SectionId, Side, Signal, SignalId, Start,
+    Verdict, is_intact, is_request, receiver_of, sender_of,
+};

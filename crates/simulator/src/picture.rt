@@ -1,30 +1,22 @@
 //! The text of a world's picture.
 
 ghost use Rattle.std.specs.Prelude.{◌≡◌, ◌++◌, IfOk, OnOk, length, string_bytes};
-ghost use Rattle.simulator_ixl.specs.simulator_run.Picture.{point_lines, route_lines, section_lines, signal_lines};
-ghost use Rattle.simulator_ixl.specs.simulator_run.Interlocking.{held_of};
+ghost use Rattle.simulator_spec.specs.Picture.{point_lines, route_lines, section_lines, signal_lines};
+ghost use Rattle.simulator_spec.specs.Interlocking.{held_of};
 ghost use Rattle.simulator.specs.World.{IsPicture};
 ghost use Rattle.simulator.specs.inside.Lines.{point_line, route_line, section_line, signal_line};
 
-use crate::words::{
-    aspect_word, authority, driven_words, occupancy_word, position_word, safe_word, set_word,
-};
+use crate::words::{authority, driven_words, safe_word, set_word};
 use crate::world::World;
-use simulator_ixl::simulator_run::ixl_rules::control_table::layout::{
-    PointId, RouteId, SectionId, SignalId,
-};
-use simulator_ixl::simulator_run::ixl_rules::control_table::sci_telegram::{
-    Aspect, Name, Occupancy, Position, Side,
+use simulator_spec::{
+    Aspect, MICROS, Name, Occupancy, PointId, Position, RouteId, SectionId, Side, SignalId,
 };
 use std::alloc::{AllocError, Global};
-
-/// How many microseconds a millisecond has.
-const MICROS: u64 = 1000;
 
 impl World {
     /// The text of the picture: true time in whole milliseconds, a line for each signal, point, section and route in the
     /// order of the layout, and last whether what is seen is safe. It is, so the last line is `safe`. The last line has no
-    /// line feed behind it.
+    /// line feed after it.
     pub fn picture(&self, alloc: Global) -> Result<String, AllocError>
         ensures { IfOk result (λ text. IsPicture self.now.sited self.now.run (string_bytes text)) }
     {
@@ -43,7 +35,7 @@ impl World {
 
 /// Adds the lines of the signals.
 fn push_signals(text: &mut String, world: &World) -> Result<(), AllocError>
-    ensures { OnOk result (string_bytes text.new ≡ string_bytes text.old ++ signal_lines world.now.sited.site (held_of world.now.sited.table world.now.run.station world.now.run.frozen) 0 world.now.sited.site.signals world.now.run.signals) }
+    ensures { OnOk result (string_bytes text.new ≡ string_bytes text.old ++ signal_lines world.now.sited.site (held_of world.now.sited.table world.now.run.interlocking world.now.run.frozen) 0 world.now.sited.site.signals world.now.run.signals) }
 {
     let held = world.held();
     let layout = world.table().layout();
@@ -70,7 +62,7 @@ fn push_signal(
     ensures { OnOk result (string_bytes text.new ≡ string_bytes text.old ++ signal_line name.now aspect authority.now) }
 {
     let name = name.as_str();
-    let aspect = aspect_word(aspect);
+    let aspect = aspect.word();
     write!(text, "\nsignal {name} {aspect} {authority}")
 }
 
@@ -102,7 +94,7 @@ fn push_point(
     ensures { OnOk result (string_bytes text.new ≡ string_bytes text.old ++ point_line name.now position driven) }
 {
     let name = name.as_str();
-    let position = position_word(position);
+    let position = position.word();
     let driven = driven_words(driven);
     write!(text, "\npoint {name} {position}{driven}")
 }
@@ -123,13 +115,13 @@ fn push_section(text: &mut String, name: &Name, occupancy: Occupancy) -> Result<
     ensures { OnOk result (string_bytes text.new ≡ string_bytes text.old ++ section_line name.now occupancy) }
 {
     let name = name.as_str();
-    let occupancy = occupancy_word(occupancy);
+    let occupancy = occupancy.word();
     write!(text, "\nsection {name} {occupancy}")
 }
 
 /// Adds the lines of the routes.
 fn push_routes(text: &mut String, world: &World) -> Result<(), AllocError>
-    ensures { OnOk result (string_bytes text.new ≡ string_bytes text.old ++ route_lines world.now.sited.site.routes world.now.run.station.ixl.routes) }
+    ensures { OnOk result (string_bytes text.new ≡ string_bytes text.old ++ route_lines world.now.sited.site.routes world.now.run.interlocking.ixl.routes) }
 {
     let routes = world.table().layout().routes();
     for place in 0..routes.len() {

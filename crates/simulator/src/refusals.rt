@@ -1,24 +1,18 @@
 //! Whether an event can happen.
 
 ghost use Rattle.std.specs.Prelude.{◌≡◌};
-ghost use Rattle.simulator_ixl.specs.sci_telegram.declared.message.Occupancy.{Occupancy};
-ghost use Rattle.simulator_ixl.specs.simulator_event.declared.event.Event.TheVariants as events;
-ghost use Rattle.simulator_ixl.specs.simulator_run.Refusals.{is_missing, may_reach};
+ghost use Rattle.ixl_state.specs.sci_telegram.declared.message.Occupancy.{Occupancy};
+ghost use Rattle.simulator_spec.specs.simulator_event.declared.event.Event.TheVariants as events;
+ghost use Rattle.simulator_spec.specs.Refusals.{is_missing, may_reach};
 ghost use Rattle.simulator.specs.inside.EventTest.{Tells};
 ghost use Rattle.simulator.specs.inside.Parts.{IsWhole, site_of, seen};
 
 use crate::found::Found;
 use crate::parts::Parts;
-use crate::time_limits::CLOCK_LIMIT;
-use simulator_ixl::simulator_run::ixl_rules::control_table::layout::{PointId, SectionId};
-use simulator_ixl::simulator_run::ixl_rules::control_table::sci_telegram::{Position, Side};
-use simulator_ixl::simulator_run::ixl_rules::key_of;
-use simulator_ixl::simulator_run::ixl_rules::rasta_core::Millis;
-use simulator_ixl::simulator_run::links;
-use simulator_ixl::simulator_run::simulator_event::{Event, NodeId, Refused};
-
-/// How many microseconds a millisecond has.
-const MICROS: u64 = 1000;
+use simulator_spec::ixl_spec::key_of;
+use simulator_spec::{
+    CLOCK_LIMIT, Event, MICROS, Millis, NodeId, PointId, Position, Refused, SectionId, Side,
+};
 
 /// Whether a point that is driven so can come to lie there: at no end position, or at the side to which it is driven.
 fn may_reach(driven: Option<Side>, position: Position) -> bool
@@ -37,7 +31,7 @@ impl Parts {
     fn is_missing(&self, node: NodeId) -> bool
         ensures { result ≡ is_missing node.0 (site_of self.now) }
     {
-        node.0 > links(self.layout())
+        node.0 > self.layout().links()
     }
 
     /// Whether a section can be occupied or cleared.
@@ -83,7 +77,7 @@ impl Parts {
             return Err(Refused::NoSuchNode);
         }
         let key = key_of(self.layout());
-        match self.controllers.network.delivered(&key, bytes) {
+        match self.field.network.delivered(&key, bytes) {
             Some(connection) => Ok(Found::Connection(connection)),
             None => Err(Refused::NeverSent),
         }
@@ -94,7 +88,7 @@ impl Parts {
     fn tested_loss(&self, bytes: &[u8]) -> Result<Found, Refused>
         ensures { Tells (site_of self.now) (events.Lose bytes.now) (seen self.now) result }
     {
-        match self.controllers.network.oldest_copy(bytes) {
+        match self.field.network.oldest_copy(bytes) {
             Some(place) => Ok(Found::Place(place)),
             None => Err(Refused::NeverSent),
         }

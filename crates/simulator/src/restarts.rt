@@ -1,15 +1,13 @@
 //! Nodes that are made anew.
 
 ghost use Rattle.std.specs.Prelude.{◌≡◌, ◌≤◌, ◌*◌, OnErr, OnOk, Some};
-ghost use Rattle.simulator_ixl.specs.simulator_run.Happens.{made_anew};
-ghost use Rattle.simulator_ixl.specs.simulator_run.Nodes.{Interlocking, node_at};
-ghost use Rattle.simulator_ixl.specs.simulator_run.Refusals.{clock_limit};
+ghost use Rattle.simulator_spec.specs.Happens.{made_anew};
+ghost use Rattle.simulator_spec.specs.Nodes.{Interlocking, node_at};
+ghost use Rattle.simulator_spec.specs.Refusals.{clock_limit};
 ghost use Rattle.simulator.specs.inside.Parts.{IsWhole, Restarts, site_of, table_of};
 
-use crate::nodes::{Node, node_at};
 use crate::parts::Parts;
-use simulator_ixl::simulator_run::ixl_rules::rasta_core::Millis;
-use simulator_ixl::simulator_run::simulator_event::NodeId;
+use simulator_spec::{Millis, Node, NodeId};
 use std::alloc::AllocError;
 
 impl Parts {
@@ -22,7 +20,7 @@ impl Parts {
         ensures same { OnErr result (self.new ≡ self.old) }
     {
         let held = self.held();
-        self.station.restart(self.alloc, clock, first)?;
+        self.interlocking.restart(self.alloc, clock, first)?;
         self.frozen = held;
         Ok(())
     }
@@ -40,18 +38,16 @@ impl Parts {
         ensures same { OnErr result (self.new ≡ self.old) }
     {
         let alloc = self.alloc;
-        let table = self.station.table().checked();
-        let controllers = &mut self.controllers;
-        match node_at(table.layout(), node) {
+        let table = self.interlocking.table().checked();
+        let field = &mut self.field;
+        match table.layout().node(node) {
             Some(Node::Interlocking) => self.restart_interlocking(clock, first),
-            Some(Node::Signal(place)) => {
-                controllers.restart_signal(alloc, table, place, clock, first)
+            Some(Node::Signal(signal)) => {
+                field.restart_signal(alloc, table, signal.0, clock, first)
             }
-            Some(Node::Point(place)) => {
-                controllers.restart_point(alloc, table, place, clock, first)
-            }
-            Some(Node::Detector(place)) => {
-                controllers.restart_detector(alloc, table, place, clock, first)
+            Some(Node::Point(point)) => field.restart_point(alloc, table, point.0, clock, first),
+            Some(Node::Detector(detector)) => {
+                field.restart_detector(alloc, table, detector.0, clock, first)
             }
             None => Ok(()),
         }

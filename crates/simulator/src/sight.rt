@@ -1,21 +1,19 @@
 //! The snapshot of a world.
 
 ghost use Rattle.std.specs.Prelude.{◌≡◌, map};
-ghost use Rattle.simulator_ixl.specs.simulator_run.Refusals.{driven_by};
-ghost use Rattle.simulator_ixl.specs.simulator_run.Seen.{IsSnapshotOf, as_shown, as_stands};
+ghost use Rattle.simulator_spec.specs.Refusals.{driven_by};
+ghost use Rattle.simulator_spec.specs.Seen.{IsSnapshotOf, as_shown, as_stands};
 ghost use Rattle.simulator.specs.inside.Parts.{IsWhole, seen, table_of};
 
 use crate::parts::Parts;
 use arrayvec::ArrayVec;
-use simulator_ixl::simulator_run::ixl_rules::control_table::layout::{PointId, SignalId};
-use simulator_ixl::simulator_run::ixl_rules::control_table::sci_telegram::Side;
-use simulator_ixl::simulator_run::simulator_snapshot::{Shown, Snapshot, Stands};
+use simulator_spec::{PointId, Shown, Side, SignalId, Snapshot, Stands};
 
 impl Parts {
     /// What each signal shows.
     fn shows(&self) -> ArrayVec<Shown, 32>
         requires { IsWhole self.now }
-        ensures { result.items ≡ map as_shown self.now.controllers.signals.items }
+        ensures { result.items ≡ map as_shown self.now.field.signals.items }
     {
         let mut shows = ArrayVec::new();
         for place in 0..self.layout().signals().len() {
@@ -27,11 +25,11 @@ impl Parts {
     /// Where each point stands.
     fn stands(&self) -> ArrayVec<Stands, 32>
         requires { IsWhole self.now }
-        ensures { result.items ≡ map as_stands self.now.controllers.positions.items }
+        ensures { result.items ≡ map as_stands self.now.field.positions.items }
     {
         let mut stands = ArrayVec::new();
         for place in 0..self.layout().points().len() {
-            stands.push(Stands(self.controllers.positions[place]));
+            stands.push(Stands(self.field.positions[place]));
         }
         stands
     }
@@ -39,7 +37,7 @@ impl Parts {
     /// The side to which each point is driven.
     fn drives(&self) -> ArrayVec<Option<Side>, 32>
         requires { IsWhole self.now }
-        ensures { result.items ≡ map driven_by self.now.controllers.points.items }
+        ensures { result.items ≡ map driven_by self.now.field.points.items }
     {
         let mut drives = ArrayVec::new();
         for place in 0..self.layout().points().len() {

@@ -2,18 +2,14 @@
 
 ghost use Rattle.std.specs.Prelude.{◌≡◌, ◌≤◌, ◌+◌, nat_le, true, length};
 ghost use Rattle.std.specs.List.{list_all};
-ghost use Rattle.simulator_ixl.specs.simulator_run.Nodes.{nodes};
-ghost use Rattle.simulator_ixl.specs.simulator_run.Refusals.{all_within, are_within, clock_limit, keeps_time, refusal_of_time};
+ghost use Rattle.simulator_spec.specs.Nodes.{nodes};
+ghost use Rattle.simulator_spec.specs.Refusals.{all_within, are_within, clock_limit, keeps_time, refusal_of_time};
 ghost use Rattle.simulator.specs.inside.Parts.{IsWhole, site_of, seen};
 
 use crate::parts::Parts;
-use simulator_ixl::simulator_field::ClockedController;
-use simulator_ixl::simulator_run::nodes;
-use simulator_ixl::simulator_run::object_host::Controller;
-use simulator_ixl::simulator_run::simulator_event::Refused;
-
-/// The greatest true time and the greatest clock, in microseconds.
-pub(crate) const CLOCK_LIMIT: u64 = 9_000_000_000_000_000;
+use simulator_field::ClockedController;
+use simulator_spec::object_host::Controller;
+use simulator_spec::{CLOCK_LIMIT, Refused};
 
 /// Whether a clock that goes on by so much in a true time keeps within one part in a thousand of it.
 fn keeps_time(elapsed: u64, of_clock: u64) -> bool
@@ -63,12 +59,12 @@ impl Parts {
         ensures { result ≡ all_within (seen self.now) steps.now }
     {
         let (of_station, of_controllers) = steps.split_at(1);
-        let (_, of_points) = of_controllers.split_at(self.controllers.signals.len());
-        let (_, of_detectors) = of_points.split_at(self.controllers.points.len());
-        let station = is_within(self.station.clock(), of_station[0]);
-        let signals = are_within(&self.controllers.signals, of_controllers);
-        let points = are_within(&self.controllers.points, of_points);
-        let detectors = are_within(&self.controllers.detectors, of_detectors);
+        let (_, of_points) = of_controllers.split_at(self.field.signals.len());
+        let (_, of_detectors) = of_points.split_at(self.field.points.len());
+        let station = is_within(self.interlocking.clock(), of_station[0]);
+        let signals = are_within(&self.field.signals, of_controllers);
+        let points = are_within(&self.field.points, of_points);
+        let detectors = are_within(&self.field.detectors, of_detectors);
         station && signals && points && detectors
     }
 
@@ -78,13 +74,13 @@ impl Parts {
         requires { IsWhole self.now }
         ensures { result ≡ refusal_of_time (site_of self.now) elapsed steps.now (seen self.now) }
     {
-        if steps.len() != nodes(self.layout()) {
+        if steps.len() != self.layout().nodes() {
             return Some(Refused::NoSuchNode);
         }
         if !all_keep_time(elapsed, steps) {
             return Some(Refused::Drift);
         }
-        let is_time_within = is_within(self.controllers.network.time(), elapsed);
+        let is_time_within = is_within(self.field.network.time(), elapsed);
         let are_clocks_within = self.all_within(steps);
         if is_time_within && are_clocks_within {
             None

@@ -1,37 +1,11 @@
 //! The words of a picture.
 
 ghost use Rattle.std.specs.Prelude.{◌≡◌};
-ghost use Rattle.simulator_ixl.specs.simulator_run.Picture.{aspect_text, authority_text, driven_text, occupancy_text, position_text, route_name, safe_text, set_text};
+ghost use Rattle.simulator_spec.specs.Picture.{authority_text, driven_text, route_name, safe_text, set_text};
 
-use simulator_ixl::simulator_run::ixl_rules::control_table::layout::{Layout, RouteId};
-use simulator_ixl::simulator_run::ixl_rules::control_table::sci_telegram::{
-    Aspect, Occupancy, Position, Side,
-};
-use simulator_ixl::simulator_run::simulator_snapshot::Held;
+use simulator_spec::{Held, Layout, RouteId, Side};
 
-/// The word of an aspect.
-pub(crate) fn aspect_word(aspect: Aspect) -> &'static str
-    ensures { result.now ≡ aspect_text aspect }
-{
-    match aspect {
-        Aspect::Stop => "stop",
-        Aspect::Proceed => "proceed",
-        Aspect::Slow => "slow",
-    }
-}
-
-/// The word of a point's position.
-pub(crate) fn position_word(position: Position) -> &'static str
-    ensures { result.now ≡ position_text position }
-{
-    match position {
-        Position::Right => "right",
-        Position::Left => "left",
-        Position::NoEndPosition => "none",
-    }
-}
-
-/// What stands behind the position of a point that is driven.
+/// What stands after the position of a point that is driven.
 pub(crate) fn driven_words(driven: Option<Side>) -> &'static str
     ensures { result.now ≡ driven_text driven }
 {
@@ -39,16 +13,6 @@ pub(crate) fn driven_words(driven: Option<Side>) -> &'static str
         None => "",
         Some(Side::Right) => " driven right",
         Some(Side::Left) => " driven left",
-    }
-}
-
-/// The word of a section's state.
-pub(crate) fn occupancy_word(occupancy: Occupancy) -> &'static str
-    ensures { result.now ≡ occupancy_text occupancy }
-{
-    match occupancy {
-        Occupancy::Clear => "clear",
-        Occupancy::Occupied => "occupied",
     }
 }
 

@@ -1,38 +1,35 @@
 //! A world.
 
-ghost use Rattle.std.specs.Prelude.{◌≡◌, ◌≤◌, ◌<◌, ◌+◌, ◌↔◌, ◌⊎◌, Err, IfErr, IfOk, IsTrue, None, OnErr, OnOk, Some, length, slice_get};
+ghost use Rattle.std.specs.Prelude.{◌≡◌, ◌≤◌, ◌<◌, ◌+◌, ◌↔◌, ◌⊎◌, ℕ, Err, IfErr, IfOk, IsTrue, None, OnErr, OnOk, Some, length, slice_get};
 ghost use Rattle.std.specs.Option.{option_map};
-ghost use Rattle.simulator_ixl.specs.ixl_rules.View.{is_set};
-ghost use Rattle.simulator_ixl.specs.ixl_table.Table.{IsTableOf};
-ghost use Rattle.simulator_ixl.specs.rasta_core.Ends.{reading_of};
-ghost use Rattle.simulator_ixl.specs.simulator_event.refused.Refused.TheVariants.{OutOfMemory};
-ghost use Rattle.simulator_headline.specs.Reached.{HasSafeLinks, IsReachedSafely};
-ghost use Rattle.simulator_ixl.specs.simulator_field.Bag.{in_bag, not_lost};
-ghost use Rattle.simulator_ixl.specs.simulator_run.First.{first_world, world_at};
-ghost use Rattle.simulator_ixl.specs.simulator_run.Happens.{happens, is_restart, reply_to};
-ghost use Rattle.simulator_ixl.specs.simulator_run.Refusals.{driven_at, refusal};
-ghost use Rattle.simulator_ixl.specs.simulator_run.Seen.{IsSnapshotOf, shown_by};
-ghost use Rattle.simulator_ixl.specs.simulator_run.Interlocking.{held_of};
-ghost use Rattle.simulator_ixl.specs.simulator_snapshot.Safe.{Safe};
-ghost use Rattle.simulator_ixl.specs.simulator_snapshot.declared.snapshot.Snapshot.{Snapshot};
+ghost use Rattle.ixl_state.specs.State.{AtRoute};
+ghost use Rattle.ixl_state.specs.bit_row.Places.{Has};
+ghost use Rattle.ixl_state.specs.ixl_spec.Due.{HoldsSection};
+ghost use Rattle.ixl_state.specs.ixl_spec.View.{is_holding, is_set};
+ghost use Rattle.ixl_state.specs.ixl_table.Table.{IsTableOf};
+ghost use Rattle.ixl_state.specs.rasta_core.Ends.{reading_of};
+ghost use Rattle.simulator_spec.specs.simulator_event.refused.Refused.TheVariants.{OutOfMemory};
+ghost use Rattle.simulator_safety.specs.Reached.{HasSafeLinks, IsReachedSafely};
+ghost use Rattle.simulator_field.specs.Bag.{in_bag, not_lost};
+ghost use Rattle.simulator_spec.specs.First.{first_world, world_at};
+ghost use Rattle.simulator_spec.specs.Happens.{happens, is_restart, reply_to};
+ghost use Rattle.simulator_spec.specs.Refusals.{driven_at, refusal};
+ghost use Rattle.simulator_spec.specs.Seen.{IsSnapshotOf, shown_by};
+ghost use Rattle.simulator_spec.specs.Interlocking.{held_of};
+ghost use Rattle.simulator_spec.specs.simulator_event.Safe.{Safe};
+ghost use Rattle.simulator_spec.specs.simulator_event.declared.snapshot.Snapshot.{Snapshot};
 ghost use Rattle.simulator.specs.Runs.{Runs};
 ghost use Rattle.simulator.specs.World.{IsSafeWorld};
 
 use crate::parts::Parts;
 use arrayvec::ArrayVec;
-use simulator_headline::reached_worlds_are_safe;
-use simulator_ixl::InterlockingState;
-use simulator_ixl::simulator_field::{Bag, Network};
-use simulator_ixl::simulator_run::ixl_rules::control_table::Checked;
-use simulator_ixl::simulator_run::ixl_rules::control_table::layout::{
-    PointId, RouteId, SectionId, SignalId,
+use ixl_state::State;
+use simulator_field::{Bag, Network};
+use simulator_safety::reached_worlds_are_safe;
+use simulator_spec::{
+    Aspect, BitRow, Checked, Event, Held, Occupancy, PointId, Position, Refused, Reply, RouteId,
+    SectionId, Side, SignalId, Snapshot,
 };
-use simulator_ixl::simulator_run::ixl_rules::control_table::sci_telegram::{
-    Aspect, Occupancy, Position, Side,
-};
-use simulator_ixl::simulator_run::ixl_rules::rasta_core::Millis;
-use simulator_ixl::simulator_run::simulator_event::{Event, Refused, Reply};
-use simulator_ixl::simulator_run::simulator_snapshot::{Held, Snapshot};
 use std::alloc::{AllocError, Global};
 use std::marker::Model;
 
@@ -51,7 +48,7 @@ impl Drop for World {
 
 impl Model for World {
     ghost use Rattle.std.specs.Coded.{codes};
-    ghost use Rattle.simulator_ixl.specs.bit_row.Places.{places_code};
+    ghost use Rattle.ixl_state.specs.bit_row.Places.{places_code};
     ghost use Rattle.simulator.specs.World.{View};
     ghost use Rattle.simulator.specs.inside.Parts.{HasCome, IsWhole, seen, steps_of};
 
@@ -59,7 +56,7 @@ impl Model for World {
 
     ghost coded = { Prim.hlevel (codes, places_code) };
 
-    ghost view = { λ w. record { sited = w.parts.station.sited; run = seen w.parts; room = steps_of w.parts } };
+    ghost view = { λ w. record { sited = w.parts.interlocking.sited; run = seen w.parts; room = steps_of w.parts } };
 
     ghost invariant = { λ w. IsWhole w.parts × HasCome w.parts };
 }
@@ -174,7 +171,7 @@ impl World {
     pub fn time(&self) -> u64
         ensures { result ≡ self.now.run.time }
     {
-        self.parts.controllers.network.time()
+        self.parts.field.network.time()
     }
 
     /// True time and every datagram that was sent, lost or not, oldest first.
@@ -183,7 +180,7 @@ impl World {
         ensures time { result.now.time ≡ self.now.run.time }
         ensures sent { result.now.sent ≡ self.now.run.sent }
     {
-        &self.parts.controllers.network
+        &self.parts.field.network
     }
 
     /// The datagrams that the network still has, in the order of their sending.
@@ -191,7 +188,7 @@ impl World {
     pub fn bag(&self) -> Bag<'_>
         ensures { in_bag result ≡ not_lost self.now.run.sent }
     {
-        self.parts.controllers.network.bag()
+        self.parts.field.network.bag()
     }
 
     /// What a signal shows at its clock.
@@ -207,7 +204,7 @@ impl World {
     /// made anew outside one, and otherwise each signal with the route that has authority from it.
     #[tactic(auto, unfolding(crate::proofs::Below::world_of))]
     pub fn held(&self) -> ArrayVec<Held, 64>
-        ensures { result.items ≡ held_of self.now.sited.table self.now.run.station self.now.run.frozen }
+        ensures { result.items ≡ held_of self.now.sited.table self.now.run.interlocking self.now.run.frozen }
     {
         self.parts.held()
     }
@@ -218,7 +215,7 @@ impl World {
         requires { point.0 < length self.now.sited.site.points }
         ensures { slice_get self.now.run.positions point.0 ≡ Some result }
     {
-        self.parts.controllers.positions[point.0]
+        self.parts.field.positions[point.0]
     }
 
     /// The side to which a point is driven at its controller's clock, if it is.
@@ -236,33 +233,42 @@ impl World {
         requires { section.0 < length self.now.sited.site.sections }
         ensures { slice_get self.now.run.occupancies section.0 ≡ Some result }
     {
-        self.parts.controllers.occupancies[section.0]
+        self.parts.field.occupancies[section.0]
     }
 
     /// Whether a route is set.
     #[tactic(auto, unfolding(crate::proofs::Below::world_of))]
     pub fn is_set(&self, route: RouteId) -> bool
         requires { route.0 < length self.now.sited.site.routes }
-        ensures { option_map (λ kept. is_set kept.phase) (slice_get self.now.run.station.ixl.routes route.0) ≡ Some result }
+        ensures { option_map (λ kept. is_set kept.phase) (slice_get self.now.run.interlocking.ixl.routes route.0) ≡ Some result }
     {
-        let _ = self.parts.station.table().checked();
-        self.parts.station.is_set(route)
+        let _ = self.parts.interlocking.table().checked();
+        self.parts.interlocking.is_set(route)
     }
 
     /// All that the interlocking keeps: how far each route is, and what is known of each controller.
     #[tactic(auto, unfolding(crate::proofs::Below::world_of))]
-    pub fn interlocking(&self) -> &InterlockingState
-        ensures { result.now ≡ record { sited = self.now.sited; ixl = self.now.run.station.ixl } }
+    pub fn interlocking(&self) -> &State
+        ensures { result.now ≡ record { sited = self.now.sited; ixl = self.now.run.interlocking.ixl } }
     {
-        self.parts.station.state()
+        self.parts.interlocking.state()
     }
 
-    /// The clock of the interlocking, in milliseconds.
+    /// Whether the interlocking takes no commands yet: its hold isn't over by its clock.
     #[tactic(auto, unfolding(crate::proofs::Below::world_of))]
-    pub fn interlocking_clock(&self) -> Millis
-        ensures { result ≡ reading_of self.now.run.station.clock }
+    pub fn is_holding(&self) -> bool
+        ensures { result ≡ is_holding (reading_of self.now.run.interlocking.clock) self.now.run.interlocking.ixl }
     {
-        self.parts.station.now()
+        self.parts.interlocking.is_holding()
+    }
+
+    /// The sections that a route locks.
+    #[tactic(auto, unfolding(crate::proofs::Below::world_of))]
+    pub fn locked(&self, route: RouteId) -> BitRow
+        requires { route.0 < length self.now.sited.table.rows }
+        ensures { AtRoute (record { sited = self.now.sited; ixl = self.now.run.interlocking.ixl }) route.0 (λ row kept. (section : ℕ) → Has result section ↔ HoldsSection row kept.phase section) }
+    {
+        self.parts.interlocking.locked(route)
     }
 
     /// What is seen of the station at the clocks of this moment.

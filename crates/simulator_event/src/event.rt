@@ -1,15 +1,7 @@
 //! What happens to a station.
 
 use crate::readings::{ClockSteps, RawDatagram};
-use ixl_rules::Command;
-use ixl_rules::control_table::layout::{PointId, SectionId};
-use ixl_rules::control_table::sci_telegram::{Occupancy, Position};
-use ixl_rules::rasta_core::Millis;
-
-/// A node, by its place among all: the interlocking is 0, then come the signals, the points and the
-/// detectors, each in layout order.
-#[derive(Clone, Copy, Debug, PartialEq, Eq)]
-pub struct NodeId(pub usize);
+use ixl_spec::{Command, Millis, NodeId, Occupancy, PointId, Position, SectionId};
 
 /// What happens to a station and the network between its nodes.
 #[derive(Debug)]

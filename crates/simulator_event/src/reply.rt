@@ -1,6 +1,6 @@
 //! What a station answers to an event.
 
-use ixl_rules::Refusal;
+use ixl_spec::Refusal;
 
 /// The answer to an event that was applied.
 #[derive(Clone, Copy, Debug, PartialEq, Eq)]

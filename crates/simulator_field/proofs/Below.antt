@@ -1,7 +1,7 @@
 -- Definitions of the layers below that proofs here unfold.
-unfoldable pub use Rattle.simulator_run.specs.rasta_core.Calls.{created}
-unfoldable pub use Rattle.simulator_run.specs.rasta_core.Clock.{alive_until, deadline, settled}
-unfoldable pub use Rattle.simulator_run.specs.rasta_core.Outbox.{posted}
-unfoldable pub use Rattle.simulator_run.specs.object_host.Host.{keeping}
-unfoldable pub use Rattle.simulator_run.specs.object_host.Hosted.{new_host}
-unfoldable pub use Rattle.simulator_run.specs.Controllers.{controller_after, controller_anew, controller_later, sent_by_controller}
+unfoldable pub use Rattle.simulator_spec.specs.rasta_core.Calls.{created}
+unfoldable pub use Rattle.simulator_spec.specs.rasta_core.Clock.{alive_until, deadline, settled}
+unfoldable pub use Rattle.simulator_spec.specs.rasta_core.Outbox.{posted}
+unfoldable pub use Rattle.simulator_spec.specs.object_host.Host.{keeping}
+unfoldable pub use Rattle.simulator_spec.specs.object_host.Hosted.{new_host}
+unfoldable pub use Rattle.simulator_spec.specs.Controllers.{controller_after, controller_anew, controller_later, sent_by_controller}

@@ -4,27 +4,27 @@ use Rattle.std.specs.Prelude.{slice_get, slice_index_or}
 use Rattle.std.proofs.Math.ListN.{set}
 use Rattle.std.proofs.lemmas.List.{get_or_read}
 use Rattle.std.proofs.lemmas.Option.{slice_get_read}
-use Rattle.simulator_run.specs.sci_telegram.declared.message.Occupancy.{Occupancy}
-use Rattle.simulator_run.specs.sci_telegram.declared.message.Position.{Position}
-use Rattle.simulator_run.specs.sci_telegram.declared.message.Position.TheVariants as positions
-use Rattle.simulator_run.specs.layout.Entries.{DetectorEntry, Site}
-use Rattle.simulator_run.specs.layout.declared.entries.Point.{Point as PointEntry}
-use Rattle.simulator_run.specs.layout.declared.entries.Signal.{Signal as SignalEntry}
-use Rattle.simulator_run.specs.rasta_core.Links.{OnLink}
-use Rattle.simulator_run.specs.object_host.Behaviour.{Behaviour}
-use Rattle.simulator_run.specs.object_host.Host.{HostState}
-use Rattle.simulator_run.specs.object_host.declared.input.Input.{Input}
-use Rattle.simulator_run.specs.signal_ctl.Signal.{SignalState, signal_behaviour}
-use Rattle.simulator_run.specs.point_ctl.Controlled.{point_behaviour}
-use Rattle.simulator_run.specs.point_ctl.Drive.{PointState}
-use Rattle.simulator_run.specs.tds_ctl.Controlled.{detection_behaviour}
-use Rattle.simulator_run.specs.tds_ctl.declared.section.Section.{Section}
-use Rattle.simulator_run.specs.ixl_rules.State.{changed}
-use Rattle.simulator_run.specs.First.{Beginning, new_detector, new_point, new_signal}
-use Rattle.simulator_run.specs.Happens.{Stepped, detector_anew, detector_stepped, point_anew, point_stepped, signal_anew, signal_stepped, stepped_at}
-use Rattle.simulator_run.specs.Nodes.{detector_link, point_link}
-use Rattle.simulator_run.specs.Controllers.{controller_after, controller_anew, sent_by_controller, step_of}
-use Rattle.simulator_run.specs.State.{ClockedControllerState, WorldState}
+use Rattle.simulator_spec.specs.sci_telegram.declared.message.Occupancy.{Occupancy}
+use Rattle.simulator_spec.specs.sci_telegram.declared.message.Position.{Position}
+use Rattle.simulator_spec.specs.sci_telegram.declared.message.Position.TheVariants as positions
+use Rattle.simulator_spec.specs.layout.Entries.{DetectorEntry, Site}
+use Rattle.simulator_spec.specs.layout.declared.entries.Point.{Point as PointEntry}
+use Rattle.simulator_spec.specs.layout.declared.entries.Signal.{Signal as SignalEntry}
+use Rattle.simulator_spec.specs.rasta_core.Links.{OnLink}
+use Rattle.simulator_spec.specs.object_host.Behaviour.{Behaviour}
+use Rattle.simulator_spec.specs.object_host.Host.{HostState}
+use Rattle.simulator_spec.specs.object_host.declared.input.Input.{Input}
+use Rattle.simulator_spec.specs.signal_ctl.Signal.{SignalState, signal_behaviour}
+use Rattle.simulator_spec.specs.point_ctl.Controlled.{point_behaviour}
+use Rattle.simulator_spec.specs.point_ctl.Drive.{PointState}
+use Rattle.simulator_spec.specs.tds_ctl.Controlled.{detection_behaviour}
+use Rattle.simulator_spec.specs.tds_ctl.declared.section.Section.{Section}
+use Rattle.simulator_spec.specs.ixl_spec.State.{changed}
+use Rattle.simulator_spec.specs.First.{Beginning, new_detector, new_point, new_signal}
+use Rattle.simulator_spec.specs.Happens.{Stepped, detector_anew, detector_stepped, point_anew, point_stepped, signal_anew, signal_stepped, stepped_at}
+use Rattle.simulator_spec.specs.Nodes.{detector_link, point_link}
+use Rattle.simulator_spec.specs.Controllers.{controller_after, controller_anew, sent_by_controller, step_of}
+use Rattle.simulator_spec.specs.State.{ClockedControllerState, WorldState}
 
 -- ---- a step
 

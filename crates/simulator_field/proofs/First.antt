@@ -3,16 +3,16 @@ use Rattle.std.proofs.Common.{◌≡◌, refl, sym, ap, ◌∙◌, ℕ, ◌+◌,
 use Rattle.std.specs.List.{zip}
 use Rattle.std.proofs.lemmas.List.{length-map, map_more, take_all}
 use Rattle.std.proofs.lemmas.Slice.Zip.{firsts-zip, get_or-zip}
-use Rattle.simulator_run.specs.sci_telegram.declared.message.Occupancy.{Occupancy}
-use Rattle.simulator_run.specs.sci_telegram.declared.message.Position.{Position}
-use Rattle.simulator_run.specs.layout.Entries.{Site}
-use Rattle.simulator_run.specs.layout.declared.entries.Point.{Point}
-use Rattle.simulator_run.specs.signal_ctl.Signal.{SignalState}
-use Rattle.simulator_run.specs.point_ctl.Drive.{PointState}
-use Rattle.simulator_run.specs.tds_ctl.declared.section.Section.{Section}
-use Rattle.simulator_run.specs.ixl_rules.Table.{Table}
-use Rattle.simulator_run.specs.First.{Outset, at_zero, first_controller, first_interlocking, new_detector, new_signal, point_standing, world_at}
-use Rattle.simulator_run.specs.State.{ClockedControllerState, WorldState}
+use Rattle.simulator_spec.specs.sci_telegram.declared.message.Occupancy.{Occupancy}
+use Rattle.simulator_spec.specs.sci_telegram.declared.message.Position.{Position}
+use Rattle.simulator_spec.specs.layout.Entries.{Site}
+use Rattle.simulator_spec.specs.layout.declared.entries.Point.{Point}
+use Rattle.simulator_spec.specs.signal_ctl.Signal.{SignalState}
+use Rattle.simulator_spec.specs.point_ctl.Drive.{PointState}
+use Rattle.simulator_spec.specs.tds_ctl.declared.section.Section.{Section}
+use Rattle.simulator_spec.specs.ixl_spec.Table.{Table}
+use Rattle.simulator_spec.specs.First.{Outset, at_zero, first_controller, first_interlocking, new_detector, new_signal, point_standing, world_at}
+use Rattle.simulator_spec.specs.State.{ClockedControllerState, WorldState}
 
 -- one more is made
 pub next_made : {A B : Type 0} (make : A → B) (entries same : List A) (index : ℕ) (entry : A) (made new : List B) (one : B) → entries ≡ same → index < length entries → entry ≡ get_or entries index entry
@@ -51,11 +51,11 @@ pub outset_seen : (site : Site) (table : Table) (outset : Outset) (signals : Lis
     → detectors ≡ map (λ entry. first_controller (new_detector site at_zero outset.occupancies entry)) site.detectors
     → stands ≡ outset.positions
     → occupied ≡ outset.occupancies
-    → (record { time = 0; station = first_interlocking site table; signals = signals; points = points; detectors = detectors; positions = stands; occupancies = occupied; sent = []; frozen = [] }) ≡ world_at site table outset
+    → (record { time = 0; interlocking = first_interlocking site table; signals = signals; points = points; detectors = detectors; positions = stands; occupancies = occupied; sent = []; frozen = [] }) ≡ world_at site table outset
 unfolding world_at
 outset_seen site table outset signals points detectors stands occupied signals_are points_are detectors_are stands_are occupied_are =
     let made : List (ClockedControllerState SignalState) → List (ClockedControllerState PointState) → List (ClockedControllerState (List Section)) → List Position → List Occupancy → WorldState =
-    λ s p d l o. record { time = 0; station = first_interlocking site table; signals = s; points = p; detectors = d; positions = l; occupancies = o; sent = []; frozen = [] }
+    λ s p d l o. record { time = 0; interlocking = first_interlocking site table; signals = s; points = p; detectors = d; positions = l; occupancies = o; sent = []; frozen = [] }
     in let all_signals = map (λ entry. first_controller (new_signal site at_zero entry)) site.signals
     in let all_points = map (point_standing site) (zip site.points outset.positions)
     in let all_detectors = map (λ entry. first_controller (new_detector site at_zero outset.occupancies entry)) site.detectors

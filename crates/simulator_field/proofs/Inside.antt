@@ -4,21 +4,21 @@ use Rattle.std.specs.Prelude.{nat_le, nat_lt}
 use Rattle.std.proofs.lemmas.Bool.Decides.{nat_tests}
 use Rattle.std.proofs.lemmas.Grind.{common_steps}
 use Rattle.std.proofs.lemmas.List.{length-map}
-use Rattle.simulator_run.specs.rasta_core.Clock.{alive_until, deadline, settled}
-use Rattle.simulator_run.specs.rasta_core.Ends.{handed_out, reading_of}
-use Rattle.simulator_run.specs.rasta_core.Links.{OnLink, sent_on}
-use Rattle.simulator_run.specs.rasta_core.Outbox.{OutboxState, posted, spellings}
-use Rattle.simulator_run.specs.rasta_core.State.{LinkState, is_open}
-use Rattle.simulator_run.specs.rasta_pdu.Spelling.{writing}
-use Rattle.simulator_run.specs.rasta_pdu.declared.key.Key.{Key}
-use Rattle.simulator_run.specs.rasta_pdu.declared.pdu.Pdu.{Pdu}
-use Rattle.simulator_run.specs.object_host.Host.{HostState, HostSoFar}
-use Rattle.simulator_run.specs.object_host.Hosted.{empty_outbox}
-use Rattle.simulator_run.specs.object_host.Behaviour.{Behaviour}
-use Rattle.simulator_run.specs.object_host.Step.{host_step}
-use Rattle.simulator_run.specs.object_host.declared.input.Input.{Input}
-use Rattle.simulator_run.specs.Controllers.{controller_after, is_inside_at, is_some_sent, sent_by_controller, step_of}
-use Rattle.simulator_run.specs.State.{ClockedControllerState}
+use Rattle.simulator_spec.specs.rasta_core.Clock.{alive_until, deadline, settled}
+use Rattle.simulator_spec.specs.rasta_core.Ends.{handed_out, reading_of}
+use Rattle.simulator_spec.specs.rasta_core.Links.{OnLink, sent_on}
+use Rattle.simulator_spec.specs.rasta_core.Outbox.{OutboxState, posted, spellings}
+use Rattle.simulator_spec.specs.rasta_core.State.{LinkState, is_open}
+use Rattle.simulator_spec.specs.rasta_pdu.Spelling.{writing}
+use Rattle.simulator_spec.specs.rasta_pdu.declared.key.Key.{Key}
+use Rattle.simulator_spec.specs.rasta_pdu.declared.pdu.Pdu.{Pdu}
+use Rattle.simulator_spec.specs.object_host.Host.{HostState, HostSoFar}
+use Rattle.simulator_spec.specs.object_host.Hosted.{empty_outbox}
+use Rattle.simulator_spec.specs.object_host.Behaviour.{Behaviour}
+use Rattle.simulator_spec.specs.object_host.Step.{host_step}
+use Rattle.simulator_spec.specs.object_host.declared.input.Input.{Input}
+use Rattle.simulator_spec.specs.Controllers.{controller_after, is_inside_at, is_some_sent, sent_by_controller, step_of}
+use Rattle.simulator_spec.specs.State.{ClockedControllerState}
 use Rattle.simulator_field.specs.declared.stay.Stay.{Stay}
 use Rattle.simulator_field.specs.inside.Stay.{noted}
 use Rattle.simulator_field.proofs.OutboxTaken.{by_server}

@@ -4,8 +4,8 @@ use Rattle.std.proofs.Math.ListN.{set}
 use Rattle.std.specs.List.{All}
 use Rattle.std.proofs.lemmas.List.{drop-append-le, drop_at, get_or-map, length-append, length-drop, length-map, map-set, map_push, take-append-le, take_all}
 use Rattle.std.proofs.lemmas.List.Elements.{All-append, All-cons, All-head, All-tail, All-weaker}
-use Rattle.simulator_run.specs.rasta_core.Ends.{Sent}
-use Rattle.simulator_run.specs.rasta_core.Links.{OnLink}
+use Rattle.simulator_spec.specs.rasta_core.Ends.{Sent}
+use Rattle.simulator_spec.specs.rasta_core.Links.{OnLink}
 use Rattle.simulator_field.specs.Network.{datagrams}
 use Rattle.simulator_field.specs.declared.entry.Entry.{Entry}
 use Rattle.simulator_field.specs.inside.Entries.{AreInOrder, AreKept, AreWithin, IsWithin, bytes_of, on_link, on_links}

@@ -5,14 +5,14 @@ use Rattle.std.proofs.Math.ListN.{set}
 use Rattle.std.proofs.lemmas.Bool.{and_parts}
 use Rattle.std.proofs.lemmas.Bool.Decides.{nat_tests}
 use Rattle.std.proofs.lemmas.List.{append_assoc, drop_more, get_or_at, get_or_default, length-take-le, set_at}
-use Rattle.simulator_run.specs.rasta_core.Links.{OnLink}
-use Rattle.simulator_run.specs.signal_ctl.Signal.{SignalState}
-use Rattle.simulator_run.specs.point_ctl.Drive.{PointState}
-use Rattle.simulator_run.specs.tds_ctl.declared.section.Section.{Section}
-use Rattle.simulator_run.specs.Happens.{all_later, passed}
-use Rattle.simulator_run.specs.Refusals.{are_within, clock_limit}
-use Rattle.simulator_run.specs.Controllers.{controller_later}
-use Rattle.simulator_run.specs.State.{ClockedControllerState, ClockedInterlockingState, WorldState}
+use Rattle.simulator_spec.specs.rasta_core.Links.{OnLink}
+use Rattle.simulator_spec.specs.signal_ctl.Signal.{SignalState}
+use Rattle.simulator_spec.specs.point_ctl.Drive.{PointState}
+use Rattle.simulator_spec.specs.tds_ctl.declared.section.Section.{Section}
+use Rattle.simulator_spec.specs.Happens.{all_later, passed}
+use Rattle.simulator_spec.specs.Refusals.{are_within, clock_limit}
+use Rattle.simulator_spec.specs.Controllers.{controller_later}
+use Rattle.simulator_spec.specs.State.{ClockedControllerState, ClockedInterlockingState, WorldState}
 
 le_told : (a b : ℕ) → nat_le a b ≡ true → a ≤ b
 le_told a b told = grind (arith, nat_tests)
@@ -83,7 +83,7 @@ pub passed_world : (elapsed moment time : ℕ) (all steps of_points of_detectors
     → of_points ≡ drop (length world.signals) steps → of_detectors ≡ drop (length world.points) of_points
     → (record {
       time = time;
-      station = record world.station { clock = world.station.clock + slice_index_or all 0 0 };
+      interlocking = record world.interlocking { clock = world.interlocking.clock + slice_index_or all 0 0 };
       signals = signals;
       points = points;
       detectors = detectors;
@@ -96,7 +96,7 @@ unfolding passed
 passed_world elapsed moment time all steps of_points of_detectors world signals points detectors sent signals_are points_are detectors_are time_is sent_is steps_are moment_is points_steps detectors_steps =
     let made : ℕ → List OnLink → List (ClockedControllerState SignalState) → List (ClockedControllerState PointState) → List (ClockedControllerState (List Section)) → WorldState = λ t n s p d. record {
       time = t;
-      station = record world.station { clock = world.station.clock + slice_index_or all 0 0 };
+      interlocking = record world.interlocking { clock = world.interlocking.clock + slice_index_or all 0 0 };
       signals = s;
       points = p;
       detectors = d;

@@ -3,7 +3,7 @@ use Rattle.std.proofs.Common.{◌≡◌, ℕ, zero, suc, ◌≤◌, ◌<◌, Lis
 use Rattle.std.proofs.Math.ListN.{set}
 use Rattle.std.specs.List.{All}
 use Rattle.std.proofs.lemmas.List.Elements.{All-cons, All-head, All-tail, All-append, All-weaker}
-use Rattle.simulator_run.specs.rasta_core.Ends.{Sent}
+use Rattle.simulator_spec.specs.rasta_core.Ends.{Sent}
 use Rattle.simulator_field.specs.inside.Entries.{AreInOrder}
 
 -- none was sent after the time

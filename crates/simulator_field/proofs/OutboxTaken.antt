@@ -3,9 +3,9 @@ use Rattle.std.proofs.Common.{◌≡◌, refl, sym, ap, ◌∙◌, ℕ, List, []
 use Rattle.std.specs.Prelude.{slice_get}
 use Rattle.std.proofs.lemmas.List.{append_assoc}
 use Rattle.std.proofs.lemmas.Option.{same_Some}
-use Rattle.simulator_run.specs.rasta_core.Ends.{handed_out}
-use Rattle.simulator_run.specs.rasta_core.Links.{OnLink, sent_on}
-use Rattle.simulator_run.specs.rasta_core.identity.Role.TheVariants as role
+use Rattle.simulator_spec.specs.rasta_core.Ends.{handed_out}
+use Rattle.simulator_spec.specs.rasta_core.Links.{OnLink, sent_on}
+use Rattle.simulator_spec.specs.rasta_core.identity.Role.TheVariants as role
 
 none_is_not_some : (one : List ℕ) → None ≡ Some one → ⊥
 none_is_not_some one same = cc
@@ -21,7 +21,7 @@ none_taken (one ∷ others) there = absurd (none_is_not_some one there)
 abbrev pub by_server : ℕ → ℕ → Option ℕ → List (List ℕ) → List OnLink
 by_server link time connection datagrams = sent_on link (handed_out time role.Server connection datagrams)
 
--- one is sent, and those behind it
+-- one is sent, and those after it
 pub one_sent : (sent : List OnLink) (link time : ℕ) (connection : Option ℕ) (datagrams others : List (List ℕ)) (first : List ℕ) → datagrams ≡ first ∷ others
     → (sent ++ by_server link time connection (first ∷ [])) ++ by_server link time connection others ≡ sent ++ by_server link time connection datagrams
 one_sent sent link time connection datagrams others first are =

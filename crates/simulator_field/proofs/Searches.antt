@@ -4,10 +4,10 @@ use Rattle.std.specs.Option.{option_map}
 use Rattle.std.proofs.Math.ListN.{set}
 use Rattle.std.proofs.lemmas.List.{get_or_default, length-map, map-set, map_push}
 use Rattle.place_index.specs.Places.{HasNoneBefore, HasNoneFrom, IsFirstFrom, IsLastBefore, key_at, key_of, no_key}
-use Rattle.simulator_run.specs.rasta_core.Bag.{is_copy, newest_copy}
-use Rattle.simulator_run.specs.rasta_core.Ends.{Sent}
-use Rattle.simulator_run.specs.rasta_core.Links.{OnLink}
-use Rattle.simulator_run.specs.rasta_core.identity.Role.TheVariants as role
+use Rattle.simulator_spec.specs.rasta_core.Bag.{is_copy, newest_copy}
+use Rattle.simulator_spec.specs.rasta_core.Ends.{Sent}
+use Rattle.simulator_spec.specs.rasta_core.Links.{OnLink}
+use Rattle.simulator_spec.specs.rasta_core.identity.Role.TheVariants as role
 use Rattle.simulator_field.specs.Network.{IsOldestCopy, datagrams}
 use Rattle.simulator_field.specs.declared.entry.Entry.{Entry}
 use Rattle.simulator_field.specs.inside.Entries.{AreKept, AreWithin, on_link, on_links}

@@ -4,9 +4,9 @@ use Rattle.std.specs.Prelude.{slice_get, unwrap_or}
 use Rattle.std.proofs.Math.ListN.{set}
 use Rattle.std.proofs.lemmas.List.{get_or_default, length-drop, length-map, map-set}
 use Rattle.std.proofs.lemmas.Option.{same_Some}
-use Rattle.simulator_run.specs.rasta_core.Ends.{handed_out}
-use Rattle.simulator_run.specs.rasta_core.Links.{OnLink, sent_on}
-use Rattle.simulator_run.specs.rasta_core.identity.Role.{Role}
+use Rattle.simulator_spec.specs.rasta_core.Ends.{handed_out}
+use Rattle.simulator_spec.specs.rasta_core.Links.{OnLink, sent_on}
+use Rattle.simulator_spec.specs.rasta_core.identity.Role.{Role}
 use Rattle.simulator_field.specs.Bag.{not_lost}
 use Rattle.simulator_field.specs.Network.{NetworkState, lost}
 use Rattle.simulator_field.specs.declared.entry.Entry.{Entry}
@@ -60,7 +60,7 @@ seen_lost time room place row entries entry new state one is_seen below is_entry
     in ap (λ all. record { time = time; sent = all; room = room }) (map-set (on_link row) entries place new ∙ ap (set sent place) (is_lost ∙ ap lost same))
     ∙ ap (λ (s : NetworkState). record s { sent = set s.sent place (lost one) }) is_seen
 
--- ---- what is left behind a place
+-- ---- what is left after a place
 
 none_is_not_some : (one : OnLink) → None ≡ Some one → ⊥
 none_is_not_some one same = cc
@@ -70,7 +70,7 @@ first_left [] place one there = absurd (none_is_not_some one there)
 first_left (first ∷ later) zero one there = ap (λ o. o ∷ later) (same_Some first one there)
 first_left (first ∷ later) (suc place) one there = first_left later place one there
 
--- one is left, and what is behind it
+-- one is left, and what is after it
 pub record IsLeft (sent : List OnLink) (place : ℕ) (one : OnLink) : Type 0 where
   pub first : drop place sent ≡ one ∷ drop (place + 1) sent
   pub below : place < length sent

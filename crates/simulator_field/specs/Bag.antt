@@ -1,7 +1,7 @@
 -- The datagrams that the network still has.
 use Rattle.std.specs.Prelude.{not, List, drop}
 use Rattle.std.specs.List.{filter}
-use Rattle.simulator_run.specs.rasta_core.Links.{OnLink}
+use Rattle.simulator_spec.specs.rasta_core.Links.{OnLink}
 use Rattle.simulator_field.specs.declared.bag.Bag.{Bag}
 
 -- those of a list that aren't lost

@@ -1,4 +1,4 @@
 pub mod Network
 pub mod Bag
 pub mod inside
-pub mod Controllers
+pub mod Field

@@ -1,8 +1,8 @@
 -- The network of a world: true time, and every datagram that was sent.
 use Rattle.std.specs.Prelude.{◌≡◌, ℕ, ◌<◌, true, List, length, map, Option, Some, None, slice_index_or, slice_set}
-use Rattle.simulator_run.specs.rasta_core.Bag.{has_copy}
-use Rattle.simulator_run.specs.rasta_core.Ends.{Sent}
-use Rattle.simulator_run.specs.rasta_core.Links.{OnLink, without_oldest_of_all}
+use Rattle.simulator_spec.specs.rasta_core.Bag.{has_copy}
+use Rattle.simulator_spec.specs.rasta_core.Ends.{Sent}
+use Rattle.simulator_spec.specs.rasta_core.Links.{OnLink, without_oldest_of_all}
 use Rattle.simulator_field.specs.declared.sent_on.SentOn.{SentOn}
 
 pub record NetworkState : Type 0 where

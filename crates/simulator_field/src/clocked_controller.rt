@@ -1,19 +1,16 @@
 //! An object controller with its exact clock.
 
 ghost use Rattle.std.specs.Prelude.{◌≡◌, ◌≢◌, ◌+◌, ◌*◌, ◌^◌, ◌<◌, ◌≤◌, ◌++◌, None, length};
-ghost use Rattle.simulator_run.specs.rasta_core.Calls.{MayStep};
-ghost use Rattle.simulator_run.specs.rasta_core.Ends.{reading_of};
-ghost use Rattle.simulator_run.specs.Controllers.{controller_after, controller_anew, controller_later, is_inside_at, sent_by_controller, step_of};
+ghost use Rattle.simulator_spec.specs.rasta_core.Calls.{MayStep};
+ghost use Rattle.simulator_spec.specs.rasta_core.Ends.{reading_of};
+ghost use Rattle.simulator_spec.specs.Controllers.{controller_after, controller_anew, controller_later, is_inside_at, sent_by_controller, step_of};
 
 use crate::Network;
 use crate::datagrams_sent::send_all;
 use crate::stay::Stay;
-use simulator_run::ixl_rules::rasta_core::Millis;
-use simulator_run::object_host::{Controller, Hosted, Input};
+use simulator_spec::object_host::{Controller, Hosted, Input};
+use simulator_spec::{MICROS, Millis};
 use std::marker::Model;
-
-/// How many microseconds a millisecond has.
-const MICROS: u64 = 1000;
 
 /// How many datagrams a step of a controller sends at most.
 pub const MOST_SENT: usize = 128;
@@ -28,9 +25,9 @@ pub struct ClockedController<C: Controller> {
 }
 
 impl<C: Controller> Model for ClockedController<C> {
-    ghost use Rattle.simulator_run.specs.rasta_core.Calls.{MayStep};
-    ghost use Rattle.simulator_run.specs.rasta_core.Ends.{reading_of};
-    ghost use Rattle.simulator_run.specs.State.{ClockedControllerState};
+    ghost use Rattle.simulator_spec.specs.rasta_core.Calls.{MayStep};
+    ghost use Rattle.simulator_spec.specs.rasta_core.Ends.{reading_of};
+    ghost use Rattle.simulator_spec.specs.State.{ClockedControllerState};
 
     ghost Value = { ClockedControllerState C };
 

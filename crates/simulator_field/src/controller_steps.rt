@@ -1,17 +1,17 @@
 //! Steps of controllers.
 
 ghost use Rattle.std.specs.Prelude.{◌≡◌, ◌<◌, ◌≤◌, ◌+◌, length, List, slice_set};
-ghost use Rattle.simulator_run.specs.layout.Entries.{Site};
-ghost use Rattle.simulator_run.specs.simulator_snapshot.declared.snapshot.Held.{Held};
-ghost use Rattle.simulator_run.specs.Happens.{detector_stepped, point_stepped, signal_stepped};
-ghost use Rattle.simulator_run.specs.State.{ClockedInterlockingState};
-ghost use Rattle.simulator_field.specs.Controllers.{AreOf, world_of};
+ghost use Rattle.simulator_spec.specs.layout.Entries.{Site};
+ghost use Rattle.simulator_spec.specs.simulator_event.declared.snapshot.Held.{Held};
+ghost use Rattle.simulator_spec.specs.Happens.{detector_stepped, point_stepped, signal_stepped};
+ghost use Rattle.simulator_spec.specs.State.{ClockedInterlockingState};
+ghost use Rattle.simulator_field.specs.Field.{AreOf, world_of};
 
-use crate::controllers::Controllers;
-use simulator_run::ixl_rules::control_table::sci_telegram::{Occupancy, Position};
-use simulator_run::object_host::Input;
+use crate::field::Field;
+use simulator_spec::object_host::Input;
+use simulator_spec::{Occupancy, Position};
 
-impl Controllers {
+impl Field {
     /// The signal at this place makes a step. A datagram that comes was sent in this connection.
     pub fn step_signal(&mut self, place: usize, input: Input<'_>, connection: usize)
         requires there { place < length self.old.signals.items }
@@ -46,7 +46,7 @@ impl Controllers {
     }
 
     /// A point comes to lie somewhere; its controller isn't told yet.
-    #[tactic(auto, unfolding(crate::specs::Controllers::world_of))]
+    #[tactic(auto, unfolding(crate::specs::Field::world_of))]
     pub fn lay(&mut self, place: usize, position: Position)
         requires { place < length self.old.positions.items }
         ensures world { (station : ClockedInterlockingState) (frozen : List Held) → world_of station frozen self.new ≡ record (world_of station frozen self.old) { positions = slice_set self.old.positions.items place position } }
@@ -57,7 +57,7 @@ impl Controllers {
     }
 
     /// A section is occupied or cleared; the detector that reports it isn't told yet.
-    #[tactic(auto, unfolding(crate::specs::Controllers::world_of))]
+    #[tactic(auto, unfolding(crate::specs::Field::world_of))]
     pub fn occupy(&mut self, place: usize, occupancy: Occupancy)
         requires { place < length self.old.occupancies.items }
         ensures world { (station : ClockedInterlockingState) (frozen : List Held) → world_of station frozen self.new ≡ record (world_of station frozen self.old) { occupancies = slice_set self.old.occupancies.items place occupancy } }

@@ -2,16 +2,14 @@
 
 ghost use Rattle.std.specs.Prelude.{◌≡◌, ◌<◌, false, true, length, IfSome, IfNone, Some, None};
 ghost use Rattle.std.specs.Option.{option_map};
-ghost use Rattle.simulator_run.specs.rasta_core.Bag as bag;
+ghost use Rattle.simulator_spec.specs.rasta_core.Bag as bag;
 ghost use Rattle.simulator_field.specs.Network.{IsOldestCopy, datagrams};
 ghost use Rattle.simulator_field.specs.inside.Entries.{AreKept, AreWithin, on_links};
 ghost use Rattle.simulator_field.specs.inside.Indexed.{keys_of};
 
 use crate::entry::Entry;
 use place_index::{PlaceIndex, key_of};
-
-/// How long a datagram can be delivered, in microseconds of true time.
-const LIFETIME: u64 = 2_000_000;
+use simulator_spec::LIFETIME_MICROS;
 
 /// The connection of the newest copy of these bytes that can still be delivered. The search goes from the newest
 /// datagram of their key back, and ends at one that is too old.
@@ -29,7 +27,7 @@ pub(crate) fn newest_copy(
     let mut found = index.newest(key_of(bytes));
     while let Some(place) = found {
         let one = &entries[place];
-        if time.saturating_sub(one.at) > LIFETIME {
+        if time.saturating_sub(one.at) > LIFETIME_MICROS {
             return None;
         }
         if one.is_copy(row, bytes) {

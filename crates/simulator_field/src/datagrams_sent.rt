@@ -1,13 +1,13 @@
 //! What a step hands out is sent.
 
 ghost use Rattle.std.specs.Prelude.{◌≡◌, ◌+◌, ◌≤◌, ◌++◌, length};
-ghost use Rattle.simulator_run.specs.rasta_core.Ends.{handed_out};
-ghost use Rattle.simulator_run.specs.rasta_core.Links.{sent_on};
-ghost use Rattle.simulator_run.specs.rasta_core.identity.Role.TheVariants as role;
+ghost use Rattle.simulator_spec.specs.rasta_core.Ends.{handed_out};
+ghost use Rattle.simulator_spec.specs.rasta_core.Links.{sent_on};
+ghost use Rattle.simulator_spec.specs.rasta_core.identity.Role.TheVariants as role;
 
 use crate::Network;
-use simulator_run::ixl_rules::rasta_core::Role;
-use simulator_run::object_host::{Controller, Hosted};
+use simulator_spec::Role;
+use simulator_spec::object_host::{Controller, Hosted};
 
 /// The datagrams of the last step are sent on the controller's link, in its connection.
 pub(crate) fn send_all<C: Controller>(

@@ -1,12 +1,12 @@
 //! What is kept of a datagram beside its bytes.
 
 ghost use Rattle.std.specs.Prelude.{◌≡◌, length};
-ghost use Rattle.simulator_run.specs.rasta_core.Bag as bag;
+ghost use Rattle.simulator_spec.specs.rasta_core.Bag as bag;
 ghost use Rattle.simulator_field.specs.inside.Entries.{IsWithin, bytes_of, on_link};
 ghost use Rattle.simulator_field.specs.Network.{lent};
 
 use crate::sent_on::SentOn;
-use simulator_run::ixl_rules::rasta_core::Role;
+use simulator_spec::Role;
 
 /// A datagram that was sent. Its bytes stand in one row with those of all others.
 #[derive(Clone, Copy, Debug)]

@@ -5,12 +5,12 @@
 mod bag;
 mod clocked_controller;
 mod controller_steps;
-mod controllers;
-mod controllers_anew;
 mod copies_found;
 mod datagrams_sent;
 mod entry;
-mod first_controllers;
+mod field;
+mod field_anew;
+mod first_field;
 mod network;
 mod new_controller;
 mod sent_on;
@@ -19,7 +19,7 @@ mod time_passed;
 
 pub use bag::Bag;
 pub use clocked_controller::{ClockedController, MOST_SENT};
-pub use controllers::Controllers;
+pub use field::Field;
 pub use network::Network;
 pub use new_controller::{new_detector, new_point, new_signal};
 pub use sent_on::SentOn;

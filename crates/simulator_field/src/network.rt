@@ -2,10 +2,10 @@
 
 ghost use Rattle.std.specs.Prelude.{◌≡◌, ◌+◌, ◌-◌, ◌*◌, ◌^◌, ◌<◌, ◌≤◌, ◌++◌, ◌&&◌, ℕ, [], ◌∷◌, true, false, length, is_none, slice_get, slice_index_or, slice_set, IfSome, IfNone, IsOk, OnOk, Some};
 ghost use Rattle.std.specs.Option.{option_map};
-ghost use Rattle.simulator_run.specs.rasta_core.Bag as bag;
-ghost use Rattle.simulator_run.specs.rasta_core.Ends.{handed_out};
-ghost use Rattle.simulator_run.specs.rasta_core.Links.{OnLink, sent_on};
-ghost use Rattle.simulator_run.specs.rasta_pdu.SafetyCode.{intact};
+ghost use Rattle.simulator_spec.specs.rasta_core.Bag as bag;
+ghost use Rattle.simulator_spec.specs.rasta_core.Ends.{handed_out};
+ghost use Rattle.simulator_spec.specs.rasta_core.Links.{OnLink, sent_on};
+ghost use Rattle.simulator_spec.specs.rasta_pdu.SafetyCode.{intact};
 ghost use Rattle.simulator_field.specs.Network.{IsOldestCopy, connection_of, datagrams, lent, lost};
 
 use crate::bag::Bag;
@@ -13,8 +13,7 @@ use crate::copies_found;
 use crate::entry::Entry;
 use crate::sent_on::SentOn;
 use place_index::{PlaceIndex, key_of};
-use simulator_run::ixl_rules::rasta_core::Role;
-use simulator_run::ixl_rules::rasta_pdu::{Datagram, Key, is_intact};
+use simulator_spec::{Datagram, Key, Role, is_intact};
 use std::alloc::{AllocError, Global};
 use std::marker::Model;
 

@@ -2,25 +2,47 @@
 
 ghost use Rattle.std.specs.Prelude.{◌≡◌, ◌≤◌, IfOk, length, map};
 ghost use Rattle.std.specs.List.{All};
-ghost use Rattle.simulator_run.specs.layout.Station.{HasSection};
-ghost use Rattle.simulator_run.specs.First as first;
-ghost use Rattle.simulator_run.specs.tds_ctl.Sections as tds;
+ghost use Rattle.simulator_spec.specs.layout.Station.{HasSection};
+ghost use Rattle.simulator_spec.specs.First as first;
+ghost use Rattle.simulator_spec.specs.tds_ctl.Sections as tds;
 
-use simulator_run::ixl_rules::control_table::Checked;
-use simulator_run::ixl_rules::control_table::layout::{
-    Detector, Layout, Point as PointEntry, SectionId, Signal as SignalEntry,
+use simulator_spec::ixl_spec::key_of;
+use simulator_spec::object_host::{Controller, Hosted, Parties};
+use simulator_spec::point_ctl::Point;
+use simulator_spec::signal_ctl::Signal;
+use simulator_spec::tds_ctl::Detection;
+use simulator_spec::{
+    Checked, Detector, Layout, Millis, Name, Occupancy, Point as PointEntry, Position, SectionId,
+    Signal as SignalEntry, Start,
 };
-use simulator_run::ixl_rules::control_table::sci_telegram::{Name, Occupancy, Position};
-use simulator_run::ixl_rules::key_of;
-use simulator_run::ixl_rules::rasta_core::Millis;
-use simulator_run::object_host::Hosted;
-use simulator_run::point_ctl::Point;
-use simulator_run::signal_ctl::Signal;
-use simulator_run::tds_ctl::Detection;
 use std::alloc::{AllocError, Global};
 
-/// A signal that was told nothing yet, with its clock in milliseconds and the number of its first PDU.
+/// The controller of this name and identity, with its clock in milliseconds and the number of its first PDU.
 #[tactic(auto, unfolding(crate::proofs::Below::new_host, crate::proofs::Below::keeping, crate::proofs::Below::created))]
+fn hosted<C: Controller>(
+    alloc: Global,
+    table: &Checked,
+    own_name: Name,
+    own: u32,
+    object: C,
+    start: Start,
+) -> Result<Hosted<C>, AllocError>
+    ensures host { IfOk result (λ hosted. hosted.host ≡ first.host_of C.behaviour table.now (record { clock = start.now; first = start.first_sequence_number }) own_name own object) }
+    ensures clock { IfOk result (λ hosted. hosted.host.link.clock ≡ start.now) }
+{
+    let layout = table.layout();
+    let station = layout.station();
+    let parties = Parties {
+        own,
+        partner: station.id,
+        own_name,
+        peer_name: station.name,
+        key: key_of(layout),
+    };
+    Hosted::new(alloc, parties, start, object, table.version())
+}
+
+/// A signal that was told nothing yet, with its clock in milliseconds and the number of its first PDU.
 pub fn new_signal(
     alloc: Global,
     table: &Checked,
@@ -31,24 +53,14 @@ pub fn new_signal(
     ensures host { IfOk result (λ hosted. hosted.host ≡ first.new_signal table.now (record { clock = clock; first = first_sequence_number }) entry.now) }
     ensures clock { IfOk result (λ hosted. hosted.host.link.clock ≡ clock) }
 {
-    let layout = table.layout();
-    let station = layout.station();
-    Hosted::new(
-        alloc,
-        entry.id,
-        station.id,
-        entry.name,
-        station.name,
-        key_of(layout),
+    let start = Start {
         first_sequence_number,
-        clock,
-        Signal::new(),
-        table.version(),
-    )
+        now: clock,
+    };
+    hosted(alloc, table, entry.name, entry.id, Signal::new(), start)
 }
 
 /// A point that is sensed where it stands.
-#[tactic(auto, unfolding(crate::proofs::Below::new_host, crate::proofs::Below::keeping, crate::proofs::Below::created))]
 pub fn new_point(
     alloc: Global,
     table: &Checked,
@@ -60,19 +72,17 @@ pub fn new_point(
     ensures host { IfOk result (λ hosted. hosted.host ≡ first.new_point table.now (record { clock = clock; first = first_sequence_number }) position entry.now) }
     ensures clock { IfOk result (λ hosted. hosted.host.link.clock ≡ clock) }
 {
-    let layout = table.layout();
-    let station = layout.station();
-    Hosted::new(
-        alloc,
-        entry.id,
-        station.id,
-        entry.name,
-        station.name,
-        key_of(layout),
+    let start = Start {
         first_sequence_number,
-        clock,
+        now: clock,
+    };
+    hosted(
+        alloc,
+        table,
+        entry.name,
+        entry.id,
         Point::new(position),
-        table.version(),
+        start,
     )
 }
 
@@ -111,7 +121,6 @@ fn detection(
 }
 
 /// A detector that senses its sections as they are.
-#[tactic(auto, unfolding(crate::proofs::Below::new_host, crate::proofs::Below::keeping, crate::proofs::Below::created))]
 pub fn new_detector(
     alloc: Global,
     table: &Checked,
@@ -125,19 +134,10 @@ pub fn new_detector(
     ensures host { IfOk result (λ hosted. hosted.host ≡ first.new_detector table.now (record { clock = clock; first = first_sequence_number }) occupied.now entry.now) }
     ensures clock { IfOk result (λ hosted. hosted.host.link.clock ≡ clock) }
 {
-    let layout = table.layout();
-    let station = layout.station();
     let detection = detection(alloc, table, occupied, entry)?;
-    Hosted::new(
-        alloc,
-        entry.id(),
-        station.id,
-        *entry.name(),
-        station.name,
-        key_of(layout),
+    let start = Start {
         first_sequence_number,
-        clock,
-        detection,
-        table.version(),
-    )
+        now: clock,
+    };
+    hosted(alloc, table, *entry.name(), entry.id(), detection, start)
 }

@@ -1,6 +1,6 @@
 //! A datagram as it is lent.
 
-use simulator_run::ixl_rules::rasta_core::Role;
+use simulator_spec::Role;
 
 /// A datagram that was sent.
 #[derive(Clone, Copy, Debug)]

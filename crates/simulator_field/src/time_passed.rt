@@ -1,16 +1,16 @@
 //! Time goes on.
 
 ghost use Rattle.std.specs.Prelude.{◌≡◌, ◌+◌, ◌<◌, ◌≤◌, ◌^◌, ℕ, true, List, drop, length, slice_index_or};
-ghost use Rattle.simulator_run.specs.layout.Entries.{Site};
-ghost use Rattle.simulator_run.specs.simulator_snapshot.declared.snapshot.Held.{Held};
-ghost use Rattle.simulator_run.specs.Happens.{all_later, passed};
-ghost use Rattle.simulator_run.specs.Refusals.{are_within};
-ghost use Rattle.simulator_run.specs.State.{ClockedInterlockingState};
-ghost use Rattle.simulator_field.specs.Controllers.{AreOf, MayPass, world_of};
+ghost use Rattle.simulator_spec.specs.layout.Entries.{Site};
+ghost use Rattle.simulator_spec.specs.simulator_event.declared.snapshot.Held.{Held};
+ghost use Rattle.simulator_spec.specs.Happens.{all_later, passed};
+ghost use Rattle.simulator_spec.specs.Refusals.{are_within};
+ghost use Rattle.simulator_spec.specs.State.{ClockedInterlockingState};
+ghost use Rattle.simulator_field.specs.Field.{AreOf, MayPass, world_of};
 
 use crate::ClockedController;
-use crate::controllers::Controllers;
-use simulator_run::object_host::Controller;
+use crate::field::Field;
+use simulator_spec::object_host::Controller;
 
 /// The clocks of controllers go on by their steps, when this many datagrams were sent.
 fn pass_all<C: Controller>(servers: &mut Vec<ClockedController<C>>, steps: &[u64], moment: usize)
@@ -24,7 +24,7 @@ fn pass_all<C: Controller>(servers: &mut Vec<ClockedController<C>>, steps: &[u64
     }
 }
 
-impl Controllers {
+impl Field {
     /// True time and the clocks of all controllers go on by their steps, in microseconds.
     pub fn pass(&mut self, elapsed: u64, steps: &[u64])
         requires { MayPass elapsed steps.now self.old }

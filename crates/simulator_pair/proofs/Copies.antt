@@ -84,7 +84,7 @@ none_with_first time bytes first later no_first none_later = rw (none_later, no_
 later_none : (bytes : List ℕ) (from end : ℕ) (first : Sent) (later : List Sent) → NoneBetween bytes (suc from) (suc end) (first ∷ later) → NoneBetween bytes from end later
 later_none bytes from end first later none = λ i d start stop inside. none (suc i) d (omega arith) (omega arith) (omega arith)
 
--- behind the last copy the search has nothing to find
+-- after the last copy the search has nothing to find
 pub newest_until : (time : ℕ) (bytes : List ℕ) (sent : List Sent) (k : ℕ) → NoneBetween bytes k (length sent) sent → newest_copy time bytes (take k sent) ≡ newest_copy time bytes sent
 newest_until time bytes [] zero none = refl
 newest_until time bytes [] (suc k) none = refl
@@ -146,11 +146,11 @@ HasKey bytes keys found = IfSome found (λ place. (place < length keys) × (key_
 pub as_many : (keys : List ℕ) (sent : List Sent) → keys ≡ keys_of sent → length keys ≡ length sent
 as_many keys sent indexed = ap length indexed ∙ length-map sent key_of_sent
 
--- what a search back knows: no copy stands behind the place that it found, which has the key
+-- what a search back knows: no copy stands after the place that it found, which has the key
 abbrev pub SearchedBack : List ℕ → List ℕ → List Sent → Option ℕ → Type 0
 SearchedBack bytes keys sent found = NoneBetween bytes (reach found) (length sent) sent × HasKey bytes keys found
 
--- it has looked behind an end, and finds the last place before it
+-- it has looked after an end, and finds the last place before it
 pub searched_back : (bytes keys : List ℕ) (sent : List Sent) (end key : ℕ) (found : Option ℕ) → keys ≡ keys_of sent → key ≡ key_of bytes → NoneBetween bytes end (length sent) sent
     → IfSome found (IsLastBefore end key keys) → IfNone found (HasNoneBefore end key keys) → SearchedBack bytes keys sent found
 searched_back bytes keys sent end key None indexed same behind last none = (

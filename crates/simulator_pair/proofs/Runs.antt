@@ -10,7 +10,7 @@ use Rattle.simulator_pair.specs.declared.event.PairReply.{PairReply}
 use Rattle.simulator_refused.specs.declared.refused.Refused.{Refused}
 use Rattle.simulator_refused.specs.declared.refused.Refused.TheVariants.{OutOfMemory}
 
--- one event after a run: its own run comes behind
+-- one event after a run: its own run comes after
 run_then : (events : List PairEvent) (event : PairEvent) (first middle last : PairView) (count more : ℕ) → Runs events first count middle → Runs (event ∷ []) middle more last → Runs (events ++ event ∷ []) first (more + count) last
 run_then _ event _ middle last _ more (stops) one = rw add-zero one
 run_then _ event _ middle last _ more (refuses {later = later} {next = next} {count = count} why same room rest) one =

@@ -6,6 +6,7 @@ use Rattle.rasta_core.specs.identity.Role.{Role}
 use Rattle.rasta_core.specs.identity.Role.TheVariants as role
 use Rattle.rasta_core.specs.Ends.{Sent, EndState, Ticks, Opens, Closes, Sends, Receives, reading_of}
 use Rattle.rasta_core.specs.Bag.{newest_copy, has_copy}
+use Rattle.rasta_core.specs.time.TheConstants.{CLOCK_LIMIT}
 use Rattle.rasta_core.specs.Run.{Ends, end_of, later, lost, restarted}
 use Rattle.rasta_pdu.specs.SafetyCode.{intact}
 use Rattle.rasta_pdu.specs.declared.key.Key.{Key}
@@ -20,7 +21,7 @@ use Rattle.simulator_refused.specs.declared.refused.Refused.TheVariants as refus
 
 -- the greatest true time and the greatest clock, in microseconds
 abbrev pub clock_limit : ℕ
-clock_limit = 9000000000000000
+clock_limit = CLOCK_LIMIT
 
 -- a clock that goes on by so much in a true time keeps within one part in a thousand of it
 abbrev pub keeps_time : ℕ → ℕ → Bool

@@ -15,16 +15,13 @@ ghost use Rattle.simulator_pair.specs.Events.{refusal, refusal_of_time, refusal_
 
 use crate::bag;
 use crate::event::{Bytes, PairAnswer, PairEvent, PairReply};
-use crate::node::{Call, MICROS, Node};
+use crate::node::{Call, Node};
 use crate::parts::Parts;
-use rasta_core::{Millis, Role};
+use rasta_core::{CLOCK_LIMIT, MICROS, Millis, Role};
 use rasta_pdu::is_intact;
 use signal_ctl::Lamp;
 use simulator_refused::Refused;
 use std::alloc::AllocError;
-
-/// The greatest true time and the greatest clock, in microseconds.
-const CLOCK_LIMIT: u64 = 9_000_000_000_000_000;
 
 /// How many datagrams an event sends at most, and how many items it adds to a list: it makes at most two calls.
 const DATAGRAMS_FOR_EACH_EVENT: usize = 48;

@@ -11,10 +11,7 @@ ghost use Rattle.simulator_pair.specs.inside.Order.{AreInOrder};
 ghost use Rattle.simulator_pair.specs.Events.{clock_limit};
 
 use place_index::{PlaceIndex, key_of};
-use rasta_core::{Outbox, Role, Sent};
-
-/// How long a datagram can be delivered, in microseconds of true time.
-const LIFETIME: u64 = 2_000_000;
+use rasta_core::{LIFETIME_MICROS, Outbox, Role, Sent};
 
 /// The datagrams that the network still has: those that were sent and aren't lost, oldest first.
 #[derive(Debug, Drop)]
@@ -66,7 +63,7 @@ pub(crate) fn newest_copy(
     let mut found = index.newest(key_of(bytes));
     while let Some(place) = found {
         let one = &sent[place];
-        if one.at() + LIFETIME < time {
+        if one.at() + LIFETIME_MICROS < time {
             return None;
         }
         if is_copy(one, bytes) {

@@ -1,11 +1,10 @@
 //! What happens to a pair, and what it answers.
 
-use arrayvec::ArrayVec;
 use rasta_core::{Millis, Reason, Role, SendFault};
-use rasta_pdu::Item;
+use rasta_pdu::{Item, Received};
 
-/// Bytes as the network may deliver them: at most 512.
-pub type Bytes = ArrayVec<u8, 512>;
+/// Bytes as the network may deliver them.
+pub type Bytes = Received;
 
 /// What happens to a pair of ends and the network between them.
 #[derive(Debug, Drop)]

@@ -10,12 +10,9 @@ ghost use Rattle.simulator_pair.specs.inside.CallsMade.{HasStepped, meant};
 
 use crate::event::Bytes;
 use arrayvec::ArrayVec;
-use rasta_core::{Inbox, Link, Millis, Outbox, Reason, SendFault, Verdict};
+use rasta_core::{Inbox, Link, MICROS, Millis, Outbox, Reason, SendFault, Verdict};
 use rasta_pdu::Item;
 use std::alloc::AllocError;
-
-/// How many microseconds a millisecond has.
-pub(crate) const MICROS: u64 = 1000;
 
 /// One end, with its exact clock and the lists of its last connection.
 #[derive(Debug, Drop)]

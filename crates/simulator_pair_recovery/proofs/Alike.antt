@@ -1,14 +1,14 @@
 -- Two ends are alike where they differ in nothing that an end sees: so they go on alike.
 use Rattle.std.proofs.Common.{◌≡◌, ℕ, ◌+◌, List, [], ◌∷◌, ◌++◌, Option, refl, ap, subst}
-use Rattle.rasta_core_run.specs.State.{LinkState}
-use Rattle.rasta_core_run.specs.Clock.{settled}
-use Rattle.rasta_core_run.specs.Outbox.{spellings}
-use Rattle.rasta_core_run.specs.Calls.{ticking, opening, receiving}
-use Rattle.rasta_core_run.specs.identity.Role.{Role}
-use Rattle.rasta_core_run.specs.identity.Role.TheVariants as role
-use Rattle.rasta_core_run.specs.pdu.Pdu.{Pdu}
-use Rattle.rasta_core_run.specs.Ends.{Sent, EndState, Call, Ticks, Opens, Receives, outcome, end_after, end_later, handed_out, reading_of}
-use Rattle.rasta_core_run.specs.Run.{Ends, called, later}
+use Rattle.rasta_core_spec.specs.State.{LinkState}
+use Rattle.rasta_core_spec.specs.Clock.{settled}
+use Rattle.rasta_core_spec.specs.Outbox.{spellings}
+use Rattle.rasta_core_spec.specs.Calls.{ticking, opening, receiving}
+use Rattle.rasta_core_spec.specs.identity.Role.{Role}
+use Rattle.rasta_core_spec.specs.identity.Role.TheVariants as role
+use Rattle.rasta_core_spec.specs.pdu.Pdu.{Pdu}
+use Rattle.rasta_core_spec.specs.Ends.{Sent, EndState, Call, Ticks, Opens, Receives, outcome, end_after, end_later, handed_out, reading_of}
+use Rattle.rasta_core_spec.specs.Run.{Ends, called, later}
 
 -- two datagrams, but for their connections
 pub record AlikeSent (d e : Sent) : Type 0 where

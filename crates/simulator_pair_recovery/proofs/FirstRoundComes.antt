@@ -4,19 +4,19 @@ use Rattle.std.specs.Prelude.{◌-◌, is_none, slice_get}
 use Rattle.std.specs.Str.{bytes_eq}
 use Rattle.std.proofs.lemmas.Bool.Decides.{nat_tests}
 use Rattle.std.proofs.lemmas.Slice.Eq.{bytes_eq-Decides}
-use Rattle.rasta_core_run.specs.Bag.{is_alive_copy, lifetime, newest_copy}
-use Rattle.rasta_core_run.specs.PduRead.{reading}
-use Rattle.rasta_core_run.specs.identity.Role.{Role}
-use Rattle.rasta_core_run.specs.identity.Role.TheVariants as role
-use Rattle.rasta_core_run.specs.pdu.Pdu.{Pdu}
-use Rattle.rasta_core_run.specs.pdu_fault.PduFault.{PduFault}
-use Rattle.rasta_core_run.specs.Each.{Each}
-use Rattle.rasta_core_run.specs.Ends.{Sent, Ticks, Opens, Receives}
-use Rattle.rasta_core_run.specs.Run.{Ends, called, end_of, later}
-use Rattle.rasta_core_run.specs.Events.{Calls, IsAmong, run}
-use Rattle.rasta_core_run.specs.Names.{name_of}
-use Rattle.rasta_core_run.specs.Names as names_of
-use Rattle.rasta_core_run.specs.SafetyCode.{intact}
+use Rattle.rasta_core_spec.specs.Bag.{is_alive_copy, lifetime, newest_copy}
+use Rattle.rasta_core_spec.specs.PduRead.{reading}
+use Rattle.rasta_core_spec.specs.identity.Role.{Role}
+use Rattle.rasta_core_spec.specs.identity.Role.TheVariants as role
+use Rattle.rasta_core_spec.specs.pdu.Pdu.{Pdu}
+use Rattle.rasta_core_spec.specs.pdu_fault.PduFault.{PduFault}
+use Rattle.rasta_core_spec.specs.Each.{Each}
+use Rattle.rasta_core_spec.specs.Ends.{Sent, Ticks, Opens, Receives}
+use Rattle.rasta_core_spec.specs.Run.{Ends, called, end_of, later}
+use Rattle.rasta_core_spec.specs.Events.{Calls, IsAmong, run}
+use Rattle.rasta_core_spec.specs.Names.{name_of}
+use Rattle.rasta_core_spec.specs.Names as names_of
+use Rattle.rasta_core_spec.specs.SafetyCode.{intact}
 use Rattle.rasta_core.specs.Invariant.{InFlight, Timely}
 use Rattle.rasta_core.specs.TimedEnds.{Times, times_of}
 use Rattle.rasta_core_recovery.specs.FirstRound.{ComeFirst, round_of}
@@ -166,7 +166,7 @@ all_tried_arrive law time (d ∷ ds) pair b before front rest at sent short whol
     Goal : Type 0
     Goal = Arrives time (arriving_from (suc (length front)) (length ds) (arriving (slice_get pair.ends.sent (length front)) pair)) b before
 
-    -- the others behind it
+    -- the others after it
     GoesOn : Type 0
     GoesOn = (next : Ends) → Both time (arriving (Some d) pair).ends next before
         → Arrives time (arriving_from (length (front ++ d ∷ [])) (length ds) (arriving (Some d) pair)) next before

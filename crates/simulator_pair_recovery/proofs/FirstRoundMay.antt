@@ -1,12 +1,12 @@
 -- What comes to two ends, each of it sent by the time that it comes: so it may come.
 use Rattle.std.proofs.Common.{◌≡◌, ℕ, inl, inr, ◌∙◌, ◌+◌, Bool, true, false, ◌&&◌, not, nat_le, if◌then◌else◌, List, [], ◌∷◌, ◌++◌, refl, sym, subst, arith, leb-true}
-use Rattle.rasta_core_run.specs.Bag.{lifetime}
-use Rattle.rasta_core_run.specs.identity.Role.{Role}
-use Rattle.rasta_core_run.specs.identity.Role.TheVariants as role
-use Rattle.rasta_core_run.specs.Ends.{Call, Receives, Sent}
-use Rattle.rasta_core_run.specs.Events.{Calls, IsAmong, MayRun, run}
-use Rattle.rasta_core_run.specs.Names.{Names, partner_of}
-use Rattle.rasta_core_run.specs.Run.{Ends, called}
+use Rattle.rasta_core_spec.specs.Bag.{lifetime}
+use Rattle.rasta_core_spec.specs.identity.Role.{Role}
+use Rattle.rasta_core_spec.specs.identity.Role.TheVariants as role
+use Rattle.rasta_core_spec.specs.Ends.{Call, Receives, Sent}
+use Rattle.rasta_core_spec.specs.Events.{Calls, IsAmong, MayRun, run}
+use Rattle.rasta_core_spec.specs.Names.{Names, partner_of}
+use Rattle.rasta_core_spec.specs.Run.{Ends, called}
 use Rattle.rasta_core_recovery.specs.FirstRound.{WereSent}
 use Rattle.rasta_core_recovery.specs.Rounds.{can_come, comings, own_work}
 

@@ -1,15 +1,15 @@
 -- All that two ends have sent is short and intact.
 use Rattle.std.proofs.Common.{◌≡◌, ℕ, ◌≤◌, Bool, true, false, Ok, List, [], ◌∷◌, length, if◌then◌else◌, sym, subst}
-use Rattle.rasta_core_run.specs.PduRead.{reading}
-use Rattle.rasta_core_run.specs.Bag.{is_copy, without_oldest}
-use Rattle.rasta_core_run.specs.identity.Role.TheVariants as role
-use Rattle.rasta_core_run.specs.key.Key.{Key}
-use Rattle.rasta_core_run.specs.pdu.Pdu.{Pdu}
-use Rattle.rasta_core_run.specs.Each.{Each}
-use Rattle.rasta_core_run.specs.Ends.{Sent}
-use Rattle.rasta_core_run.specs.Run.{Ends, later, lost, restarted}
-use Rattle.rasta_core_run.specs.Events.{Event, Calls, Passes, Loses, Restarts, Elsewhere, May, MayRun, happened, run}
-use Rattle.rasta_core_run.specs.SafetyCode.{IsIntact, intact}
+use Rattle.rasta_core_spec.specs.PduRead.{reading}
+use Rattle.rasta_core_spec.specs.Bag.{is_copy, without_oldest}
+use Rattle.rasta_core_spec.specs.identity.Role.TheVariants as role
+use Rattle.rasta_core_spec.specs.key.Key.{Key}
+use Rattle.rasta_core_spec.specs.pdu.Pdu.{Pdu}
+use Rattle.rasta_core_spec.specs.Each.{Each}
+use Rattle.rasta_core_spec.specs.Ends.{Sent}
+use Rattle.rasta_core_spec.specs.Run.{Ends, later, lost, restarted}
+use Rattle.rasta_core_spec.specs.Events.{Event, Calls, Passes, Loses, Restarts, Elsewhere, May, MayRun, happened, run}
+use Rattle.rasta_core_spec.specs.SafetyCode.{IsIntact, intact}
 use Rattle.rasta_core.specs.Invariant.{InFlight, Timely}
 use Rattle.rasta_core.specs.TimedEnds.{Times, times_of}
 use Rattle.simulator_pair.specs.Theorem.{names}

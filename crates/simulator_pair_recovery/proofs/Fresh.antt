@@ -1,17 +1,17 @@
 -- What a round sends: datagrams of its own time, not lost, and short.
 use Rattle.std.proofs.Common.{◌≡◌, ℕ, ◌∙◌, ◌≤◌, false, List, [], ◌∷◌, ◌++◌, append_assoc, append-nil, length, Option, refl, sym, ap, subst}
-use Rattle.rasta_core_run.specs.Outbox.{spellings}
-use Rattle.rasta_core_run.specs.Spelling.{writing}
-use Rattle.rasta_core_run.specs.Values.{IsPdu}
-use Rattle.rasta_core_run.specs.identity.Role.{Role}
-use Rattle.rasta_core_run.specs.identity.Role.TheVariants as role
-use Rattle.rasta_core_run.specs.key.Key.{Key}
-use Rattle.rasta_core_run.specs.pdu.Pdu.{Pdu}
-use Rattle.rasta_core_run.specs.Each.{Each}
-use Rattle.rasta_core_run.specs.Ends.{Sent, Call, outcome, end_after, handed_out}
-use Rattle.rasta_core_run.specs.Run.{Ends, end_of, with_end, called}
-use Rattle.rasta_core_run.specs.Events.{MayCall}
-use Rattle.rasta_core_run.specs.Names.{Names}
+use Rattle.rasta_core_spec.specs.Outbox.{spellings}
+use Rattle.rasta_core_spec.specs.Spelling.{writing}
+use Rattle.rasta_core_spec.specs.Values.{IsPdu}
+use Rattle.rasta_core_spec.specs.identity.Role.{Role}
+use Rattle.rasta_core_spec.specs.identity.Role.TheVariants as role
+use Rattle.rasta_core_spec.specs.key.Key.{Key}
+use Rattle.rasta_core_spec.specs.pdu.Pdu.{Pdu}
+use Rattle.rasta_core_spec.specs.Each.{Each}
+use Rattle.rasta_core_spec.specs.Ends.{Sent, Call, outcome, end_after, handed_out}
+use Rattle.rasta_core_spec.specs.Run.{Ends, end_of, with_end, called}
+use Rattle.rasta_core_spec.specs.Events.{MayCall}
+use Rattle.rasta_core_spec.specs.Names.{Names}
 use Rattle.rasta_core.specs.Invariant.{Timely}
 use Rattle.simulator_pair.specs.Theorem.{names}
 

@@ -3,17 +3,17 @@ use Rattle.std.proofs.Common.{◌≡◌, ℕ, ◌∙◌, Bool, true, false, List
 use Rattle.std.specs.Prelude.{◌↔◌, IsTrue, is_none}
 use Rattle.std.proofs.lemmas.Bool.{false≢true}
 use Rattle.md4.specs.declared.message.TheConstants.{STANDARD}
-use Rattle.rasta_core_run.specs.Calls.{created}
-use Rattle.rasta_core_run.specs.identity.Role.{Role}
-use Rattle.rasta_core_run.specs.identity.Role.TheVariants as role
-use Rattle.rasta_core_run.specs.key.Key.{Key}
-use Rattle.rasta_core_run.specs.Bag.{newest_copy}
-use Rattle.rasta_core_run.specs.Each.{Each}
-use Rattle.rasta_core_run.specs.Ends.{Sent, Call, Ticks, Opens, Closes, Sends, Receives}
-use Rattle.rasta_core_run.specs.Run.{Ends, end_of}
-use Rattle.rasta_core_run.specs.Events.{Event, Calls, Passes, Loses, Restarts, IsDelivered, IsWithinDrift, IsRun, May, MayCall, MayRun, Start, happened, run, started}
-use Rattle.rasta_core_run.specs.Names.{AreNames, Names}
-use Rattle.rasta_core_run.specs.SafetyCode.{IsIntact, intact}
+use Rattle.rasta_core_spec.specs.Calls.{created}
+use Rattle.rasta_core_spec.specs.identity.Role.{Role}
+use Rattle.rasta_core_spec.specs.identity.Role.TheVariants as role
+use Rattle.rasta_core_spec.specs.key.Key.{Key}
+use Rattle.rasta_core_spec.specs.Bag.{newest_copy}
+use Rattle.rasta_core_spec.specs.Each.{Each}
+use Rattle.rasta_core_spec.specs.Ends.{Sent, Call, Ticks, Opens, Closes, Sends, Receives}
+use Rattle.rasta_core_spec.specs.Run.{Ends, end_of}
+use Rattle.rasta_core_spec.specs.Events.{Event, Calls, Passes, Loses, Restarts, IsDelivered, IsWithinDrift, IsRun, May, MayCall, MayRun, Start, happened, run, started}
+use Rattle.rasta_core_spec.specs.Names.{AreNames, Names}
+use Rattle.rasta_core_spec.specs.SafetyCode.{IsIntact, intact}
 use Rattle.rasta_core.specs.Invariant.{Timely}
 use Rattle.simulator_pair.specs.Pair.{PairState, stepped}
 use Rattle.simulator_pair.specs.Events.{connection_of, copy_of, happens, new_pair, refusal, refusal_of_delivery, refusal_of_time}

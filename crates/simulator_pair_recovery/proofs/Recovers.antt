@@ -1,11 +1,11 @@
 -- A pair comes up as two ends do.
 use Rattle.std.proofs.Common.{◌≡◌, ℕ, zero, suc, ◌∙◌, ◌+◌, ◌≤◌, ◌<◌, true, List, refl, ap, subst, arith}
-use Rattle.rasta_core_run.specs.State.{LinkState, is_open, is_up}
-use Rattle.rasta_core_run.specs.Each.{Each}
-use Rattle.rasta_core_run.specs.Ends.{Sent}
-use Rattle.rasta_core_run.specs.Run.{Ends}
-use Rattle.rasta_core_run.specs.Events.{Event, MayRun, Start, started}
-use Rattle.rasta_core_run.specs.Names.{AreNames, Names}
+use Rattle.rasta_core_spec.specs.State.{LinkState, is_open, is_up}
+use Rattle.rasta_core_spec.specs.Each.{Each}
+use Rattle.rasta_core_spec.specs.Ends.{Sent}
+use Rattle.rasta_core_spec.specs.Run.{Ends}
+use Rattle.rasta_core_spec.specs.Events.{Event, MayRun, Start, started}
+use Rattle.rasta_core_spec.specs.Names.{AreNames, Names}
 use Rattle.rasta_core_recovery.specs.FirstRound.{ComeFirst, StayBelowLimitFrom, round_of}
 use Rattle.rasta_core_recovery.specs.Rounds.{AreUp, Flow, IsBelowLimit, good_rounds}
 use Rattle.rasta_core_recovery.specs.Rounds as ends_level

@@ -4,14 +4,14 @@ use Rattle.std.specs.Prelude.{◌||◌, ◌-◌, is_none, slice_get}
 use Rattle.std.specs.Str.{bytes_eq}
 use Rattle.std.proofs.lemmas.Bool.Decides.{nat_tests}
 use Rattle.std.proofs.lemmas.Slice.Eq.{bytes_eq-Decides}
-use Rattle.rasta_core_run.specs.Bag.{is_alive_copy, lifetime, newest_copy}
-use Rattle.rasta_core_run.specs.identity.Role.{Role}
-use Rattle.rasta_core_run.specs.identity.Role.TheVariants as role
-use Rattle.rasta_core_run.specs.Each.{Each}
-use Rattle.rasta_core_run.specs.Ends.{Sent, Call, Ticks, Opens, Receives, end_later}
-use Rattle.rasta_core_run.specs.Run.{Ends, called, later}
-use Rattle.rasta_core_run.specs.Events.{Event, Calls, MayCall, happened, run}
-use Rattle.rasta_core_run.specs.Names as names_of
+use Rattle.rasta_core_spec.specs.Bag.{is_alive_copy, lifetime, newest_copy}
+use Rattle.rasta_core_spec.specs.identity.Role.{Role}
+use Rattle.rasta_core_spec.specs.identity.Role.TheVariants as role
+use Rattle.rasta_core_spec.specs.Each.{Each}
+use Rattle.rasta_core_spec.specs.Ends.{Sent, Call, Ticks, Opens, Receives, end_later}
+use Rattle.rasta_core_spec.specs.Run.{Ends, called, later}
+use Rattle.rasta_core_spec.specs.Events.{Event, Calls, MayCall, happened, run}
+use Rattle.rasta_core_spec.specs.Names as names_of
 use Rattle.rasta_core_recovery.specs.Rounds.{Flow, can_come, comings, own_work, good_round, good_rounds}
 use Rattle.simulator_pair.specs.Pair.{PairState, stepped}
 use Rattle.simulator_pair.specs.Events.{clock_limit, connection_of, copy_of, happens, refusal, refusal_of_delivery, refusal_of_time}

@@ -9,7 +9,7 @@ ghost use Rattle.simulator_pair_recovery.specs.Recovery.{GivesItem, HasTime, Sta
 
 use rasta_core::{calls_hand_out_pdus, copies_are_delivered, every_run_keeps_time, starts_in_time};
 use rasta_core_recovery::two_ends_come_up_whatever_comes_first;
-use rasta_core_run::{read_was_written, written_is_read};
+use rasta_core_spec::{read_was_written, written_is_read};
 use rasta_pdu::intact_is_tested;
 
 /// A pair comes up whatever events it was given: after each round of `flow` from the 1561st on both its ends are up, so for

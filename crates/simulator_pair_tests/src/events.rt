@@ -1,10 +1,8 @@
 //! Events as a hostile world would have them.
 
 use chance::Chance;
+use rasta_core::MICROS;
 use simulator_pair::{Bytes, Item, Pair, PairEvent, Reason, Role, Sent};
-
-/// How many microseconds a millisecond has.
-const MICROS: u64 = 1000;
 
 /// How long a datagram can be delivered, in microseconds.
 const LIFETIME: u64 = 2_000_000;

@@ -1,6 +1,7 @@
 //! The sentences of the theorem, evaluated on what a pair stores.
 
 use crate::events::{TURN, can_arrive, partner};
+use rasta_core::MICROS;
 use simulator_pair::{
     Aspect, Item, Pair, PairAnswer, PairEvent, PairReply, Refused, Role, SendFault, Sent,
 };
@@ -8,9 +9,6 @@ use std::process::Abort;
 
 /// How fresh an item is that is taken, in microseconds.
 const FRESHNESS: u64 = 1_802_000;
-
-/// How many microseconds a millisecond has.
-const MICROS: u64 = 1000;
 
 const PROCEED: u8 = 0x04;
 
@@ -107,7 +105,7 @@ fn last_aspect(items: &[Item]) -> Aspect {
     Aspect::Stop
 }
 
-/// Whether an item proceed was taken behind the last stop among the first of these.
+/// Whether an item proceed was taken after the last stop among the first of these.
 fn has_later_proceed(given: &[Item], taken: &[Item], confirmed: usize) -> bool {
     let mut behind = 0;
     for (index, item) in given.iter().enumerate() {

@@ -38,7 +38,7 @@ pub emptied-read : (read : Result (Role × Bor (List ℕ)) Fault) (word : Result
 emptied-read (Ok of) word h = ap emptied (sym h)
 emptied-read (Err fault) word h = ap emptied (sym h)
 
--- one word further: what was found up to it, beside what the words behind it have
+-- one word further: what was found up to it, beside what the words after it have
 pub found_further : (lowest more after : Result (Unit {0}) Fault) (read : Result (Role × Bor (List ℕ)) Fault) (word : Result (Role × List ℕ) Fault)
     → MatchResult read (λ of. word ≡ Ok (of.0, of.1.now)) (λ fault. word ≡ Err fault) → after ≡ emptied (both lowest read)
     → emptied (both after more) ≡ emptied (both lowest (emptied (both word more)))

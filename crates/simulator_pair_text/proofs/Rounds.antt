@@ -13,7 +13,7 @@ one_less index end h = omega arith
 one_more : (n : ℕ) → suc n ≡ n + 1
 one_more n = omega arith
 
--- one datagram, and then those behind it
+-- one datagram, and then those after it
 pub arriving-next : (index end : ℕ) (pair : PairState) → index < end
     → arriving_from index (end - index) pair ≡ arriving_from (index + 1) (end - (index + 1)) (arriving (slice_get pair.ends.sent index) pair)
 unfolding arriving_from

@@ -53,7 +53,7 @@ pub wrote : {E : Type 0} (result : Result (Unit {0}) E) (old new : Option (List 
 wrote (Ok done) old new was is said text bytes writes = (feed text, writes, bytes)
 wrote (Err why) old new was is said text bytes writes = tt
 
--- a line that isn't passed over, and those behind it
+-- a line that isn't passed over, and those after it
 pub said-line : (lines later : List (ℕ × List ℕ)) (number : ℕ) (text : List ℕ) (this : PairLine) → lines ≡ (number, text) ∷ later
     → is_passed_over text ≡ false → read text ≡ Ok this → said lines ≡ at_line number (Ok this) (said later)
 said-line lines later number text this e stays reads =

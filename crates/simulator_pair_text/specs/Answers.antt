@@ -1,8 +1,7 @@
 -- The texts of answers and of the picture, each without the line feed at its end.
 use Rattle.std.specs.Prelude.{ℕ, ◌/◌, length, if◌then◌else◌, List, ◌++◌, codes, Result, Ok, Err}
 use Rattle.std.specs.Fmt.{decimal}
-use Rattle.sci_telegram.specs.declared.message.Aspect.{Aspect}
-use Rattle.sci_telegram.specs.declared.message.Aspect.TheVariants.{Stop, Proceed, Slow}
+use Rattle.sci_telegram.specs.Words.{aspect_word}
 use Rattle.rasta_core.specs.State.{is_up}
 use Rattle.rasta_core.specs.Ends.{EndState}
 use Rattle.simulator_pair.specs.Pair.{PairState, shown}
@@ -36,11 +35,6 @@ answer_text Accepted = codes "accepted"
 answer_text (Refused n) = codes "refused " ++ decimal n
 answer_text (No n) = codes "no " ++ decimal n
 
-abbrev pub aspect_text : Aspect → List ℕ
-aspect_text Stop = codes "stop"
-aspect_text Proceed = codes "proceed"
-aspect_text Slow = codes "slow"
-
 -- what can be seen of an end
 abbrev pub seen_of_end : EndState → EndSeen
 seen_of_end end = record { is_up = is_up end.link.phase; given = length end.given; taken = length end.taken }
@@ -64,6 +58,6 @@ end_text end =
 abbrev pub picture_text : Picture → List ℕ
 picture_text seen =
     codes "time " ++ (decimal seen.time
-    ++ (codes "\nlamp " ++ (aspect_text seen.lamp
+    ++ (codes "\nlamp " ++ (aspect_word seen.lamp
     ++ (codes "\nC " ++ (end_text seen.client
     ++ (codes "\nS " ++ end_text seen.server))))))

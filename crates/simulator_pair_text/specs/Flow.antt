@@ -3,6 +3,8 @@ use Rattle.std.specs.Prelude.{ℕ, zero, suc, ◌-◌, ◌<◌, ◌||◌, nat_lt
 use Rattle.rasta_core.specs.identity.Role.{Role}
 use Rattle.rasta_core.specs.identity.Role.TheVariants as role
 use Rattle.rasta_core.specs.Ends.{Sent, Receives}
+use Rattle.rasta_core.specs.time.TheConstants.{ROUND_MICROS}
+use Rattle.rasta_pdu.specs.declared.writer.TheConstants.{LONGEST_DATAGRAM}
 use Rattle.simulator_pair.specs.Pair.{PairState, stepped}
 use Rattle.simulator_pair.specs.Events.{refusal_of_delivery, copy_of, connection_of, refusal, happens}
 use Rattle.simulator_pair.specs.declared.event.PairEvent.{PairEvent}
@@ -28,7 +30,7 @@ partner_of role.Server = role.Client
 unfoldable pub arriving : Option Sent → PairState → PairState
 arriving None pair = pair
 arriving (Some sent) pair =
-    if sent.is_lost || nat_lt 512 (length sent.bytes) then pair else arrived (partner_of sent.sender) sent.bytes pair
+    if sent.is_lost || nat_lt LONGEST_DATAGRAM (length sent.bytes) then pair else arrived (partner_of sent.sender) sent.bytes pair
 
 -- so many datagrams arrive, in the order of sending, from this place on
 unfoldable pub arriving_from : ℕ → ℕ → PairState → PairState
@@ -45,7 +47,7 @@ pub record Flowing : Type 0 where
 unfoldable pub round : Flowing → Flowing
 round flowing =
     let before = length flowing.pair.ends.sent
-    in let passed = tried (event.Time 10000 10000 10000) flowing.pair
+    in let passed = tried (event.Time ROUND_MICROS ROUND_MICROS ROUND_MICROS) flowing.pair
     in let delivered = arriving_from flowing.passed (before - flowing.passed) passed
     in record { pair = tried (event.Tick role.Server) (tried (event.Tick role.Client) delivered); passed = before }
 

@@ -20,6 +20,7 @@ use Rattle.replay_words.specs.Cut.{words, name_and_number}
 use Rattle.replay_words.specs.Read.{decimal, hexadecimal, hexadecimal_or_none}
 use Rattle.rasta_core.specs.identity.Role.{Role}
 use Rattle.rasta_core.specs.identity.Role.TheVariants.{Client, Server}
+use Rattle.rasta_core.specs.time.TheConstants.{LATEST_CLOCK}
 use Rattle.rasta_core.specs.reason.Reason.{Reason}
 use Rattle.rasta_core.specs.reason.Reason.TheVariants.{User, State, Sequence, Version, Window, Time as Silence}
 use Rattle.simulator_pair.specs.declared.event.PairEvent.TheVariants.{Give, Tick, Time, Deliver, Lose, Close, Restart}
@@ -103,7 +104,7 @@ sole (number ∷ []) = do
   Ok (Some n)
 sole (number ∷ next ∷ more) = Err Name
 
--- ---- lines, by the words behind the first
+-- ---- lines, by the words after the first
 
 abbrev pub give : List (List ℕ) → Result PairLine Fault
 give (end ∷ bytes ∷ []) = do
@@ -148,7 +149,7 @@ close other = Err Words
 
 abbrev pub restart : List (List ℕ) → Result PairLine Fault
 restart (end ∷ clock ∷ number ∷ []) = do
-  of ← both (end_named end) (both (number_up_to 9000000000000 clock) (number_up_to 4294967295 number))
+  of ← both (end_named end) (both (number_up_to LATEST_CLOCK clock) (number_up_to 4294967295 number))
   Ok (Event (Restart of.0 of.1.0 of.1.1))
 restart other = Err Words
 

@@ -39,7 +39,7 @@ abbrev pub beginning : Flowing
 beginning = record { pair = new_pair names.key; passed = 0 }
 
 -- A text has no faulty line, and where what was written before is known, what its lines write with a new pair stands
--- behind it.
+-- after it.
 pub record IsWritten (text : List ℕ) (before after : Option (List ℕ)) : Type 0 where
   pub lines : List PairLine
   pub says : run_of text ≡ Ok lines

@@ -26,16 +26,11 @@ ghost use Rattle.simulator_pair_text.specs.Line.{
   time,
 };
 
+use rasta_core::{LATEST_CLOCK, ROUND};
 use replay_words::{
     Fault, Words, both, decimal, hexadecimal, hexadecimal_or_none, name_and_number,
 };
 use simulator_pair::{Item, PairEvent, Reason, Role};
-
-/// The length of a round of a flow, in milliseconds.
-pub(crate) const ROUND: u64 = 10;
-
-// The latest clock with which an end is made anew, in milliseconds.
-const LATEST_CLOCK: u64 = 9_000_000_000_000;
 
 // The bounds of a flow, in milliseconds.
 const SHORTEST_FLOW: u64 = 10;
@@ -208,7 +203,7 @@ fn reason(word: &str) -> Result<Reason, Fault>
 
 // A clock reading, in milliseconds.
 fn clock_reading(word: &str) -> Result<u64, Fault>
-    ensures { result ≡ number_up_to 9000000000000 word.now }
+    ensures { result ≡ number_up_to LATEST_CLOCK word.now }
 {
     let clock = decimal(word)?;
     if clock > LATEST_CLOCK {

@@ -2,11 +2,9 @@
 
 ghost use Rattle.std.specs.Prelude.{◌≡◌, Some};
 
+use rasta_core::MICROS;
 use simulator_pair::{Aspect, Pair, Role};
 use std::fmt;
-
-/// How many microseconds a millisecond has.
-const MICROS: u64 = 1000;
 
 /// What can be seen of an end.
 #[derive(Clone, Copy, Debug)]
@@ -79,11 +77,7 @@ impl fmt::Display for Picture {
 
     fn fmt<W: fmt::Write>(&self, f: &mut fmt::Formatter<W>) -> fmt::Result {
         let time = self.time;
-        let lamp = match self.lamp {
-            Aspect::Stop => "stop",
-            Aspect::Proceed => "proceed",
-            Aspect::Slow => "slow",
-        };
+        let lamp = self.lamp.word();
         let client = self.client;
         let server = self.server;
         write!(f, "time {time}\nlamp {lamp}\nC {client}\nS {server}")

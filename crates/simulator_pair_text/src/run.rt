@@ -5,13 +5,10 @@ ghost use Rattle.simulator_pair.specs.Events.{is_restart};
 ghost use Rattle.simulator_pair_text.specs.Flow.{tried, arriving, arriving_from, round};
 
 use crate::answer::Answer;
-use crate::line::ROUND;
+use rasta_core::{ROUND, ROUND_MICROS};
 use simulator_pair::{Bytes, Pair, PairEvent, Refused, Role};
 use std::alloc::{AllocError, Global};
 use std::marker::Model;
-
-/// How many microseconds a round has.
-const ROUND_MICROS: u64 = 10000;
 
 /// How many events a round has beside its arrivals: the time, and a tick of each end.
 const EVENTS_BESIDE: usize = 3;

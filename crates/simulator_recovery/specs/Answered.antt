@@ -1,13 +1,13 @@
 -- What was given on a link of late, and from when on no move is unanswered.
 use Rattle.std.specs.Prelude.{◌≡◌, ℕ, ◌+◌, ◌<◌, true}
 use Rattle.std.specs.List.{Contains}
-use Rattle.simulator_run.specs.ixl_rules.Due.{IsRouteOf}
-use Rattle.simulator_run.specs.ixl_rules.Rules.{is_waiting}
-use Rattle.simulator_run.specs.ixl_rules.State.{IxlState, RouteState}
-use Rattle.simulator_run.specs.ixl_rules.Table.{Need, Row, Table}
-use Rattle.simulator_run.specs.simulator_event.declared.event.Event.{Event}
-use Rattle.simulator_run.specs.simulator_event.declared.event.Event.TheVariants as event
-use Rattle.simulator_run.specs.State.{WorldState}
+use Rattle.simulator_spec.specs.ixl_spec.Due.{IsRouteOf}
+use Rattle.simulator_spec.specs.ixl_spec.Rules.{is_waiting}
+use Rattle.simulator_spec.specs.ixl_spec.State.{IxlState, RouteState}
+use Rattle.simulator_spec.specs.ixl_spec.Table.{Need, Row, Table}
+use Rattle.simulator_spec.specs.simulator_event.declared.event.Event.{Event}
+use Rattle.simulator_spec.specs.simulator_event.declared.event.Event.TheVariants as event
+use Rattle.simulator_spec.specs.State.{WorldState}
 use Rattle.simulator_recovery.specs.LinkRounds.{IsUpOn}
 use Rattle.simulator_recovery.specs.Moves.{move_rounds}
 use Rattle.simulator_recovery.specs.Ready.{ready_rounds}

@@ -1,23 +1,23 @@
 -- What the clients of a station have given in their connections.
 use Rattle.std.specs.Prelude.{◌≡◌, ◌⊎◌, ℕ, ◌+◌, ◌≤◌, not, true, List, [], ◌∷◌, length, map, Some, slice_get}
-use Rattle.simulator_run.specs.layout.Entries.{Site}
-use Rattle.simulator_run.specs.rasta_core.Each.{Each}
-use Rattle.simulator_run.specs.rasta_core.Links.{Links}
-use Rattle.simulator_run.specs.rasta_core.State.{is_open, is_up}
-use Rattle.simulator_run.specs.sci_telegram.Telegrams.{writing}
-use Rattle.simulator_run.specs.sci_telegram.declared.message.Initialisation.TheVariants.{InitialisationRequest, VersionCheck}
-use Rattle.simulator_run.specs.ixl_client.Client.{ClientState, PeerState, is_outside}
-use Rattle.simulator_run.specs.ixl_client.ItemsSaid.{item_of}
-use Rattle.simulator_run.specs.ixl_client.Step.{message_of, telegram_to}
-use Rattle.simulator_run.specs.ixl_client.declared.command.Command.{Command}
-use Rattle.simulator_run.specs.ixl_client.declared.command.Command.TheVariants as commands
-use Rattle.simulator_run.specs.ixl_client.declared.stage.Stage.{Stage}
-use Rattle.simulator_run.specs.ixl_client.declared.stage.Stage.TheVariants as stage
-use Rattle.simulator_run.specs.ixl_rules.State.{KnownDetectorState, KnownPointState, KnownSignalState}
-use Rattle.simulator_run.specs.ixl_rules.StepSoFar.{Detector, Node, Point, Signal}
-use Rattle.simulator_run.specs.Nodes.{detector_link, point_link}
-use Rattle.simulator_run.specs.State.{WorldState}
-use Rattle.simulator_run_links.specs.HasLinks.{HasLinks, links_in}
+use Rattle.simulator_spec.specs.layout.Entries.{Site}
+use Rattle.simulator_spec.specs.rasta_core.Each.{Each}
+use Rattle.simulator_spec.specs.rasta_core.Links.{Links}
+use Rattle.simulator_spec.specs.rasta_core.State.{is_open, is_up}
+use Rattle.simulator_spec.specs.sci_telegram.Telegrams.{writing}
+use Rattle.simulator_spec.specs.sci_telegram.declared.message.Initialisation.TheVariants.{InitialisationRequest, VersionCheck}
+use Rattle.simulator_spec.specs.ixl_client.Client.{ClientState, PeerState, is_outside}
+use Rattle.simulator_spec.specs.ixl_client.ItemsSaid.{item_of}
+use Rattle.simulator_spec.specs.ixl_client.Step.{message_of, telegram_to}
+use Rattle.simulator_spec.specs.ixl_client.declared.command.Command.{Command}
+use Rattle.simulator_spec.specs.ixl_client.declared.command.Command.TheVariants as commands
+use Rattle.simulator_spec.specs.ixl_client.declared.stage.Stage.{Stage}
+use Rattle.simulator_spec.specs.ixl_client.declared.stage.Stage.TheVariants as stage
+use Rattle.simulator_spec.specs.ixl_spec.State.{KnownDetectorState, KnownPointState, KnownSignalState}
+use Rattle.simulator_spec.specs.ixl_spec.StepSoFar.{Detector, Node, Point, Signal}
+use Rattle.simulator_spec.specs.Nodes.{detector_link, point_link}
+use Rattle.simulator_spec.specs.State.{WorldState}
+use Rattle.simulator_link_laws.specs.HasLinks.{HasLinks, links_in}
 use Rattle.simulator_recovery.specs.Conversation.{ClientHasActedOn}
 use Rattle.simulator_recovery.specs.Matched.{IsSpoken}
 
@@ -45,7 +45,7 @@ abbrev pub OneWaits : Node → (objects moves taken : ℕ) → Type 0
 OneWaits (Point place) objects moves taken = 3 + objects + moves ≡ taken + 1
 OneWaits _ objects moves taken = Unit {0}
 
--- the check of the version, the request for the initialisation, and behind them commands
+-- the check of the version, the request for the initialisation, and after them commands
 pub record HasCommanded (site : Site) (node : Node) (peer : PeerState) (taken : ℕ) (items : List (List ℕ)) : Type 0 where
   pub commands : List Command
   pub each : Each (IsGivenTo site node) commands
@@ -77,11 +77,11 @@ pub record ClientTalks (site : Site) (node : Node) (client : ClientState) (given
 
 -- All clients of a station, with what was given and taken at their ends of the links.
 pub record AllTalk (site : Site) (world : WorldState) (network : Links) : Type 0 where
-  pub signals : (place : ℕ) (known : KnownSignalState) → slice_get world.station.ixl.known_signals place ≡ Some known
+  pub signals : (place : ℕ) (known : KnownSignalState) → slice_get world.interlocking.ixl.known_signals place ≡ Some known
       → ClientTalks site (Signal place) known.client (network.ends place).client.given (network.ends place).client.taken
-  pub points : (place : ℕ) (known : KnownPointState) → slice_get world.station.ixl.known_points place ≡ Some known
+  pub points : (place : ℕ) (known : KnownPointState) → slice_get world.interlocking.ixl.known_points place ≡ Some known
       → ClientTalks site (Point place) known.client (network.ends (point_link site place)).client.given (network.ends (point_link site place)).client.taken
-  pub detectors : (place : ℕ) (known : KnownDetectorState) → slice_get world.station.ixl.detectors place ≡ Some known
+  pub detectors : (place : ℕ) (known : KnownDetectorState) → slice_get world.interlocking.ixl.detectors place ≡ Some known
       → ClientTalks site (Detector place) known.client (network.ends (detector_link site place)).client.given (network.ends (detector_link site place)).client.taken
 
 -- the links of a station, and what its clients have given there

@@ -1,9 +1,9 @@
 -- That no node of a station closes a link.
 use Rattle.std.specs.Prelude.{◌≡◌, ◌≢◌, ℕ}
-use Rattle.simulator_run.specs.rasta_core.Ends.{Closes}
-use Rattle.simulator_run.specs.rasta_core.Links.{CallsOn, LinksEvent}
-use Rattle.simulator_run.specs.rasta_core.identity.Role.TheVariants as role
-use Rattle.simulator_run.specs.rasta_core.reason.Reason.TheVariants.{Window}
+use Rattle.simulator_spec.specs.rasta_core.Ends.{Closes}
+use Rattle.simulator_spec.specs.rasta_core.Links.{CallsOn, LinksEvent}
+use Rattle.simulator_spec.specs.rasta_core.identity.Role.TheVariants as role
+use Rattle.simulator_spec.specs.rasta_core.reason.Reason.TheVariants.{Window}
 
 -- It isn't a controller that closes a link by this.
 abbrev pub LeavesServerOpen : LinksEvent → Type 0

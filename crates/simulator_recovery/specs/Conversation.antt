@@ -1,37 +1,37 @@
 -- What the two ends of a link of a station expect of each other, by how far the connection has come, as a host sees it; a client's
 -- part stands beside the client. And what an end does that closes nothing.
 use Rattle.std.specs.Prelude.{◌≡◌, ℕ, ◌+◌, ◌≤◌, ◌<◌, false, true, length, is_ok, IsTrue, List, [], ◌∷◌, ◌++◌, Some, Result, Ok, Err}
-use Rattle.simulator_run.specs.sci_telegram.Messages.{protocol_of}
-use Rattle.simulator_run.specs.sci_telegram.Names.{IsName}
-use Rattle.simulator_run.specs.sci_telegram.declared.fault.SciFault.{SciFault}
-use Rattle.simulator_run.specs.sci_telegram.declared.message.Initialisation.TheVariants.{InitialisationRequest, VersionCheck}
-use Rattle.simulator_run.specs.sci_telegram.declared.message.Message.{Message}
-use Rattle.simulator_run.specs.sci_telegram.declared.message.Message.TheVariants as message
-use Rattle.simulator_run.specs.sci_telegram.declared.message.Protocol.{Protocol}
-use Rattle.simulator_run.specs.sci_telegram.declared.telegram.Telegram.{Telegram}
-use Rattle.object_host_theorem.specs.World.{World}
-use Rattle.simulator_run.specs.rasta_core.Calls.{answer_to_send, sending_item}
-use Rattle.simulator_run.specs.rasta_core.Clock.{deadline, settled}
-use Rattle.simulator_run.specs.rasta_core.Each.{Each}
-use Rattle.simulator_run.specs.rasta_core.Ends.{reading_of}
-use Rattle.simulator_run.specs.rasta_core.Parameters.{connection_limit, window_size}
-use Rattle.simulator_run.specs.rasta_core.State.{LinkState, is_open, is_up}
-use Rattle.simulator_run.specs.object_host.Behaviour.{Behaviour}
-use Rattle.simulator_run.specs.object_host.Host as hosts
-use Rattle.simulator_run.specs.object_host.Host.{HostSoFar, HostState, sender_of}
-use Rattle.simulator_run.specs.object_host.Made.{is_command}
-use Rattle.simulator_run.specs.object_host.Step.{is_in_version, is_same_protocol}
-use Rattle.simulator_run.specs.object_host.declared.report.Report.{Report}
-use Rattle.simulator_run.specs.object_host.declared.stage.Stage.{Stage}
-use Rattle.simulator_run.specs.object_host.declared.stage.Stage.TheVariants as stage
-use Rattle.simulator_run.specs.ixl_client.Client.{PeerState, is_outside}
-use Rattle.simulator_run.specs.ixl_client.ClientSoFar as clients
-use Rattle.simulator_run.specs.ixl_client.ClientSoFar.{ClientSoFar}
-use Rattle.simulator_run.specs.ixl_client.Meaning.{is_in_version as tells_in_version, place_of, state_in}
-use Rattle.simulator_run.specs.ixl_client.Step.{is_refused_by_window}
-use Rattle.simulator_run.specs.ixl_client.declared.indication.ObjectState.{ObjectState}
-use Rattle.simulator_run.specs.ixl_client.declared.stage.Stage.{Stage as ClientStage}
-use Rattle.simulator_run.specs.ixl_client.declared.stage.Stage.TheVariants as client_stages
+use Rattle.simulator_spec.specs.sci_telegram.Messages.{protocol_of}
+use Rattle.simulator_spec.specs.sci_telegram.Names.{IsName}
+use Rattle.simulator_spec.specs.sci_telegram.declared.fault.SciFault.{SciFault}
+use Rattle.simulator_spec.specs.sci_telegram.declared.message.Initialisation.TheVariants.{InitialisationRequest, VersionCheck}
+use Rattle.simulator_spec.specs.sci_telegram.declared.message.Message.{Message}
+use Rattle.simulator_spec.specs.sci_telegram.declared.message.Message.TheVariants as message
+use Rattle.simulator_spec.specs.sci_telegram.declared.message.Protocol.{Protocol}
+use Rattle.simulator_spec.specs.sci_telegram.declared.telegram.Telegram.{Telegram}
+use Rattle.object_host_laws.specs.World.{World}
+use Rattle.simulator_spec.specs.rasta_core.Calls.{answer_to_send, sending_item}
+use Rattle.simulator_spec.specs.rasta_core.Clock.{deadline, settled}
+use Rattle.simulator_spec.specs.rasta_core.Each.{Each}
+use Rattle.simulator_spec.specs.rasta_core.Ends.{reading_of}
+use Rattle.simulator_spec.specs.rasta_core.Parameters.{connection_limit, window_size}
+use Rattle.simulator_spec.specs.rasta_core.State.{LinkState, is_open, is_up}
+use Rattle.simulator_spec.specs.object_host.Behaviour.{Behaviour}
+use Rattle.simulator_spec.specs.object_host.Host as hosts
+use Rattle.simulator_spec.specs.object_host.Host.{HostSoFar, HostState, sender_of}
+use Rattle.simulator_spec.specs.object_host.Made.{is_command}
+use Rattle.simulator_spec.specs.object_host.Step.{is_in_version, is_same_protocol}
+use Rattle.simulator_spec.specs.object_host.declared.report.Report.{Report}
+use Rattle.simulator_spec.specs.object_host.declared.stage.Stage.{Stage}
+use Rattle.simulator_spec.specs.object_host.declared.stage.Stage.TheVariants as stage
+use Rattle.simulator_spec.specs.ixl_client.Client.{PeerState, is_outside}
+use Rattle.simulator_spec.specs.ixl_client.ClientSoFar as clients
+use Rattle.simulator_spec.specs.ixl_client.ClientSoFar.{ClientSoFar}
+use Rattle.simulator_spec.specs.ixl_client.Meaning.{is_in_version as tells_in_version, place_of, state_in}
+use Rattle.simulator_spec.specs.ixl_client.Step.{is_refused_by_window}
+use Rattle.simulator_spec.specs.ixl_client.declared.indication.ObjectState.{ObjectState}
+use Rattle.simulator_spec.specs.ixl_client.declared.stage.Stage.{Stage as ClientStage}
+use Rattle.simulator_spec.specs.ixl_client.declared.stage.Stage.TheVariants as client_stages
 
 -- ---- what a host expects
 
@@ -114,7 +114,7 @@ ClientHasActedOn peer (client_stages.AwaitsStatus left) count = count + left ≡
 ClientHasActedOn peer client_stages.Completed count = 3 + length peer.objects ≤ count
 ClientHasActedOn peer client_stages.AwaitsReport count = 3 + length peer.objects ≤ count
 
--- A step of a client counts on, where the client is inside behind it.
+-- A step of a client counts on, where the client is inside after it.
 abbrev pub KeepsCount : ClientSoFar → ClientSoFar → Type 0
 KeepsCount before after = (count : ℕ) → ClientHasActedOn before.client.peer before.client.stage (count + length before.acted) → is_outside after.client.stage ≡ false
     → ClientHasActedOn before.client.peer after.client.stage (count + length after.acted)
@@ -139,7 +139,7 @@ pub record HasRoomFor (now count : ℕ) (link : LinkState) : Type 0 where
 abbrev pub most_said : ℕ
 most_said = 18
 
--- An item is accepted, and there is room for so many behind it.
+-- An item is accepted, and there is room for so many after it.
 pub record Accepts (now count : ℕ) (item : List ℕ) (link : LinkState) : Type 0 where
   pub accepted : is_ok (answer_to_send now link) ≡ true
   pub rest : HasRoomFor now count (sending_item now item link).link

@@ -1,34 +1,34 @@
 -- How many items an end of a link of a station has taken and given in its connection, and what its stage tells of that.
 use Rattle.std.specs.Prelude.{◌≡◌, ℕ, ◌+◌, ◌≤◌, not, Bool, true, false, List, [], ◌∷◌, ◌++◌, length, map, Some, slice_get}
-use Rattle.object_host_theorem.specs.World.{Event, HostRestarts, World, host_of}
-use Rattle.simulator_run.specs.rasta_core.Parameters.{stops_at_greatest}
-use Rattle.simulator_run.specs.rasta_core.State.{LinkState, is_open, is_up}
-use Rattle.simulator_run.specs.object_host.Behaviour.{Behaviour}
-use Rattle.simulator_run.specs.rasta_core.Each.{Each}
-use Rattle.simulator_run.specs.rasta_core.Links.{Links}
-use Rattle.simulator_run.specs.sci_telegram.declared.message.Agreement.TheVariants.{NoMatch, Match}
-use Rattle.simulator_run.specs.sci_telegram.declared.message.Initialisation.TheVariants.{VersionAnswer}
-use Rattle.simulator_run.specs.object_host.Host.{HostState, said}
-use Rattle.simulator_run.specs.object_host.Told.{initialisation, item_of}
-use Rattle.simulator_run.specs.object_host.declared.report.Report.{Report}
-use Rattle.simulator_run.specs.object_host.Object.{ObjectCall, object_after}
-use Rattle.simulator_run.specs.object_host.Step.{initial_status, most_objects}
-use Rattle.simulator_run.specs.object_host.declared.stage.Stage.{Stage}
-use Rattle.simulator_run.specs.object_host.declared.stage.Stage.TheVariants as stage
-use Rattle.simulator_run.specs.ixl_client.Client.{ClientState, is_outside}
-use Rattle.simulator_run.specs.ixl_client.declared.stage.Stage.{Stage as ClientStage}
-use Rattle.simulator_run.specs.ixl_client.declared.stage.Stage.TheVariants as client_stages
-use Rattle.simulator_run.specs.layout.Entries.{DetectorEntry, Site}
-use Rattle.simulator_run.specs.ixl_rules.State.{IxlState, KnownDetectorState, KnownPointState, KnownSignalState}
-use Rattle.simulator_run.specs.ixl_rules.StepSoFar.{Detector, Node, Point, Signal}
-use Rattle.simulator_run.specs.signal_ctl.Signal.{SignalState, signal_behaviour}
-use Rattle.simulator_run.specs.point_ctl.Controlled.{point_behaviour}
-use Rattle.simulator_run.specs.point_ctl.Drive.{PointState}
-use Rattle.simulator_run.specs.tds_ctl.Controlled.{detection_behaviour}
-use Rattle.simulator_run.specs.tds_ctl.declared.section.Section.{Section}
-use Rattle.simulator_run.specs.Nodes.{detector_link, point_link}
-use Rattle.simulator_run.specs.State.{ClockedControllerState, WorldState}
-use Rattle.simulator_run_links.specs.HasLinks.{HasLinks, links_in}
+use Rattle.object_host_laws.specs.World.{Event, HostRestarts, World, host_of}
+use Rattle.simulator_spec.specs.rasta_core.Parameters.{stops_at_greatest}
+use Rattle.simulator_spec.specs.rasta_core.State.{LinkState, is_open, is_up}
+use Rattle.simulator_spec.specs.object_host.Behaviour.{Behaviour}
+use Rattle.simulator_spec.specs.rasta_core.Each.{Each}
+use Rattle.simulator_spec.specs.rasta_core.Links.{Links}
+use Rattle.simulator_spec.specs.sci_telegram.declared.message.Agreement.TheVariants.{NoMatch, Match}
+use Rattle.simulator_spec.specs.sci_telegram.declared.message.Initialisation.TheVariants.{VersionAnswer}
+use Rattle.simulator_spec.specs.object_host.Host.{HostState, said}
+use Rattle.simulator_spec.specs.object_host.Told.{initialisation, item_of}
+use Rattle.simulator_spec.specs.object_host.declared.report.Report.{Report}
+use Rattle.simulator_spec.specs.object_host.Object.{ObjectCall, object_after}
+use Rattle.simulator_spec.specs.object_host.Step.{initial_status, most_objects}
+use Rattle.simulator_spec.specs.object_host.declared.stage.Stage.{Stage}
+use Rattle.simulator_spec.specs.object_host.declared.stage.Stage.TheVariants as stage
+use Rattle.simulator_spec.specs.ixl_client.Client.{ClientState, is_outside}
+use Rattle.simulator_spec.specs.ixl_client.declared.stage.Stage.{Stage as ClientStage}
+use Rattle.simulator_spec.specs.ixl_client.declared.stage.Stage.TheVariants as client_stages
+use Rattle.simulator_spec.specs.layout.Entries.{DetectorEntry, Site}
+use Rattle.simulator_spec.specs.ixl_spec.State.{IxlState, KnownDetectorState, KnownPointState, KnownSignalState}
+use Rattle.simulator_spec.specs.ixl_spec.StepSoFar.{Detector, Node, Point, Signal}
+use Rattle.simulator_spec.specs.signal_ctl.Signal.{SignalState, signal_behaviour}
+use Rattle.simulator_spec.specs.point_ctl.Controlled.{point_behaviour}
+use Rattle.simulator_spec.specs.point_ctl.Drive.{PointState}
+use Rattle.simulator_spec.specs.tds_ctl.Controlled.{detection_behaviour}
+use Rattle.simulator_spec.specs.tds_ctl.declared.section.Section.{Section}
+use Rattle.simulator_spec.specs.Nodes.{detector_link, point_link}
+use Rattle.simulator_spec.specs.State.{ClockedControllerState, WorldState}
+use Rattle.simulator_link_laws.specs.HasLinks.{HasLinks, links_in}
 use Rattle.simulator_recovery.specs.Conversation.{ClientHasActedOn, HostHasActedOn}
 
 -- A link counts so many items taken and given in its connection, and no more wait than were given.
@@ -97,7 +97,7 @@ pub record IsOwed {Object : Type 0} (does : Behaviour Object) (report : Report) 
   pub object : Object
   pub owes : does.owed object ≡ Some report
 
--- behind the whole initialisation come reports that were owed
+-- after the whole initialisation come reports that were owed
 pub record HasSaidAll {Object : Type 0} (does : Behaviour Object) (item : Report → List ℕ) (version : ℕ) (items : List (List ℕ)) : Type 0 where
   -- some object of this kind, of which the initialisation tells
   pub object : Object
@@ -151,7 +151,7 @@ pub record ClientStandsAt (site : Site) (node : Node) (client : ClientState) : T
 
 -- All ends of the links of a station stand by their counts.
 pub record AllStandByCounts (site : Site) (world : WorldState) : Type 0 where
-  pub clients : EachClient (ClientStandsAt site) world.station.ixl
+  pub clients : EachClient (ClientStandsAt site) world.interlocking.ixl
   pub signals : (place : ℕ) (controller : ClockedControllerState SignalState) → slice_get world.signals place ≡ Some controller → HostStandsByCounts signal_behaviour 1 controller.host
   pub points : (place : ℕ) (controller : ClockedControllerState PointState) → slice_get world.points place ≡ Some controller → HostStandsByCounts point_behaviour 1 controller.host
   pub detectors : (place : ℕ) (controller : ClockedControllerState (List Section)) (entry : DetectorEntry) → slice_get world.detectors place ≡ Some controller → slice_get site.detectors place ≡ Some entry

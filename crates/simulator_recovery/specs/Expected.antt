@@ -1,27 +1,27 @@
 -- That what comes next to an end of a link of a station is what the end expects.
 use Rattle.std.specs.Prelude.{◌≡◌, ℕ, ◌+◌, ◌≤◌, true, false, List, length, Some, slice_get}
-use Rattle.simulator_run.specs.layout.Entries.{Site}
-use Rattle.simulator_run.specs.rasta_core.Links.{Links, seen}
-use Rattle.simulator_run.specs.rasta_core.Run.{Ends}
-use Rattle.simulator_run.specs.rasta_core.State.{is_open, is_up}
-use Rattle.simulator_run.specs.sci_telegram.TelegramRead.{reading}
-use Rattle.simulator_run.specs.object_host.Behaviour.{Behaviour}
-use Rattle.simulator_run.specs.object_host.Host.{HostState, is_outside}
-use Rattle.simulator_run.specs.signal_ctl.Signal.{SignalState, signal_behaviour}
-use Rattle.simulator_run.specs.point_ctl.Controlled.{point_behaviour}
-use Rattle.simulator_run.specs.point_ctl.Drive.{PointState}
-use Rattle.simulator_run.specs.point_ctl.History.{unanswered}
-use Rattle.simulator_run.specs.tds_ctl.Controlled.{detection_behaviour}
-use Rattle.simulator_run.specs.tds_ctl.declared.section.Section.{Section}
-use Rattle.simulator_run.specs.ixl_client.Client.{ClientState}
-use Rattle.simulator_run.specs.ixl_client.ExpectedTelegrams.{IsExpected}
-use Rattle.simulator_run.specs.ixl_rules.State.{KnownDetectorState, KnownPointState, KnownSignalState}
-use Rattle.simulator_run.specs.Nodes.{detector_link, point_link}
-use Rattle.simulator_run.specs.State.{ClockedControllerState, WorldState}
-use Rattle.simulator_run_links.specs.HasLinks.{HasLinks, links_in}
+use Rattle.simulator_spec.specs.layout.Entries.{Site}
+use Rattle.simulator_spec.specs.rasta_core.Links.{Links, seen}
+use Rattle.simulator_spec.specs.rasta_core.Run.{Ends}
+use Rattle.simulator_spec.specs.rasta_core.State.{is_open, is_up}
+use Rattle.simulator_spec.specs.sci_telegram.TelegramRead.{reading}
+use Rattle.simulator_spec.specs.object_host.Behaviour.{Behaviour}
+use Rattle.simulator_spec.specs.object_host.Host.{HostState, is_outside}
+use Rattle.simulator_spec.specs.signal_ctl.Signal.{SignalState, signal_behaviour}
+use Rattle.simulator_spec.specs.point_ctl.Controlled.{point_behaviour}
+use Rattle.simulator_spec.specs.point_ctl.Drive.{PointState}
+use Rattle.simulator_spec.specs.point_ctl.History.{unanswered}
+use Rattle.simulator_spec.specs.tds_ctl.Controlled.{detection_behaviour}
+use Rattle.simulator_spec.specs.tds_ctl.declared.section.Section.{Section}
+use Rattle.simulator_spec.specs.ixl_client.Client.{ClientState}
+use Rattle.simulator_spec.specs.ixl_client.ExpectedTelegrams.{IsExpected}
+use Rattle.simulator_spec.specs.ixl_spec.State.{KnownDetectorState, KnownPointState, KnownSignalState}
+use Rattle.simulator_spec.specs.Nodes.{detector_link, point_link}
+use Rattle.simulator_spec.specs.State.{ClockedControllerState, WorldState}
+use Rattle.simulator_link_laws.specs.HasLinks.{HasLinks, links_in}
 use Rattle.simulator_recovery.specs.Conversation.{HostExpectsItem}
 
--- In a connection that is the last of both ends, the item that the controller has given behind all that its client has taken, if there
+-- In a connection that is the last of both ends, the item that the controller has given after all that its client has taken, if there
 -- is one, is what the client expects by its stage.
 abbrev pub NextIsExpected : ClientState → Ends → Type 0
 NextIsExpected client ends = (connection : ℕ) → ends.client.connection ≡ Some connection → ends.server.connection ≡ Some connection → is_up client.link.phase ≡ true
@@ -29,16 +29,16 @@ NextIsExpected client ends = (connection : ℕ) → ends.client.connection ≡ S
 
 -- So it is with each signal, each point and each detector.
 pub record AllExpectNext (site : Site) (world : WorldState) (network : Links) : Type 0 where
-  pub signals : (place : ℕ) (known : KnownSignalState) → slice_get world.station.ixl.known_signals place ≡ Some known → NextIsExpected known.client (seen place network)
-  pub points : (place : ℕ) (known : KnownPointState) → slice_get world.station.ixl.known_points place ≡ Some known → NextIsExpected known.client (seen (point_link site place) network)
-  pub detectors : (place : ℕ) (known : KnownDetectorState) → slice_get world.station.ixl.detectors place ≡ Some known → NextIsExpected known.client (seen (detector_link site place) network)
+  pub signals : (place : ℕ) (known : KnownSignalState) → slice_get world.interlocking.ixl.known_signals place ≡ Some known → NextIsExpected known.client (seen place network)
+  pub points : (place : ℕ) (known : KnownPointState) → slice_get world.interlocking.ixl.known_points place ≡ Some known → NextIsExpected known.client (seen (point_link site place) network)
+  pub detectors : (place : ℕ) (known : KnownDetectorState) → slice_get world.interlocking.ixl.detectors place ≡ Some known → NextIsExpected known.client (seen (detector_link site place) network)
 
 -- the links of a station, and what comes next to its clients there
 pub record HaveNext (site : Site) (world : WorldState) : Type 0 where
   pub has : HasLinks site world
   pub next : AllExpectNext site world (links_in has)
 
--- Where a host's link is open, in a connection that is the last of both ends, the item that its client has given behind all that the
+-- Where a host's link is open, in a connection that is the last of both ends, the item that its client has given after all that the
 -- controller has taken, if there is one, is what the host expects by its stage, at any reading.
 abbrev pub NextFits : {Object : Type 0} → Behaviour Object → HostState Object → Ends → Type 0
 NextFits does host ends = (connection : ℕ) → ends.client.connection ≡ Some connection → ends.server.connection ≡ Some connection → is_open ends.server.link.phase ≡ true

@@ -1,7 +1,7 @@
 -- What comes over on a link of a station from one moment to a later one.
 use Rattle.std.specs.Prelude.{ℕ, ◌^◌, ◌≤◌, ◌<◌}
-use Rattle.simulator_run.specs.rasta_core.State.{confirmed_items}
-use Rattle.simulator_run.specs.State.{WorldState}
+use Rattle.simulator_spec.specs.rasta_core.State.{confirmed_items}
+use Rattle.simulator_spec.specs.State.{WorldState}
 use Rattle.simulator_recovery.specs.LinkRounds.{IsUpOn}
 
 -- A link is up at both ends at two moments, and by the later one each end has taken as many items in its connection as the other had

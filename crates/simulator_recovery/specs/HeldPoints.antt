@@ -2,16 +2,15 @@
 use Rattle.std.specs.Prelude.{◌≡◌, ◌≢◌, ◌⊎◌, ℕ, false, List, IsTrue}
 use Rattle.std.specs.FinSet.{contains}
 use Rattle.std.specs.List.{Contains}
-use Rattle.simulator_run.specs.sci_telegram.declared.message.Side.{Side}
-use Rattle.simulator_run.specs.ixl_rules.Due.{At, HoldsPoint, IsClear, IsRouteOf, Known}
-use Rattle.simulator_run.specs.ixl_rules.State.{IxlState, RouteState}
-use Rattle.simulator_run.specs.ixl_rules.Table.{Need, Row, Table}
-use Rattle.simulator_run.specs.ixl_rules.View.{was_authorised}
-use Rattle.simulator_run.specs.ixl_rules.declared.phase.Phase.TheVariants as phase
-use Rattle.simulator_run.specs.simulator_event.declared.event.Event.{Event}
-use Rattle.simulator_run.specs.Flow.{Flowing}
-use Rattle.simulator_run.specs.State.{WorldState}
-use Rattle.simulator_run.specs.Tried.{Played}
+use Rattle.simulator_spec.specs.sci_telegram.declared.message.Side.{Side}
+use Rattle.simulator_spec.specs.ixl_spec.Due.{At, HoldsPoint, IsClear, IsRouteOf, Known}
+use Rattle.simulator_spec.specs.ixl_spec.State.{IxlState, RouteState}
+use Rattle.simulator_spec.specs.ixl_spec.Table.{Need, Row, Table}
+use Rattle.simulator_spec.specs.ixl_spec.View.{was_authorised}
+use Rattle.simulator_spec.specs.ixl_spec.declared.phase.Phase.TheVariants as phase
+use Rattle.simulator_spec.specs.simulator_event.declared.event.Event.{Event}
+use Rattle.simulator_spec.specs.Flow.{Flowing}
+use Rattle.simulator_spec.specs.State.{WorldState}
 use Rattle.simulator_recovery.specs.NothingDue.{HasAspect}
 use Rattle.simulator_recovery.specs.Rounds.{good_rounds}
 use Rattle.simulator_recovery.specs.RoutesCome.{AreKnownWithin}
@@ -36,19 +35,19 @@ pub record IsFreeFor (table : Table) (ixl : IxlState) (number point : ℕ) : Typ
 
 -- A point that a route requires is known at its side, or on its way: the interlocking awaits the report of its move.
 abbrev pub IsKnownOrOnItsWay : Need → WorldState → Type 0
-IsKnownOrOnItsWay need world = Known world.station.ixl need.point need.side ⊎ AwaitsMove need.point world
+IsKnownOrOnItsWay need world = Known world.interlocking.ixl need.point need.side ⊎ AwaitsMove need.point world
 
 -- Each point that a route requires is so, or may come.
 abbrev pub MayHaveItsPoints : Table → Row → WorldState → Type 0
-MayHaveItsPoints table row world = (need : Need) → Contains row.needs need → IsKnownOrOnItsWay need world ⊎ MayCome table world.station.ixl need.point
+MayHaveItsPoints table row world = (need : Need) → Contains row.needs need → IsKnownOrOnItsWay need world ⊎ MayCome table world.interlocking.ixl need.point
 
 -- Each is so, or may come for this route. So none has been moved for it in vain.
 abbrev pub MayYetHaveItsPoints : Table → ℕ → Row → WorldState → Type 0
-MayYetHaveItsPoints table number row world = (need : Need) → Contains row.needs need → IsKnownOrOnItsWay need world ⊎ IsFreeFor table world.station.ixl number need.point
+MayYetHaveItsPoints table number row world = (need : Need) → Contains row.needs need → IsKnownOrOnItsWay need world ⊎ IsFreeFor table world.interlocking.ixl number need.point
 
--- A route comes by the end of these rounds: within them each of its points is known at its side at the end of one, behind them it has its aspect,
+-- A route comes by the end of these rounds: within them each of its points is known at its side at the end of one, after them it has its aspect,
 -- and its lamp shows this from the next round on, and through the rounds that follow.
-pub record ComesBy (number : ℕ) (row : Row) (rounds still : List (List Event)) (start : Flowing Played) : Type 0 where
+pub record ComesBy (number : ℕ) (row : Row) (rounds still : List (List Event)) (start : Flowing) : Type 0 where
   pub points : AreKnownWithin row rounds start
-  pub proceeds : At (good_rounds rounds start).state.run.station.ixl.routes number HasAspect
+  pub proceeds : At (good_rounds rounds start).state.run.interlocking.ixl.routes number HasAspect
   pub shows : ShowsThrough row.entry row.aspect still (good_rounds rounds start)

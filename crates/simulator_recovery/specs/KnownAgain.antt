@@ -1,21 +1,21 @@
 -- What the interlocking knows of points, and what their reports have told.
 use Rattle.std.specs.Prelude.{◌≡◌, ℕ, ◌+◌, ◌≤◌, true, List, [], ◌∷◌, ◌++◌, length, Option, Some, None, slice_get}
-use Rattle.simulator_run.specs.layout.Entries.{Site}
-use Rattle.simulator_run.specs.rasta_core.Links.{Links}
-use Rattle.simulator_run.specs.rasta_core.State.{is_up}
-use Rattle.simulator_run.specs.sci_telegram.declared.message.Side.{Side}
-use Rattle.simulator_run.specs.sci_telegram.declared.message.Message.TheVariants as message
-use Rattle.simulator_run.specs.sci_telegram.declared.message.PointMessage.TheVariants.{PointPosition}
-use Rattle.simulator_run.specs.object_host.Told.{item_of}
-use Rattle.simulator_run.specs.point_ctl.Drive.{PointState, own_report}
-use Rattle.simulator_run.specs.ixl_client.Client.{PeerState}
-use Rattle.simulator_run.specs.ixl_client.Made.{told_by_all}
-use Rattle.simulator_run.specs.ixl_rules.State.{KnownPointState}
-use Rattle.simulator_run.specs.ixl_rules.Step.{side_heard}
-use Rattle.simulator_run.specs.Flow.{position_of}
-use Rattle.simulator_run.specs.Nodes.{point_link}
-use Rattle.simulator_run.specs.State.{ClockedControllerState, WorldState}
-use Rattle.simulator_run_links.specs.HasLinks.{HasLinks, links_in}
+use Rattle.simulator_spec.specs.layout.Entries.{Site}
+use Rattle.simulator_spec.specs.rasta_core.Links.{Links}
+use Rattle.simulator_spec.specs.rasta_core.State.{is_up}
+use Rattle.simulator_spec.specs.sci_telegram.declared.message.Side.{Side}
+use Rattle.simulator_spec.specs.sci_telegram.declared.message.Message.TheVariants as message
+use Rattle.simulator_spec.specs.sci_telegram.declared.message.PointMessage.TheVariants.{PointPosition}
+use Rattle.simulator_spec.specs.object_host.Told.{item_of}
+use Rattle.simulator_spec.specs.point_ctl.Drive.{PointState, own_report}
+use Rattle.simulator_spec.specs.ixl_client.Client.{PeerState}
+use Rattle.simulator_spec.specs.ixl_client.Made.{told_by_all}
+use Rattle.simulator_spec.specs.ixl_spec.State.{KnownPointState}
+use Rattle.simulator_spec.specs.ixl_spec.Step.{side_heard}
+use Rattle.simulator_spec.specs.Flow.{position_of}
+use Rattle.simulator_spec.specs.Nodes.{point_link}
+use Rattle.simulator_spec.specs.State.{ClockedControllerState, WorldState}
+use Rattle.simulator_link_laws.specs.HasLinks.{HasLinks, links_in}
 use Rattle.simulator_recovery.specs.Moves.{HasReported, ReportsCome, reports_in}
 use Rattle.simulator_recovery.specs.Ready.{IsReadyOn}
 
@@ -29,7 +29,7 @@ KnowsByReports known taken = is_up known.client.link.phase ≡ true → known.si
 
 -- All points of a station, with what was taken at the interlocking's ends of their links.
 abbrev pub AllKnowByReports : Site → WorldState → Links → Type 0
-AllKnowByReports site world network = (place : ℕ) (known : KnownPointState) → slice_get world.station.ixl.known_points place ≡ Some known → KnowsByReports known (network.ends (point_link site place)).client.taken
+AllKnowByReports site world network = (place : ℕ) (known : KnownPointState) → slice_get world.interlocking.ixl.known_points place ≡ Some known → KnowsByReports known (network.ends (point_link site place)).client.taken
 
 -- the links of a station, and what is known of its points there
 pub record HaveTold (site : Site) (world : WorldState) : Type 0 where

@@ -1,23 +1,23 @@
 -- What a signal was given, and what its lamp shows.
 use Rattle.std.specs.Prelude.{◌≡◌, ◌⊎◌, ℕ, false, true, List, [], ◌∷◌, ◌++◌, Some, None, slice_get}
-use Rattle.simulator_run.specs.rasta_core.State.{confirmed_items, is_up}
-use Rattle.simulator_run.specs.sci_telegram.declared.message.Aspect.TheVariants.{Stop}
-use Rattle.simulator_run.specs.layout.declared.ids.RouteId.{RouteId}
-use Rattle.simulator_run.specs.ixl_rules.Due.{At, IsRouteOf}
-use Rattle.simulator_run.specs.ixl_rules.Rules.{is_proceeding, is_waiting}
-use Rattle.simulator_run.specs.ixl_rules.State.{IxlState, KnownSignalState, RouteState}
-use Rattle.simulator_run.specs.ixl_rules.Table.{Row, Table}
-use Rattle.simulator_run.specs.ixl_rules.View.{has_taken_stop}
-use Rattle.simulator_run.specs.ixl_rules.declared.command.Command.TheVariants as commands
-use Rattle.simulator_run.specs.ixl_rules.declared.phase.Phase.TheVariants as phase
-use Rattle.simulator_run.specs.simulator_event.declared.event.Event.{Event}
-use Rattle.simulator_run.specs.simulator_event.declared.event.Event.TheVariants as event
-use Rattle.simulator_run.specs.simulator_event.declared.reply.Answer.TheVariants as answer
-use Rattle.simulator_run.specs.Flow.{Flowing, round, stations}
-use Rattle.simulator_run.specs.Happens.{answered}
-use Rattle.simulator_run.specs.Seen.{shown_by}
-use Rattle.simulator_run.specs.State.{WorldState}
-use Rattle.simulator_run.specs.Tried.{Played}
+use Rattle.simulator_spec.specs.rasta_core.State.{confirmed_items, is_up}
+use Rattle.simulator_spec.specs.sci_telegram.declared.message.Aspect.TheVariants.{Stop}
+use Rattle.simulator_spec.specs.layout.declared.ids.RouteId.{RouteId}
+use Rattle.simulator_spec.specs.ixl_spec.Due.{At, IsRouteOf}
+use Rattle.simulator_spec.specs.ixl_spec.Rules.{is_proceeding, is_waiting}
+use Rattle.simulator_spec.specs.ixl_spec.State.{IxlState, KnownSignalState, RouteState}
+use Rattle.simulator_spec.specs.ixl_spec.Table.{Row, Table}
+use Rattle.simulator_spec.specs.ixl_spec.View.{has_taken_stop}
+use Rattle.simulator_spec.specs.ixl_spec.declared.command.Command.TheVariants as commands
+use Rattle.simulator_spec.specs.ixl_spec.declared.phase.Phase.TheVariants as phase
+use Rattle.simulator_spec.specs.simulator_event.declared.event.Event.{Event}
+use Rattle.simulator_spec.specs.simulator_event.declared.event.Event.TheVariants as event
+use Rattle.simulator_spec.specs.simulator_event.declared.reply.Answer.TheVariants as answer
+use Rattle.simulator_spec.specs.Flow.{Flowing, round}
+use Rattle.simulator_spec.specs.Happens.{answered}
+use Rattle.simulator_spec.specs.Seen.{shown_by}
+use Rattle.simulator_spec.specs.State.{WorldState}
+use Rattle.simulator_spec.specs.Tried.{Played}
 use Rattle.simulator_recovery.specs.Rounds.{all_tried, good_rounds}
 
 -- The last aspect that the interlocking has given to a signal in the present connection is stop, or it has given none there.
@@ -58,17 +58,17 @@ pub record IsWithdrawnFrom (table : Table) (ixl : IxlState) (signal : ℕ) : Typ
 abbrev pub IsAtStop : ℕ → WorldState → Type 0
 IsAtStop signal world = At world.signals signal (λ controller. shown_by controller ≡ Stop)
 
--- so many good rounds behind the moment at which no route proceeds from a signal its lamp is at stop: 10 ms
+-- so many good rounds after the moment at which no route proceeds from a signal its lamp is at stop: 10 ms
 abbrev pub stop_rounds : ℕ
 stop_rounds = 1
 
--- requests and occupancies, and behind them a cancel of this route
+-- requests and occupancies, and after them a cancel of this route
 abbrev pub and_cancel : RouteId → List Event → List Event
 and_cancel route before = before ++ event.Request (commands.Cancel route) ∷ []
 
--- so a station is as the cancel comes, behind these rounds and what came since
-abbrev pub as_cancel_comes : List (List Event) → List Event → Flowing Played → Flowing Played
-as_cancel_comes rounds before flowing = all_tried before (round stations (good_rounds rounds flowing))
+-- so a station is as the cancel comes, after these rounds and what came since
+abbrev pub as_cancel_comes : List (List Event) → List Event → Flowing → Flowing
+as_cancel_comes rounds before flowing = all_tried before (round (good_rounds rounds flowing))
 
 -- the cancel of a route is accepted
 abbrev pub AcceptsCancel : RouteId → Played → Type 0

@@ -32,3 +32,4 @@ pub mod UnheldPoints
 pub mod Answered
 pub mod OnceMoved
 pub mod Quiet
+pub mod inside

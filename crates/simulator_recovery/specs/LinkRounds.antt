@@ -2,21 +2,21 @@
 use Rattle.std.specs.Prelude.{◌≡◌, ℕ, ◌-◌, true, List, [], ◌∷◌, ◌++◌, length, map, Option, Some, None, slice_get}
 use Rattle.rasta_core_recovery.specs.Rounds.{Flow}
 use Rattle.rasta_core_recovery.specs.Work.{HasRoom, IsAtWork, work_round}
-use Rattle.simulator_run.specs.layout.Entries.{Site}
-use Rattle.simulator_run.specs.rasta_core.Clock.{settled}
-use Rattle.simulator_run.specs.rasta_core.Ends.{reading_of}
-use Rattle.simulator_run.specs.rasta_core.Events.{Event as LinkEvent}
-use Rattle.simulator_run.specs.rasta_core.Links.{Links, LinksEvent, happened_to, of_link, run_links, run_on, seen}
-use Rattle.simulator_run.specs.rasta_core.State.{LinkState, is_up}
-use Rattle.simulator_run.specs.simulator_event.declared.event.Event.{Event}
-use Rattle.simulator_run.specs.simulator_event.refused.Refused.{Refused}
-use Rattle.simulator_run.specs.declared.round.RoundEvent.{RoundEvent}
-use Rattle.simulator_run.specs.Flow.{Flowing, deliveries, reaches, round, round_of_time, stations, ticks}
-use Rattle.simulator_run.specs.Links.{AreLinksOf, ServerEnd, client_links, names_at, server_ends}
-use Rattle.simulator_run.specs.Nodes.{nodes}
-use Rattle.simulator_run.specs.State.{WorldState}
-use Rattle.simulator_run.specs.Tried.{Played, after, refusal_of}
-use Rattle.simulator_run_links.specs.Events.{events_of}
+use Rattle.simulator_spec.specs.layout.Entries.{Site}
+use Rattle.simulator_spec.specs.rasta_core.Clock.{settled}
+use Rattle.simulator_spec.specs.rasta_core.Ends.{reading_of}
+use Rattle.simulator_spec.specs.rasta_core.Events.{Event as LinkEvent}
+use Rattle.simulator_spec.specs.rasta_core.Links.{Links, LinksEvent, happened_to, of_link, run_links, run_on, seen}
+use Rattle.simulator_spec.specs.rasta_core.State.{LinkState, is_up}
+use Rattle.simulator_spec.specs.simulator_event.declared.event.Event.{Event}
+use Rattle.simulator_spec.specs.simulator_event.refused.Refused.{Refused}
+use Rattle.simulator_spec.specs.declared.round.RoundEvent.{RoundEvent}
+use Rattle.simulator_spec.specs.Flow.{Flowing, deliveries, reaches, round, round_of_time, ticks}
+use Rattle.simulator_spec.specs.Links.{AreLinksOf, ServerEnd, client_links, names_at, server_ends}
+use Rattle.simulator_spec.specs.Nodes.{nodes}
+use Rattle.simulator_spec.specs.State.{WorldState}
+use Rattle.simulator_spec.specs.Tried.{Played, after, arrival_in, refusal_of}
+use Rattle.simulator_link_laws.specs.Events.{events_of}
 use Rattle.simulator_recovery.specs.Rounds.{all_tried}
 
 -- ---- what is tried, as events of the links
@@ -34,25 +34,25 @@ abbrev pub all_events_tried : List Event → Played → List LinksEvent
 all_events_tried [] world = []
 all_events_tried (first ∷ others) world = events_tried first world ++ all_events_tried others (after world first)
 
--- what is tried in a round behind its time: what was sent before it comes, each node ticks, and points come to lie
-abbrev pub behind_time : Flowing Played → List RoundEvent
+-- what is tried in a round after its time: what was sent before it comes, each node ticks, and points come to lie
+abbrev pub behind_time : Flowing → List RoundEvent
 behind_time flowing =
-    deliveries (stations.arrival flowing.state) flowing.passed (length flowing.state.run.sent - flowing.passed)
+    deliveries (arrival_in flowing.state) flowing.passed (length flowing.state.run.sent - flowing.passed)
     ++ (ticks (length flowing.state.run.sent) 0 (nodes flowing.state.sited.site) ++ reaches (length flowing.state.run.sent) 0 flowing.drives)
 
 abbrev pub event_of : RoundEvent → Event
 event_of one = one.event
 
--- the time of a round, and the calls at all links behind it: in the round, and between it and the next
-abbrev pub time_of_round : Flowing Played → List LinksEvent
+-- the time of a round, and the calls at all links after it: in the round, and between it and the next
+abbrev pub time_of_round : Flowing → List LinksEvent
 time_of_round flowing = events_tried (round_of_time flowing.state.sited.site) flowing.state
 
-abbrev pub calls_of_round : List Event → Flowing Played → List LinksEvent
+abbrev pub calls_of_round : List Event → Flowing → List LinksEvent
 calls_of_round between flowing =
     all_events_tried (map event_of (behind_time flowing) ++ between) (after flowing.state (round_of_time flowing.state.sited.site))
 
--- the links behind a round
-abbrev pub links_behind : List Event → Flowing Played → Links → Links
+-- the links after a round
+abbrev pub links_behind : List Event → Flowing → Links → Links
 links_behind between flowing before = run_links (calls_of_round between flowing) (run_links (time_of_round flowing) before)
 
 -- ---- a round of one link
@@ -62,14 +62,14 @@ abbrev pub flow_of : ℕ → ℕ → Links → Flow
 flow_of link passed before = record { ends = seen link before; passed = passed }
 
 -- what the calls of a round are to a link
-abbrev pub calls_on : ℕ → List Event → Flowing Played → Links → List LinkEvent
+abbrev pub calls_on : ℕ → List Event → Flowing → Links → List LinkEvent
 calls_on link between flowing before = run_on link (calls_of_round between flowing) (run_links (time_of_round flowing) before)
 
 -- A good round of a station is a round at work of this link: 10 ms pass at both its ends; then at each end all comes that was
 -- sent to it since the round before began, in that order, it ticks, and a client opens. In between the end may be given items,
 -- and be closed.
-pub record IsAtWorkOn (site : Site) (link : ℕ) (between : List Event) (old new : Flowing Played) (before : Links) : Type 0 where
-  pub are : AreLinksOf site (all_tried between (round stations new)).state.run (links_behind between new before)
+pub record IsAtWorkOn (site : Site) (link : ℕ) (between : List Event) (old new : Flowing) (before : Links) : Type 0 where
+  pub are : AreLinksOf site (all_tried between (round new)).state.run (links_behind between new before)
   pub work : IsAtWork (names_at site link) (flow_of link (length (of_link link old.state.run.sent)) before) (calls_on link between new before)
   pub leads : seen link (links_behind between new before) ≡ (work_round (calls_on link between new before) (flow_of link (length (of_link link old.state.run.sent)) before)).ends
 
@@ -79,20 +79,20 @@ pub record IsAtWorkOn (site : Site) (link : ℕ) (between : List Event) (old new
 abbrev pub HasRoomOn : ℕ → Links → Type 0
 HasRoomOn link links = HasRoom (links.ends link).client × HasRoom (links.ends link).server
 
--- before each of these events, and behind the last
+-- before each of these events, and after the last
 abbrev pub HaveRoomOn : ℕ → List LinksEvent → Links → Type 0
 HaveRoomOn link [] links = HasRoomOn link links
 HaveRoomOn link (first ∷ others) links = HasRoomOn link links × HaveRoomOn link others (happened_to first links)
 
--- before each call of good rounds, and behind the last
-abbrev pub StayBelowOn : ℕ → List (List Event) → Flowing Played → Links → Type 0
+-- before each call of good rounds, and after the last
+abbrev pub StayBelowOn : ℕ → List (List Event) → Flowing → Links → Type 0
 StayBelowOn link [] flowing before = Unit {0}
 StayBelowOn link (between ∷ later) flowing before =
     HaveRoomOn link (calls_of_round between flowing) (run_links (time_of_round flowing) before)
-    × StayBelowOn link later (all_tried between (round stations flowing)) (links_behind between flowing before)
+    × StayBelowOn link later (all_tried between (round flowing)) (links_behind between flowing before)
 
 -- the same, whatever links they are that are those of the station
-abbrev pub StaysBelowLimit : Site → ℕ → List (List Event) → Flowing Played → Type 0
+abbrev pub StaysBelowLimit : Site → ℕ → List (List Event) → Flowing → Type 0
 StaysBelowLimit site link later flowing = (before : Links) → AreLinksOf site flowing.state.run before → StayBelowOn link later flowing before
 
 -- ---- what it comes to
@@ -100,8 +100,8 @@ StaysBelowLimit site link later flowing = (before : Links) → AreLinksOf site f
 -- both ends of this link are up, at the clocks of the interlocking and of its controller
 pub record IsUpOn (link : ℕ) (world : WorldState) : Type 0 where
   pub client : LinkState
-  pub client_there : slice_get (client_links world.station.ixl) link ≡ Some client
-  pub client_up : is_up (settled (reading_of world.station.clock) client).phase ≡ true
+  pub client_there : slice_get (client_links world.interlocking.ixl) link ≡ Some client
+  pub client_up : is_up (settled (reading_of world.interlocking.clock) client).phase ≡ true
   pub server : ServerEnd
   pub server_there : slice_get (server_ends world) link ≡ Some server
   pub server_up : is_up (settled (reading_of server.clock) server.link).phase ≡ true

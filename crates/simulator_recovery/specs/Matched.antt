@@ -1,21 +1,21 @@
 -- That the client and the controller of each link of a station belong together.
 use Rattle.std.specs.Prelude.{◌≡◌, ℕ, List, [], ◌∷◌, map, Some, slice_get, slice_index_or, IsTrue}
-use Rattle.simulator_run.specs.control_table.Table.{telegram_version}
-use Rattle.simulator_run.specs.layout.Entries.{DetectorEntry, Site}
-use Rattle.simulator_run.specs.layout.declared.entries.Point.{Point as PointEntry}
-use Rattle.simulator_run.specs.layout.declared.entries.Signal.{Signal as SignalEntry}
-use Rattle.simulator_run.specs.sci_telegram.declared.message.Aspect.{Aspect}
-use Rattle.simulator_run.specs.sci_telegram.declared.message.Protocol.{Protocol}
-use Rattle.simulator_run.specs.sci_telegram.declared.message.Protocol.TheVariants as protocols
-use Rattle.simulator_run.specs.ixl_client.Client.{ClientState, PeerState}
-use Rattle.simulator_run.specs.ixl_client.Meaning.{is_in_version}
-use Rattle.simulator_run.specs.ixl_client.declared.indication.ObjectState.TheVariants as states
-use Rattle.simulator_run.specs.ixl_rules.StepSoFar.{Detector, Node, Point, Signal}
-use Rattle.simulator_run.specs.signal_ctl.Signal.{SignalState}
-use Rattle.simulator_run.specs.point_ctl.Drive.{PointState}
-use Rattle.simulator_run.specs.tds_ctl.declared.section.Section.{Section}
-use Rattle.simulator_run.specs.State.{ClockedControllerState, WorldState}
-use Rattle.simulator_headline.specs.Represents.{IsHostOf}
+use Rattle.simulator_spec.specs.control_table.Table.{telegram_version}
+use Rattle.simulator_spec.specs.layout.Entries.{DetectorEntry, Site}
+use Rattle.simulator_spec.specs.layout.declared.entries.Point.{Point as PointEntry}
+use Rattle.simulator_spec.specs.layout.declared.entries.Signal.{Signal as SignalEntry}
+use Rattle.simulator_spec.specs.sci_telegram.declared.message.Aspect.{Aspect}
+use Rattle.simulator_spec.specs.sci_telegram.declared.message.Protocol.{Protocol}
+use Rattle.simulator_spec.specs.sci_telegram.declared.message.Protocol.TheVariants as protocols
+use Rattle.simulator_spec.specs.ixl_client.Client.{ClientState, PeerState}
+use Rattle.simulator_spec.specs.ixl_client.Meaning.{is_in_version}
+use Rattle.simulator_spec.specs.ixl_client.declared.indication.ObjectState.TheVariants as states
+use Rattle.simulator_spec.specs.ixl_spec.StepSoFar.{Detector, Node, Point, Signal}
+use Rattle.simulator_spec.specs.signal_ctl.Signal.{SignalState}
+use Rattle.simulator_spec.specs.point_ctl.Drive.{PointState}
+use Rattle.simulator_spec.specs.tds_ctl.declared.section.Section.{Section}
+use Rattle.simulator_spec.specs.State.{ClockedControllerState, WorldState}
+use Rattle.simulator_safety.specs.Represents.{IsHostOf}
 use Rattle.simulator_recovery.specs.Counts.{EachClient}
 
 -- whom the client of a controller of this name speaks with, and of which objects it hears
@@ -45,7 +45,7 @@ name_of section = section.name
 -- The client of each controller speaks with it, and each controller with the interlocking, under the names of the layout and in the version
 -- of the station. A signal indicates an aspect that this version has, and a detector has the sections of the layout, in their order.
 pub record AreMatchedAll (site : Site) (world : WorldState) : Type 0 where
-  pub clients : EachClient (SpeaksAt site) world.station.ixl
+  pub clients : EachClient (SpeaksAt site) world.interlocking.ixl
   pub signals : (place : ℕ) (controller : ClockedControllerState SignalState) (entry : SignalEntry) → slice_get world.signals place ≡ Some controller → slice_get site.signals place ≡ Some entry
       → IsHostOf site entry.name controller.host × IsSpoken site controller.host.object.lamp.indicated
   pub points : (place : ℕ) (controller : ClockedControllerState PointState) (entry : PointEntry) → slice_get world.points place ≡ Some controller → slice_get site.points place ≡ Some entry

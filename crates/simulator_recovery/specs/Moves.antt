@@ -1,29 +1,29 @@
 -- What comes of the moves of points in good rounds.
 use Rattle.std.specs.Prelude.{◌≡◌, ℕ, ◌+◌, ◌≤◌, ◌<◌, true, List, [], ◌∷◌, ◌++◌, length, Option, Some, None, slice_get}
-use Rattle.simulator_run.specs.layout.Entries.{Site}
-use Rattle.simulator_run.specs.ixl_rules.Due.{At}
-use Rattle.simulator_run.specs.rasta_core.Ends.{reading_of}
-use Rattle.simulator_run.specs.rasta_core.Links.{seen}
-use Rattle.simulator_run.specs.rasta_core.Run.{Ends}
-use Rattle.simulator_run.specs.rasta_core.State.{is_open}
-use Rattle.simulator_run.specs.rasta_core.identity.Role.TheVariants.{Server}
-use Rattle.simulator_run.specs.sci_telegram.declared.message.Message.TheVariants as message
-use Rattle.simulator_run.specs.sci_telegram.declared.message.PointMessage.TheVariants.{PointPosition}
-use Rattle.simulator_run.specs.sci_telegram.declared.message.Side.{Side}
-use Rattle.simulator_run.specs.sci_telegram.declared.telegram.Telegram.{Telegram}
-use Rattle.simulator_run.specs.object_host.Host.{HostState, is_completed}
-use Rattle.simulator_run.specs.object_host.Made.{commands_of}
-use Rattle.simulator_run.specs.object_host.Told.{item_of}
-use Rattle.simulator_run.specs.point_ctl.Drive.{PointState, commanded_by, drive_end, own_report}
-use Rattle.simulator_run.specs.point_ctl.History.{unanswered}
-use Rattle.simulator_run.specs.point_ctl.declared.progress.Progress.TheVariants.{Answered, Driving}
-use Rattle.simulator_run.specs.simulator_event.declared.event.Event.{Event}
-use Rattle.simulator_run.specs.Flow.{Flowing, position_of, round, stations}
-use Rattle.simulator_run.specs.Nodes.{point_link}
-use Rattle.simulator_run.specs.State.{ClockedControllerState, WorldState}
-use Rattle.simulator_run.specs.Tried.{Played, driven}
-use Rattle.simulator_run_links.specs.HasLinks.{HasLinks, links_in}
-use Rattle.simulator_headline.specs.InFlight.{given_on}
+use Rattle.simulator_spec.specs.layout.Entries.{Site}
+use Rattle.simulator_spec.specs.ixl_spec.Due.{At}
+use Rattle.simulator_spec.specs.rasta_core.Ends.{reading_of}
+use Rattle.simulator_spec.specs.rasta_core.Links.{seen}
+use Rattle.simulator_spec.specs.rasta_core.Run.{Ends}
+use Rattle.simulator_spec.specs.rasta_core.State.{is_open}
+use Rattle.simulator_spec.specs.rasta_core.identity.Role.TheVariants.{Server}
+use Rattle.simulator_spec.specs.sci_telegram.declared.message.Message.TheVariants as message
+use Rattle.simulator_spec.specs.sci_telegram.declared.message.PointMessage.TheVariants.{PointPosition}
+use Rattle.simulator_spec.specs.sci_telegram.declared.message.Side.{Side}
+use Rattle.simulator_spec.specs.sci_telegram.declared.telegram.Telegram.{Telegram}
+use Rattle.simulator_spec.specs.object_host.Host.{HostState, is_completed}
+use Rattle.simulator_spec.specs.object_host.Made.{commands_of}
+use Rattle.simulator_spec.specs.object_host.Told.{item_of}
+use Rattle.simulator_spec.specs.point_ctl.Drive.{PointState, commanded_by, drive_end, own_report}
+use Rattle.simulator_spec.specs.point_ctl.History.{unanswered}
+use Rattle.simulator_spec.specs.point_ctl.declared.progress.Progress.TheVariants.{Answered, Driving}
+use Rattle.simulator_spec.specs.simulator_event.declared.event.Event.{Event}
+use Rattle.simulator_spec.specs.Flow.{Flowing, position_of, round}
+use Rattle.simulator_spec.specs.Nodes.{point_link}
+use Rattle.simulator_spec.specs.State.{ClockedControllerState, WorldState}
+use Rattle.simulator_spec.specs.Tried.{Played, driven}
+use Rattle.simulator_link_laws.specs.HasLinks.{HasLinks, links_in}
+use Rattle.simulator_safety.specs.InFlight.{given_on}
 use Rattle.simulator_recovery.specs.LinkRounds.{IsUpOn}
 use Rattle.simulator_recovery.specs.Rounds.{all_tried, good_rounds}
 
@@ -33,13 +33,13 @@ use Rattle.simulator_recovery.specs.Rounds.{all_tried, good_rounds}
 abbrev pub IsDriven : ℕ → Side → Played → Type 0
 IsDriven place side world = driven world (record { 0 = place }) ≡ Some side
 
--- So it does behind each of these good rounds.
-abbrev pub IsDrivenBehind : ℕ → Side → List (List Event) → Flowing Played → Type 0
+-- So it does after each of these good rounds.
+abbrev pub IsDrivenBehind : ℕ → Side → List (List Event) → Flowing → Type 0
 IsDrivenBehind place side [] flowing = Unit {0}
 IsDrivenBehind place side (between ∷ later) flowing =
-    IsDriven place side (all_tried between (round stations flowing)).state × IsDrivenBehind place side later (all_tried between (round stations flowing))
+    IsDriven place side (all_tried between (round flowing)).state × IsDrivenBehind place side later (all_tried between (round flowing))
 
--- behind so many good rounds, one after another, a point is driven to one side at most: 500 ms
+-- after so many good rounds, one after another, a point is driven to one side at most: 500 ms
 abbrev pub drive_rounds : ℕ
 drive_rounds = 50
 
@@ -106,15 +106,15 @@ reports_in site place connection world = given_on site world (point_link site pl
 -- this side. With that it has answered its move.
 pub record HasReported (site : Site) (place : ℕ) (side : Side) (old new : WorldState) : Type 0 where
   pub connection : ℕ
-  pub was_in : slice_get old.station.connections (point_link site place) ≡ Some (Some connection)
-  pub is_in : slice_get new.station.connections (point_link site place) ≡ Some (Some connection)
+  pub was_in : slice_get old.interlocking.connections (point_link site place) ≡ Some (Some connection)
+  pub is_in : slice_get new.interlocking.connections (point_link site place) ≡ Some (Some connection)
   pub controller : ClockedControllerState PointState
   pub there : slice_get new.points place ≡ Some controller
   pub answered : controller.host.object.progress ≡ Answered
   pub reported : reports_in site place connection new ≡ reports_in site place connection old ++ item_of controller.host (own_report (message.Point (PointPosition (position_of side)))) ∷ []
 
 -- It has by one of these good rounds.
-pub record ReportsBehind (site : Site) (place : ℕ) (side : Side) (rounds : List (List Event)) (flowing : Flowing Played) : Type 0 where
+pub record ReportsBehind (site : Site) (place : ℕ) (side : Side) (rounds : List (List Event)) (flowing : Flowing) : Type 0 where
   pub front : List (List Event)
   pub rest : List (List Event)
   pub parts : rounds ≡ front ++ rest
@@ -133,8 +133,8 @@ DrivesSince place side since world = At world.points place (λ (controller : Clo
 -- that the datagrams tell.
 pub record ReportsCome (site : Site) (place : ℕ) (old new : WorldState) : Type 0 where
   pub connection : ℕ
-  pub was_in : slice_get old.station.connections (point_link site place) ≡ Some (Some connection)
-  pub is_in : slice_get new.station.connections (point_link site place) ≡ Some (Some connection)
+  pub was_in : slice_get old.interlocking.connections (point_link site place) ≡ Some (Some connection)
+  pub is_in : slice_get new.interlocking.connections (point_link site place) ≡ Some (Some connection)
   pub has : HasLinks site new
   pub client : ((links_in has).ends (point_link site place)).client.connection ≡ Some connection
   pub more : List (List ℕ)
@@ -142,9 +142,9 @@ pub record ReportsCome (site : Site) (place : ℕ) (old new : WorldState) : Type
   pub rest : List (List ℕ)
   pub sent : reports_in site place connection new ≡ ((links_in has).ends (point_link site place)).client.taken ++ rest
 
--- Behind one of these good rounds a point's controller has reported that the point lies at this side, and in the next of them the
+-- After one of these good rounds a point's controller has reported that the point lies at this side, and in the next of them the
 -- interlocking's end takes that.
-pub record ReportComesBehind (site : Site) (place : ℕ) (side : Side) (rounds : List (List Event)) (flowing : Flowing Played) : Type 0 where
+pub record ReportComesBehind (site : Site) (place : ℕ) (side : Side) (rounds : List (List Event)) (flowing : Flowing) : Type 0 where
   pub front : List (List Event)
   pub last : List Event
   pub rest : List (List Event)

@@ -1,31 +1,31 @@
 -- How a set route goes on in an interlocking, event by event.
 use Rattle.std.specs.Prelude.{◌≡◌, ◌≢◌, ℕ, true, false, List, [], ◌∷◌, map, Option, Some, None}
 use Rattle.std.specs.List.{Contains}
-use Rattle.simulator_run.specs.layout.Entries.{Site}
-use Rattle.simulator_run.specs.rasta_core.Clock.{settled}
-use Rattle.simulator_run.specs.rasta_core.Ends.{reading_of}
-use Rattle.simulator_run.specs.rasta_core.State.{is_up}
-use Rattle.simulator_run.specs.sci_telegram.declared.message.Side.{Side}
-use Rattle.simulator_run.specs.ixl_client.Client.{PeerState, is_outside, is_ready}
-use Rattle.simulator_run.specs.ixl_client.ClientSoFar.{Sends}
-use Rattle.simulator_run.specs.ixl_client.declared.command.Command.TheVariants.{Move}
-use Rattle.simulator_run.specs.ixl_rules.Due.{AllClear, AllKnown, At, IsSignalReady}
-use Rattle.simulator_run.specs.ixl_rules.State.{IxlState, RouteState}
-use Rattle.simulator_run.specs.ixl_rules.Step.{Commands, Datagram, Input, Tick, all_clocked, given}
-use Rattle.simulator_run.specs.ixl_rules.StepSoFar.{Point, begun_with, empty_outbox}
-use Rattle.simulator_run.specs.ixl_rules.Table.{Need, Row, Table}
-use Rattle.simulator_run.specs.ixl_rules.declared.command.Command.{Command}
-use Rattle.simulator_run.specs.ixl_rules.declared.command.Command.TheVariants as commands
-use Rattle.simulator_run.specs.ixl_rules.declared.phase.Phase.TheVariants as phase
-use Rattle.simulator_run.specs.simulator_event.declared.event.Event.{Event}
-use Rattle.simulator_run.specs.simulator_event.declared.event.Event.TheVariants as event
-use Rattle.simulator_run.specs.declared.round.RoundEvent.{RoundEvent}
-use Rattle.simulator_run.specs.Flow.{Flowing, due, round, stations}
-use Rattle.simulator_run.specs.Happens.{happens}
-use Rattle.simulator_run.specs.Interlocking.{interlocking_step}
-use Rattle.simulator_run.specs.Nodes.{Interlocking, Node, key_of, node_at}
-use Rattle.simulator_run.specs.State.{WorldState}
-use Rattle.simulator_run.specs.Tried.{Played, after, refusal_of}
+use Rattle.simulator_spec.specs.layout.Entries.{Site}
+use Rattle.simulator_spec.specs.rasta_core.Clock.{settled}
+use Rattle.simulator_spec.specs.rasta_core.Ends.{reading_of}
+use Rattle.simulator_spec.specs.rasta_core.State.{is_up}
+use Rattle.simulator_spec.specs.sci_telegram.declared.message.Side.{Side}
+use Rattle.simulator_spec.specs.ixl_client.Client.{PeerState, is_outside, is_ready}
+use Rattle.simulator_spec.specs.ixl_client.ClientSoFar.{Sends}
+use Rattle.simulator_spec.specs.ixl_client.declared.command.Command.TheVariants.{Move}
+use Rattle.simulator_spec.specs.ixl_spec.Due.{AllClear, AllKnown, At, IsSignalReady}
+use Rattle.simulator_spec.specs.ixl_spec.State.{IxlState, RouteState}
+use Rattle.simulator_spec.specs.ixl_spec.Step.{Commands, Datagram, Input, Tick, all_clocked, given}
+use Rattle.simulator_spec.specs.ixl_spec.StepSoFar.{Point, begun_with, empty_outbox}
+use Rattle.simulator_spec.specs.ixl_spec.Table.{Need, Row, Table}
+use Rattle.simulator_spec.specs.ixl_spec.declared.command.Command.{Command}
+use Rattle.simulator_spec.specs.ixl_spec.declared.command.Command.TheVariants as commands
+use Rattle.simulator_spec.specs.ixl_spec.declared.phase.Phase.TheVariants as phase
+use Rattle.simulator_spec.specs.simulator_event.declared.event.Event.{Event}
+use Rattle.simulator_spec.specs.simulator_event.declared.event.Event.TheVariants as event
+use Rattle.simulator_spec.specs.declared.round.RoundEvent.{RoundEvent}
+use Rattle.simulator_spec.specs.Flow.{Flowing, due, round}
+use Rattle.simulator_spec.specs.Happens.{happens}
+use Rattle.simulator_spec.specs.Interlocking.{interlocking_step}
+use Rattle.simulator_spec.specs.Nodes.{Interlocking, Node, key_of, node_at}
+use Rattle.simulator_spec.specs.State.{WorldState}
+use Rattle.simulator_spec.specs.Tried.{Played, after, refusal_of}
 use Rattle.simulator_recovery.specs.ClientSaid.{commanded}
 use Rattle.simulator_recovery.specs.Rounds.{all_tried}
 
@@ -72,11 +72,11 @@ input_of site (event.Tick node) = input_at (node_at site node.0) Tick
 input_of site (event.Deliver node bytes) = input_at (node_at site node.0) (Datagram bytes)
 input_of site _ = None
 
--- what the interlocking knows behind the clock and the input of a step, before its rules
+-- what the interlocking knows after the clock and the input of a step, before its rules
 abbrev pub known_in_step : Site → Table → Input → WorldState → IxlState
 known_in_step site table input world =
-    let now = reading_of world.station.clock
-    in (given now table (key_of site) input (begun_with (all_clocked now world.station.ixl) empty_outbox)).ixl
+    let now = reading_of world.interlocking.clock
+    in (given now table (key_of site) input (begun_with (all_clocked now world.interlocking.ixl) empty_outbox)).ixl
 
 -- In the step that an event brings to the interlocking, if it brings one, the aspect of the route is upheld.
 abbrev pub UpholdsAspect : Site → Table → Row → Event → WorldState → Type 0
@@ -102,7 +102,7 @@ pub record HasLinksReady (table : Table) (ixl : IxlState) (row : Row) : Type 0 w
 
 -- a point's link is up at the clock of the interlocking
 abbrev pub IsUpAtClock : WorldState → ℕ → Type 0
-IsUpAtClock world point = At world.station.ixl.known_points point (λ known. is_up (settled (reading_of world.station.clock) known.client.link).phase ≡ true)
+IsUpAtClock world point = At world.interlocking.ixl.known_points point (λ known. is_up (settled (reading_of world.interlocking.clock) known.client.link).phase ≡ true)
 
 -- it is in a connection
 abbrev pub IsInside : IxlState → ℕ → Type 0
@@ -112,7 +112,7 @@ IsInside ixl point = At ixl.known_points point (λ known. is_outside known.clien
 
 -- The links of the points that a route requires are ready before the event, and up at the interlocking's clock.
 pub record HasPointsUp (world : WorldState) (row : Row) : Type 0 where
-  pub ready : (need : Need) → Contains row.needs need → IsPointReady world.station.ixl need.point
+  pub ready : (need : Need) → Contains row.needs need → IsPointReady world.interlocking.ixl need.point
   pub up : (need : Need) → Contains row.needs need → IsUpAtClock world need.point
 
 -- Its points are still in their connections, its sections are clear, and its signal's link is ready.
@@ -123,7 +123,7 @@ pub record IsClearFor (table : Table) (ixl : IxlState) (row : Row) : Type 0 wher
 
 -- In a step the interlocking gives a point a move to this side: the telegram of the move is given to the point's link.
 abbrev pub GivesMoveTo : Site → Table → Input → WorldState → ℕ → Side → PeerState → Type 0
-GivesMoveTo site table input world point side peer = Contains (interlocking_step site table input world.station).calls (Point point, Sends (commanded peer (Move side)))
+GivesMoveTo site table input world point side peer = Contains (interlocking_step site table input world.interlocking).calls (Point point, Sends (commanded peer (Move side)))
 
 -- ---- events, one after another
 
@@ -133,13 +133,13 @@ EachFinds finds [] world = Unit {0}
 EachFinds finds (first ∷ others) world = (refusal_of first world ≡ None → finds first world.run) × EachFinds finds others (after world first)
 
 -- So do the events of these good rounds, and those between them.
-abbrev pub RoundsFind : (Event → WorldState → Type 0) → List (List Event) → Flowing Played → Type 0
+abbrev pub RoundsFind : (Event → WorldState → Type 0) → List (List Event) → Flowing → Type 0
 RoundsFind finds [] flowing = Unit {0}
 RoundsFind finds (between ∷ later) flowing =
-    EachFinds finds (map (λ (one : RoundEvent). one.event) (due stations flowing)) flowing.state × EachFinds finds between (round stations flowing).state
-    × RoundsFind finds later (all_tried between (round stations flowing))
+    EachFinds finds (map (λ (one : RoundEvent). one.event) (due flowing)) flowing.state × EachFinds finds between (round flowing).state
+    × RoundsFind finds later (all_tried between (round flowing))
 
--- Where a route proceeds, the links of its points are ready and up before an event; and behind it they are still in their connections,
+-- Where a route proceeds, the links of its points are ready and up before an event; and after it they are still in their connections,
 -- its sections are clear, and its signal's link is ready.
 abbrev pub FindsUpheld : Site → Table → ℕ → Row → Event → WorldState → Type 0
-FindsUpheld site table number row event world = At world.station.ixl.routes number HasAspect → HasPointsUp world row × IsClearFor table (happens site table event world).station.ixl row
+FindsUpheld site table number row event world = At world.interlocking.ixl.routes number HasAspect → HasPointsUp world row × IsClearFor table (happens site table event world).interlocking.ixl row

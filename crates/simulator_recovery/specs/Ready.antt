@@ -1,12 +1,12 @@
 -- A link of a station that is ready at both ends.
 use Rattle.std.specs.Prelude.{◌≡◌, ℕ, true, List, Option, Some, None, slice_get}
-use Rattle.simulator_run.specs.layout.Entries.{Site}
-use Rattle.simulator_run.specs.object_host.declared.stage.Stage.{Stage}
-use Rattle.simulator_run.specs.object_host.declared.stage.Stage.TheVariants as stage
-use Rattle.simulator_run.specs.ixl_client.Client.{ClientState, is_ready}
-use Rattle.simulator_run.specs.Nodes.{Detector, Interlocking, Node, Point, Signal, controller_at}
-use Rattle.simulator_run.specs.State.{ClockedControllerState, WorldState}
-use Rattle.simulator_run_links.specs.Whole.{client_states}
+use Rattle.simulator_spec.specs.layout.Entries.{Site}
+use Rattle.simulator_spec.specs.object_host.declared.stage.Stage.{Stage}
+use Rattle.simulator_spec.specs.object_host.declared.stage.Stage.TheVariants as stage
+use Rattle.simulator_spec.specs.ixl_client.Client.{ClientState, is_ready}
+use Rattle.simulator_spec.specs.Nodes.{Detector, Interlocking, Node, Point, Signal, controller_at}
+use Rattle.simulator_spec.specs.State.{ClockedControllerState, WorldState}
+use Rattle.simulator_link_laws.specs.Whole.{client_states}
 use Rattle.simulator_recovery.specs.LinkRounds.{IsUpOn}
 
 -- the connection of this controller of a list has come so far
@@ -25,7 +25,7 @@ HostIsAt (Some (Detector place)) world how_far = IsAtStage world.detectors place
 pub record IsReadyOn (site : Site) (link : ℕ) (world : WorldState) : Type 0 where
   pub up : IsUpOn link world
   pub client : ClientState
-  pub there : slice_get (client_states world.station.ixl) link ≡ Some client
+  pub there : slice_get (client_states world.interlocking.ixl) link ≡ Some client
   pub client_ready : is_ready client.stage ≡ true
   pub host_ready : HostIsAt (controller_at site link) world stage.Completed
 

@@ -1,30 +1,29 @@
 -- What the interlocking knows of sections, and what their detectors have told of them.
 use Rattle.std.specs.Prelude.{◌≡◌, ◌≢◌, ℕ, ◌==◌, ◌<◌, Bool, true, false, List, [], ◌∷◌, ◌++◌, ◌≤◌, length, Option, Some, None, slice_get, if◌then◌else◌}
 use Rattle.std.specs.FinSet.{contains}
-use Rattle.simulator_run.specs.layout.Entries.{Site}
-use Rattle.simulator_run.specs.rasta_core.Clock.{settled}
-use Rattle.simulator_run.specs.rasta_core.Ends.{reading_of}
-use Rattle.simulator_run.specs.rasta_core.Links.{Links}
-use Rattle.simulator_run.specs.rasta_core.Parameters.{window_size}
-use Rattle.simulator_run.specs.rasta_core.State.{is_open, is_up}
-use Rattle.simulator_run.specs.sci_telegram.declared.message.Occupancy.{Occupancy}
-use Rattle.simulator_run.specs.sci_telegram.declared.message.Occupancy.TheVariants.{Clear, Occupied}
-use Rattle.simulator_run.specs.object_host.Host.{HostState, is_completed}
-use Rattle.simulator_run.specs.tds_ctl.declared.section.Section.{Section}
-use Rattle.simulator_run.specs.ixl_client.Client.{PeerState, is_ready}
-use Rattle.simulator_run.specs.ixl_client.Made.{told_by_all}
-use Rattle.simulator_run.specs.ixl_client.declared.indication.Indication.{Indication}
-use Rattle.simulator_run.specs.ixl_rules.Due.{At, IsClear, IsOccupied}
-use Rattle.simulator_run.specs.ixl_rules.State.{IxlState, KnownDetectorState}
-use Rattle.simulator_run.specs.ixl_rules.Step.{is_told_occupied}
-use Rattle.simulator_run.specs.ixl_rules.Table.{Table}
-use Rattle.simulator_run.specs.simulator_event.declared.event.Event.{Event}
-use Rattle.simulator_run.specs.simulator_event.declared.event.Event.TheVariants as event
-use Rattle.simulator_run.specs.Nodes.{Detector, detector_link, node_at}
-use Rattle.simulator_run.specs.State.{ClockedControllerState, WorldState}
-use Rattle.simulator_run.specs.Flow.{Flowing}
-use Rattle.simulator_run.specs.Tried.{Played}
-use Rattle.simulator_run_links.specs.HasLinks.{HasLinks, links_in}
+use Rattle.simulator_spec.specs.layout.Entries.{Site}
+use Rattle.simulator_spec.specs.rasta_core.Clock.{settled}
+use Rattle.simulator_spec.specs.rasta_core.Ends.{reading_of}
+use Rattle.simulator_spec.specs.rasta_core.Links.{Links}
+use Rattle.simulator_spec.specs.rasta_core.Parameters.{window_size}
+use Rattle.simulator_spec.specs.rasta_core.State.{is_open, is_up}
+use Rattle.simulator_spec.specs.sci_telegram.declared.message.Occupancy.{Occupancy}
+use Rattle.simulator_spec.specs.sci_telegram.declared.message.Occupancy.TheVariants.{Clear, Occupied}
+use Rattle.simulator_spec.specs.object_host.Host.{HostState, is_completed}
+use Rattle.simulator_spec.specs.tds_ctl.declared.section.Section.{Section}
+use Rattle.simulator_spec.specs.ixl_client.Client.{PeerState, is_ready}
+use Rattle.simulator_spec.specs.ixl_client.Made.{told_by_all}
+use Rattle.simulator_spec.specs.ixl_client.declared.indication.Indication.{Indication}
+use Rattle.simulator_spec.specs.ixl_spec.Due.{At, IsClear, IsOccupied}
+use Rattle.simulator_spec.specs.ixl_spec.State.{IxlState, KnownDetectorState}
+use Rattle.simulator_spec.specs.ixl_spec.Step.{is_told_occupied}
+use Rattle.simulator_spec.specs.ixl_spec.Table.{Table}
+use Rattle.simulator_spec.specs.simulator_event.declared.event.Event.{Event}
+use Rattle.simulator_spec.specs.simulator_event.declared.event.Event.TheVariants as event
+use Rattle.simulator_spec.specs.Nodes.{Detector, detector_link, node_at}
+use Rattle.simulator_spec.specs.State.{ClockedControllerState, WorldState}
+use Rattle.simulator_spec.specs.Flow.{Flowing}
+use Rattle.simulator_link_laws.specs.HasLinks.{HasLinks, links_in}
 use Rattle.simulator_recovery.specs.HandedOver.{HasSpokenAlone}
 use Rattle.simulator_recovery.specs.Rounds.{good_rounds}
 
@@ -63,8 +62,8 @@ pub record TellsAsTheyAre (peer : PeerState) (host : HostState (List Section)) (
 
 -- All detectors of a station, with what was given and taken at their ends of the links.
 pub record AllReport (site : Site) (world : WorldState) (network : Links) : Type 0 where
-  pub clients : (place : ℕ) (known : KnownDetectorState) → slice_get world.station.ixl.detectors place ≡ Some known → KnowsByReports (reading_of world.station.clock) known (network.ends (detector_link site place)).client.taken
-  pub detectors : (place : ℕ) (known : KnownDetectorState) (controller : ClockedControllerState (List Section)) → slice_get world.station.ixl.detectors place ≡ Some known → slice_get world.detectors place ≡ Some controller
+  pub clients : (place : ℕ) (known : KnownDetectorState) → slice_get world.interlocking.ixl.detectors place ≡ Some known → KnowsByReports (reading_of world.interlocking.clock) known (network.ends (detector_link site place)).client.taken
+  pub detectors : (place : ℕ) (known : KnownDetectorState) (controller : ClockedControllerState (List Section)) → slice_get world.interlocking.ixl.detectors place ≡ Some known → slice_get world.detectors place ≡ Some controller
       → TellsAsTheyAre known.client.peer controller.host (network.ends (detector_link site place)).server.given
 
 -- the links of a station, and what its detectors have told there
@@ -88,7 +87,7 @@ IsKnownAs table ixl section Occupied = IsOccupied table ixl section
 
 -- The interlocking knows a section as its detector has it.
 abbrev pub IsKnownAsItIs : Table → WorldState → ℕ → Type 0
-IsKnownAsItIs table world section = SectionIs table world section (λ one. IsKnownAs table world.station.ixl section one.occupancy)
+IsKnownAsItIs table world section = SectionIs table world section (λ one. IsKnownAs table world.interlocking.ixl section one.occupancy)
 
 -- Each detector has its sections as they are in the field.
 pub record SensesAsTheyAre (table : Table) (world : WorldState) : Type 0 where
@@ -97,7 +96,7 @@ pub record SensesAsTheyAre (table : Table) (world : WorldState) : Type 0 where
 
 -- The interlocking knows a section as it is in the field.
 abbrev pub IsKnownAsInTheField : Table → WorldState → ℕ → Type 0
-IsKnownAsInTheField table world section = At world.occupancies section (IsKnownAs table world.station.ixl section)
+IsKnownAsInTheField table world section = At world.occupancies section (IsKnownAs table world.interlocking.ixl section)
 
 -- An event that tells nothing of a section's occupancy, and doesn't make its detector anew.
 abbrev pub LeavesSection : Site → Table → ℕ → Event → Type 0
@@ -115,9 +114,9 @@ HasRoomToReport table world section = At table.reporters section (λ reporter. A
 
 -- ---- how a detector's window gets room
 
--- Somewhere in these good rounds, behind so many of them, stand two in which the interlocking gives nothing on a link, and says something in
+-- Somewhere in these good rounds, after so many of them, stand two in which the interlocking gives nothing on a link, and says something in
 -- the second.
-pub record SpeaksAloneIn (link : ℕ) (between : List Event) (least : ℕ) (rounds : List (List Event)) (flowing : Flowing Played) : Type 0 where
+pub record SpeaksAloneIn (link : ℕ) (between : List Event) (least : ℕ) (rounds : List (List Event)) (flowing : Flowing) : Type 0 where
   pub front : List (List Event)
   pub one : List Event
   pub two : List Event
@@ -128,6 +127,6 @@ pub record SpeaksAloneIn (link : ℕ) (between : List Event) (least : ℕ) (roun
 
 -- ---- how long a section takes
 
--- so many good rounds behind its last change a section is known as it is in the field: 320 ms
+-- so many good rounds after its last change a section is known as it is in the field: 320 ms
 abbrev pub section_rounds : ℕ
 section_rounds = 32

@@ -1,14 +1,13 @@
 -- The last aspect that a signal was given, and the lamp that shows it.
 use Rattle.std.specs.Prelude.{◌≡◌, ℕ, List, [], ◌∷◌, Some, slice_get}
-use Rattle.simulator_run.specs.sci_telegram.declared.message.Aspect.{Aspect}
-use Rattle.simulator_run.specs.ixl_rules.Due.{At, IsRouteOf}
-use Rattle.simulator_run.specs.ixl_rules.State.{IxlState, KnownSignalState, RouteState}
-use Rattle.simulator_run.specs.ixl_rules.Table.{Row, Table}
-use Rattle.simulator_run.specs.simulator_event.declared.event.Event.{Event}
-use Rattle.simulator_run.specs.Flow.{Flowing, round, stations}
-use Rattle.simulator_run.specs.Seen.{shown_by}
-use Rattle.simulator_run.specs.State.{WorldState}
-use Rattle.simulator_run.specs.Tried.{Played}
+use Rattle.simulator_spec.specs.sci_telegram.declared.message.Aspect.{Aspect}
+use Rattle.simulator_spec.specs.ixl_spec.Due.{At, IsRouteOf}
+use Rattle.simulator_spec.specs.ixl_spec.State.{IxlState, KnownSignalState, RouteState}
+use Rattle.simulator_spec.specs.ixl_spec.Table.{Row, Table}
+use Rattle.simulator_spec.specs.simulator_event.declared.event.Event.{Event}
+use Rattle.simulator_spec.specs.Flow.{Flowing, round}
+use Rattle.simulator_spec.specs.Seen.{shown_by}
+use Rattle.simulator_spec.specs.State.{WorldState}
 use Rattle.simulator_recovery.specs.NothingDue.{Proceeds}
 use Rattle.simulator_recovery.specs.Rounds.{all_tried}
 
@@ -29,23 +28,23 @@ Shows signal aspect world = At world.signals signal (λ controller. shown_by con
 abbrev pub RouteProceeds : Table → IxlState → ℕ → Row → Type 0
 RouteProceeds table ixl number row = (route : RouteState) × IsRouteOf table ixl number row route × Proceeds route
 
-abbrev pub ProceedsAt : ℕ → Row → Flowing Played → Type 0
-ProceedsAt number row flowing = RouteProceeds flowing.state.sited.table flowing.state.run.station.ixl number row
+abbrev pub ProceedsAt : ℕ → Row → Flowing → Type 0
+ProceedsAt number row flowing = RouteProceeds flowing.state.sited.table flowing.state.run.interlocking.ixl number row
 
--- so many good rounds behind the moment at which a route proceeds its signal shows its aspect: 10 ms
+-- so many good rounds after the moment at which a route proceeds its signal shows its aspect: 10 ms
 abbrev pub aspect_rounds : ℕ
 aspect_rounds = 1
 
 -- ---- round by round
 
--- The route proceeds before each of these good rounds, and behind it: it is neither cancelled nor withdrawn.
-abbrev pub ProceedsThrough : ℕ → Row → List (List Event) → Flowing Played → Type 0
+-- The route proceeds before each of these good rounds, and after it: it is neither cancelled nor withdrawn.
+abbrev pub ProceedsThrough : ℕ → Row → List (List Event) → Flowing → Type 0
 ProceedsThrough number row [] flowing = Unit {0}
 ProceedsThrough number row (between ∷ later) flowing =
-    ProceedsAt number row flowing × ProceedsAt number row (round stations flowing) × ProceedsThrough number row later (all_tried between (round stations flowing))
+    ProceedsAt number row flowing × ProceedsAt number row (round flowing) × ProceedsThrough number row later (all_tried between (round flowing))
 
--- The lamp shows this aspect behind each of these good rounds, with the requests and occupancies that come behind it.
-abbrev pub ShowsThrough : ℕ → Aspect → List (List Event) → Flowing Played → Type 0
+-- The lamp shows this aspect after each of these good rounds, with the requests and occupancies that come after it.
+abbrev pub ShowsThrough : ℕ → Aspect → List (List Event) → Flowing → Type 0
 ShowsThrough signal aspect [] flowing = Unit {0}
 ShowsThrough signal aspect (between ∷ later) flowing =
-    Shows signal aspect (all_tried between (round stations flowing)).state.run × ShowsThrough signal aspect later (all_tried between (round stations flowing))
+    Shows signal aspect (all_tried between (round flowing)).state.run × ShowsThrough signal aspect later (all_tried between (round flowing))

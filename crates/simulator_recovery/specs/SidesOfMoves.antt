@@ -1,16 +1,16 @@
 -- The side to which a move that is out goes.
 use Rattle.std.specs.Prelude.{◌≡◌, ℕ, List, [], ◌∷◌, ◌++◌, Some, slice_get}
-use Rattle.simulator_run.specs.layout.Entries.{Site}
-use Rattle.simulator_run.specs.sci_telegram.declared.message.Side.{Side}
-use Rattle.simulator_run.specs.ixl_client.declared.command.Command.TheVariants.{Move}
-use Rattle.simulator_run.specs.ixl_client.declared.stage.Stage.TheVariants.{AwaitsReport}
-use Rattle.simulator_run.specs.ixl_rules.Due.{At, IsHeldAt}
-use Rattle.simulator_run.specs.ixl_rules.State.{IxlState, KnownPointState}
-use Rattle.simulator_run.specs.ixl_rules.Table.{Table}
-use Rattle.simulator_run.specs.rasta_core.Links.{Links}
-use Rattle.simulator_run.specs.Nodes.{point_link}
-use Rattle.simulator_run.specs.State.{WorldState}
-use Rattle.simulator_run_links.specs.HasLinks.{HasLinks, links_in}
+use Rattle.simulator_spec.specs.layout.Entries.{Site}
+use Rattle.simulator_spec.specs.sci_telegram.declared.message.Side.{Side}
+use Rattle.simulator_spec.specs.ixl_client.declared.command.Command.TheVariants.{Move}
+use Rattle.simulator_spec.specs.ixl_client.declared.stage.Stage.TheVariants.{AwaitsReport}
+use Rattle.simulator_spec.specs.ixl_spec.Due.{At, IsHeldAt}
+use Rattle.simulator_spec.specs.ixl_spec.State.{IxlState, KnownPointState}
+use Rattle.simulator_spec.specs.ixl_spec.Table.{Table}
+use Rattle.simulator_spec.specs.rasta_core.Links.{Links}
+use Rattle.simulator_spec.specs.Nodes.{point_link}
+use Rattle.simulator_spec.specs.State.{WorldState}
+use Rattle.simulator_link_laws.specs.HasLinks.{HasLinks, links_in}
 use Rattle.simulator_recovery.specs.ClientSaid.{commanded}
 
 -- an item is the last of a list
@@ -28,8 +28,8 @@ MovesGoWhereHeld site table ixl network =
 -- the links of a station, and where the moves go that are out there
 pub record HaveMovesWhereHeld (site : Site) (table : Table) (world : WorldState) : Type 0 where
   pub has : HasLinks site world
-  pub go : MovesGoWhereHeld site table world.station.ixl (links_in has)
+  pub go : MovesGoWhereHeld site table world.interlocking.ixl (links_in has)
 
 -- the interlocking awaits the report of a point's move
 abbrev pub AwaitsMove : ℕ → WorldState → Type 0
-AwaitsMove point world = At world.station.ixl.known_points point (λ known. known.client.stage ≡ AwaitsReport)
+AwaitsMove point world = At world.interlocking.ixl.known_points point (λ known. known.client.stage ≡ AwaitsReport)

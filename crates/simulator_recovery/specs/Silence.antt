@@ -1,17 +1,17 @@
 -- What the controllers of a station take over a list of events, and when that was made.
 use Rattle.std.specs.Prelude.{◌≡◌, ℕ, ◌≤◌, Bool, true, List, [], ◌∷◌, Some, slice_get}
-use Rattle.simulator_run.specs.layout.Entries.{Site}
-use Rattle.simulator_run.specs.rasta_core.Calls.{receiving}
-use Rattle.simulator_run.specs.rasta_core.Clock.{settled}
-use Rattle.simulator_run.specs.rasta_core.Ends.{Sent, is_taken, reading_of}
-use Rattle.simulator_run.specs.ixl_rules.Table.{Table}
-use Rattle.simulator_run.specs.simulator_event.declared.event.Event.{Event}
-use Rattle.simulator_run.specs.simulator_event.declared.event.Event.TheVariants as event
-use Rattle.simulator_run.specs.Happens.{happens}
-use Rattle.simulator_run.specs.Network.{copy_of}
-use Rattle.simulator_run.specs.Nodes.{Node, Interlocking, Signal, Point, Detector, node_at}
-use Rattle.simulator_run.specs.Controllers.{is_inside_at}
-use Rattle.simulator_run.specs.State.{ClockedControllerState, WorldState}
+use Rattle.simulator_spec.specs.layout.Entries.{Site}
+use Rattle.simulator_spec.specs.rasta_core.Calls.{receiving}
+use Rattle.simulator_spec.specs.rasta_core.Clock.{settled}
+use Rattle.simulator_spec.specs.rasta_core.Ends.{Sent, is_taken, reading_of}
+use Rattle.simulator_spec.specs.ixl_spec.Table.{Table}
+use Rattle.simulator_spec.specs.simulator_event.declared.event.Event.{Event}
+use Rattle.simulator_spec.specs.simulator_event.declared.event.Event.TheVariants as event
+use Rattle.simulator_spec.specs.Happens.{happens}
+use Rattle.simulator_spec.specs.Network.{copy_of}
+use Rattle.simulator_spec.specs.Nodes.{Node, Interlocking, Signal, Point, Detector, node_at}
+use Rattle.simulator_spec.specs.Controllers.{is_inside_at}
+use Rattle.simulator_spec.specs.State.{ClockedControllerState, WorldState}
 
 -- how long a lamp shows another aspect than stop, and a point is driven, after its controller's last datagram was made, at
 -- the longest: 1802 ms, in microseconds of true time

@@ -1,34 +1,34 @@
 -- What the controllers of a station have given in their connections.
 use Rattle.std.specs.Prelude.{◌≡◌, ℕ, true, List, [], ◌∷◌, ◌++◌, map, Some, slice_get, Ok}
-use Rattle.simulator_run.specs.control_table.Table.{telegram_version}
-use Rattle.simulator_run.specs.layout.Entries.{DetectorEntry, Site}
-use Rattle.simulator_run.specs.layout.declared.entries.Point.{Point as PointEntry}
-use Rattle.simulator_run.specs.layout.declared.entries.Signal.{Signal as SignalEntry}
-use Rattle.simulator_run.specs.rasta_core.Each.{Each}
-use Rattle.simulator_run.specs.rasta_core.Links.{Links}
-use Rattle.simulator_run.specs.rasta_core.Ends.{EndState}
-use Rattle.simulator_run.specs.rasta_core.State.{is_open}
-use Rattle.simulator_run.specs.sci_telegram.TelegramRead.{reading}
-use Rattle.simulator_run.specs.sci_telegram.Telegrams.{writing}
-use Rattle.simulator_run.specs.sci_telegram.declared.message.Agreement.TheVariants.{NoMatch, Match}
-use Rattle.simulator_run.specs.sci_telegram.declared.message.Initialisation.TheVariants.{VersionAnswer, VersionCheck}
-use Rattle.simulator_run.specs.sci_telegram.declared.message.Message.TheVariants as message
-use Rattle.simulator_run.specs.sci_telegram.declared.message.Protocol.{Protocol}
-use Rattle.simulator_run.specs.sci_telegram.declared.telegram.Telegram.{Telegram}
-use Rattle.simulator_run.specs.object_host.Behaviour.{Behaviour}
-use Rattle.simulator_run.specs.object_host.Host.{HostState, said, sender_of}
-use Rattle.simulator_run.specs.object_host.Told.{initialisation}
-use Rattle.simulator_run.specs.object_host.declared.report.Report.{Report}
-use Rattle.simulator_run.specs.object_host.declared.stage.Stage.{Stage}
-use Rattle.simulator_run.specs.object_host.declared.stage.Stage.TheVariants as stage
-use Rattle.simulator_run.specs.signal_ctl.Signal.{SignalState, signal_behaviour}
-use Rattle.simulator_run.specs.point_ctl.Controlled.{point_behaviour}
-use Rattle.simulator_run.specs.point_ctl.Drive.{PointState}
-use Rattle.simulator_run.specs.tds_ctl.Controlled.{detection_behaviour}
-use Rattle.simulator_run.specs.tds_ctl.declared.section.Section.{Section}
-use Rattle.simulator_run.specs.Nodes.{detector_link, point_link}
-use Rattle.simulator_run.specs.State.{ClockedControllerState, WorldState}
-use Rattle.simulator_run_links.specs.HasLinks.{HasLinks, links_in}
+use Rattle.simulator_spec.specs.control_table.Table.{telegram_version}
+use Rattle.simulator_spec.specs.layout.Entries.{DetectorEntry, Site}
+use Rattle.simulator_spec.specs.layout.declared.entries.Point.{Point as PointEntry}
+use Rattle.simulator_spec.specs.layout.declared.entries.Signal.{Signal as SignalEntry}
+use Rattle.simulator_spec.specs.rasta_core.Each.{Each}
+use Rattle.simulator_spec.specs.rasta_core.Links.{Links}
+use Rattle.simulator_spec.specs.rasta_core.Ends.{EndState}
+use Rattle.simulator_spec.specs.rasta_core.State.{is_open}
+use Rattle.simulator_spec.specs.sci_telegram.TelegramRead.{reading}
+use Rattle.simulator_spec.specs.sci_telegram.Telegrams.{writing}
+use Rattle.simulator_spec.specs.sci_telegram.declared.message.Agreement.TheVariants.{NoMatch, Match}
+use Rattle.simulator_spec.specs.sci_telegram.declared.message.Initialisation.TheVariants.{VersionAnswer, VersionCheck}
+use Rattle.simulator_spec.specs.sci_telegram.declared.message.Message.TheVariants as message
+use Rattle.simulator_spec.specs.sci_telegram.declared.message.Protocol.{Protocol}
+use Rattle.simulator_spec.specs.sci_telegram.declared.telegram.Telegram.{Telegram}
+use Rattle.simulator_spec.specs.object_host.Behaviour.{Behaviour}
+use Rattle.simulator_spec.specs.object_host.Host.{HostState, said, sender_of}
+use Rattle.simulator_spec.specs.object_host.Told.{initialisation}
+use Rattle.simulator_spec.specs.object_host.declared.report.Report.{Report}
+use Rattle.simulator_spec.specs.object_host.declared.stage.Stage.{Stage}
+use Rattle.simulator_spec.specs.object_host.declared.stage.Stage.TheVariants as stage
+use Rattle.simulator_spec.specs.signal_ctl.Signal.{SignalState, signal_behaviour}
+use Rattle.simulator_spec.specs.point_ctl.Controlled.{point_behaviour}
+use Rattle.simulator_spec.specs.point_ctl.Drive.{PointState}
+use Rattle.simulator_spec.specs.tds_ctl.Controlled.{detection_behaviour}
+use Rattle.simulator_spec.specs.tds_ctl.declared.section.Section.{Section}
+use Rattle.simulator_spec.specs.Nodes.{detector_link, point_link}
+use Rattle.simulator_spec.specs.State.{ClockedControllerState, WorldState}
+use Rattle.simulator_link_laws.specs.HasLinks.{HasLinks, links_in}
 use Rattle.simulator_recovery.specs.Matched.{IsSpoken, name_of, section_names}
 
 -- one list is a beginning of another

@@ -1,12 +1,12 @@
 -- When a cancelled route is free whose approach counted, and when authority has ended whatever came before.
 use Rattle.std.specs.Prelude.{◌≡◌, ◌≢◌, ℕ, List, [], ◌∷◌}
-use Rattle.simulator_run.specs.ixl_rules.declared.command.Command.TheVariants as commands
-use Rattle.simulator_run.specs.simulator_event.declared.event.Event.{Event}
-use Rattle.simulator_run.specs.simulator_event.declared.event.Event.TheVariants as event
-use Rattle.simulator_run.specs.simulator_event.declared.reply.Answer.TheVariants as answer
-use Rattle.simulator_run.specs.Flow.{Flowing, round, stations}
-use Rattle.simulator_run.specs.Happens.{answered}
-use Rattle.simulator_run.specs.Tried.{Played, after}
+use Rattle.simulator_spec.specs.ixl_spec.declared.command.Command.TheVariants as commands
+use Rattle.simulator_spec.specs.simulator_event.declared.event.Event.{Event}
+use Rattle.simulator_spec.specs.simulator_event.declared.event.Event.TheVariants as event
+use Rattle.simulator_spec.specs.simulator_event.declared.reply.Answer.TheVariants as answer
+use Rattle.simulator_spec.specs.Flow.{Flowing, round}
+use Rattle.simulator_spec.specs.Happens.{answered}
+use Rattle.simulator_spec.specs.Tried.{after}
 use Rattle.simulator_recovery.specs.Rounds.{all_tried}
 
 -- this event doesn't ask for the route
@@ -15,26 +15,26 @@ SetsNot number (event.Request (commands.Request route)) = route.0 ≢ number
 SetsNot number _ = Unit {0}
 
 -- of these events, one after another, none is accepted that asks for the route
-abbrev pub NoneSets : ℕ → List Event → Flowing Played → Type 0
+abbrev pub NoneSets : ℕ → List Event → Flowing → Type 0
 NoneSets number [] flowing = Unit {0}
 NoneSets number (one ∷ others) flowing =
     (answered flowing.state.sited.site flowing.state.sited.table one flowing.state.run ≡ answer.Accepted → SetsNot number one)
     × NoneSets number others (record flowing { state = after flowing.state one })
 
 -- so in these good rounds the route isn't set anew
-abbrev pub IsNotSetAnew : ℕ → List (List Event) → Flowing Played → Type 0
+abbrev pub IsNotSetAnew : ℕ → List (List Event) → Flowing → Type 0
 IsNotSetAnew number [] flowing = Unit {0}
-IsNotSetAnew number (between ∷ later) flowing = NoneSets number between (round stations flowing) × IsNotSetAnew number later (all_tried between (round stations flowing))
+IsNotSetAnew number (between ∷ later) flowing = NoneSets number between (round flowing) × IsNotSetAnew number later (all_tried between (round flowing))
 
 -- so many good rounds after its authority has ended a cancelled route is free, unless a train came: 120,000 ms, its approach time
 abbrev pub approach_time_rounds : ℕ
 approach_time_rounds = 12000
 
--- and so many behind its cancel: 120,020 ms, since its authority has ended within 20 ms
+-- and so many after its cancel: 120,020 ms, since its authority has ended within 20 ms
 abbrev pub approach_rounds : ℕ
 approach_rounds = 12002
 
--- so many good rounds behind a moment the authority of a route that was withdrawn then has ended, whatever came before: 320 ms, since its
+-- so many good rounds after a moment the authority of a route that was withdrawn then has ended, whatever came before: 320 ms, since its
 -- signal says something in each 300 ms, and so confirms stop
 abbrev pub told_rounds : ℕ
 told_rounds = 32

@@ -3,190 +3,48 @@
 //! is no code here but laws.
 #![tactic(auto)]
 
-mod answered;
-mod authority;
-mod begins;
-mod clients;
-mod closes;
-mod controllers;
-mod conversation;
-mod counts;
-mod due;
-mod expected;
-mod field_points;
-mod first_round;
-mod flows;
-mod held;
-mod known;
+mod below;
 mod lamps;
-mod laws;
 mod links;
-mod matched;
-mod moves;
-mod once;
-mod passage;
-mod quiet;
-mod replies;
-mod room;
-mod routes;
+mod points;
+mod rounds;
+mod routes_coming;
+mod routes_going;
 mod sections;
-mod sections_in_time;
-mod shows;
-mod sides;
-mod signals;
 mod silence;
-mod trains;
-mod unheld;
+mod talk;
 mod windows;
-mod withdrawn;
 
-pub use answered::moves_that_are_out_are_new;
-pub use answered::no_move_is_unanswered;
-pub use answered::points_held_with_authority_await_nothing;
-pub use answered::points_of_proceeding_routes_await_nothing;
-pub use authority::authority_ends_behind_a_cancel;
-pub use authority::authority_ends_where_stop_is_given;
-pub use authority::rounds_leave_no_cancelled_route;
-pub use authority::routes_are_free_behind_a_cancel;
-pub use begins::drives_stay_far_from_their_limit;
-pub use begins::moves_that_are_out_are_reported;
-pub use begins::reports_of_drives_come_back;
-pub use clients::clients_have_said_what_their_stages_tell;
-pub use closes::clients_close_by_their_window_alone;
-pub use closes::controllers_close_no_link;
-pub use closes::events_close_no_link;
-pub use controllers::controllers_keep_to_their_conversations;
-pub use conversation::clients_act_on_what_they_expect;
-pub use conversation::clients_count_what_they_act_on;
-pub use conversation::clients_expect_what_hosts_say;
-pub use conversation::commands_are_expected;
-pub use conversation::hosts_act_on_what_they_expect;
-pub use conversation::hosts_count_what_they_act_on;
-pub use conversation::hosts_expect_what_clients_say;
-pub use conversation::hosts_say_their_whole_initialisation;
-pub use conversation::hosts_stand_at_their_stage;
-pub use counts::controllers_have_said_what_their_stages_tell;
-pub use counts::controllers_tell_as_many;
-pub use counts::hosts_have_said_what_their_stage_tells;
-pub use counts::hosts_say_in_their_order;
-pub use counts::hosts_stand_by_their_counts;
-pub use counts::stations_stand_by_their_counts;
-pub use due::accepted_settings_move_their_points;
-pub use due::held_points_stay_known;
-pub use due::moves_go_to_the_side_that_is_held;
-pub use due::no_cancelled_route_waits_that_may_be_freed;
-pub use due::no_move_waits_that_is_due;
-pub use due::no_route_waits_that_may_proceed;
-pub use due::no_stop_waits_that_is_due;
-pub use due::routes_proceed_while_their_sections_are_clear;
-pub use due::set_routes_go_on_over_rounds;
-pub use due::upheld_routes_go_on_proceeding;
-pub use due::waiting_routes_find_their_signals_at_stop;
-pub use due::waiting_routes_wait_or_proceed;
-pub use expected::clients_expect_what_comes_next;
-pub use expected::hosts_expect_what_comes_next;
-pub use expected::points_answer_each_move_once;
-pub use field_points::points_held_with_authority_are_known;
-pub use first_round::links_are_ready_from_the_first_round;
-pub use first_round::links_come_up_from_the_first_round;
-pub use flows::a_station_begins_its_flow;
-pub use flows::flows_stay_flows;
-pub use held::accepted_routes_come_in_time;
-pub use held::driven_points_of_a_route_are_known;
-pub use held::reports_make_points_of_routes_known;
-pub use held::set_routes_come_in_time;
-pub use known::answers_make_points_known;
-pub use known::points_are_known_by_their_reports;
-pub use known::reported_points_are_known;
-pub use lamps::authority_ends_where_stop_is_confirmed;
-pub use lamps::authority_ends_with_the_confirmation;
-pub use lamps::cancels_leave_no_aspect;
-pub use lamps::lamps_fall_behind_a_cancel;
-pub use lamps::lamps_follow_what_was_given;
-pub use lamps::links_hand_over;
-pub use lamps::rounds_give_no_aspect;
-pub use lamps::stop_comes;
-pub use lamps::stop_is_given_last;
-pub use lamps::withdrawn_routes_stand_alone;
-pub use laws::each_round_delivers_what_the_last_one_left;
-pub use laws::good_rounds_are_at_work_on_links;
-pub use laws::good_rounds_are_events;
-pub use laws::good_rounds_leave_fresh_datagrams;
-pub use laws::good_rounds_take_their_time;
-pub use laws::links_are_ready;
-pub use laws::links_come_up;
-pub use laws::links_that_are_up_are_in_one_connection;
-pub use laws::the_hold_ends;
-pub use links::items_go_on;
-pub use matched::stations_are_matched;
-pub use moves::answered_points_are_available;
-pub use moves::driven_points_reach;
-pub use moves::drives_end_with_their_reports;
-pub use moves::moves_are_answered;
-pub use moves::moves_come_over;
-pub use moves::points_report_each_move;
-pub use moves::reports_come_back;
-pub use once::links_of_points_count_on;
-pub use once::moves_that_are_given_are_the_last;
-pub use once::moves_that_are_out_are_the_last;
-pub use once::points_are_moved_once;
-pub use passage::no_section_waits_that_its_passage_lets_go;
-pub use passage::routes_are_free_behind_their_trains;
-pub use passage::routes_saw_what_is_known_of_their_sections;
-pub use passage::seen_sections_stay_seen;
-pub use passage::trains_free_their_routes;
-pub use quiet::known_points_lie_at_their_sides;
-pub use quiet::no_move_is_out_where_nothing_came;
-pub use quiet::no_move_is_out_where_nothing_comes;
-pub use quiet::points_at_rest_stay_at_rest;
-pub use replies::links_confirm;
-pub use replies::signals_report_at_once;
-pub use room::points_controllers_never_fill_their_windows;
-pub use routes::accepted_routes_come;
-pub use routes::accepted_settings_are_on_course;
-pub use routes::links_stay_up;
-pub use routes::routes_come;
-pub use routes::set_routes_keep_their_course;
-pub use sections::detectors_sense_their_sections;
-pub use sections::detectors_tell_what_they_saw;
-pub use sections::detectors_windows_hold_no_more;
-pub use sections::interlockings_speak_alone_to_detectors;
-pub use sections::interlockings_speak_on_links;
-pub use sections::known_sections_are_as_in_the_field;
-pub use sections::owed_reports_wait_for_the_window;
-pub use sections::quiet_links_confirm_at_once;
-pub use sections::ready_detectors_were_given_two_items;
-pub use sections::sections_are_reported_with_room;
-pub use sections::told_sections_are_known;
-pub use sections::told_sections_come_over;
-pub use sections::told_sections_stay_told;
-pub use sections_in_time::detectors_windows_have_room;
-pub use sections_in_time::sections_are_reported;
-pub use sections_in_time::sections_are_reported_where_nothing_came;
-pub use shows::aspects_stay;
-pub use shows::lamps_show_what_was_given;
-pub use shows::proceeding_routes_gave_their_aspect;
-pub use shows::rounds_give_proceeding_routes_nothing;
-pub use shows::routes_show_their_aspect;
-pub use sides::driven_points_go_where_routes_want;
-pub use sides::drives_are_reported_where_routes_want;
-pub use sides::moves_that_are_out_go_where_routes_want;
-pub use sides::set_routes_hold_their_points;
-pub use signals::signals_never_fill_their_windows;
-pub use silence::connections_end_in_silence;
-pub use silence::lamps_fall_in_silence;
-pub use silence::points_rest_in_silence;
-pub use trains::withdrawn_routes_are_free_behind_their_trains;
-pub use unheld::accepted_routes_come_over_clear_sections;
-pub use unheld::points_of_proceeding_routes_are_known;
-pub use unheld::set_routes_come_over_clear_sections;
-pub use windows::detectors_never_fill_their_windows;
-pub use windows::points_never_fill_their_windows;
-pub use withdrawn::authority_ends_behind_a_withdrawal;
-pub use withdrawn::authority_ends_where_stop_is_given_within_a_round;
-pub use withdrawn::authority_ends_within_a_heartbeat;
-pub use withdrawn::cancelled_routes_are_free_behind_their_approach;
-pub use withdrawn::ended_routes_are_free_at_once;
-pub use withdrawn::ended_routes_are_free_behind_their_approach;
-pub use withdrawn::waiting_routes_are_free_at_once;
-pub use withdrawn::waiting_routes_are_free_behind_a_cancel;
+pub use lamps::{aspects_stay, lamps_fall_behind_a_cancel, routes_show_their_aspect, stop_comes};
+pub use links::{
+    good_rounds_are_at_work_on_links, links_are_ready, links_are_ready_from_the_first_round,
+    links_come_up, links_come_up_from_the_first_round, links_that_are_up_are_in_one_connection,
+};
+pub use points::{
+    known_points_lie_at_their_sides, moves_are_answered, no_move_is_out_where_nothing_came,
+    no_move_is_out_where_nothing_comes, no_move_is_unanswered, points_are_moved_once,
+    points_held_with_authority_are_known,
+};
+pub use rounds::{
+    a_station_begins_its_flow, flows_stay_flows, good_rounds_are_events,
+    good_rounds_take_their_time, the_hold_ends,
+};
+pub use routes_coming::{
+    accepted_routes_come_over_clear_sections, no_cancelled_route_waits_that_may_be_freed,
+    no_move_waits_that_is_due, no_route_waits_that_may_proceed, no_stop_waits_that_is_due,
+    routes_come, set_routes_come_over_clear_sections,
+};
+pub use routes_going::{
+    authority_ends_behind_a_cancel, authority_ends_behind_a_withdrawal,
+    authority_ends_within_a_heartbeat, cancelled_routes_are_free_behind_their_approach,
+    ended_routes_are_free_behind_their_approach, no_section_waits_that_its_passage_lets_go,
+    routes_are_free_behind_a_cancel, routes_are_free_behind_their_trains,
+    waiting_routes_are_free_behind_a_cancel, withdrawn_routes_are_free_behind_their_trains,
+};
+pub use sections::{
+    known_sections_are_as_in_the_field, sections_are_reported,
+    sections_are_reported_where_nothing_came, sections_are_reported_with_room,
+};
+pub use silence::{connections_end_in_silence, lamps_fall_in_silence, points_rest_in_silence};
+pub use talk::{clients_expect_what_comes_next, hosts_expect_what_comes_next};
+pub use windows::events_close_no_link;

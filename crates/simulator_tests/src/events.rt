@@ -5,23 +5,11 @@ ghost use Rattle.std.specs.Prelude.{◌<◌};
 use crate::tally::{Count, Tally};
 use crate::trains::Train;
 use chance::Chance;
-use simulator::World;
-use simulator::simulator_field::SentOn;
-use simulator::simulator_run::ixl_rules::Command;
-use simulator::simulator_run::ixl_rules::control_table::Checked;
-use simulator::simulator_run::ixl_rules::control_table::layout::{
-    Layout, PointId, RouteId, SectionId,
+use simulator::{
+    Aspect, Checked, ClockSteps, Command, Event, MICROS, NodeId, Occupancy, PointId, Position,
+    RawDatagram, Role, RouteId, SectionId, SentOn, Side, Snapshot, World,
 };
-use simulator::simulator_run::ixl_rules::control_table::sci_telegram::{
-    Aspect, Occupancy, Position, Side,
-};
-use simulator::simulator_run::ixl_rules::rasta_core::Role;
-use simulator::simulator_run::simulator_event::{ClockSteps, Event, NodeId, RawDatagram};
-use simulator::simulator_run::simulator_snapshot::Snapshot;
 use std::alloc::{AllocError, Global};
-
-/// How many microseconds a millisecond has.
-const MICROS: u64 = 1000;
 
 /// How long a datagram can be delivered, in microseconds.
 const LIFETIME: u64 = 2_000_000;
@@ -47,17 +35,6 @@ pub(crate) struct Hostile {
     ticked: usize,
     drifts: u64,
     trains: [Option<Train>; TRAINS],
-}
-
-/// How many nodes a station has.
-pub(crate) fn node_count(layout: &Layout) -> usize {
-    let signals = layout.signals().len();
-    let points = layout.points().len();
-    let detectors = layout.detectors().len();
-    signals
-        .saturating_add(points)
-        .saturating_add(detectors)
-        .saturating_add(1)
 }
 
 /// The node that a datagram is for: the interlocking is the client of every link.
@@ -121,7 +98,7 @@ impl Hostile {
 
     /// Mostly the next node in order, and at times any number.
     fn tick(&mut self, table: &Checked) -> Event {
-        let nodes = node_count(table.layout());
+        let nodes = table.layout().nodes();
         if self.chance.once_in(20) {
             return Event::Tick(NodeId(self.place(nodes.saturating_add(1))));
         }
@@ -134,7 +111,7 @@ impl Hostile {
 
     /// Time goes on; and at times a clock goes on by too much.
     fn time(&mut self, alloc: Global, table: &Checked) -> Result<Event, AllocError> {
-        let nodes = node_count(table.layout());
+        let nodes = table.layout().nodes();
         let most = match self.chance.below(6000) {
             0 => 7_000_000,
             1..=3 => 1_500_000,
@@ -224,7 +201,7 @@ impl Hostile {
 
     /// The delivery of bytes that never were a datagram.
     fn deliver_noise(&mut self, alloc: Global, world: &World) -> Result<Event, AllocError> {
-        let node = NodeId(self.place(node_count(world.table().layout())));
+        let node = NodeId(self.place(world.table().layout().nodes()));
         let bytes = self.noise(alloc)?;
         Ok(Event::Deliver { node, bytes })
     }
@@ -240,7 +217,7 @@ impl Hostile {
         let mut node = receiver(sent);
         if self.chance.once_in(300) {
             tally.once_more(Count::Misdirected);
-            node = NodeId(self.place(node_count(world.table().layout())));
+            node = NodeId(self.place(world.table().layout().nodes()));
         }
         let mut bytes = Vec::from_slice(alloc, sent.bytes)?;
         if self.chance.once_in(300) {
@@ -388,7 +365,7 @@ impl Hostile {
 
     /// A node is made anew; mostly only where a signal shows more than stop, since that is the dangerous moment.
     fn perhaps_restart(&mut self, world: &World, seen: &Snapshot) -> Event {
-        let nodes = node_count(world.table().layout());
+        let nodes = world.table().layout().nodes();
         if !is_open(seen) && !self.chance.once_in(24) {
             return self.tick(world.table());
         }

@@ -1,7 +1,7 @@
 //! The numbers and texts of what an event is refused for. Those of commands are in the answers of stored event files.
 
 use arrayvec::ArrayString;
-use simulator::simulator_run::simulator_event::Refused;
+use simulator::Refused;
 
 /// The refusals in the order of their tests, with their numbers and texts.
 const REFUSALS: [(Refused, u8, &str); 6] = [

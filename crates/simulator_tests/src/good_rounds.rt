@@ -1,11 +1,8 @@
 //! Good rounds, as a flow of time has them: 10 ms pass, all that was sent and not tried yet comes, in order, each node is called,
 //! and points come to lie.
 
-use crate::events::{node_count, receiver};
-use simulator::World;
-use simulator::simulator_run::ixl_rules::control_table::layout::PointId;
-use simulator::simulator_run::ixl_rules::control_table::sci_telegram::{Position, Side};
-use simulator::simulator_run::simulator_event::{ClockSteps, Event, NodeId, RawDatagram, Refused};
+use crate::events::receiver;
+use simulator::{ClockSteps, Event, NodeId, PointId, Position, RawDatagram, Refused, Side, World};
 use std::alloc::Global;
 use std::process::Abort;
 
@@ -27,7 +24,7 @@ pub(crate) struct GoodRounds {
     drives: [(Option<Side>, u8); POINTS],
     /// How many there were.
     pub(crate) count: u32,
-    /// Behind which of them a link wasn't ready last.
+    /// After which of them a link wasn't ready last.
     pub(crate) unready: u32,
 }
 
@@ -56,7 +53,7 @@ fn delivery(rt: &impl Abort, alloc: Global, world: &World, place: usize) -> Opti
 /// Whether the link to each controller is ready at the interlocking.
 fn are_ready(world: &World) -> bool {
     let field = world.interlocking().field();
-    for place in 0..node_count(world.table().layout()) {
+    for place in 0..world.table().layout().nodes() {
         let is_signal_ready = place >= field.signals() || field.is_signal_ready(place);
         let is_point_ready = place >= field.points() || field.is_point_ready(place);
         let is_detector_ready = place >= field.detectors() || field.is_detector_ready(place);
@@ -80,7 +77,7 @@ impl GoodRounds {
     /// Makes a round.
     pub(crate) fn round(&mut self, rt: &impl Abort, alloc: Global, world: &mut World) {
         let sent = world.network().len();
-        let nodes = node_count(world.table().layout());
+        let nodes = world.table().layout().nodes();
         happen(rt, world, &pass(rt, alloc, nodes, ROUND));
         self.deliver(rt, alloc, world, sent);
         for node in 0..nodes {

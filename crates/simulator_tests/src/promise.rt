@@ -1,11 +1,6 @@
 //! The promise of a station, asked in plain words of what is seen of it and of its table.
 
-use simulator::World;
-use simulator::simulator_run::ixl_rules::control_table::Checked;
-use simulator::simulator_run::ixl_rules::control_table::layout::{PointId, RouteId};
-use simulator::simulator_run::ixl_rules::control_table::sci_telegram::{Aspect, Position, Side};
-use simulator::simulator_run::ixl_rules::rasta_core::Role;
-use simulator::simulator_run::simulator_snapshot::{Held, Snapshot};
+use simulator::{Aspect, Checked, Held, PointId, Position, Role, RouteId, Side, Snapshot, World};
 
 /// For how long, in microseconds of true time, a signal shows more than stop after the interlocking was last heard.
 const FRESHNESS: u64 = 1_802_000;

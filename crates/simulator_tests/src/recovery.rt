@@ -8,18 +8,14 @@
 //! - Each route in turn is accepted, and its signal shows its aspect by a bound. A train frees it, or it is cancelled. Then its
 //!   signal is at stop, its authority is ended, and it is free, each by a bound.
 
-use crate::events::{Hostile, node_count};
+use crate::events::Hostile;
 use crate::good_rounds::{GoodRounds, happen, pass};
 use crate::layouts::{HALDEN, JUNCTION, SMALL};
 use crate::promise::aspect_of;
 use crate::station::station;
 use crate::tally::Tally;
 use crate::trains::{Train, moves_on};
-use simulator::World;
-use simulator::simulator_run::ixl_rules::Command;
-use simulator::simulator_run::ixl_rules::control_table::layout::{RouteId, SectionId};
-use simulator::simulator_run::ixl_rules::control_table::sci_telegram::{Aspect, Occupancy};
-use simulator::simulator_run::simulator_event::{Answer, Event, Reply};
+use simulator::{Answer, Aspect, Command, Event, Occupancy, Reply, RouteId, SectionId, World};
 use std::alloc::Global;
 use std::env;
 use std::process::Abort;
@@ -36,10 +32,10 @@ const CALM: u32 = 5;
 /// For so long an interlocking that was made holds, in microseconds.
 const HOLD: u64 = 6_000_000;
 
-/// In so many rounds behind the hold the links of a new station are ready.
+/// In so many rounds after the hold the links of a new station are ready.
 const BEGINNING: u32 = 12;
 
-/// Behind this good round, and all that follow, each link is ready.
+/// After this good round, and all that follow, each link is ready.
 const READY: u32 = 1564;
 
 /// In so many rounds the aspect of a route that was accepted shows.
@@ -57,7 +53,7 @@ const REPORTED: u32 = 33;
 /// So many rounds stand between two moves of a train.
 const MOVE: u32 = 4;
 
-/// The slowest link of a station's lists is ready no sooner than behind this round.
+/// The slowest link of a station's lists is ready no sooner than after this round.
 const SLOW: u32 = 1200;
 
 /// What came of the lists of a station. Of what takes time the slowest is kept, in good rounds.
@@ -194,7 +190,7 @@ impl Course {
 
     /// The links of a new station come up, in every second list with stamps that soon wrap.
     fn begin(&mut self, rt: &impl Abort) {
-        let nodes = node_count(self.world.table().layout());
+        let nodes = self.world.table().layout().nodes();
         let anew = if self.hostile.chance.once_in(2) {
             nodes
         } else {
@@ -249,7 +245,7 @@ impl Course {
         }
     }
 
-    /// A route is cancelled. Its signal falls to stop, and its authority ends. Tells behind how many rounds.
+    /// A route is cancelled. Its signal falls to stop, and its authority ends. Tells after how many rounds.
     fn cancel(&mut self, rt: &impl Abort, route: RouteId) -> u32 {
         self.command(rt, Command::Cancel(route));
         let stop = self.wait(rt, Wish::Stop, route, STOP);
@@ -321,7 +317,7 @@ fn recover_all(rt: &impl Abort, alloc: Global, text: &str, first: u64, lists: u6
     found
 }
 
-/// A number among the words of the program: behind the name of the test stand the first seed and the number of lists.
+/// A number among the words of the program: after the name of the test stand the first seed and the number of lists.
 fn word(rt: &HostRuntime, place: usize) -> Option<u64> {
     let mut words = env::args(rt).ok()?.skip(place);
     words.next()?.as_str().parse::<u64>().ok()

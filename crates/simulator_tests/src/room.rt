@@ -2,8 +2,7 @@
 
 use crate::layouts::SMALL;
 use crate::station::station;
-use simulator::World;
-use simulator::simulator_run::simulator_event::{ClockSteps, Event, NodeId};
+use simulator::{ClockSteps, Event, NodeId, World};
 use std::alloc::Global;
 use std::process::Abort;
 

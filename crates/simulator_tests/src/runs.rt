@@ -1,12 +1,11 @@
 //! Hostile runs of whole stations, each from its own seed.
 
-use crate::events::{Hostile, node_count};
+use crate::events::Hostile;
 use crate::layouts::{JUNCTION, LOOP, SMALL};
 use crate::station::station;
 use crate::tally::{Count, Tally};
 use crate::watch::Watch;
-use simulator::World;
-use simulator::simulator_run::simulator_event::Event;
+use simulator::{Event, World};
 use std::alloc::Global;
 use std::process::Abort;
 
@@ -33,7 +32,7 @@ fn begin_near_a_turn(
     watch: &mut Watch,
     tally: &mut Tally,
 ) {
-    for node in 0..node_count(world.table().layout()) {
+    for node in 0..world.table().layout().nodes() {
         apply(rt, world, &hostile.begin(node), watch, tally);
     }
 }

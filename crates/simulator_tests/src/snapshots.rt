@@ -2,10 +2,9 @@
 
 use crate::layouts::SMALL;
 use crate::station::table;
-use simulator::simulator_run::ixl_rules::control_table::Checked;
-use simulator::simulator_run::ixl_rules::control_table::layout::{RouteId, SignalId};
-use simulator::simulator_run::ixl_rules::control_table::sci_telegram::{Aspect, Position, Side};
-use simulator::simulator_run::simulator_snapshot::{Held, Shown, Snapshot, Stands};
+use simulator::{
+    Aspect, Checked, Held, Position, RouteId, Shown, Side, SignalId, Snapshot, Stands,
+};
 use std::process::Abort;
 
 /// A snapshot in which the first signal shows an aspect, the point is somewhere, and these routes are held for the signal.

@@ -1,9 +1,7 @@
 //! Stations of layouts. What takes memory is done again where it is lacking, so the tests of room and of snapshots also hold
 //! with any one allocation refused.
 
-use simulator::World;
-use simulator::simulator_run::ixl_rules::control_table::layout::Layout;
-use simulator::simulator_run::ixl_rules::control_table::{Checked, check};
+use simulator::{Checked, Layout, World, check};
 use std::alloc::Global;
 use std::process::Abort;
 

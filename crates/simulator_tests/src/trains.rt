@@ -1,8 +1,6 @@
 //! Trains that run on routes.
 
-use simulator::simulator_run::ixl_rules::control_table::Checked;
-use simulator::simulator_run::ixl_rules::control_table::layout::{RouteId, SectionId};
-use simulator::simulator_run::ixl_rules::control_table::sci_telegram::Occupancy;
+use simulator::{Checked, Occupancy, RouteId, SectionId};
 
 /// A train on a route: how many of its moves it has made.
 #[derive(Clone, Copy)]
@@ -43,7 +41,7 @@ impl Train {
         self.moves >= moves_on(table, self.route)
     }
 
-    /// Its next move: it occupies each section before it clears the one behind. Where there is no such section it does
+    /// Its next move: it occupies each section before it clears the one after. Where there is no such section it does
     /// nothing.
     pub(crate) fn proceed(&mut self, table: &Checked) -> Option<(SectionId, Occupancy)> {
         let done = self.moves;

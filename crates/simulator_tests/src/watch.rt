@@ -3,12 +3,7 @@
 use crate::events::is_open;
 use crate::promise::{are_alike, are_lately_heard, aspect_of, is_kept};
 use crate::tally::{Count, Tally};
-use simulator::World;
-use simulator::simulator_run::ixl_rules::Command;
-use simulator::simulator_run::ixl_rules::control_table::layout::RouteId;
-use simulator::simulator_run::ixl_rules::control_table::sci_telegram::Aspect;
-use simulator::simulator_run::simulator_event::{Answer, Event, NodeId, Refused, Reply};
-use simulator::simulator_run::simulator_snapshot::Snapshot;
+use simulator::{Answer, Aspect, Command, Event, NodeId, Refused, Reply, RouteId, Snapshot, World};
 use std::process::Abort;
 
 /// What was seen of a station.

@@ -7,25 +7,28 @@
 //! answers otherwise than it was recorded.
 #![tactic(auto)]
 
-use node_panel::{Asked as NodePanel, panel_of_node};
+use node_panel::{NodePanelOptions, panel_of_node};
 use node_record::{
-    Asked as NodeCapture, Cut as NodeCut, capture_node_to_file, chart_node_text, decode_node_text,
-    ends_text,
+    Cut as NodeCut, NodeCaptureOptions, NodeRecord, capture_node_to_file, chart_node_text,
+    decode_node_text, ends_text,
 };
 use panel_page::PAGE;
 use station_command::{
-    Asked, Error, Failure, is_memory, lines_of, read_words, text_of, texts_of, words,
+    CaptureArguments, ChartArguments, CheckArguments, DatagramArguments, Error, Failure,
+    NodeArguments, PanelArguments, PlanArguments, Request, RunArguments, SessionArguments,
+    SimArguments, TableArguments, input_once, is_memory, lines_of, read_words, text_of, texts_of,
+    words,
 };
 use station_layout::{Form, explain_text, plan_text, table_text};
 use station_node::node_network::WaitedStream;
-use station_node::{self, Asked as Node, layout_digest, replay_node_text};
-use station_run::station_record::replay::station_check::check_text;
-use station_run::station_record::replay::{replay_text, sim_text};
-use station_run::station_record::station_decode::decode_text;
+use station_node::{self, NodeOptions, layout_digest, replay_node_text};
 use station_run::station_record::{
-    Asked as Capture, Cut, Endpoint, capture_to_file, chart_text, decode_session_text,
+    CaptureOptions, Cut, Endpoint, capture_to_file, chart_text, decode_session_text,
 };
-use station_run::{self, Asked as Run, Limits, PageAsked, PanelAsked};
+use station_run::{
+    self, Limits, PageAsked, PanelOptions, RunOptions, check_text, decode_text, replay_text,
+    sim_text,
+};
 use std::io::{BufWriter, IsTerminal, Write};
 use std::process::ExitCode;
 
@@ -45,8 +48,8 @@ fn main(rt: HostRuntime) -> ExitCode {
 fn answer(rt: &HostRuntime) -> Result<u8, Failure> {
     let words = words(rt, rt.alloc())?;
     match read_words(rt.alloc(), words.as_slice()) {
-        Ok(asked) => match BufWriter::new(rt.alloc(), rt.stdout()) {
-            Ok(mut out) => carry_out(rt, asked, &mut out),
+        Ok(request) => match BufWriter::new(rt.alloc(), rt.stdout()) {
+            Ok(mut out) => carry_out(rt, request, &mut out),
             Err(_) => Err(Failure::OutOfMemory),
         },
         Err(error) => refuse(rt, &error),
@@ -65,114 +68,36 @@ fn refuse(rt: &HostRuntime, error: &Error) -> Result<u8, Failure> {
 }
 
 /// Does what is asked for. What it writes at once goes to `out`, which is standard output.
-fn carry_out<W: Write>(rt: &HostRuntime, asked: Asked<'_>, out: &mut W) -> Result<u8, Failure> {
-    match asked {
-        Asked::Check {
-            layout,
-            explained,
-            digest,
-        } => check(rt, layout, explained, digest, out),
-        Asked::Plan {
-            layout,
-            route,
-            picture,
-        } => plan(rt, layout, route, picture, out),
-        Asked::Table { layout, csv } => table(rt, layout, csv, out),
-        Asked::Sim { layout, events } => sim(rt, layout, events, out),
-        Asked::Run {
-            layout,
-            script,
-            record,
-            for_ms,
-        } => run(rt, layout, script, record, for_ms, out),
-        Asked::Panel {
-            layout,
-            port,
-            record,
-            for_ms,
-            node,
-        } => {
-            let panelled = Panelled {
-                port: port_of(port),
-                record,
-                for_ms,
-                node,
-            };
-            panel(rt, layout, panelled)
-        }
-        Asked::Replay {
-            layout,
-            recording,
-            node,
-        } => replay(rt, layout, recording, node, out),
-        Asked::Chart {
-            layout,
-            recording,
-            node,
-            from,
-            to,
-        } => chart(rt, layout, recording, node, Cut { from, to }, out),
-        Asked::Decode { word, layout } => decode(rt, layout, word, out),
-        Asked::DecodeSession {
-            layout,
-            recording,
-            node,
-        } => decode_session(rt, layout, recording, node, out),
-        Asked::Capture {
-            layout,
-            recording,
-            out,
-            addresses,
-            node,
-            force,
-        } => {
-            let files = Capture {
-                layout,
-                recording,
-                endpoints: &[],
-                out,
-                force,
-            };
-            capture(rt, files, addresses, node)
-        }
-        Asked::Node {
-            layout,
-            name,
-            addresses,
-            operator,
-            record,
-            clock,
-            for_ms,
-        } => {
-            let files = Node {
-                layout,
-                name,
-                addresses,
-                operator,
-                record,
-                clock,
-                for_ms,
-            };
-            node(rt, files)
-        }
+fn carry_out<W: Write>(rt: &HostRuntime, request: Request<'_>, out: &mut W) -> Result<u8, Failure> {
+    match request {
+        Request::Check(arguments) => check(rt, arguments, out),
+        Request::Plan(arguments) => plan(rt, arguments, out),
+        Request::Table(arguments) => table(rt, arguments, out),
+        Request::Sim(arguments) => sim(rt, arguments, out),
+        Request::Run(arguments) => run(rt, arguments, out),
+        Request::Panel(arguments) => panel(rt, arguments),
+        Request::Replay(arguments) => replay(rt, arguments, out),
+        Request::Chart(arguments) => chart(rt, arguments, out),
+        Request::Decode(arguments) => decode(rt, arguments, out),
+        Request::DecodeSession(arguments) => decode_session(rt, arguments, out),
+        Request::Capture(arguments) => capture(rt, arguments),
+        Request::Node(arguments) => node(rt, arguments),
     }
 }
 
 /// `check FILE [--explain] [--digest]`.
 fn check<W: Write>(
     rt: &HostRuntime,
-    file: &str,
-    explained: bool,
-    digest: bool,
+    arguments: CheckArguments<'_>,
     out: &mut W,
 ) -> Result<u8, Failure> {
-    let text = text_of(rt, file)?;
-    let status = if explained {
+    let text = text_of(rt, arguments.layout)?;
+    let status = if arguments.explained {
         explain_text(rt.alloc(), text.as_str(), out, &mut rt.stderr())
     } else {
         check_text(rt.alloc(), text.as_str(), out, &mut rt.stderr())
     };
-    if status == 0 && digest {
+    if status == 0 && arguments.digest {
         return tell_digest(rt, text.as_str());
     }
     Ok(status)
@@ -192,20 +117,19 @@ fn tell_digest(rt: &HostRuntime, text: &str) -> Result<u8, Failure> {
 /// `plan FILE [--route R] [--picture PICTURE]`.
 fn plan<W: Write>(
     rt: &HostRuntime,
-    file: &str,
-    route: Option<&str>,
-    picture: Option<&str>,
+    arguments: PlanArguments<'_>,
     out: &mut W,
 ) -> Result<u8, Failure> {
-    let layout = text_of(rt, file)?;
-    let picture = match picture {
+    input_once(&[arguments.layout, arguments.picture.unwrap_or("")])?;
+    let layout = text_of(rt, arguments.layout)?;
+    let picture = match arguments.picture {
         Some(picture) => Some(lines_of(rt, picture)?),
         None => None,
     };
     Ok(plan_text(
         rt.alloc(),
         layout.as_str(),
-        route,
+        arguments.route,
         picture.as_deref(),
         out,
         &mut rt.stderr(),
@@ -213,15 +137,27 @@ fn plan<W: Write>(
 }
 
 /// `table FILE [--csv]`.
-fn table<W: Write>(rt: &HostRuntime, file: &str, csv: bool, out: &mut W) -> Result<u8, Failure> {
-    let form = if csv { Form::Csv } else { Form::Markdown };
-    let text = text_of(rt, file)?;
+fn table<W: Write>(
+    rt: &HostRuntime,
+    arguments: TableArguments<'_>,
+    out: &mut W,
+) -> Result<u8, Failure> {
+    let form = if arguments.csv {
+        Form::Csv
+    } else {
+        Form::Markdown
+    };
+    let text = text_of(rt, arguments.layout)?;
     Ok(table_text(rt.alloc(), text.as_str(), form, out, &mut rt.stderr()))
 }
 
 /// `sim FILE EVENTS`.
-fn sim<W: Write>(rt: &HostRuntime, file: &str, events: &str, out: &mut W) -> Result<u8, Failure> {
-    let (layout, events) = texts_of(rt, file, events)?;
+fn sim<W: Write>(
+    rt: &HostRuntime,
+    arguments: SimArguments<'_>,
+    out: &mut W,
+) -> Result<u8, Failure> {
+    let (layout, events) = texts_of(rt, arguments.layout, arguments.events)?;
     Ok(sim_text(
         rt.alloc(),
         layout.as_str(),
@@ -234,18 +170,15 @@ fn sim<W: Write>(rt: &HostRuntime, file: &str, events: &str, out: &mut W) -> Res
 /// `run FILE --script S --record R --for MS`. How far it has come is shown where standard error is a terminal.
 fn run<W: Write>(
     rt: &HostRuntime,
-    file: &str,
-    script: &str,
-    record: &str,
-    for_ms: u64,
+    arguments: RunArguments<'_>,
     out: &mut W,
 ) -> Result<u8, Failure> {
-    let (layout, script) = texts_of(rt, file, script)?;
-    let asked = Run {
+    let (layout, script) = texts_of(rt, arguments.layout, arguments.script)?;
+    let asked = RunOptions {
         layout: layout.as_str(),
         script: script.as_str(),
-        record,
-        for_ms,
+        record: arguments.record,
+        for_ms: arguments.for_ms,
     };
     let progress = rt.stderr().is_terminal();
     Ok(station_run::run(rt, &asked, out, &mut rt.stderr(), progress))
@@ -271,18 +204,9 @@ const RECORD: &str = "panel.session";
 /// Up to how many bytes of datagrams a panel stands: 1 GiB.
 const MEMORY: u64 = 1 << 30;
 
-/// Of what a panel is opened.
-#[derive(Clone, Copy)]
-struct Panelled<'a> {
-    port: u16,
-    record: Option<&'a str>,
-    for_ms: Option<u64>,
-    node: Option<&'a str>,
-}
-
 /// `panel FILE [--port P] [--record R] [--for MS] [--node ADDRESS]`. The track plan is drawn first.
-fn panel(rt: &HostRuntime, file: &str, panelled: Panelled<'_>) -> Result<u8, Failure> {
-    let text = text_of(rt, file)?;
+fn panel(rt: &HostRuntime, arguments: PanelArguments<'_>) -> Result<u8, Failure> {
+    let text = text_of(rt, arguments.layout)?;
     let layout = text.as_str();
     let mut plan = Vec::new(rt.alloc());
     let status = plan_text(rt.alloc(), layout, None, None, &mut plan, &mut rt.stderr());
@@ -294,13 +218,13 @@ fn panel(rt: &HostRuntime, file: &str, panelled: Panelled<'_>) -> Result<u8, Fai
         plan: str::from_utf8(&plan).unwrap_or(""),
         page: PAGE,
         version: VERSION,
-        port: panelled.port,
+        port: port_of(arguments.port),
         kind: "world",
-        record: panelled.record.unwrap_or(RECORD),
+        record: arguments.record.unwrap_or(RECORD),
     };
-    Ok(match panelled.node {
-        Some(node) => panel_node(rt, page, node, panelled),
-        None => panel_station(rt, page, panelled.for_ms),
+    Ok(match arguments.node {
+        Some(node) => panel_node(rt, page, node, arguments),
+        None => panel_station(rt, page, arguments.for_ms),
     })
 }
 
@@ -310,21 +234,26 @@ fn panel_station(rt: &HostRuntime, page: PageAsked<'_>, for_ms: Option<u64>) -> 
         for_ms: for_ms.unwrap_or(u64::MAX),
         memory: MEMORY,
     };
-    let asked = PanelAsked { page, limits };
+    let asked = PanelOptions { page, limits };
     station_run::panel(rt, &asked, &mut rt.stdout(), &mut rt.stderr())
 }
 
 /// Has the node of an interlocking operated from a browser.
-fn panel_node(rt: &HostRuntime, page: PageAsked<'_>, node: &str, panelled: Panelled<'_>) -> u8 {
-    let asked = NodePanel {
+fn panel_node(
+    rt: &HostRuntime,
+    page: PageAsked<'_>,
+    node: &str,
+    arguments: PanelArguments<'_>,
+) -> u8 {
+    let asked = NodePanelOptions {
         page: PageAsked {
             kind: "node",
             record: "",
             ..page
         },
-        record: panelled.record,
+        record: arguments.record,
         node,
-        for_ms: panelled.for_ms,
+        for_ms: arguments.for_ms,
     };
     panel_of_node(rt, &asked, &mut rt.stdout(), &mut rt.stderr())
 }
@@ -332,14 +261,12 @@ fn panel_node(rt: &HostRuntime, page: PageAsked<'_>, node: &str, panelled: Panel
 /// `replay FILE RECORD [--node NAME]`.
 fn replay<W: Write>(
     rt: &HostRuntime,
-    file: &str,
-    recording: &str,
-    node: Option<&str>,
+    arguments: SessionArguments<'_>,
     out: &mut W,
 ) -> Result<u8, Failure> {
-    let (layout, recording) = texts_of(rt, file, recording)?;
+    let (layout, recording) = texts_of(rt, arguments.layout, arguments.recording)?;
     let (layout, recording) = (layout.as_str(), recording.as_str());
-    Ok(match node {
+    Ok(match arguments.node {
         Some(name) => {
             replay_node_text(rt.alloc(), layout, name, recording, out, &mut rt.stderr())
         }
@@ -350,57 +277,57 @@ fn replay<W: Write>(
 /// `chart FILE RECORD [--node NAME] [--from MS] [--to MS]`.
 fn chart<W: Write>(
     rt: &HostRuntime,
-    file: &str,
-    recording: &str,
-    node: Option<&str>,
-    cut: Cut,
+    arguments: ChartArguments<'_>,
     out: &mut W,
 ) -> Result<u8, Failure> {
-    let (layout, recording) = texts_of(rt, file, recording)?;
+    let (layout, recording) = texts_of(rt, arguments.layout, arguments.recording)?;
     let (layout, recording) = (layout.as_str(), recording.as_str());
-    let Cut { from, to } = cut;
-    Ok(match node {
+    let ChartArguments { from, to, .. } = arguments;
+    Ok(match arguments.node {
         Some(name) => {
-            let cut = NodeCut { from, to };
-            chart_node_text(
-                rt.alloc(),
+            let recorded = NodeRecord {
                 layout,
                 name,
                 recording,
-                cut,
-                out,
-                &mut rt.stderr(),
-            )
+            };
+            let cut = NodeCut { from, to };
+            chart_node_text(rt.alloc(), recorded, cut, out, &mut rt.stderr())
         }
-        None => chart_text(rt.alloc(), layout, recording, cut, out, &mut rt.stderr()),
+        None => {
+            let cut = Cut { from, to };
+            chart_text(rt.alloc(), layout, recording, cut, out, &mut rt.stderr())
+        }
     })
 }
 
 /// `decode --hex HEX [--layout FILE]`.
 fn decode<W: Write>(
     rt: &HostRuntime,
-    layout: Option<&str>,
-    word: &str,
+    arguments: DatagramArguments<'_>,
     out: &mut W,
 ) -> Result<u8, Failure> {
-    let layout = match layout {
+    let layout = match arguments.layout {
         Some(file) => Some(text_of(rt, file)?),
         None => None,
     };
-    Ok(decode_text(rt.alloc(), layout.as_deref(), word, out, &mut rt.stderr()))
+    Ok(decode_text(
+        rt.alloc(),
+        layout.as_deref(),
+        arguments.hex,
+        out,
+        &mut rt.stderr(),
+    ))
 }
 
 /// `decode FILE RECORD [--node NAME]`.
 fn decode_session<W: Write>(
     rt: &HostRuntime,
-    file: &str,
-    recording: &str,
-    node: Option<&str>,
+    arguments: SessionArguments<'_>,
     out: &mut W,
 ) -> Result<u8, Failure> {
-    let (layout, recording) = texts_of(rt, file, recording)?;
+    let (layout, recording) = texts_of(rt, arguments.layout, arguments.recording)?;
     let (layout, recording) = (layout.as_str(), recording.as_str());
-    Ok(match node {
+    Ok(match arguments.node {
         Some(name) => {
             decode_node_text(rt.alloc(), layout, name, recording, out, &mut rt.stderr())
         }
@@ -408,24 +335,22 @@ fn decode_session<W: Write>(
     })
 }
 
-/// `capture FILE RECORD OUT [--addresses ADDRESSES] [--node NAME] [--force]`, by the names of its files.
-fn capture(
-    rt: &HostRuntime,
-    files: Capture<'_>,
-    addresses: Option<&str>,
-    node: Option<&str>,
-) -> Result<u8, Failure> {
-    let (layout, recording) = texts_of(rt, files.layout, files.recording)?;
-    let Some(ends) = ends_of(rt, layout.as_str(), addresses)? else {
+/// `capture FILE RECORD OUT [--addresses ADDRESSES] [--node NAME] [--force]`.
+fn capture(rt: &HostRuntime, arguments: CaptureArguments<'_>) -> Result<u8, Failure> {
+    let addresses = arguments.addresses.unwrap_or("");
+    input_once(&[arguments.layout, arguments.recording, addresses])?;
+    let (layout, recording) = texts_of(rt, arguments.layout, arguments.recording)?;
+    let Some(ends) = ends_of(rt, layout.as_str(), arguments.addresses)? else {
         return Ok(1);
     };
-    let asked = Capture {
+    let asked = CaptureOptions {
         layout: layout.as_str(),
         recording: recording.as_str(),
         endpoints: &ends,
-        ..files
+        out: arguments.out,
+        force: arguments.force,
     };
-    Ok(match node {
+    Ok(match arguments.node {
         Some(name) => capture_node(rt, &asked, name),
         None => capture_to_file(rt, &asked, &mut rt.stderr()),
     })
@@ -447,8 +372,8 @@ fn ends_of(
 }
 
 /// Writes the capture of the record of a node.
-fn capture_node(rt: &HostRuntime, asked: &Capture<'_>, name: &str) -> u8 {
-    let asked = NodeCapture {
+fn capture_node(rt: &HostRuntime, asked: &CaptureOptions<'_>, name: &str) -> u8 {
+    let asked = NodeCaptureOptions {
         layout: asked.layout,
         name,
         recording: asked.recording,
@@ -462,14 +387,18 @@ fn capture_node(rt: &HostRuntime, asked: &Capture<'_>, name: &str) -> u8 {
 /// How many milliseconds a line may wait until it can be written.
 const PATIENCE: u16 = 50;
 
-/// `node FILE NAME --addresses ADDRESSES [--operator ADDRESS] [--record R] [--clock MS] [--for MS]`, by the names of its files.
-/// The lines of the node go over standard input and output.
-fn node(rt: &HostRuntime, files: Node<'_>) -> Result<u8, Failure> {
-    let (layout, addresses) = texts_of(rt, files.layout, files.addresses)?;
-    let asked = Node {
+/// `node FILE NAME --addresses ADDRESSES [--operator ADDRESS] [--record R] [--clock MS] [--for MS]`. The lines of the node go
+/// over standard input and output.
+fn node(rt: &HostRuntime, arguments: NodeArguments<'_>) -> Result<u8, Failure> {
+    let (layout, addresses) = texts_of(rt, arguments.layout, arguments.addresses)?;
+    let asked = NodeOptions {
         layout: layout.as_str(),
+        name: arguments.name,
         addresses: addresses.as_str(),
-        ..files
+        operator: arguments.operator,
+        record: arguments.record,
+        clock: arguments.first_reading(),
+        for_ms: arguments.for_ms,
     };
     let input = WaitedStream::new(rt.stdin(), 0);
     let output = WaitedStream::new(rt.stdout(), PATIENCE);

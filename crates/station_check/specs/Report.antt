@@ -1,18 +1,12 @@
 -- The report on a layout whose control table is sound.
-use Rattle.std.specs.Prelude.{◌≡◌, ℕ, zero, suc, ◌+◌, ◌-◌, ◌⊎◌, List, [], ◌++◌, length, codes, Ok, slice_get, Option, take, if◌then◌else◌}
+use Rattle.std.specs.Prelude.{◌≡◌, ℕ, zero, suc, ◌+◌, ◌-◌, ◌⊎◌, List, [], ◌++◌, length, codes, Ok, slice_get, Option, if◌then◌else◌}
 use Rattle.std.specs.List.{flat_map}
 use Rattle.std.specs.Fmt.{decimal}
 use Rattle.std.specs.Option.{option_map, unwrap_or}
 use Rattle.std.specs.Io.KnownBytes.{Appends}
 use Rattle.control_table.specs.layout.Entries.{RouteEntry, Site}
 use Rattle.control_table.specs.layout.NamesResolved.{layout_in}
-use Rattle.layout_text.specs.FirstFault.{Fails}
-use Rattle.layout_text.specs.Messages.{fault_text as layout_fault_text}
 use Rattle.control_table.specs.Table.{Sound, Conflict, is_slow}
-use Rattle.control_table.specs.Faults.{IsFirstFault}
-use Rattle.control_table.specs.Messages.{fault_text as table_fault_text}
-use Rattle.station_check.specs.declared.report_failure.Failure.{Failure}
-use Rattle.station_check.specs.declared.report_failure.Failure.TheVariants.{Layout, Table, NotWritten}
 
 -- how many signals, points, sections and routes a station has
 abbrev pub summary_text : ℕ → ℕ → ℕ → ℕ → List ℕ
@@ -39,13 +33,13 @@ TellsPair l a b text =
     let conflict = Conflict l (record { 0 = a }) (record { 0 = b }) in
     (conflict × (text ≡ conflict_line l a b)) ⊎ ((conflict → ⊥) × (text ≡ []))
 
--- A text tells with which of the k routes behind route a this route conflicts, one after the other.
+-- A text tells with which of the k routes after route a this route conflicts, one after the other.
 unfoldable pub TellsBehind : Site → ℕ → ℕ → List ℕ → Type 0
 TellsBehind l a zero text = text ≡ []
 TellsBehind l a (suc k) text = (front : List ℕ) × (line : List ℕ) × TellsBehind l a k front × TellsPair l a (a + suc k) line × (text ≡ front ++ line)
 
 -- A text is the report as far as the first k routes: how large the station is, and the conflicts of each of them with
--- those behind it.
+-- those after it.
 unfoldable pub TellsRoutes : Site → ℕ → List ℕ → Type 0
 TellsRoutes l zero text = text ≡ summary_line l
 TellsRoutes l (suc k) text =
@@ -74,29 +68,3 @@ IsSound text site = (layout_in text ≡ Ok site) × Sound site
 -- The report was written.
 abbrev pub Reported : Site → Option (List ℕ) → Option (List ℕ) → Type 0
 Reported l old new = (text : List ℕ) × IsReport l text × Appends old new text
-
--- Why there is no report on a text: it is no layout, by its first fault; or its table isn't sound, by the lowest fault of
--- its first faulty route; or the table is sound, and the report couldn't be written.
-abbrev pub Explains : List ℕ → Failure → Type 0
-Explains text (Layout fault) = Fails fault (layout_in text)
-Explains text (Table fault) = (site : Site) × (layout_in text ≡ Ok site) × IsFirstFault site fault
-Explains text NotWritten = (site : Site) × IsSound text site
-
--- The writer of the report stays as it is, unless the report was begun.
-abbrev pub Leaves : {W : Type 0} → Failure → W → W → Type 0
-Leaves NotWritten old new = Unit {0}
-Leaves failure old new = new ≡ old
-
--- the line that tells why there is no report
-abbrev pub told_line : Failure → List ℕ
-told_line (Layout fault) = codes "layout fault " ++ (layout_fault_text fault ++ codes "\n")
-told_line (Table fault) = codes "table fault " ++ (table_fault_text fault ++ codes "\n")
-told_line NotWritten = []
-
--- This line was told, as far as the writer took it, and nothing else.
-abbrev pub Tells : Failure → Option (List ℕ) → Option (List ℕ) → Type 0
-Tells failure old new = (told : ℕ) × Appends old new (take told (told_line failure))
-
--- Why there is no report was told.
-abbrev pub Explained : {W : Type 0} → List ℕ → W → W → Option (List ℕ) → Option (List ℕ) → Type 0
-Explained text out_old out_new old new = (failure : Failure) × Explains text failure × Leaves failure out_old out_new × Tells failure old new

@@ -2,12 +2,12 @@
 
 ghost use Rattle.std.specs.Prelude.{◌≡◌, ◌≤◌, IsErr, IfErr, OnOk};
 ghost use Rattle.control_table.specs.layout.Entries.{Site};
-ghost use Rattle.station_check.specs.Report.{IsSound, Reported, Explains, Leaves, Explained};
+ghost use Rattle.station_check.specs.Failures.{Explained, ExplainsReport, Leaves};
+ghost use Rattle.station_check.specs.Report.{IsSound, Reported};
 
+use crate::failure::{Failure, tell};
 use crate::report::write_report;
-use crate::report_failure::{Failure, tell};
-use control_table::check;
-use control_table::layout::Layout;
+use control_table::{Layout, check};
 use std::alloc::Global;
 use std::io::Write;
 
@@ -21,21 +21,18 @@ pub fn check_text<W: Write, E: Write>(alloc: Global, layout: &str, out: &mut W, 
     ensures faulty { ((site : Site) → IsSound layout.now site → ⊥) → (result ≡ 1) × (out.new ≡ out.old) }
     ensures silent { result ≡ 0 → err.new ≡ err.old }
     // Only a beginning of the line was told where a write to `err` failed.
-    ensures explains { result ≡ 1 → Explained layout.now out.old out.new (E.contents err.old) (E.contents err.new) }
+    ensures explains { result ≡ 1 → Explained (ExplainsReport layout.now) result out.old out.new (E.contents err.old) (E.contents err.new) }
 {
     match report(alloc, layout, out) {
         Ok(()) => 0,
-        Err(failure) => {
-            tell(&failure, err);
-            1
-        }
+        Err(failure) => tell(&failure, err),
     }
 }
 
 fn report<W: Write>(alloc: Global, text: &str, out: &mut W) -> Result<(), Failure>
     ensures done { OnOk result ((site : Site) × IsSound text.now site × Reported site (W.contents out.old) (W.contents out.new)) }
     ensures faulty { ((site : Site) → IsSound text.now site → ⊥) → IsErr result × (out.new ≡ out.old) }
-    ensures explains { IfErr result (λ failure. Explains text.now failure × Leaves failure out.old out.new) }
+    ensures explains { IfErr result (λ failure. ExplainsReport text.now failure × Leaves failure out.old out.new) }
 {
     let layout = Layout::read(alloc, text)?;
     let table = check(alloc, layout)?;

@@ -5,9 +5,8 @@ ghost use Rattle.station_check.specs.Report.{Reported, route_name, summary_text,
 ghost use Rattle.station_check.specs.inside.Told.{ToldRoutes, ToldBehind, ToldPair, ToldSlow};
 ghost use Rattle.std.specs.Io.KnownBytes.{Appends};
 
-use control_table::Checked;
-use control_table::layout::{Route, RouteId};
-use control_table::sci_telegram::{Aspect, Name};
+use control_table::layout::Route;
+use control_table::{Aspect, Checked, Name, RouteId};
 use std::io::Write;
 use std::{fmt, io};
 
@@ -131,7 +130,7 @@ fn write_pairs<W: Write>(table: &Checked, out: &mut W) -> io::Result<()>
     Ok(())
 }
 
-/// Writes the conflicts of a route with those behind it.
+/// Writes the conflicts of a route with those after it.
 fn write_conflicts<W: Write>(table: &Checked, earlier: RouteId, out: &mut W) -> io::Result<()>
     requires { earlier.0 < length table.now.routes }
     ensures { OnOk result (ToldBehind table.now earlier.0 (length table.now.routes - suc earlier.0) (W.contents out.old) (W.contents out.new)) }

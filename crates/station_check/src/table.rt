@@ -6,8 +6,7 @@ ghost use Rattle.station_check.specs.Report.{IsSound};
 ghost use Rattle.station_check.specs.Failures.{ExplainsTable};
 
 use crate::failure::Failure;
-use control_table::layout::Layout;
-use control_table::{Checked, check};
+use control_table::{Checked, Layout, check};
 use std::alloc::Global;
 
 /// The table of a layout, where it is sound; otherwise its first fault, or the text's.

@@ -28,7 +28,7 @@ kept : (o other : Option Text) → is_some o ≡ true → o ≡ or_value o other
 kept (Some text) other some = refl
 kept None other some = absurd (false≢true some)
 
--- ---- a row behind others
+-- ---- a row after others
 
 abbrev value_if : Bool → Row → Option Text
 value_if b d = if b then slice_get d.values 0 else None
@@ -111,7 +111,7 @@ module _ (rs : List Row) (have : HaveValues rs) (a : Rule) where
     given = λ id. refl;
   }
 
-  -- the default is put behind
+  -- the default is put after
   put : (v : Text) (vs : List Text) → has_row a.id rs ≡ false → a.defaults ≡ v ∷ vs → IsDefaulted rs a (default_rows a.id (reading_by a) (v ∷ vs) rs)
   put v vs none is = subst (IsDefaulted rs a) (sym (row_added a.id (more_values DefaultValue (v ∷ vs)) (d ∷ []) rs none)) (record {
     values = have_values-behind rs d have refl;

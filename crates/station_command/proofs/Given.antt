@@ -1,4 +1,4 @@
--- What was given behind a command, as the rows that clap keeps.
+-- What was given after a command, as the rows that clap keeps.
 use Rattle.std.proofs.Common.{◌≡◌, ◌&&◌, ◌||◌, Bool, true, false, not, List, [], ◌∷◌, ◌++◌, Option, Some, None, is_some, if◌then◌else◌, refl, sym, ap, ◌∙◌, map, cond, find, slice_get}
 use Rattle.std.specs.Prelude.{option_and_then}
 use Rattle.std.proofs.lemmas.Bool.{true≢false}
@@ -14,6 +14,7 @@ use Rattle.clap.specs.Takes.{is_given}
 use Rattle.clap.specs.Walk.{Row, Text, at_row, first_of, has_row, more_values, with_values, without}
 use Rattle.station_command.proofs.WordsRead.{Fails}
 use Rattle.station_command.specs.CommandWords.{Given, value_of, takes}
+use Rattle.station_command.specs.Commands.{Argument}
 
 -- ---- what was given, as rows
 
@@ -91,8 +92,8 @@ or_or (Some text) b c = refl
 or_or None b c = refl
 
 -- the name may have one more value
-abbrev pub may_have : List Given → Text → Text → Bool
-may_have given id text = not (is_some (value_of id given)) && takes id text
+abbrev pub may_have : List Argument → List Given → Text → Text → Bool
+may_have usage given id text = not (is_some (value_of id given)) && takes usage id text
 
 pub not_some : (b : Bool) → not b ≡ true → b ≡ false
 not_some true e = absurd (true≢false (sym e))

@@ -1,11 +1,11 @@
-pub mod CommandRules
-pub mod Commands
+pub mod CommandLineRead
+pub mod CommandReads
 pub mod Defaults
 pub mod Found
 pub mod Given
 pub mod LineRead
 pub mod Lines
 pub mod Numbers
-pub mod CommandLineRead
 pub mod Rules
+pub mod Usages
 pub mod WordsRead

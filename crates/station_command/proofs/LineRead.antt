@@ -1,5 +1,5 @@
--- How the words behind a command are read: as its usage says.
-use Rattle.std.proofs.Common.{◌≡◌, ◌&&◌, ◌||◌, ℕ, Bool, true, false, not, List, [], ◌∷◌, ◌++◌, Option, Some, None, is_some, if◌then◌else◌, refl, inl, inr, ◌⊎◌, sym, ap, subst, ◌∙◌, codes, fold, nat_lt, nat_eq}
+-- How the words after a command are read: as its usage says.
+use Rattle.std.proofs.Common.{◌≡◌, ◌&&◌, ◌||◌, ℕ, suc, Bool, true, false, not, List, [], ◌∷◌, ◌++◌, Option, Some, None, is_some, if◌then◌else◌, refl, inl, inr, ◌⊎◌, sym, ap, subst, ◌∙◌, codes, fold, nat_lt, nat_eq}
 use Rattle.std.specs.Prelude.{option_and_then}
 use Rattle.std.proofs.lemmas.Bool.{true≢false}
 use Rattle.std.proofs.lemmas.Slice.Eq.{bytes_eq-Decides}
@@ -14,9 +14,10 @@ use Rattle.clap.specs.Takes.{is_given}
 use Rattle.clap.specs.Walk.{Held, Outcome, Row, Rule, Step, Text, Waiting, Walk, after_flag, after_step, arg_by_id, arg_by_index, arg_by_long, finished, first_of, flag_met, idle, is_pending, long_met, long_or_other, long_word, next, nothing_held, option, option_met, option_word, plain_word, positional, positional_held, pushed, rows_after, settled, settled_rows, takes_values, to_positional, trailing, used, used_by_id, value, walked, with_default}
 use Rattle.station_command.proofs.Defaults.{all_defaulted, default_in, is_missing, missing_is, no_default_fault, rows_have_values}
 use Rattle.station_command.proofs.Given.{added, first_of-rows, has_row-rows, is_given-rows, kinds_fail, kinds_of, kinds_pass, may_have, not_some, or_value, rows, value_of-more}
-use Rattle.station_command.proofs.Rules.{Files, FileAt, IsLine, IsNamed, IsOption, IsSwitch, NamesNeither, NoFileAt, TakesOne, after, first_due, leaf, left_of, position_of}
+use Rattle.station_command.proofs.Rules.{FileAt, IsLine, IsNamed, IsOption, IsSwitch, NamesNeither, NoFileAt, TakesOne, leaf, left_of, position_of}
 use Rattle.station_command.proofs.WordsRead.{Fails, Pending, both, ends_is_flag, first_fails, held, is_ends, is_long_or_fails, word_fails, word_passes}
-use Rattle.station_command.specs.CommandWords.{Before, Behind, Between, Given, Place, Usage, ends_flags, file_read, flag_read, given_at, given_in, is_among, is_flag, takes, value_of, with_value, word_read, words_read}
+use Rattle.station_command.specs.Commands.{Argument}
+use Rattle.station_command.specs.CommandWords.{Before, Behind, Between, Given, Place, ends_flags, file_read, flag_of, flag_read, given_at, given_in, is_flag, takes, value_of, with_value, word_read, words_read}
 
 -- ---- what is held between two words
 
@@ -38,14 +39,14 @@ hold given p = held (rows given) (pend p)
 abbrev walk_with : Held → Waiting → ℕ → Bool → Walk
 walk_with h waiting position last = record { held = h; waiting = waiting; position = position; is_trailing = last; stopped = None }
 
-abbrev walk_at : Held → Waiting → Files → Bool → Walk
+abbrev walk_at : Held → Waiting → ℕ → Bool → Walk
 walk_at h waiting n last = walk_with h waiting (position_of n) last
 
--- where both stand: between two words, before the value of an option, or behind `--`
+-- where both stand: between two words, before the value of an option, or after `--`
 data Stand : Type 0 where
-  between : List Given → Files → Part → Stand
-  before : List Given → Files → Rule → Stand
-  behind : List Given → Files → Part → Stand
+  between : List Given → ℕ → Part → Stand
+  before : List Given → ℕ → Rule → Stand
+  behind : List Given → ℕ → Part → Stand
 
 abbrev walk_of : Stand → Walk
 walk_of (between given n p) = walk_at (hold given p) idle n false
@@ -53,8 +54,8 @@ walk_of (before given n a) = walk_at (held (rows given) (Some (a.id, []))) (opti
 walk_of (behind given n p) = walk_at (hold given p) idle n true
 
 -- each value that was given is one that its name takes
-abbrev pub Taken : List Given → Type 0
-Taken given = (id text : Text) → value_of id given ≡ Some text → takes id text ≡ true
+abbrev pub Taken : List Argument → List Given → Type 0
+Taken usage given = (id text : Text) → value_of id given ≡ Some text → takes usage id text ≡ true
 
 some≢none : (text : Text) → Some text ≡ None → ⊥
 some≢none text e = true≢false (ap (λ (o : Option Text). is_some o) e)
@@ -62,12 +63,12 @@ some≢none text e = true≢false (ap (λ (o : Option Text). is_some o) e)
 some_injective : (a b : Text) → Some a ≡ Some b → a ≡ b
 some_injective a b e = ap (λ (o : Option Text). unwrap_or o a) e
 
-taken_more : (id : Text) (given : List Given) (text : Text) → Taken given → takes id text ≡ true → Taken (given ++ (id, text) ∷ [])
-taken_more id given text taken takes_it n t is = go (value_of n given) refl (bytes_eq id n) refl (sym (value_of-more n given (id, text)) ∙ is)
+taken_more : (usage : List Argument) (id : Text) (given : List Given) (text : Text) → Taken usage given → takes usage id text ≡ true → Taken usage (given ++ (id, text) ∷ [])
+taken_more usage id given text taken takes_it n t is = go (value_of n given) refl (bytes_eq id n) refl (sym (value_of-more n given (id, text)) ∙ is)
   where
-    go : (o : Option Text) → value_of n given ≡ o → (b : Bool) → bytes_eq id n ≡ b → or_value o (if b then Some text else None) ≡ Some t → takes n t ≡ true
+    go : (o : Option Text) → value_of n given ≡ o → (b : Bool) → bytes_eq id n ≡ b → or_value o (if b then Some text else None) ≡ Some t → takes usage n t ≡ true
     go (Some old) had b e is = taken n t (had ∙ is)
-    go None had true e is = subst (λ m. takes m t ≡ true) ((bytes_eq-Decides id n).0 e) (subst (λ v. takes id v ≡ true) (some_injective text t is) takes_it)
+    go None had true e is = subst (λ m. takes usage m t ≡ true) ((bytes_eq-Decides id n).0 e) (subst (λ v. takes usage id v ≡ true) (some_injective text t is) takes_it)
     go None had false e is = absurd (some≢none t (sym is))
 
 -- what was read, with the files that are still to come
@@ -82,8 +83,8 @@ abbrev pub missing_kinds : List Rule → List Given → Kinds
 missing_kinds rules given = check_kinds false false (is_missing rules given)
 
 -- What is found by words that are read: the values that were given, and otherwise the defaults.
-pub record AreFound (rules : List Rule) (given : List Given) (found : List Row) : Type 0 where
-  pub taken : Taken given
+pub record AreFound (usage : List Argument) (rules : List Rule) (given : List Given) (found : List Row) : Type 0 where
+  pub taken : Taken usage given
   pub values : (id : Text) → first_of id found ≡ or_value (value_of id given) (default_in id rules)
 
 -- what a command fails by
@@ -91,16 +92,16 @@ abbrev pub line_fault : Text → List Rule → List Text → Kinds
 line_fault name rules words = level_fault (leaf name rules) [] nothing_held words false []
 
 -- what its words are read as
-abbrev pub LineReads : Text → Usage → List Rule → List Text → Type 0
-LineReads name usage rules words = ((given : List Given) × ((given_in usage words ≡ Some given) × ((line_fault name rules words ≡ missing_kinds rules given) × AreFound rules given (rows_after rules [] words))))
+abbrev pub LineReads : Text → List Argument → List Rule → List Text → Type 0
+LineReads name usage rules words = ((given : List Given) × ((given_in usage words ≡ Some given) × ((line_fault name rules words ≡ missing_kinds rules given) × AreFound usage rules given (rows_after rules [] words))))
     ⊎ ((given_in usage words ≡ None) × Fails (line_fault name rules words))
 
-module _ (name : Text) (usage : Usage) (rules : List Rule) (line : IsLine usage rules) where
+module _ (name : Text) (usage : List Argument) (rules : List Rule) (line : IsLine usage rules) where
   abbrev s : Shape
   s = leaf name rules
 
-  abbrev left : Files → List Text
-  left n = left_of usage.files n
+  abbrev left : ℕ → List Text
+  left n = left_of usage n
 
   abbrev read_at : Stand → Place
   read_at (between given n p) = Between (all given p) (left n)
@@ -109,12 +110,12 @@ module _ (name : Text) (usage : Usage) (rules : List Rule) (line : IsLine usage 
 
   abbrev Allowed : List Given → Part → Type 0
   Allowed given None = Unit {0}
-  Allowed given (Some p) = TakesOne rules p.0 × (may_have given p.0.id p.1 ≡ true)
+  Allowed given (Some p) = TakesOne usage rules p.0 × (may_have usage given p.0.id p.1 ≡ true)
 
   abbrev Stands : Stand → Type 0
-  Stands (between given n p) = Taken given × Allowed given p
-  Stands (before given n a) = Taken given × (IsOption rules a × (is_among usage.options a.id ≡ true))
-  Stands (behind given n p) = Taken given × Allowed given p
+  Stands (between given n p) = Taken usage given × Allowed given p
+  Stands (before given n a) = Taken usage given × IsOption usage rules a
+  Stands (behind given n p) = Taken usage given × Allowed given p
 
   abbrev end_fault : Held → Kinds
   end_fault h = or_else (settle_fault rules false h) (or_else (defaults_fault (settled rules h).rows rules) (check_fault s (finished rules h) false))
@@ -162,24 +163,24 @@ module _ (name : Text) (usage : Usage) (rules : List Rule) (line : IsLine usage 
 
   -- ---- an argument that takes one value
 
-  module _ (a : Rule) (one : TakesOne rules a) where
+  module _ (a : Rule) (one : TakesOne usage rules a) where
     settle_is : (texts : List Text) (rs : List Row) → settle_fault rules false (held rs (Some (a.id, texts))) ≡ use_fault false a texts rs
     settle_is texts rs = ap (λ o. option_map_or (λ (b : Rule). use_fault false b texts rs) o []) one.found
 
     settled_is : (texts : List Text) (rs : List Row) → settled_rows rules (Some (a.id, texts)) rs ≡ used a texts rs
     settled_is texts rs = ap (λ o. used_by_id o texts rs) one.found
 
-    use_is : (given : List Given) (text : Text) → use_fault false a (text ∷ []) (rows given) ≡ kinds_of (is_some (value_of a.id given)) (takes a.id text)
-    use_is given text = one.fault text (rows given) ∙ ap (λ has. kinds_of has (takes a.id text)) (has_row-rows a.id given)
+    use_is : (given : List Given) (text : Text) → use_fault false a (text ∷ []) (rows given) ≡ kinds_of (is_some (value_of a.id given)) (takes usage a.id text)
+    use_is given text = one.fault text (rows given) ∙ ap (λ has. kinds_of has (takes usage a.id text)) (has_row-rows a.id given)
 
-    use_passes : (given : List Given) (text : Text) → may_have given a.id text ≡ true → use_fault false a (text ∷ []) (rows given) ≡ []
-    use_passes given text may = use_is given text ∙ kinds_pass (is_some (value_of a.id given)) (takes a.id text) may
+    use_passes : (given : List Given) (text : Text) → may_have usage given a.id text ≡ true → use_fault false a (text ∷ []) (rows given) ≡ []
+    use_passes given text may = use_is given text ∙ kinds_pass (is_some (value_of a.id given)) (takes usage a.id text) may
 
-    use_fails : (given : List Given) (text : Text) → may_have given a.id text ≡ false → Fails (use_fault false a (text ∷ []) (rows given))
-    use_fails given text may = subst Fails (sym (use_is given text)) (kinds_fail (is_some (value_of a.id given)) (takes a.id text) may)
+    use_fails : (given : List Given) (text : Text) → may_have usage given a.id text ≡ false → Fails (use_fault false a (text ∷ []) (rows given))
+    use_fails given text may = subst Fails (sym (use_is given text)) (kinds_fail (is_some (value_of a.id given)) (takes usage a.id text) may)
 
-    used_is : (given : List Given) (text : Text) → may_have given a.id text ≡ true → used a (text ∷ []) (rows given) ≡ rows (given ++ (a.id, text) ∷ [])
-    used_is given text may = one.leaves text (rows given) ∙ added a.id given text (not_some _ (both _ (takes a.id text) may).0)
+    used_is : (given : List Given) (text : Text) → may_have usage given a.id text ≡ true → used a (text ∷ []) (rows given) ≡ rows (given ++ (a.id, text) ∷ [])
+    used_is given text may = one.leaves text (rows given) ∙ added a.id given text (not_some _ (both _ (takes usage a.id text) may).0)
 
     takes_value : takes_values a ≡ true
     takes_value = ap (λ n. not (nat_eq n 0)) one.most
@@ -207,9 +208,9 @@ module _ (name : Text) (usage : Usage) (rules : List Rule) (line : IsLine usage 
   settle_rows given None allowed = refl
   settle_rows given (Some p) allowed = settled_is p.0 allowed.0 (p.1 ∷ []) (rows given) ∙ used_is p.0 allowed.0 given p.1 allowed.1
 
-  taken_all : (given : List Given) (p : Part) → Taken given → Allowed given p → Taken (all given p)
+  taken_all : (given : List Given) (p : Part) → Taken usage given → Allowed given p → Taken usage (all given p)
   taken_all given None taken allowed = taken
-  taken_all given (Some p) taken allowed = taken_more p.0.id given p.1 taken (both _ (takes p.0.id p.1) allowed.1).1
+  taken_all given (Some p) taken allowed = taken_more usage p.0.id given p.1 taken (both _ (takes usage p.0.id p.1) allowed.1).1
 
   -- ---- where a value that is held can't be used
 
@@ -224,23 +225,23 @@ module _ (name : Text) (usage : Usage) (rules : List Rule) (line : IsLine usage 
       go false (Some text) = tt
 
   -- the place of a file
-  place_is : (n : Files) (a : Rule) → FileAt usage.files rules n a → (h : Held) → step_fault s (position_of n) h value ≡ settle_fault rules false h
+  place_is : (n : ℕ) (a : Rule) → FileAt usage rules n a → (h : Held) → step_fault s (position_of n) h value ≡ settle_fault rules false h
   place_is n a file h = ap (λ o. option_map_or (λ (b : Rule). positional_fault rules false b h) o (stray_fault s)) file.found ∙ positional_fault_is a file.one h
 
-  no_place_fails : (n : Files) → NoFileAt usage.files rules n → (h : Held) → Fails (step_fault s (position_of n) h value)
+  no_place_fails : (n : ℕ) → NoFileAt usage rules n → (h : Held) → Fails (step_fault s (position_of n) h value)
   no_place_fails n none h = subst (λ o. Fails (option_map_or (λ (b : Rule). positional_fault rules false b h) o (stray_fault s))) (sym none.0) tt
 
   module _ (rs : List Row) (pending : Pending) (bad : Fails (settle_fault rules false (held rs pending))) where
     abbrev stuck : Held
     stuck = held rs pending
 
-    value_bad : (n : Files) → Fails (step_fault s (position_of n) stuck value)
+    value_bad : (n : ℕ) → Fails (step_fault s (position_of n) stuck value)
     value_bad n = elim (line.file n) [
       | inl file ↦ subst Fails (sym (place_is n file.0 file.1 stuck)) bad
       | inr none ↦ no_place_fails n none stuck
     ]
 
-    last_bad : (waiting : Waiting) (n : Files) (more : List Text) → Fails (fault_from (walk_at stuck waiting n true) more)
+    last_bad : (waiting : Waiting) (n : ℕ) (more : List Text) → Fails (fault_from (walk_at stuck waiting n true) more)
     last_bad waiting n [] = subst Fails (sym (end_is (walk_at stuck waiting n true))) (first_fails (settle_fault rules false stuck) _ bad)
     last_bad waiting n (word ∷ more) = turn_fails (walk_at stuck waiting n true) word more (value_bad n)
 
@@ -248,7 +249,7 @@ module _ (name : Text) (usage : Usage) (rules : List Rule) (line : IsLine usage 
     flag_bad = word_fails rs pending rules (λ x rest onward. line.short x rest stuck onward) (λ name text. long_bad (arg_by_long rules name) text stuck bad)
 
     -- where nothing waits for a value
-    idle_bad : (n : Files) (words : List Text) → Fails (fault_from (walk_at stuck idle n false) words)
+    idle_bad : (n : ℕ) (words : List Text) → Fails (fault_from (walk_at stuck idle n false) words)
     unfolding walked
     idle_bad n [] = subst Fails (sym (end_is (walk_at stuck idle n false))) (first_fails (settle_fault rules false stuck) _ bad)
     idle_bad n (word ∷ more) = go (ends_flags word) (is_flag word) refl refl
@@ -263,32 +264,32 @@ module _ (name : Text) (usage : Usage) (rules : List Rule) (line : IsLine usage 
             let value_is = word_passes rs pending rules idle word h in
             turn_fails (walk_at stuck idle n false) word more (rw e (rw value_is.0 (rw value_is.1 (value_bad n))))
 
-    stuck_bad : (n : Files) (last : Bool) (words : List Text) → Fails (fault_from (walk_at stuck idle n last) words)
+    stuck_bad : (n : ℕ) (last : Bool) (words : List Text) → Fails (fault_from (walk_at stuck idle n last) words)
     stuck_bad n true words = last_bad idle n words
     stuck_bad n false words = idle_bad n words
 
     -- where an option waits for its value, and gets none
-    waiting_ends_bad : (id : Text) (n : Files) (more : List Text) → Fails (fault_from (walk_at stuck (option id) n false) (codes "--" ∷ more))
+    waiting_ends_bad : (id : Text) (n : ℕ) (more : List Text) → Fails (fault_from (walk_at stuck (option id) n false) (codes "--" ∷ more))
     unfolding walked
     waiting_ends_bad id n more =
         subst Fails (sym (fault_leads (walk_at stuck (option id) n false) (walk_at stuck (option id) n true) (codes "--") refl refl more)) (last_bad (option id) n more)
 
-    waiting_flag_bad : (id : Text) (n : Files) (word : Text) (more : List Text) (ends : Bool) → ends_flags word ≡ ends → is_flag word ≡ true
+    waiting_flag_bad : (id : Text) (n : ℕ) (word : Text) (more : List Text) (ends : Bool) → ends_flags word ≡ ends → is_flag word ≡ true
         → Fails (fault_from (walk_at stuck (option id) n false) (word ∷ more))
     waiting_flag_bad id n word more true e h = subst (λ w. Fails (fault_from (walk_at stuck (option id) n false) (w ∷ more))) (sym (is_ends word e)) (waiting_ends_bad id n more)
     waiting_flag_bad id n word more false e h =
         turn_fails (walk_at stuck (option id) n false) word more (rw e (first_fails (flag_word_fault rules false (long_of word) word stuck) _ (flag_bad word e h)))
 
-    waiting_end_bad : (id : Text) (n : Files) → Fails (fault_from (walk_at stuck (option id) n false) [])
+    waiting_end_bad : (id : Text) (n : ℕ) → Fails (fault_from (walk_at stuck (option id) n false) [])
     waiting_end_bad id n = subst Fails (sym (end_is (walk_at stuck (option id) n false))) (first_fails (settle_fault rules false stuck) _ bad)
 
   -- an option without a value can't be used
-  no_value : (a : Rule) → TakesOne rules a → (given : List Given) → Fails (settle_fault rules false (held (rows given) (Some (a.id, []))))
+  no_value : (a : Rule) → TakesOne usage rules a → (given : List Given) → Fails (settle_fault rules false (held (rows given) (Some (a.id, []))))
   no_value a one given = subst Fails (sym (settle_is a one [] (rows given))) (one.empty (rows given))
 
   -- ---- a word that is a file
 
-  module _ (given : List Given) (n : Files) (p : Part) (taken : Taken given) (allowed : Allowed given p) (word : Text) where
+  module _ (given : List Given) (n : ℕ) (p : Part) (taken : Taken usage given) (allowed : Allowed given p) (word : Text) where
     -- the walk when a word was put at the place of a file
     abbrev placed : Bool → Walk
     placed last = to_positional rules (arg_by_index rules (position_of n)) word (walk_at (hold given p) idle n last) (hold given p)
@@ -296,7 +297,7 @@ module _ (name : Text) (usage : Usage) (rules : List Rule) (line : IsLine usage 
     abbrev filed : Rule → Held
     filed a = held (rows (all given p)) (Some (a.id, word ∷ []))
 
-    module _ (a : Rule) (file : FileAt usage.files rules n a) where
+    module _ (a : Rule) (file : FileAt usage rules n a) where
       held_is : positional_held rules a word (hold given p) ≡ filed a
       held_is = positional_held_is a file.one word (hold given p) ∙ ap (λ rs. held rs (Some (a.id, word ∷ []))) (settle_rows given p allowed)
 
@@ -307,49 +308,49 @@ module _ (name : Text) (usage : Usage) (rules : List Rule) (line : IsLine usage 
       still true = refl
       still false = file.one.further
 
-      placed_is : (last : Bool) → placed last ≡ walk_at (filed a) idle (after n) last
+      placed_is : (last : Bool) → placed last ≡ walk_at (filed a) idle (suc n) last
       placed_is last = ap (λ o. to_positional rules o word (walk_at (hold given p) idle n last) (hold given p)) file.found
           ∙ (λ i. walk_with (held_is i) (if file.one.once i then positional else idle) (file.steps i) (still last i))
 
-      file_read_is : file_read (all given p) (left n) word ≡ with_left (left (after n)) (with_value (all given p) a.id word)
-      file_read_is = ap (λ files. file_read (all given p) files word) file.left
+      file_read_is : file_read usage (all given p) (left n) word ≡ with_left (left (suc n)) (with_value usage (all given p) a.id word)
+      file_read_is = ap (λ files. file_read usage (all given p) files word) file.left
 
-      may_read : (may : Bool) → may_have (all given p) a.id word ≡ may
-          → file_read (all given p) (left n) word ≡ with_left (left (after n)) (if may then Some (all given p ++ (a.id, word) ∷ []) else None)
-      may_read may e = file_read_is ∙ ap (λ b. with_left (left (after n)) (if b then Some (all given p ++ (a.id, word) ∷ []) else None)) e
+      may_read : (may : Bool) → may_have usage (all given p) a.id word ≡ may
+          → file_read usage (all given p) (left n) word ≡ with_left (left (suc n)) (if may then Some (all given p ++ (a.id, word) ∷ []) else None)
+      may_read may e = file_read_is ∙ ap (λ b. with_left (left (suc n)) (if b then Some (all given p ++ (a.id, word) ∷ []) else None)) e
 
     -- what becomes of the word
     abbrev IsFiled : Type 0
-    IsFiled = (a : Rule) × (FileAt usage.files rules n a × (may_have (all given p) a.id word ≡ true))
+    IsFiled = (a : Rule) × (FileAt usage rules n a × (may_have usage (all given p) a.id word ≡ true))
 
     abbrev IsNotFiled : Type 0
-    IsNotFiled = (file_read (all given p) (left n) word ≡ None)
+    IsNotFiled = (file_read usage (all given p) (left n) word ≡ None)
         × ((w : Walk) (last : Bool) (more : List Text) → turn_fault s [] w word ≡ step_fault s (position_of n) (hold given p) value → walked rules [] w word ≡ placed last → Fails (fault_from w (word ∷ more)))
 
-    no_file : NoFileAt usage.files rules n → IsNotFiled
+    no_file : NoFileAt usage rules n → IsNotFiled
     no_file none = (
-      ap (λ files. file_read (all given p) files word) none.1,
+      ap (λ files. file_read usage (all given p) files word) none.1,
       λ w last more turn walk. turn_fails w word more (subst Fails (sym turn) (no_place_fails n none (hold given p))),
     )
 
-    file_refused : (a : Rule) → FileAt usage.files rules n a → may_have (all given p) a.id word ≡ false → IsNotFiled
+    file_refused : (a : Rule) → FileAt usage rules n a → may_have usage (all given p) a.id word ≡ false → IsNotFiled
     file_refused a file may = (
       may_read a file false may,
-      λ w last more turn walk. subst Fails (sym (fault_leads w (walk_at (filed a) idle (after n) last) word (turn ∙ file_passes a file) (walk ∙ placed_is a file last) more))
-          (stuck_bad (rows (all given p)) (Some (a.id, word ∷ [])) (subst Fails (sym (settle_is a file.one (word ∷ []) (rows (all given p)))) (use_fails a file.one (all given p) word may)) (after n) last more),
+      λ w last more turn walk. subst Fails (sym (fault_leads w (walk_at (filed a) idle (suc n) last) word (turn ∙ file_passes a file) (walk ∙ placed_is a file last) more))
+          (stuck_bad (rows (all given p)) (Some (a.id, word ∷ [])) (subst Fails (sym (settle_is a file.one (word ∷ []) (rows (all given p)))) (use_fails a file.one (all given p) word may)) (suc n) last more),
     )
 
     filing : IsFiled ⊎ IsNotFiled
     filing = elim (line.file n) [
-      | inl file ↦ by_may file.0 file.1 (may_have (all given p) file.0.id word) refl
+      | inl file ↦ by_may file.0 file.1 (may_have usage (all given p) file.0.id word) refl
       | inr none ↦ inr (no_file none)
     ]
       where
-        by_may : (a : Rule) → FileAt usage.files rules n a → (may : Bool) → may_have (all given p) a.id word ≡ may → IsFiled ⊎ IsNotFiled
+        by_may : (a : Rule) → FileAt usage rules n a → (may : Bool) → may_have usage (all given p) a.id word ≡ may → IsFiled ⊎ IsNotFiled
         by_may a file true may = inl (a, (file, may))
         by_may a file false may = inr (file_refused a file may)
 
-    filed_stands : (a : Rule) → FileAt usage.files rules n a → may_have (all given p) a.id word ≡ true → Taken (all given p) × Allowed (all given p) (Some (a, word))
+    filed_stands : (a : Rule) → FileAt usage rules n a → may_have usage (all given p) a.id word ≡ true → Taken usage (all given p) × Allowed (all given p) (Some (a, word))
     filed_stands a file may = (taken_all given p taken allowed, (file.one, may))
 
     -- where no flag comes any more
@@ -357,7 +358,7 @@ module _ (name : Text) (usage : Usage) (rules : List Rule) (line : IsLine usage 
     unfolding walked
     behind_leads = elim filing [
       | inl f ↦ inl (
-        behind (all given p) (after n) (Some (f.0, word)),
+        behind (all given p) (suc n) (Some (f.0, word)),
         (
           filed_stands f.0 f.1.0 f.1.1,
           (
@@ -378,14 +379,14 @@ module _ (name : Text) (usage : Usage) (rules : List Rule) (line : IsLine usage 
 
     abbrev read_by : Bool → Bool → Option (Text × Option Text) → Option Place
     read_by ends flag long = if ends then Some (Behind (all given p) (left n))
-        else (if flag then option_and_then (λ (f : Text × Option Text). flag_read usage (all given p) (left n) f.0 f.1) long
-        else option_map (λ (more : List Given × List Text). Between more.0 more.1) (file_read (all given p) (left n) word))
+        else (if flag then option_and_then (λ (f : Text × Option Text). flag_read usage (all given p) (left n) f.0 f.1 (flag_of usage f.0)) long
+        else option_map (λ (more : List Given × List Text). Between more.0 more.1) (file_read usage (all given p) (left n) word))
 
     value_leads : ends_flags word ≡ false → is_flag word ≡ false → Leads (between given n p) word
     unfolding walked
     value_leads ends flag = elim filing [
       | inl f ↦ inl (
-        between (all given p) (after n) (Some (f.0, word)),
+        between (all given p) (suc n) (Some (f.0, word)),
         (
           filed_stands f.0 f.1.0 f.1.1,
           (
@@ -406,7 +407,7 @@ module _ (name : Text) (usage : Usage) (rules : List Rule) (line : IsLine usage 
         walk : walked rules [] here word ≡ placed false
         walk = λ i. after_step rules word here (met_by (ends i) (passed.1 i)).0 (met_by (ends i) (passed.1 i)).1
 
-        read : word_read usage (read_at (between given n p)) word ≡ option_map (λ (more : List Given × List Text). Between more.0 more.1) (file_read (all given p) (left n) word)
+        read : word_read usage (read_at (between given n p)) word ≡ option_map (λ (more : List Given × List Text). Between more.0 more.1) (file_read usage (all given p) (left n) word)
         read = λ i. read_by (ends i) (flag i) (long_of word)
 
     -- `--`
@@ -433,15 +434,15 @@ module _ (name : Text) (usage : Usage) (rules : List Rule) (line : IsLine usage 
     flag_met_as flag text = long_word rules idle word flag text (hold given p)
 
     abbrev FlagLeadsTo : Text → Option Text → Stand → Type 0
-    FlagLeadsTo flag text onward = Stands onward × ((flag_read usage (all given p) (left n) flag text ≡ Some (read_at onward))
+    FlagLeadsTo flag text onward = Stands onward × ((flag_read usage (all given p) (left n) flag text (flag_of usage flag) ≡ Some (read_at onward))
         × ((long_fault rules false (arg_by_long rules flag) text (hold given p) ≡ [])
         × ((step_fault s (position_of n) (flag_met_as flag text).0 (flag_met_as flag text).1 ≡ []) × (after_step rules word here (flag_met_as flag text).0 (flag_met_as flag text).1 ≡ walk_of onward))))
 
     abbrev FlagLeads : Text → Option Text → Type 0
     FlagLeads flag text = ((onward : Stand) × FlagLeadsTo flag text onward)
-        ⊎ ((flag_read usage (all given p) (left n) flag text ≡ None) × Fails (long_fault rules false (arg_by_long rules flag) text (hold given p)))
+        ⊎ ((flag_read usage (all given p) (left n) flag text (flag_of usage flag) ≡ None) × Fails (long_fault rules false (arg_by_long rules flag) text (hold given p)))
 
-    module _ (a : Rule) (opt : IsOption rules a) (is : is_among usage.options a.id ≡ true) where
+    module _ (a : Rule) (opt : IsOption usage rules a) (is : flag_of usage a.id ≡ Some false) where
       option_fault_is : (text : Option Text) → long_fault rules false (arg_by_long rules a.id) text (hold given p) ≡ option_fault rules false a text (hold given p)
       option_fault_is text = ap (λ o. long_fault rules false o text (hold given p)) opt.long
           ∙ ap (λ b. if b then option_fault rules false a text (hold given p) else (if is_some text then kind.TooManyValues ∷ [] else react_fault rules false a [] (hold given p))) (takes_value a opt.one)
@@ -458,10 +459,9 @@ module _ (name : Text) (usage : Usage) (rules : List Rule) (line : IsLine usage 
       without_leads = inl (
         before (all given p) n a,
         (
-          (taken_all given p taken allowed, (opt, is)),
+          (taken_all given p taken allowed, opt),
           (
-            ap (λ b. if b then Some (Before (all given p) (left n) a.id)
-                else (if is_among usage.switches a.id then option_map (λ (more : List Given). Between more (left n)) (with_value (all given p) a.id (codes "true")) else None)) is,
+            ap (flag_read usage (all given p) (left n) a.id None) is,
             (
               option_fault_is None ∙ settle_passes given p allowed,
               (
@@ -478,16 +478,17 @@ module _ (name : Text) (usage : Usage) (rules : List Rule) (line : IsLine usage 
       with_fault text = option_fault_is (Some text)
           ∙ (λ i. or_else (settle_passes given p allowed i) (use_fault false a (text ∷ []) (settle_rows given p allowed i)))
 
-      with_read : (text : Text) (may : Bool) → may_have (all given p) a.id text ≡ may
-          → flag_read usage (all given p) (left n) a.id (Some text) ≡ option_map (λ (more : List Given). Between more (left n)) (if may then Some (all given p ++ (a.id, text) ∷ []) else None)
-      with_read text may e = λ i. if is i then option_map (λ (more : List Given). Between more (left n)) (if e i then Some (all given p ++ (a.id, text) ∷ []) else None) else None
+      with_read : (text : Text) (may : Bool) → may_have usage (all given p) a.id text ≡ may
+          → flag_read usage (all given p) (left n) a.id (Some text) (flag_of usage a.id) ≡ option_map (λ (more : List Given). Between more (left n)) (if may then Some (all given p ++ (a.id, text) ∷ []) else None)
+      with_read text may e = ap (flag_read usage (all given p) (left n) a.id (Some text)) is
+          ∙ ap (λ b. option_map (λ (more : List Given). Between more (left n)) (if b then Some (all given p ++ (a.id, text) ∷ []) else None)) e
 
       -- the value stands in the word
-      with_leads : (text : Text) (may : Bool) → may_have (all given p) a.id text ≡ may → FlagLeads a.id (Some text)
+      with_leads : (text : Text) (may : Bool) → may_have usage (all given p) a.id text ≡ may → FlagLeads a.id (Some text)
       with_leads text true may = inl (
         between (all given p ++ (a.id, text) ∷ []) n None,
         (
-          (taken_more a.id (all given p) text (taken_all given p taken allowed) (both _ (takes a.id text) may).1, tt),
+          (taken_more usage a.id (all given p) text (taken_all given p taken allowed) (both _ (takes usage a.id text) may).1, tt),
           (
             with_read text true may,
             (
@@ -506,9 +507,9 @@ module _ (name : Text) (usage : Usage) (rules : List Rule) (line : IsLine usage 
 
       option_leads : (text : Option Text) → FlagLeads a.id text
       option_leads None = without_leads
-      option_leads (Some text) = with_leads text (may_have (all given p) a.id text) refl
+      option_leads (Some text) = with_leads text (may_have usage (all given p) a.id text) refl
 
-    module _ (a : Rule) (switch : IsSwitch rules a) (other : is_among usage.options a.id ≡ false) (is : is_among usage.switches a.id ≡ true) where
+    module _ (a : Rule) (switch : IsSwitch usage rules a) (is : flag_of usage a.id ≡ Some true) where
       switch_fault_is : (text : Option Text) → long_fault rules false (arg_by_long rules a.id) text (hold given p)
           ≡ (if is_some text then kind.TooManyValues ∷ [] else react_fault rules false a [] (hold given p))
       switch_fault_is text = ap (λ o. long_fault rules false o text (hold given p)) switch.long
@@ -521,31 +522,31 @@ module _ (name : Text) (usage : Usage) (rules : List Rule) (line : IsLine usage 
       switch_is : flag_met_as a.id None ≡ (held (used a [] (settled_rows rules (pend p) (rows given))) None, next idle)
       switch_is = ap (λ (m : Held × Outcome). after_flag rules idle word m.0 m.1) switch_met_is
 
-      switch_use_is : use_fault false a [] (rows (all given p)) ≡ kinds_of (is_some (value_of a.id (all given p))) (takes a.id (codes "true"))
-      switch_use_is = switch.fault (rows (all given p)) ∙ ap (λ has. kinds_of has (takes a.id (codes "true"))) (has_row-rows a.id (all given p))
+      switch_use_is : use_fault false a [] (rows (all given p)) ≡ kinds_of (is_some (value_of a.id (all given p))) (takes usage a.id (codes "true"))
+      switch_use_is = switch.fault (rows (all given p)) ∙ ap (λ has. kinds_of has (takes usage a.id (codes "true"))) (has_row-rows a.id (all given p))
 
       on_fault : long_fault rules false (arg_by_long rules a.id) None (hold given p) ≡ use_fault false a [] (rows (all given p))
       on_fault = switch_fault_is None ∙ (λ i. or_else (settle_passes given p allowed i) (use_fault false a [] (settle_rows given p allowed i)))
 
-      on_read : (may : Bool) → may_have (all given p) a.id (codes "true") ≡ may
-          → flag_read usage (all given p) (left n) a.id None ≡ option_map (λ (more : List Given). Between more (left n)) (if may then Some (all given p ++ (a.id, codes "true") ∷ []) else None)
-      on_read may e = λ i. if other i then Some (Before (all given p) (left n) a.id)
-          else (if is i then option_map (λ (more : List Given). Between more (left n)) (if e i then Some (all given p ++ (a.id, codes "true") ∷ []) else None) else None)
+      on_read : (may : Bool) → may_have usage (all given p) a.id (codes "true") ≡ may
+          → flag_read usage (all given p) (left n) a.id None (flag_of usage a.id) ≡ option_map (λ (more : List Given). Between more (left n)) (if may then Some (all given p ++ (a.id, codes "true") ∷ []) else None)
+      on_read may e = ap (flag_read usage (all given p) (left n) a.id None) is
+          ∙ ap (λ b. option_map (λ (more : List Given). Between more (left n)) (if b then Some (all given p ++ (a.id, codes "true") ∷ []) else None)) e
 
-      on_leads : (may : Bool) → may_have (all given p) a.id (codes "true") ≡ may → FlagLeads a.id None
+      on_leads : (may : Bool) → may_have usage (all given p) a.id (codes "true") ≡ may → FlagLeads a.id None
       on_leads true may = inl (
         between (all given p ++ (a.id, codes "true") ∷ []) n None,
         (
-          (taken_more a.id (all given p) (codes "true") (taken_all given p taken allowed) (both _ (takes a.id (codes "true")) may).1, tt),
+          (taken_more usage a.id (all given p) (codes "true") (taken_all given p taken allowed) (both _ (takes usage a.id (codes "true")) may).1, tt),
           (
             on_read true may,
             (
-              on_fault ∙ switch_use_is ∙ kinds_pass (is_some (value_of a.id (all given p))) (takes a.id (codes "true")) may,
+              on_fault ∙ switch_use_is ∙ kinds_pass (is_some (value_of a.id (all given p))) (takes usage a.id (codes "true")) may,
               (
                 ap (λ (m : Held × Step). step_fault s (position_of n) m.0 m.1) switch_is,
                 ap (λ (m : Held × Step). after_step rules word here m.0 m.1) switch_is
                     ∙ ap (λ rs. walk_at (held (used a [] rs) None) idle n false) (settle_rows given p allowed)
-                    ∙ ap (λ rs. walk_at (held rs None) idle n false) (switch.leaves (rows (all given p)) ∙ added a.id (all given p) (codes "true") (not_some _ (both _ (takes a.id (codes "true")) may).0)),
+                    ∙ ap (λ rs. walk_at (held rs None) idle n false) (switch.leaves (rows (all given p)) ∙ added a.id (all given p) (codes "true") (not_some _ (both _ (takes usage a.id (codes "true")) may).0)),
               ),
             ),
           ),
@@ -553,30 +554,26 @@ module _ (name : Text) (usage : Usage) (rules : List Rule) (line : IsLine usage 
       )
       on_leads false may = inr (
         on_read false may,
-        subst Fails (sym (on_fault ∙ switch_use_is)) (kinds_fail (is_some (value_of a.id (all given p))) (takes a.id (codes "true")) may),
+        subst Fails (sym (on_fault ∙ switch_use_is)) (kinds_fail (is_some (value_of a.id (all given p))) (takes usage a.id (codes "true")) may),
       )
 
       switch_leads : (text : Option Text) → FlagLeads a.id text
-      switch_leads None = on_leads (may_have (all given p) a.id (codes "true")) refl
+      switch_leads None = on_leads (may_have usage (all given p) a.id (codes "true")) refl
       switch_leads (Some text) = inr (
-        ap (λ b. if b then option_map (λ (more : List Given). Between more (left n)) (with_value (all given p) a.id text) else None) other,
+        ap (flag_read usage (all given p) (left n) a.id (Some text)) is,
         subst Fails (sym (switch_fault_is (Some text))) tt,
       )
 
     neither_fails : (flag : Text) → NamesNeither usage rules flag → (text : Option Text) → FlagLeads flag text
-    neither_fails flag none None = inr (
-      (λ i. if none.0 i then Some (Before (all given p) (left n) flag)
-          else (if none.1 i then option_map (λ (more : List Given). Between more (left n)) (with_value (all given p) flag (codes "true")) else None)),
-      none.2 None (hold given p),
-    )
-    neither_fails flag none (Some text) = inr (
-      ap (λ b. if b then option_map (λ (more : List Given). Between more (left n)) (with_value (all given p) flag text) else None) none.0,
-      none.2 (Some text) (hold given p),
-    )
+    neither_fails flag none text = inr (ap (flag_read usage (all given p) (left n) flag text) none.0 ∙ no_flag text, none.1 text (hold given p))
+      where
+        no_flag : (text : Option Text) → flag_read usage (all given p) (left n) flag text None ≡ None
+        no_flag None = refl
+        no_flag (Some text) = refl
 
     by_named : (flag : Text) (text : Option Text) → IsNamed usage rules flag → FlagLeads flag text
     by_named flag text (inl o) = subst (λ f. FlagLeads f text) o.2 (option_leads o.0 o.1 o.3 text)
-    by_named flag text (inr (inl w)) = subst (λ f. FlagLeads f text) w.2 (switch_leads w.0 w.1 w.3 w.4 text)
+    by_named flag text (inr (inl w)) = subst (λ f. FlagLeads f text) w.2 (switch_leads w.0 w.1 w.3 text)
     by_named flag text (inr (inr none)) = neither_fails flag none text
 
     flag_leads : ends_flags word ≡ false → is_flag word ≡ true → Leads (between given n p) word
@@ -586,19 +583,19 @@ module _ (name : Text) (usage : Usage) (rules : List Rule) (line : IsLine usage 
       | inr fails ↦ no_long (long_of word) refl fails
     ]
       where
-        read : (flag_of : Option (Text × Option Text)) → long_of word ≡ flag_of
-            → word_read usage (read_at (between given n p)) word ≡ option_and_then (λ (f : Text × Option Text). flag_read usage (all given p) (left n) f.0 f.1) flag_of
-        read flag_of long = λ i. read_by (ends i) (flag i) (long i)
+        read : (found : Option (Text × Option Text)) → long_of word ≡ found
+            → word_read usage (read_at (between given n p)) word ≡ option_and_then (λ (f : Text × Option Text). flag_read usage (all given p) (left n) f.0 f.1 (flag_of usage f.0)) found
+        read found long = λ i. read_by (ends i) (flag i) (long i)
 
-        turn : (flag_of : Option (Text × Option Text)) → long_of word ≡ flag_of
-            → turn_fault s [] here word ≡ or_else (flag_word_fault rules false flag_of word (hold given p))
-            (step_fault s (position_of n) (long_or_other rules idle word flag_of (hold given p)).0 (long_or_other rules idle word flag_of (hold given p)).1)
-        turn flag_of long = λ i. or_else (if ends i then [] else flag_word_fault rules false (long i) word (hold given p))
+        turn : (found : Option (Text × Option Text)) → long_of word ≡ found
+            → turn_fault s [] here word ≡ or_else (flag_word_fault rules false found word (hold given p))
+            (step_fault s (position_of n) (long_or_other rules idle word found (hold given p)).0 (long_or_other rules idle word found (hold given p)).1)
+        turn found long = λ i. or_else (if ends i then [] else flag_word_fault rules false (long i) word (hold given p))
             (step_fault s (position_of n) (met_by (ends i) (long_or_other rules idle word (long i) (hold given p))).0 (met_by (ends i) (long_or_other rules idle word (long i) (hold given p))).1)
 
-        walk : (flag_of : Option (Text × Option Text)) → long_of word ≡ flag_of
-            → walked rules [] here word ≡ after_step rules word here (long_or_other rules idle word flag_of (hold given p)).0 (long_or_other rules idle word flag_of (hold given p)).1
-        walk flag_of long = λ i. after_step rules word here (met_by (ends i) (long_or_other rules idle word (long i) (hold given p))).0 (met_by (ends i) (long_or_other rules idle word (long i) (hold given p))).1
+        walk : (found : Option (Text × Option Text)) → long_of word ≡ found
+            → walked rules [] here word ≡ after_step rules word here (long_or_other rules idle word found (hold given p)).0 (long_or_other rules idle word found (hold given p)).1
+        walk found long = λ i. after_step rules word here (met_by (ends i) (long_or_other rules idle word (long i) (hold given p))).0 (met_by (ends i) (long_or_other rules idle word (long i) (hold given p))).1
 
         long_leads : (flag : Text) (text : Option Text) → long_of word ≡ Some (flag, text) → Leads (between given n p) word
         long_leads flag text long = elim (by_named flag text (line.named flag)) [
@@ -621,7 +618,7 @@ module _ (name : Text) (usage : Usage) (rules : List Rule) (line : IsLine usage 
           )
         ]
 
-        no_long : (flag_of : Option (Text × Option Text)) → long_of word ≡ flag_of → Fails (flag_word_fault rules false (long_of word) word (hold given p)) → Leads (between given n p) word
+        no_long : (found : Option (Text × Option Text)) → long_of word ≡ found → Fails (flag_word_fault rules false (long_of word) word (hold given p)) → Leads (between given n p) word
         no_long (Some f) long fails = long_leads f.0 f.1 long
         no_long None long fails = inr (
           read None long,
@@ -630,13 +627,13 @@ module _ (name : Text) (usage : Usage) (rules : List Rule) (line : IsLine usage 
 
   -- ---- a word before which an option waits for its value
 
-  option_word_is : (a : Rule) → TakesOne rules a → (given : List Given) (word : Text)
+  option_word_is : (a : Rule) → TakesOne usage rules a → (given : List Given) (word : Text)
       → option_word (arg_by_id rules a.id) a.id word (held (rows given) (Some (a.id, []))) ≡ (held (rows given) (Some (a.id, word ∷ [])), idle)
   option_word_is a one given word =
       ap (λ o. option_word o a.id word (held (rows given) (Some (a.id, [])))) one.found
       ∙ (λ i. waiting_by (held (rows given) (Some (a.id, word ∷ []))) a.id (if one.same i then 1 else 0) (one.most i))
 
-  module _ (given : List Given) (n : Files) (a : Rule) (taken : Taken given) (opt : IsOption rules a) (word : Text) where
+  module _ (given : List Given) (n : ℕ) (a : Rule) (taken : Taken usage given) (opt : IsOption usage rules a) (word : Text) where
     abbrev waiting_held : Held
     waiting_held = held (rows given) (Some (a.id, []))
 
@@ -656,10 +653,10 @@ module _ (name : Text) (usage : Usage) (rules : List Rule) (line : IsLine usage 
     waiting_leads : (flag : Bool) → is_flag word ≡ flag → Leads (before given n a) word
     unfolding walked
     waiting_leads true flag = inr (
-      ap (λ b. if b then None else option_map (λ (more : List Given). Between more (left n)) (with_value given a.id word)) flag,
+      ap (λ b. if b then None else option_map (λ (more : List Given). Between more (left n)) (with_value usage given a.id word)) flag,
       λ more. waiting_flag_bad (rows given) (Some (a.id, [])) (no_value a opt.one given) a.id n word more (ends_flags word) refl flag,
     )
-    waiting_leads false flag = by_may (may_have given a.id word) refl
+    waiting_leads false flag = by_may (may_have usage given a.id word) refl
       where
         ends : ends_flags word ≡ false
         ends = no_ends flag
@@ -675,11 +672,11 @@ module _ (name : Text) (usage : Usage) (rules : List Rule) (line : IsLine usage 
         walk = (λ i. after_step rules word waiting_walk (waiting_met (ends i) (passed.1 i)).0 (waiting_met (ends i) (passed.1 i)).1)
             ∙ ap (λ (m : Held × Waiting). walk_at m.0 m.1 n false) (option_word_is a opt.one given word)
 
-        read : (may : Bool) → may_have given a.id word ≡ may
+        read : (may : Bool) → may_have usage given a.id word ≡ may
             → word_read usage (Before given (left n) a.id) word ≡ option_map (λ (more : List Given). Between more (left n)) (if may then Some (given ++ (a.id, word) ∷ []) else None)
         read may e = λ i. if flag i then None else option_map (λ (more : List Given). Between more (left n)) (if e i then Some (given ++ (a.id, word) ∷ []) else None)
 
-        by_may : (may : Bool) → may_have given a.id word ≡ may → Leads (before given n a) word
+        by_may : (may : Bool) → may_have usage given a.id word ≡ may → Leads (before given n a) word
         by_may true may = inl (between given n (Some (a, word)), ((taken, (opt.one, may)), (read true may, (turn, walk))))
         by_may false may = inr (
           read false may,
@@ -691,7 +688,7 @@ module _ (name : Text) (usage : Usage) (rules : List Rule) (line : IsLine usage 
 
   abbrev IsReadTo : Stand → List Text → List Given → Type 0
   IsReadTo stand words given = (option_and_then given_at (words_read usage (read_at stand) words) ≡ Some given)
-      × ((fault_from (walk_of stand) words ≡ missing_kinds rules given) × AreFound rules given (rows_from (walk_of stand) words))
+      × ((fault_from (walk_of stand) words ≡ missing_kinds rules given) × AreFound usage rules given (rows_from (walk_of stand) words))
 
   abbrev IsNotRead : Stand → List Text → Type 0
   IsNotRead stand words = (option_and_then given_at (words_read usage (read_at stand) words) ≡ None) × Fails (fault_from (walk_of stand) words)
@@ -699,7 +696,7 @@ module _ (name : Text) (usage : Usage) (rules : List Rule) (line : IsLine usage 
   abbrev IsRead : Stand → List Text → Type 0
   IsRead stand words = ((given : List Given) × IsReadTo stand words given) ⊎ IsNotRead stand words
 
-  module _ (given : List Given) (p : Part) (taken : Taken given) (allowed : Allowed given p) where
+  module _ (given : List Given) (p : Part) (taken : Taken usage given) (allowed : Allowed given p) where
     abbrev at_end : List Row
     at_end = fold with_default (rows (all given p)) rules
 
@@ -714,7 +711,7 @@ module _ (name : Text) (usage : Usage) (rules : List Rule) (line : IsLine usage 
         ∙ ap (λ k. or_else k (check_fault s at_end false)) (no_default_fault rules (rows (all given p)) line.defaults)
         ∙ ap (λ b. check_kinds false false b) (missing_is rules at_end (all given p) given_is)
 
-    found_is : AreFound rules (all given p) (finished rules (hold given p))
+    found_is : AreFound usage rules (all given p) (finished rules (hold given p))
     found_is = record {
       taken = taken_all given p taken allowed;
       values = λ id. ap (first_of id) finished_is ∙ ((all_defaulted rules (rows (all given p)) (rows_have_values (all given p))).valued id
@@ -730,13 +727,13 @@ module _ (name : Text) (usage : Usage) (rules : List Rule) (line : IsLine usage 
       go true flag e h = ends_leads given n p stands.0 stands.1 word e
       go false true e h = flag_leads given n p stands.0 stands.1 word e h
       go false false e h = value_leads given n p stands.0 stands.1 word e h
-  leads (before given n a) stands word = waiting_leads given n a stands.0 stands.1.0 word (is_flag word) refl
+  leads (before given n a) stands word = waiting_leads given n a stands.0 stands.1 word (is_flag word) refl
   leads (behind given n p) stands word = behind_leads given n p stands.0 stands.1 word
 
   end_reads : (stand : Stand) → Stands stand → IsRead stand []
   unfolding walk_fault
   end_reads (between given n p) stands = inl (all given p, (refl, (end_fault_is given p stands.0 stands.1, found_is given p stands.0 stands.1)))
-  end_reads (before given n a) stands = inr (refl, waiting_end_bad (rows given) (Some (a.id, [])) (no_value a stands.1.0.one given) a.id n)
+  end_reads (before given n a) stands = inr (refl, waiting_end_bad (rows given) (Some (a.id, [])) (no_value a stands.1.one given) a.id n)
   end_reads (behind given n p) stands = inl (all given p, (refl, (end_fault_is given p stands.0 stands.1, found_is given p stands.0 stands.1)))
 
   stand_reads : (words : List Text) (stand : Stand) → Stands stand → IsRead stand words
@@ -754,7 +751,7 @@ module _ (name : Text) (usage : Usage) (rules : List Rule) (line : IsLine usage 
           ap (λ o. option_and_then given_at (option_and_then (λ (place : Place). words_read usage place more) o)) read ∙ q.1.0,
           (
             fault_leads (walk_of stand) (walk_of onward) word turn walk more ∙ q.1.1.0,
-            subst (AreFound rules q.0) (sym (rows_lead (walk_of stand) (walk_of onward) word turn walk more)) q.1.1.1,
+            subst (AreFound usage rules q.0) (sym (rows_lead (walk_of stand) (walk_of onward) word turn walk more)) q.1.1.1,
           ),
         ),
       )
@@ -764,4 +761,4 @@ module _ (name : Text) (usage : Usage) (rules : List Rule) (line : IsLine usage 
       )
 
   pub line_reads : (words : List Text) → LineReads name usage rules words
-  line_reads words = stand_reads words (between [] first_due None) ((λ id text e. absurd (some≢none text (sym e))), tt)
+  line_reads words = stand_reads words (between [] 0 None) ((λ id text e. absurd (some≢none text (sym e))), tt)

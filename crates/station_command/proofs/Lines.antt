@@ -7,17 +7,18 @@ use Rattle.clap.specs.declared.builder.arg.Arg.{Arg}
 use Rattle.clap.specs.declared.builder.command.Command.{Command}
 use Rattle.clap.specs.declared.builder.command.Command.TheViews.{out-Command}
 use Rattle.clap.specs.Simple.{App, app_of}
-use Rattle.clap.specs.Walk.{rule_of}
+use Rattle.clap.specs.Walk.{rule_of as rule_in}
 use Rattle.station_command.specs.declared.command_table.Argument.{Argument}
 use Rattle.station_command.specs.declared.command_table.Entry.{Entry}
-use Rattle.station_command.specs.inside.Entries.{line_of_entry, rule_of_argument, with_arguments, with_commands}
+use Rattle.station_command.specs.inside.Entries.{argument_of_row, line_of_entry, with_arguments, with_commands}
+use Rattle.station_command.specs.Line.{rule_of}
 
 -- one more argument
 pub taken : (line : App) (arguments : List Argument) (i : ℕ) (other : Argument) (before after : Command) (arg : Arg) → i < length arguments
-    → app_of before ≡ with_arguments line (take i arguments) → (out-Command before).has_globals ≡ false → rule_of arg ≡ rule_of_argument (get_or arguments i other) → arg.global ≡ false → AddsArg before arg after
+    → app_of before ≡ with_arguments line (take i arguments) → (out-Command before).has_globals ≡ false → rule_in arg ≡ rule_of (argument_of_row (get_or arguments i other)) → arg.global ≡ false → AddsArg before arg after
     → (app_of after ≡ with_arguments line (take (i + 1) arguments)) × ((out-Command after).has_globals ≡ false)
 taken line arguments i other before after arg within was none is local adds =
-    let next = fold_more (λ line argument. with_rule line (rule_of_argument argument)) line arguments i other within in
+    let next = fold_more (λ line argument. with_rule line (rule_of (argument_of_row argument))) line arguments i other within in
     (adds.shape local ∙ ((λ j. with_rule (was j) (is j)) ∙ sym next), adds.globals ∙ (λ j. none j || local j))
 
 -- one more command

@@ -1,6 +1,6 @@
 -- What has to be known of the arguments of a command, so that its words are read as its usage says. Of each command it is
 -- found by computing.
-use Rattle.std.proofs.Common.{◌≡◌, ℕ, true, false, List, [], ◌∷◌, Option, Some, None, ◌⊎◌, sym, subst, codes, if◌then◌else◌, is_some}
+use Rattle.std.proofs.Common.{◌≡◌, ◌+◌, ℕ, suc, drop, true, false, List, [], ◌∷◌, Option, Some, None, ◌⊎◌, sym, subst, codes, if◌then◌else◌, is_some}
 use Rattle.std.specs.Str.{bytes_eq}
 use Rattle.clap.specs.declared.builder.value_parser.Reading.TheVariants as reading
 use Rattle.clap.specs.declared.error.kind.ErrorKind.TheVariants as kind
@@ -12,7 +12,8 @@ use Rattle.clap.specs.Walk.{Held, Row, Rule, Text, arg_by_id, arg_by_index, arg_
 use Rattle.station_command.proofs.Defaults.{DefaultsPass}
 use Rattle.station_command.proofs.Given.{kinds_of}
 use Rattle.station_command.proofs.WordsRead.{Fails, first_fails, next_fails}
-use Rattle.station_command.specs.CommandWords.{Usage, is_among, takes}
+use Rattle.station_command.specs.CommandWords.{files_of, flag_of, takes}
+use Rattle.station_command.specs.Commands.{Argument}
 
 -- a command without commands of its own, when it is built
 abbrev pub leaf : Text → List Rule → Shape
@@ -37,10 +38,10 @@ leaf name rules = record {
 }
 
 -- an argument that takes one value, once
-pub record TakesOne (rules : List Rule) (a : Rule) : Type 0 where
+pub record TakesOne (usage : List Argument) (rules : List Rule) (a : Rule) : Type 0 where
   pub found : arg_by_id rules a.id ≡ Some a
   pub same : bytes_eq a.id a.id ≡ true
-  pub fault : (text : Text) (rs : List Row) → use_fault false a (text ∷ []) rs ≡ kinds_of (has_row a.id rs) (takes a.id text)
+  pub fault : (text : Text) (rs : List Row) → use_fault false a (text ∷ []) rs ≡ kinds_of (has_row a.id rs) (takes usage a.id text)
   pub empty : (rs : List Row) → Fails (use_fault false a [] rs)
   pub leaves : (text : Text) (rs : List Row) → used a (text ∷ []) rs ≡ with_values a.id reading.AsWritten CommandLine (text ∷ []) (without a.id rs)
   pub most : most_values a ≡ 1
@@ -48,81 +49,58 @@ pub record TakesOne (rules : List Rule) (a : Rule) : Type 0 where
   pub once : is_multiple a ≡ false
   pub further : a.trailing_var_arg ≡ false
 
-pub record IsOption (rules : List Rule) (a : Rule) : Type 0 where
-  pub one : TakesOne rules a
+pub record IsOption (usage : List Argument) (rules : List Rule) (a : Rule) : Type 0 where
+  pub one : TakesOne usage rules a
   pub long : arg_by_long rules a.id ≡ Some a
 
-pub record IsSwitch (rules : List Rule) (a : Rule) : Type 0 where
+pub record IsSwitch (usage : List Argument) (rules : List Rule) (a : Rule) : Type 0 where
   pub long : arg_by_long rules a.id ≡ Some a
   pub valueless : takes_values a ≡ false
-  pub fault : (rs : List Row) → use_fault false a [] rs ≡ kinds_of (has_row a.id rs) (takes a.id (codes "true"))
+  pub fault : (rs : List Row) → use_fault false a [] rs ≡ kinds_of (has_row a.id rs) (takes usage a.id (codes "true"))
   pub leaves : (rs : List Row) → used a [] rs ≡ with_values a.id reading.AsWritten CommandLine (codes "true" ∷ []) (without a.id rs)
 
 -- ---- the files
 
--- which file is due: the first, the second, the third, or none any more
-pub data Files : Type 0 where
-  first_due : Files
-  second_due : Files
-  third_due : Files
-  none_due : Files
-
-abbrev pub position_of : Files → ℕ
-position_of first_due = 1
-position_of second_due = 2
-position_of third_due = 3
-position_of none_due = 4
-
-abbrev pub after : Files → Files
-after first_due = second_due
-after second_due = third_due
-after third_due = none_due
-after none_due = none_due
-
-abbrev pub behind_first : List Text → List Text
-behind_first [] = []
-behind_first (file ∷ files) = files
+-- the place at which a file is looked for, when so many stood before it
+abbrev pub position_of : ℕ → ℕ
+position_of n = n + 1
 
 -- the files that are still to come
-abbrev pub left_of : List Text → Files → List Text
-left_of files first_due = files
-left_of files second_due = behind_first files
-left_of files third_due = behind_first (behind_first files)
-left_of files none_due = behind_first (behind_first (behind_first files))
+abbrev pub left_of : List Argument → ℕ → List Text
+left_of usage n = drop n (files_of usage)
 
 -- the argument of the file that comes next
-pub record FileAt (files : List Text) (rules : List Rule) (n : Files) (a : Rule) : Type 0 where
-  pub one : TakesOne rules a
+pub record FileAt (usage : List Argument) (rules : List Rule) (n : ℕ) (a : Rule) : Type 0 where
+  pub one : TakesOne usage rules a
   pub found : arg_by_index rules (position_of n) ≡ Some a
-  pub left : left_of files n ≡ a.id ∷ left_of files (after n)
-  pub steps : next_position a (position_of n) ≡ position_of (after n)
+  pub left : left_of usage n ≡ a.id ∷ left_of usage (suc n)
+  pub steps : next_position a (position_of n) ≡ position_of (suc n)
 
-abbrev pub NoFileAt : List Text → List Rule → Files → Type 0
-NoFileAt files rules n = (arg_by_index rules (position_of n) ≡ None) × (left_of files n ≡ [])
+abbrev pub NoFileAt : List Argument → List Rule → ℕ → Type 0
+NoFileAt usage rules n = (arg_by_index rules (position_of n) ≡ None) × (left_of usage n ≡ [])
 
-abbrev pub IsFile : List Text → List Rule → Files → Type 0
-IsFile files rules n = ((a : Rule) × FileAt files rules n a) ⊎ NoFileAt files rules n
+abbrev pub IsFile : List Argument → List Rule → ℕ → Type 0
+IsFile usage rules n = ((a : Rule) × FileAt usage rules n a) ⊎ NoFileAt usage rules n
 
 -- ---- the flags
 
-abbrev pub NamesOption : Usage → List Rule → Text → Type 0
-NamesOption usage rules name = (a : Rule) × IsOption rules a × (a.id ≡ name) × (is_among usage.options a.id ≡ true)
+abbrev pub NamesOption : List Argument → List Rule → Text → Type 0
+NamesOption usage rules name = (a : Rule) × IsOption usage rules a × (a.id ≡ name) × (flag_of usage a.id ≡ Some false)
 
-abbrev pub NamesSwitch : Usage → List Rule → Text → Type 0
-NamesSwitch usage rules name = (a : Rule) × IsSwitch rules a × (a.id ≡ name) × (is_among usage.options a.id ≡ false) × (is_among usage.switches a.id ≡ true)
+abbrev pub NamesSwitch : List Argument → List Rule → Text → Type 0
+NamesSwitch usage rules name = (a : Rule) × IsSwitch usage rules a × (a.id ≡ name) × (flag_of usage a.id ≡ Some true)
 
-abbrev pub NamesNeither : Usage → List Rule → Text → Type 0
-NamesNeither usage rules name = (is_among usage.options name ≡ false) × (is_among usage.switches name ≡ false)
-    × ((text : Option Text) (h : Held) → Fails (long_fault rules false (arg_by_long rules name) text h))
+abbrev pub NamesNeither : List Argument → List Rule → Text → Type 0
+NamesNeither usage rules name = (flag_of usage name ≡ None) × ((text : Option Text) (h : Held) → Fails (long_fault rules false (arg_by_long rules name) text h))
 
 -- which flag a name is
-abbrev pub IsNamed : Usage → List Rule → Text → Type 0
+abbrev pub IsNamed : List Argument → List Rule → Text → Type 0
 IsNamed usage rules name = NamesOption usage rules name ⊎ (NamesSwitch usage rules name ⊎ NamesNeither usage rules name)
 
 -- ---- a command
 
-pub record IsLine (usage : Usage) (rules : List Rule) : Type 0 where
-  pub file : (n : Files) → IsFile usage.files rules n
+pub record IsLine (usage : List Argument) (rules : List Rule) : Type 0 where
+  pub file : (n : ℕ) → IsFile usage rules n
   pub named : (name : Text) → IsNamed usage rules name
   -- there is no short flag but that of the help
   pub short : (x : ℕ) (rest : Text) (h : Held) (after : Held → Kinds) → Fails (short_fault rules false (arg_by_short rules x) rest h after)

@@ -6,5 +6,6 @@ use Rattle.station_command.specs.declared.failure.Failure.TheVariants as failure
 -- 2 where the command line is wrong
 abbrev pub status_of : Failure → ℕ
 status_of (failures.Word place) = 2
+status_of failures.SecondInput = 2
 status_of (failures.File name) = 1
 status_of failures.OutOfMemory = 1

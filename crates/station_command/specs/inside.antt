@@ -1,4 +1,4 @@
 -- What contracts inside the crate say. No promise names any of it.
 pub mod Answers
 pub mod Entries
-pub mod Rows
+pub mod Matches

@@ -1,6 +1,7 @@
 //! The table of the commands of `station`, each with its files, options and switches.
 
 use crate::texts::{CommandHelp, Help};
+use rasta_core_link::LATEST_CLOCK;
 
 /// The commands by their words.
 pub(crate) const CHECK: &str = "check";
@@ -90,25 +91,19 @@ const LONGEST: u64 = 600_000;
 /// The last moment of a chart, in milliseconds.
 const LATEST: u64 = 18_446_744_073_709_551;
 
-/// The latest first reading of a node's clock, in milliseconds.
-const LATEST_CLOCK: u64 = 9_000_000_000_000;
-
 /// How an argument is given, and what the help calls its value.
 #[derive(Clone, Copy)]
 pub(crate) enum Kind {
     /// A file, by its place.
-    File,
-    /// A file, by its place, which the help calls so.
-    NamedFile(&'static str),
-    /// An option with its value.
-    Option(&'static str),
-    /// An option whose value is a number, with the lowest and the highest.
+    File(&'static str),
+    /// An option with a word.
+    Word(&'static str),
+    /// An option with a number, from the lowest to the highest.
     Number(&'static str, u64, u64),
-    /// A switch.
     Switch,
 }
 
-/// An argument: its word, how it is given, whether it is needed, and its help.
+/// An argument: its name, how it is given, whether it is needed, and its help.
 #[derive(Clone, Copy)]
 pub(crate) struct Argument(
     pub(crate) &'static str,
@@ -136,7 +131,7 @@ pub(crate) const COMMANDS: &[Entry] = &[
         word: CHECK,
         help: CommandHelp::Check,
         arguments: &[
-            Argument(FILE, Kind::File, NEEDED, Help::File),
+            Argument(FILE, Kind::File("FILE"), NEEDED, Help::File),
             Argument(EXPLAIN, Kind::Switch, OPTIONAL, Help::Explain),
             Argument(DIGEST, Kind::Switch, OPTIONAL, Help::Digest),
         ],
@@ -146,9 +141,9 @@ pub(crate) const COMMANDS: &[Entry] = &[
         word: PLAN,
         help: CommandHelp::Plan,
         arguments: &[
-            Argument(FILE, Kind::File, NEEDED, Help::File),
-            Argument(ROUTE, Kind::Option("R"), OPTIONAL, Help::Route),
-            Argument(PICTURE, Kind::Option("PICTURE"), OPTIONAL, Help::Picture),
+            Argument(FILE, Kind::File("FILE"), NEEDED, Help::File),
+            Argument(ROUTE, Kind::Word("R"), OPTIONAL, Help::Route),
+            Argument(PICTURE, Kind::Word("PICTURE"), OPTIONAL, Help::Picture),
         ],
     },
     // `table FILE [--csv]`
@@ -156,7 +151,7 @@ pub(crate) const COMMANDS: &[Entry] = &[
         word: TABLE,
         help: CommandHelp::Table,
         arguments: &[
-            Argument(FILE, Kind::File, NEEDED, Help::File),
+            Argument(FILE, Kind::File("FILE"), NEEDED, Help::File),
             Argument(CSV, Kind::Switch, OPTIONAL, Help::Csv),
         ],
     },
@@ -165,8 +160,8 @@ pub(crate) const COMMANDS: &[Entry] = &[
         word: SIM,
         help: CommandHelp::Sim,
         arguments: &[
-            Argument(FILE, Kind::File, NEEDED, Help::File),
-            Argument(SECOND, Kind::NamedFile("EVENTS"), NEEDED, Help::Events),
+            Argument(FILE, Kind::File("FILE"), NEEDED, Help::File),
+            Argument(SECOND, Kind::File("EVENTS"), NEEDED, Help::Events),
         ],
     },
     // `run FILE --script S --record R --for MS`
@@ -174,9 +169,9 @@ pub(crate) const COMMANDS: &[Entry] = &[
         word: RUN,
         help: CommandHelp::Run,
         arguments: &[
-            Argument(FILE, Kind::File, NEEDED, Help::File),
-            Argument(SCRIPT, Kind::Option("S"), NEEDED, Help::Script),
-            Argument(RECORD, Kind::Option("R"), NEEDED, Help::RecordOfRun),
+            Argument(FILE, Kind::File("FILE"), NEEDED, Help::File),
+            Argument(SCRIPT, Kind::Word("S"), NEEDED, Help::Script),
+            Argument(RECORD, Kind::Word("R"), NEEDED, Help::RecordOfRun),
             Argument(
                 FOR,
                 Kind::Number("MS", SHORTEST, LONGEST),
@@ -190,21 +185,21 @@ pub(crate) const COMMANDS: &[Entry] = &[
         word: PANEL,
         help: CommandHelp::Panel,
         arguments: &[
-            Argument(FILE, Kind::File, NEEDED, Help::File),
+            Argument(FILE, Kind::File("FILE"), NEEDED, Help::File),
             Argument(
                 PORT,
                 Kind::Number("P", LOWEST, HIGHEST),
                 OPTIONAL,
                 Help::Port,
             ),
-            Argument(RECORD, Kind::Option("R"), OPTIONAL, Help::RecordOfPanel),
+            Argument(RECORD, Kind::Word("R"), OPTIONAL, Help::RecordOfPanel),
             Argument(
                 FOR,
                 Kind::Number("MS", SHORTEST, LONGEST),
                 OPTIONAL,
                 Help::ForOfPanel,
             ),
-            Argument(NODE, Kind::Option("ADDRESS"), OPTIONAL, Help::NodeOfPanel),
+            Argument(NODE, Kind::Word("ADDRESS"), OPTIONAL, Help::NodeOfPanel),
         ],
     },
     // `replay FILE RECORD [--node NAME]`
@@ -212,9 +207,9 @@ pub(crate) const COMMANDS: &[Entry] = &[
         word: REPLAY,
         help: CommandHelp::Replay,
         arguments: &[
-            Argument(FILE, Kind::File, NEEDED, Help::File),
-            Argument(SECOND, Kind::NamedFile("RECORD"), NEEDED, Help::Record),
-            Argument(NODE, Kind::Option("NAME"), OPTIONAL, Help::RecordedNode),
+            Argument(FILE, Kind::File("FILE"), NEEDED, Help::File),
+            Argument(SECOND, Kind::File("RECORD"), NEEDED, Help::Record),
+            Argument(NODE, Kind::Word("NAME"), OPTIONAL, Help::RecordedNode),
         ],
     },
     // `chart FILE RECORD [--node NAME] [--from MS] [--to MS]`
@@ -222,9 +217,9 @@ pub(crate) const COMMANDS: &[Entry] = &[
         word: CHART,
         help: CommandHelp::Chart,
         arguments: &[
-            Argument(FILE, Kind::File, NEEDED, Help::File),
-            Argument(SECOND, Kind::NamedFile("RECORD"), NEEDED, Help::Record),
-            Argument(NODE, Kind::Option("NAME"), OPTIONAL, Help::RecordedNode),
+            Argument(FILE, Kind::File("FILE"), NEEDED, Help::File),
+            Argument(SECOND, Kind::File("RECORD"), NEEDED, Help::Record),
+            Argument(NODE, Kind::Word("NAME"), OPTIONAL, Help::RecordedNode),
             Argument(FROM, Kind::Number("MS", 0, LATEST), OPTIONAL, Help::From),
             Argument(TO, Kind::Number("MS", 0, LATEST), OPTIONAL, Help::To),
         ],
@@ -234,11 +229,11 @@ pub(crate) const COMMANDS: &[Entry] = &[
         word: DECODE,
         help: CommandHelp::Decode,
         arguments: &[
-            Argument(HEX, Kind::Option("HEX"), OPTIONAL, Help::Hex),
-            Argument(LAYOUT, Kind::Option("FILE"), OPTIONAL, Help::Layout),
-            Argument(FILE, Kind::NamedFile("FILE"), OPTIONAL, Help::File),
-            Argument(SECOND, Kind::NamedFile("RECORD"), OPTIONAL, Help::Record),
-            Argument(NODE, Kind::Option("NAME"), OPTIONAL, Help::RecordedNode),
+            Argument(HEX, Kind::Word("HEX"), OPTIONAL, Help::Hex),
+            Argument(LAYOUT, Kind::Word("FILE"), OPTIONAL, Help::Layout),
+            Argument(FILE, Kind::File("FILE"), OPTIONAL, Help::File),
+            Argument(SECOND, Kind::File("RECORD"), OPTIONAL, Help::Record),
+            Argument(NODE, Kind::Word("NAME"), OPTIONAL, Help::RecordedNode),
         ],
     },
     // `capture FILE RECORD OUT [--addresses ADDRESSES] [--node NAME] [--force]`
@@ -246,16 +241,16 @@ pub(crate) const COMMANDS: &[Entry] = &[
         word: CAPTURE,
         help: CommandHelp::Capture,
         arguments: &[
-            Argument(FILE, Kind::File, NEEDED, Help::File),
-            Argument(SECOND, Kind::NamedFile("RECORD"), NEEDED, Help::Record),
-            Argument(OUT, Kind::File, NEEDED, Help::Out),
+            Argument(FILE, Kind::File("FILE"), NEEDED, Help::File),
+            Argument(SECOND, Kind::File("RECORD"), NEEDED, Help::Record),
+            Argument(OUT, Kind::File("OUT"), NEEDED, Help::Out),
             Argument(
                 ADDRESSES,
-                Kind::Option("ADDRESSES"),
+                Kind::Word("ADDRESSES"),
                 OPTIONAL,
                 Help::AddressesOfCapture,
             ),
-            Argument(NODE, Kind::Option("NAME"), OPTIONAL, Help::RecordedNode),
+            Argument(NODE, Kind::Word("NAME"), OPTIONAL, Help::RecordedNode),
             Argument(FORCE, Kind::Switch, OPTIONAL, Help::Force),
         ],
     },
@@ -264,16 +259,11 @@ pub(crate) const COMMANDS: &[Entry] = &[
         word: NODE,
         help: CommandHelp::Node,
         arguments: &[
-            Argument(FILE, Kind::File, NEEDED, Help::File),
-            Argument(NAME, Kind::File, NEEDED, Help::Name),
-            Argument(
-                ADDRESSES,
-                Kind::Option("ADDRESSES"),
-                NEEDED,
-                Help::Addresses,
-            ),
-            Argument(OPERATOR, Kind::Option("ADDRESS"), OPTIONAL, Help::Operator),
-            Argument(RECORD, Kind::Option("R"), OPTIONAL, Help::RecordOfNode),
+            Argument(FILE, Kind::File("FILE"), NEEDED, Help::File),
+            Argument(NAME, Kind::File("NAME"), NEEDED, Help::Name),
+            Argument(ADDRESSES, Kind::Word("ADDRESSES"), NEEDED, Help::Addresses),
+            Argument(OPERATOR, Kind::Word("ADDRESS"), OPTIONAL, Help::Operator),
+            Argument(RECORD, Kind::Word("R"), OPTIONAL, Help::RecordOfNode),
             Argument(
                 CLOCK,
                 Kind::Number("MS", 0, LATEST_CLOCK),

@@ -10,6 +10,8 @@ use thiserror::Error;
 pub enum Failure {
     #[error("argument {0} is not UTF-8")]
     Word(usize),
+    #[error("standard input can be read for one file alone")]
+    SecondInput,
     #[error("cannot read {0}")]
     File(String),
     #[error("out of memory")]
@@ -22,7 +24,7 @@ impl Failure {
         ensures { result ≡ status_of self.now }
     {
         match self {
-            Failure::Word(_) => 2,
+            Failure::Word(_) | Failure::SecondInput => 2,
             _ => 1,
         }
     }

@@ -1,10 +1,44 @@
-//! The files that a command names.
+//! The files that a command names. A hyphen names standard input, which can be read for one of them alone.
+
+ghost use Rattle.std.specs.Prelude.{◌≡◌, ◌↔◌, ◌<◌, ◌≤◌, IsErr, IfErr, map};
+ghost use Rattle.station_command.specs.Inputs.{inputs_among, is_input};
+ghost use Rattle.station_command.specs.declared.failure.Failure.TheVariants as failures;
 
 use crate::Failure;
-use limited_text::{Content, TextFault, file_text};
+use limited_text::{Content, TextFault, file_text, input_text};
+
+/// The word for standard input.
+const INPUT: &str = "-";
+
+/// Whether a word names standard input.
+fn is_input(file: &str) -> bool
+    ensures { result ≡ is_input file.now }
+{
+    file == INPUT
+}
+
+/// How many of these files are standard input.
+fn inputs_among(files: &[&str]) -> usize
+    ensures { result ≡ inputs_among (map (λ file. file.now) files.now) }
+{
+    files.iter().filter(|file| is_input(**file)).count()
+}
+
+/// Whether standard input is named once at most among the files that a command reads.
+pub fn input_once(files: &[&str]) -> Result<(), Failure>
+    ensures twice { IsErr result ↔ (2 ≤ inputs_among (map (λ file. file.now) files.now)) }
+    ensures fault { IfErr result (λ failure. failure ≡ failures.SecondInput) }
+{
+    if inputs_among(files) < 2 {
+        Ok(())
+    } else {
+        Err(Failure::SecondInput)
+    }
+}
 
 /// The texts of the file of a layout, which is read first, and of a file of lines.
 pub fn texts_of(rt: &HostRuntime, layout: &str, lines: &str) -> Result<(String, String), Failure> {
+    input_once(&[layout, lines])?;
     let layout = text_of(rt, layout)?;
     let lines = lines_of(rt, lines)?;
     Ok((layout, lines))
@@ -22,10 +56,16 @@ pub fn lines_of(rt: &HostRuntime, file: &str) -> Result<String, Failure> {
 
 /// The text of a file, if it isn't too long.
 fn read(rt: &HostRuntime, file: &str, content: Content) -> Result<String, Failure> {
-    match file_text(rt, file, content) {
+    let (text, name) = if is_input(file) {
+        let text = input_text(rt.alloc(), &mut rt.reader(), content);
+        (text, "standard input")
+    } else {
+        (file_text(rt, file, content), file)
+    };
+    match text {
         Ok(text) => Ok(text),
         Err(TextFault::OutOfMemory) => Err(Failure::OutOfMemory),
-        Err(_) => match String::from_str(rt.alloc(), file) {
+        Err(_) => match String::from_str(rt.alloc(), name) {
             Ok(name) => Err(Failure::File(name)),
             Err(_) => Err(Failure::OutOfMemory),
         },

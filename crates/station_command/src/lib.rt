@@ -7,10 +7,16 @@ mod failure;
 mod files;
 mod line;
 mod line_words;
+mod request;
 mod texts;
 
 pub use clap::Error;
-pub use command::{Asked, is_memory, read_words};
+pub use command::{is_memory, read_words};
 pub use failure::Failure;
-pub use files::{lines_of, text_of, texts_of};
+pub use files::{input_once, lines_of, text_of, texts_of};
 pub use line_words::words;
+pub use request::{
+    CaptureArguments, ChartArguments, CheckArguments, DatagramArguments, NodeArguments,
+    PanelArguments, PlanArguments, Request, RunArguments, SessionArguments, SimArguments,
+    TableArguments,
+};

@@ -3,8 +3,8 @@
 ghost use Rattle.std.specs.Prelude.{◌≡◌, IfOk, false};
 ghost use Rattle.clap.specs.Words.{app_of, rule_of, with_subcommand};
 ghost use Rattle.clap.specs.declared.builder.command.Command.TheViews.{out-Command};
-ghost use Rattle.station_command.specs.Line.{station_line};
-ghost use Rattle.station_command.specs.inside.Entries.{line_of_entry, rule_of_argument};
+ghost use Rattle.station_command.specs.Line.{rule_of as rule_of_row, station_line};
+ghost use Rattle.station_command.specs.inside.Entries.{argument_of_row, line_of_entry};
 
 use crate::command_table::{Argument, COMMANDS, Entry, Kind};
 use crate::texts::{ABOUT, Help};
@@ -14,15 +14,14 @@ use std::alloc::{AllocError, Global};
 
 /// An argument as its row says.
 fn made<'a>(alloc: Global, argument: &Argument) -> Arg<'a>
-    ensures rule { rule_of result ≡ rule_of_argument argument.now }
+    ensures rule { rule_of result ≡ rule_of_row (argument_of_row argument.now) }
     ensures local { result.global ≡ false }
 {
     let Argument(name, kind, needed, help) = *argument;
     let arg = Arg::new(alloc, name).required(needed).help(help.words());
     match kind {
-        Kind::File => arg,
-        Kind::NamedFile(value) => arg.value_name(value),
-        Kind::Option(value) => arg.long(name).value_name(value),
+        Kind::File(value) => arg.value_name(value),
+        Kind::Word(value) => arg.long(name).value_name(value),
         Kind::Number(value, low, high) => arg
             .long(name)
             .value_name(value)

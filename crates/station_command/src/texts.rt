@@ -124,7 +124,7 @@ impl Help {
     }
 }
 
-const FILE: &str = "The layout, a TOML file";
+const FILE: &str = "The layout, a TOML file (- for a file that is read is standard input)";
 
 const EXPLAIN: &str = "Tells a fault in a second line, in words";
 

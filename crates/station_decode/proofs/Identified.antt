@@ -1,63 +1,75 @@
 -- The nodes of a layout by their identities.
-use Rattle.std.proofs.Common.{◌≡◌, ℕ, ◌+◌, ◌<◌, ◌≤◌, ◌==◌, Bool, true, false, if◌then◌else◌, List, [], ◌∷◌, ◌++◌, length, drop, get_or, map, Option, Some, None, refl, ap, ◌∙◌, sym, arith}
+use Rattle.std.proofs.Common.{◌≡◌, ℕ, zero, suc, ◌+◌, ◌==◌, Bool, true, false, cond, not, nat_lt, List, [], ◌∷◌, ◌++◌, length, map, Option, Some, None, slice_get, refl, ap, sym, ◌∙◌, arith}
+use Rattle.std.specs.Option.{option_map}
+use Rattle.std.specs.List.{position, position_or_len}
 use Rattle.std.proofs.lemmas.Bool.Decides.{nat_tests}
-use Rattle.std.proofs.lemmas.List.{drop_more, drop_all}
-use Rattle.station_decode.specs.Datagrams.{name_among}
+use Rattle.std.proofs.lemmas.List.{map-append}
+use Rattle.ixl_spec.specs.layout.Entries.{Site}
+use Rattle.ixl_spec.specs.layout.Nodes.{identities, node_names}
+use Rattle.station_decode.specs.Datagrams.{identified, name_among}
 
--- entries of a kind, by what tells their identities and names
-module _ {A : Type 0} (id_of : A → ℕ) (name_of : A → List ℕ) where
-  abbrev pub named_from : List A → ℕ → ℕ → Option (List ℕ)
-  named_from entries place id = name_among (map (λ e. (id_of e, name_of e)) (drop place entries)) id
-
-  abbrev first_or : A → Option (List ℕ) → ℕ → Option (List ℕ)
-  first_or e others id = if id_of e == id then Some (name_of e) else others
-
-  split-at : (entries : List A) (place id : ℕ) (e : A) → place < length entries → e ≡ get_or entries place e → named_from entries place id ≡ first_or e (named_from entries (place + 1) id) id
-  split-at entries place id e below at =
-      ap (λ left. name_among (map (λ e. (id_of e, name_of e)) left) id) (drop_more entries place e below)
-      ∙ ap (λ one. first_or one (named_from entries (place + 1) id) id) (sym at)
-
-  is-it : (m n : ℕ) → m ≡ n → (m == n) ≡ true
-  is-it m n e = grind (arith, nat_tests)
-
-  is-other : (m n : ℕ) → (m ≡ n → ⊥) → (m == n) ≡ false
-  is-other m n e = grind (arith, nat_tests)
-
-  -- one has the identity
-  pub found-at : (entries : List A) (place id : ℕ) (e : A) (whole : Option (List ℕ)) → place < length entries → e ≡ get_or entries place e → id_of e ≡ id
-      → named_from entries place id ≡ whole → Some (name_of e) ≡ whole
-  found-at entries place id e whole below at same before =
-      sym (ap (λ (b : Bool). if b then Some (name_of e) else named_from entries (place + 1) id) (is-it (id_of e) id same)) ∙ sym (split-at entries place id e below at) ∙ before
-
-  -- another is behind it
-  pub passed-at : (entries : List A) (place id : ℕ) (e : A) (whole : Option (List ℕ)) → place < length entries → e ≡ get_or entries place e → (id_of e ≡ id → ⊥)
-      → named_from entries place id ≡ whole → named_from entries (place + 1) id ≡ whole
-  passed-at entries place id e whole below at other before =
-      sym (ap (λ (b : Bool). if b then Some (name_of e) else named_from entries (place + 1) id) (is-other (id_of e) id other)) ∙ sym (split-at entries place id e below at) ∙ before
-
-  -- none has it
-  pub none-left : (entries : List A) (place id : ℕ) (whole : Option (List ℕ)) → length entries ≤ place → named_from entries place id ≡ whole → None ≡ whole
-  none-left entries place id whole past before =
-      sym (ap (λ left. name_among (map (λ e. (id_of e, name_of e)) left) id) (drop_all place entries past)) ∙ before
-
--- where one of these nodes has the identity, it is that of all
-pub among_first : (nodes more : List (ℕ × List ℕ)) (id : ℕ) (name : List ℕ) → name_among nodes id ≡ Some name → name_among (nodes ++ more) id ≡ Some name
-among_first [] more id name e = cc
-among_first (node ∷ nodes) more id name e = by (node.0 == id) e (among_first nodes more id name)
+-- the first entry is looked at before the others
+position-cons : {A : Type 0} (p : A → Bool) (x : A) (xs : List A) → position p (x ∷ xs) ≡ cond (p x) (Some 0) (option_map suc (position p xs))
+position-cons p x xs = by_first (p x) (position_or_len p xs) (length xs)
   where
-    by : (v : Bool) → (if v then Some node.1 else name_among nodes id) ≡ Some name
-        → (name_among nodes id ≡ Some name → name_among (nodes ++ more) id ≡ Some name)
-        → (if v then Some node.1 else name_among (nodes ++ more) id) ≡ Some name
-    by true e step = e
-    by false e step = step e
+    by_first : (b : Bool) (k n : ℕ)
+        → cond (nat_lt (cond (not b) (1 + k) 0) (suc n)) (Some (cond (not b) (1 + k) 0)) None ≡ cond b (Some 0) (option_map suc (cond (nat_lt k n) (Some k) None))
+    by_first true k n = grind (arith, nat_tests)
+    by_first false k n = further (nat_lt (1 + k) (suc n)) (nat_lt k n) (grind (arith, nat_tests))
+      where
+        further : (a b : Bool) → a ≡ b → cond a (Some (1 + k)) None ≡ option_map suc (cond b (Some k) None)
+        further a true e = rw e (ap Some (omega arith))
+        further a false e = rw e refl
 
--- where none of them has it, it is one of the others, if any
-pub among_others : (nodes more : List (ℕ × List ℕ)) (id : ℕ) → name_among nodes id ≡ None → name_among (nodes ++ more) id ≡ name_among more id
-among_others [] more id e = refl
-among_others (node ∷ nodes) more id e = by (node.0 == id) e (among_others nodes more id)
+-- the name at the place that was found, if one was
+abbrev at : Option ℕ → List (List ℕ) → Option (List ℕ)
+at None names = None
+at (Some place) names = slice_get names place
+
+at_behind : (found : Option ℕ) (name : List ℕ) (names : List (List ℕ)) → at found names ≡ at (option_map suc found) (name ∷ names)
+at_behind None name names = refl
+at_behind (Some place) name names = refl
+
+among : (nodes : List (ℕ × List ℕ)) (id : ℕ) → name_among nodes id ≡ at (position (λ own. own == id) (map (λ (n : ℕ × List ℕ). n.0) nodes)) (map (λ (n : ℕ × List ℕ). n.1) nodes)
+among [] id = refl
+among (node ∷ nodes) id =
+    by (node.0 == id) (position (λ own. own == id) (map (λ (n : ℕ × List ℕ). n.0) nodes)) (among nodes id)
+    ∙ ap (λ found. at found (node.1 ∷ map (λ (n : ℕ × List ℕ). n.1) nodes)) (sym (position-cons (λ own. own == id) node.0 (map (λ (n : ℕ × List ℕ). n.0) nodes)))
   where
-    by : (v : Bool) → (if v then Some node.1 else name_among nodes id) ≡ None
-        → (name_among nodes id ≡ None → name_among (nodes ++ more) id ≡ name_among more id)
-        → (if v then Some node.1 else name_among (nodes ++ more) id) ≡ name_among more id
-    by true e step = cc
-    by false e step = step e
+    by : (v : Bool) (found : Option ℕ) → name_among nodes id ≡ at found (map (λ (n : ℕ × List ℕ). n.1) nodes)
+        → cond v (Some node.1) (name_among nodes id) ≡ at (cond v (Some 0) (option_map suc found)) (node.1 ∷ map (λ (n : ℕ × List ℕ). n.1) nodes)
+    by true found is = refl
+    by false found is = is ∙ at_behind found node.1 (map (λ (n : ℕ × List ℕ). n.1) nodes)
+
+-- of entries of a kind
+firsts : {A : Type 0} (id_of : A → ℕ) (name_of : A → List ℕ) (entries : List A) → map (λ (n : ℕ × List ℕ). n.0) (map (λ e. (id_of e, name_of e)) entries) ≡ map id_of entries
+firsts id_of name_of [] = refl
+firsts id_of name_of (e ∷ entries) = ap (λ ids. id_of e ∷ ids) (firsts id_of name_of entries)
+
+seconds : {A : Type 0} (id_of : A → ℕ) (name_of : A → List ℕ) (entries : List A) → map (λ (n : ℕ × List ℕ). n.1) (map (λ e. (id_of e, name_of e)) entries) ≡ map name_of entries
+seconds id_of name_of [] = refl
+seconds id_of name_of (e ∷ entries) = ap (λ names. name_of e ∷ names) (seconds id_of name_of entries)
+
+three : {A B : Type 0} (f : A → B) (xs ys zs : List A) (us vs ws : List B) → map f xs ≡ us → map f ys ≡ vs → map f zs ≡ ws → map f (xs ++ (ys ++ zs)) ≡ us ++ (vs ++ ws)
+three f xs ys zs us vs ws ex ey ez =
+    map-append f xs (ys ++ zs)
+    ∙ ap (λ first. first ++ map f (ys ++ zs)) ex
+    ∙ ap (λ rest. us ++ rest) (map-append f ys zs ∙ ap (λ first. first ++ map f zs) ey ∙ ap (λ rest. vs ++ rest) ez)
+
+ids_are : (site : Site) → map (λ (n : ℕ × List ℕ). n.0) (identified site) ≡ identities site
+ids_are site =
+    ap (λ ids. site.station.id ∷ ids)
+    (three (λ (n : ℕ × List ℕ). n.0) (map (λ s. (s.id, s.name)) site.signals) (map (λ p. (p.id, p.name)) site.points) (map (λ d. (d.id, d.name)) site.detectors) _ _ _
+    (firsts (λ s. s.id) (λ s. s.name) site.signals) (firsts (λ p. p.id) (λ p. p.name) site.points) (firsts (λ d. d.id) (λ d. d.name) site.detectors))
+
+names_are : (site : Site) → map (λ (n : ℕ × List ℕ). n.1) (identified site) ≡ node_names site
+names_are site =
+    ap (λ names. site.station.name ∷ names)
+    (three (λ (n : ℕ × List ℕ). n.1) (map (λ s. (s.id, s.name)) site.signals) (map (λ p. (p.id, p.name)) site.points) (map (λ d. (d.id, d.name)) site.detectors) _ _ _
+    (seconds (λ s. s.id) (λ s. s.name) site.signals) (seconds (λ p. p.id) (λ p. p.name) site.points) (seconds (λ d. d.id) (λ d. d.name) site.detectors))
+
+pub named_of : (site : Site) (id : ℕ) → name_among (identified site) id ≡ at (position (λ own. own == id) (identities site)) (node_names site)
+named_of site id =
+    among (identified site) id
+    ∙ ap (λ ids. at (position (λ own. own == id) ids) (map (λ (n : ℕ × List ℕ). n.1) (identified site))) (ids_are site)
+    ∙ ap (at (position (λ own. own == id) (identities site))) (names_are site)

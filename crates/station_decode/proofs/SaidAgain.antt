@@ -11,30 +11,31 @@ use Rattle.std.proofs.lemmas.Slice.Eq.{bytes_eq-Decides}
 use Rattle.replay_words.specs.Cut.{words}
 use Rattle.replay_words.specs.Read.{decimal}
 use Rattle.replay_words.specs.Words.{are_words, is_without}
-use Rattle.ixl_rules.specs.sci_telegram.declared.message.Protocol.{Protocol}
-use Rattle.ixl_rules.specs.sci_telegram.declared.message.Protocol.TheVariants as protocols
-use Rattle.ixl_rules.specs.sci_telegram.declared.message.Agreement.{Agreement}
-use Rattle.ixl_rules.specs.sci_telegram.declared.message.Agreement.TheVariants.{NoMatch, Match}
-use Rattle.ixl_rules.specs.sci_telegram.declared.message.Side.{Side}
-use Rattle.ixl_rules.specs.sci_telegram.declared.message.Position.{Position}
-use Rattle.ixl_rules.specs.sci_telegram.declared.message.Aspect.{Aspect}
-use Rattle.ixl_rules.specs.sci_telegram.declared.message.Occupancy.{Occupancy}
-use Rattle.ixl_rules.specs.sci_telegram.declared.message.Side.TheVariants as sides
-use Rattle.ixl_rules.specs.sci_telegram.declared.message.Position.TheVariants as positions
-use Rattle.ixl_rules.specs.sci_telegram.declared.message.Aspect.TheVariants.{Stop, Proceed, Slow}
-use Rattle.ixl_rules.specs.sci_telegram.declared.message.Occupancy.TheVariants.{Clear, Occupied}
-use Rattle.ixl_rules.specs.sci_telegram.declared.message.Initialisation.TheVariants.{InitialisationRequest, StartInitialisation, InitialisationCompleted, VersionCheck, VersionAnswer}
-use Rattle.ixl_rules.specs.sci_telegram.declared.message.PointMessage.TheVariants.{MovePoint, PointPosition, Timeout}
-use Rattle.ixl_rules.specs.sci_telegram.declared.message.SignalMessage.TheVariants.{IndicateAspect, IndicatedAspect}
-use Rattle.ixl_rules.specs.sci_telegram.declared.message.DetectionMessage.TheVariants.{OccupancyStatus}
-use Rattle.ixl_rules.specs.sci_telegram.declared.message.Message.{Message}
-use Rattle.ixl_rules.specs.sci_telegram.declared.message.Message.TheVariants.{Initialisation, Point, Signal, Detection}
-use Rattle.ixl_rules.specs.sci_telegram.declared.telegram.Telegram.{Telegram}
-use Rattle.ixl_rules.specs.sci_telegram.Names.{is_name_byte}
-use Rattle.ixl_rules.specs.sci_telegram.Telegrams.{IsMessage, IsTelegram}
-use Rattle.station_decode.specs.Words.{protocol_word, agreement_word, side_word, position_word, aspect_word, occupancy_word}
+use Rattle.ixl_spec.specs.sci_telegram.declared.message.Protocol.{Protocol}
+use Rattle.ixl_spec.specs.sci_telegram.declared.message.Protocol.TheVariants as protocols
+use Rattle.ixl_spec.specs.sci_telegram.declared.message.Agreement.{Agreement}
+use Rattle.ixl_spec.specs.sci_telegram.declared.message.Agreement.TheVariants.{NoMatch, Match}
+use Rattle.ixl_spec.specs.sci_telegram.declared.message.Side.{Side}
+use Rattle.ixl_spec.specs.sci_telegram.declared.message.Position.{Position}
+use Rattle.ixl_spec.specs.sci_telegram.declared.message.Aspect.{Aspect}
+use Rattle.ixl_spec.specs.sci_telegram.declared.message.Occupancy.{Occupancy}
+use Rattle.ixl_spec.specs.sci_telegram.declared.message.Side.TheVariants as sides
+use Rattle.ixl_spec.specs.sci_telegram.declared.message.Position.TheVariants as positions
+use Rattle.ixl_spec.specs.sci_telegram.declared.message.Aspect.TheVariants.{Stop, Proceed, Slow}
+use Rattle.ixl_spec.specs.sci_telegram.declared.message.Occupancy.TheVariants.{Clear, Occupied}
+use Rattle.ixl_spec.specs.sci_telegram.declared.message.Initialisation.TheVariants.{InitialisationRequest, StartInitialisation, InitialisationCompleted, VersionCheck, VersionAnswer}
+use Rattle.ixl_spec.specs.sci_telegram.declared.message.PointMessage.TheVariants.{MovePoint, PointPosition, Timeout}
+use Rattle.ixl_spec.specs.sci_telegram.declared.message.SignalMessage.TheVariants.{IndicateAspect, IndicatedAspect}
+use Rattle.ixl_spec.specs.sci_telegram.declared.message.DetectionMessage.TheVariants.{OccupancyStatus}
+use Rattle.ixl_spec.specs.sci_telegram.declared.message.Message.{Message}
+use Rattle.ixl_spec.specs.sci_telegram.declared.message.Message.TheVariants.{Initialisation, Point, Signal, Detection}
+use Rattle.ixl_spec.specs.sci_telegram.declared.telegram.Telegram.{Telegram}
+use Rattle.ixl_spec.specs.sci_telegram.Names.{is_name_byte}
+use Rattle.ixl_spec.specs.sci_telegram.Telegrams.{IsMessage, IsTelegram}
+use Rattle.ixl_spec.specs.sci_telegram.Words.{aspect_of_word, aspect_word, occupancy_of_word, occupancy_word, position_of_word, position_word, side_of_word, side_word}
+use Rattle.station_decode.specs.Words.{protocol_word, agreement_word}
 use Rattle.station_decode.specs.Telegrams.{message_words, name_words, telegram_text, telegram_words}
-use Rattle.station_decode.specs.ReadBack.{protocol_said, agreement_said, side_said, position_said, aspect_said, occupancy_said, byte_in, version_said, with_value, initialisation_said, under, message_said, names_said, telegram_said}
+use Rattle.station_decode.specs.ReadBack.{protocol_said, agreement_said, byte_in, version_said, with_value, initialisation_said, under, message_said, names_said, telegram_said}
 use Rattle.station_decode.proofs.WordsInLine.{message-begins}
 
 -- what is read of words and numbers
@@ -105,21 +106,21 @@ agreement-back : (agreement : Agreement) → agreement_said (agreement_word agre
 agreement-back NoMatch = refl
 agreement-back Match = refl
 
-side-back : (side : Side) → side_said (side_word side) ≡ Some side
+side-back : (side : Side) → side_of_word (side_word side) ≡ Some side
 side-back sides.Right = refl
 side-back sides.Left = refl
 
-position-back : (position : Position) → position_said (position_word position) ≡ Some position
+position-back : (position : Position) → position_of_word (position_word position) ≡ Some position
 position-back positions.Right = refl
 position-back positions.Left = refl
 position-back positions.NoEndPosition = refl
 
-aspect-back : (aspect : Aspect) → aspect_said (aspect_word aspect) ≡ Some aspect
+aspect-back : (aspect : Aspect) → aspect_of_word (aspect_word aspect) ≡ Some aspect
 aspect-back Stop = refl
 aspect-back Proceed = refl
 aspect-back Slow = refl
 
-occupancy-back : (occupancy : Occupancy) → occupancy_said (occupancy_word occupancy) ≡ Some occupancy
+occupancy-back : (occupancy : Occupancy) → occupancy_of_word (occupancy_word occupancy) ≡ Some occupancy
 occupancy-back Clear = refl
 occupancy-back Occupied = refl
 

@@ -4,7 +4,7 @@ use Rattle.std.specs.List.{list_all}
 use Rattle.std.proofs.lemmas.Bool.{and_parts}
 use Rattle.std.proofs.lemmas.Bool.Decides.{nat_tests}
 use Rattle.hex.specs.Hex.{encode_lower}
-use Rattle.ixl_rules.specs.sci_telegram.Names.{is_name, is_name_byte, IsName}
+use Rattle.ixl_spec.specs.sci_telegram.Names.{is_name, is_name_byte, IsName}
 use Rattle.station_decode.specs.Datagrams.{version_word}
 
 -- the test is true exactly of names

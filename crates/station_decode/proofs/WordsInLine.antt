@@ -2,17 +2,17 @@
 use Rattle.std.proofs.Common.{◌≡◌, ℕ, ◌+◌, ◌<◌, ◌≤◌, List, [], ◌∷◌, ◌++◌, codes, length, drop, get_or, refl, ap, sym, subst, ◌∙◌, append_assoc, append-nil}
 use Rattle.std.proofs.lemmas.List.{drop_more, drop_all}
 use Rattle.std.specs.List.{flat_map, join_with_byte}
-use Rattle.ixl_rules.specs.sci_telegram.declared.message.Initialisation.{Initialisation}
-use Rattle.ixl_rules.specs.sci_telegram.declared.message.Initialisation.TheVariants.{InitialisationRequest, StartInitialisation, InitialisationCompleted, VersionCheck, VersionAnswer}
-use Rattle.ixl_rules.specs.sci_telegram.declared.message.PointMessage.TheVariants.{MovePoint, PointPosition, Timeout}
-use Rattle.ixl_rules.specs.sci_telegram.declared.message.SignalMessage.TheVariants.{IndicateAspect, IndicatedAspect}
-use Rattle.ixl_rules.specs.sci_telegram.declared.message.DetectionMessage.TheVariants.{OccupancyStatus}
-use Rattle.ixl_rules.specs.sci_telegram.declared.message.Message.{Message}
-use Rattle.ixl_rules.specs.sci_telegram.declared.message.Message.TheVariants as says
+use Rattle.ixl_spec.specs.sci_telegram.declared.message.Initialisation.{Initialisation}
+use Rattle.ixl_spec.specs.sci_telegram.declared.message.Initialisation.TheVariants.{InitialisationRequest, StartInitialisation, InitialisationCompleted, VersionCheck, VersionAnswer}
+use Rattle.ixl_spec.specs.sci_telegram.declared.message.PointMessage.TheVariants.{MovePoint, PointPosition, Timeout}
+use Rattle.ixl_spec.specs.sci_telegram.declared.message.SignalMessage.TheVariants.{IndicateAspect, IndicatedAspect}
+use Rattle.ixl_spec.specs.sci_telegram.declared.message.DetectionMessage.TheVariants.{OccupancyStatus}
+use Rattle.ixl_spec.specs.sci_telegram.declared.message.Message.{Message}
+use Rattle.ixl_spec.specs.sci_telegram.declared.message.Message.TheVariants as says
 use Rattle.station_decode.specs.Telegrams.{message_words, step_words}
 use Rattle.station_decode.specs.inside.Spaced.{spaced}
 
--- words behind one, and behind several
+-- words after one, and after several
 one-more : (w : List ℕ) (more : List (List ℕ)) → w ++ spaced more ≡ join_with_byte 32 (w ∷ more)
 one-more w [] = append-nil w
 one-more w (next ∷ more) = ap (λ rest. w ++ (32 ∷ rest)) (one-more next more)
@@ -23,7 +23,7 @@ joined-more w (next ∷ ws) more =
     append_assoc w (32 ∷ join_with_byte 32 (next ∷ ws)) (spaced more)
     ∙ ap (λ rest. w ++ (32 ∷ rest)) (joined-more next ws more)
 
--- the words of a step behind those of its protocol
+-- the words of a step after those of its protocol
 step-joined : (protocol : List ℕ) (step : Initialisation) → join_with_byte 32 (protocol ∷ step_words step) ≡ protocol ++ (codes " " ++ join_with_byte 32 (step_words step))
 step-joined protocol InitialisationRequest = refl
 step-joined protocol StartInitialisation = refl
@@ -58,7 +58,7 @@ message-begins (says.Signal (IndicateAspect aspect)) = record { first = _; other
 message-begins (says.Signal (IndicatedAspect aspect)) = record { first = _; others = _; is = refl }
 message-begins (says.Detection (OccupancyStatus occupancy)) = record { first = _; others = _; is = refl }
 
--- words behind a message
+-- words after a message
 message-more : (message : Message) (more : List (List ℕ)) → join_with_byte 32 (message_words message) ++ spaced more ≡ join_with_byte 32 (message_words message ++ more)
 message-more message more =
     let begins = message-begins message in
@@ -68,7 +68,7 @@ spaced-append : (some more : List (List ℕ)) → spaced some ++ spaced more ≡
 spaced-append [] more = refl
 spaced-append (w ∷ ws) more = append_assoc (32 ∷ w) (spaced ws) (spaced more) ∙ ap (λ rest. (32 ∷ w) ++ rest) (spaced-append ws more)
 
--- a message, and the words of two names behind it
+-- a message, and the words of two names after it
 pub names-added : (message : Message) (from to : List (List ℕ)) (old said one two : List ℕ)
     → said ≡ old ++ join_with_byte 32 (message_words message) → one ≡ said ++ spaced from → two ≡ one ++ spaced to
     → two ≡ old ++ join_with_byte 32 (message_words message ++ (from ++ to))

@@ -4,16 +4,16 @@ use Rattle.std.specs.Fmt.{decimal}
 use Rattle.std.specs.List.{flat_map}
 use Rattle.hex.specs.Hex.{encode_lower}
 use Rattle.md4.specs.declared.message.TheConstants.{STANDARD}
-use Rattle.ixl_rules.specs.First.{key_of}
-use Rattle.ixl_rules.specs.layout.Entries.{Site}
-use Rattle.ixl_rules.specs.rasta_pdu.declared.body.Body.{Body}
-use Rattle.ixl_rules.specs.rasta_pdu.declared.body.Body.TheVariants.{ConnectionRequest, ConnectionResponse, RetransmissionRequest, RetransmissionResponse, DisconnectionRequest, Heartbeat, Data, RetransmittedData}
-use Rattle.ixl_rules.specs.rasta_pdu.declared.body.Opening.{Opening}
-use Rattle.ixl_rules.specs.rasta_pdu.declared.fault.PduFault.{PduFault}
-use Rattle.ixl_rules.specs.rasta_pdu.declared.key.Key.{Key}
-use Rattle.ixl_rules.specs.rasta_pdu.declared.pdu.Pdu.{Pdu}
-use Rattle.ixl_rules.specs.rasta_pdu.PduRead.{reading}
-use Rattle.ixl_rules.specs.sci_telegram.Names.{is_name}
+use Rattle.ixl_spec.specs.First.{key_of}
+use Rattle.ixl_spec.specs.layout.Entries.{Site}
+use Rattle.ixl_spec.specs.rasta_pdu.declared.body.Body.{Body}
+use Rattle.ixl_spec.specs.rasta_pdu.declared.body.Body.TheVariants.{ConnectionRequest, ConnectionResponse, RetransmissionRequest, RetransmissionResponse, DisconnectionRequest, Heartbeat, Data, RetransmittedData}
+use Rattle.ixl_spec.specs.rasta_pdu.declared.body.Opening.{Opening}
+use Rattle.ixl_spec.specs.rasta_pdu.declared.fault.PduFault.{PduFault}
+use Rattle.ixl_spec.specs.rasta_pdu.declared.key.Key.{Key}
+use Rattle.ixl_spec.specs.rasta_pdu.declared.pdu.Pdu.{Pdu}
+use Rattle.ixl_spec.specs.rasta_pdu.PduRead.{reading}
+use Rattle.ixl_spec.specs.sci_telegram.Names.{is_name}
 use Rattle.station_decode.specs.Words.{type_words, reason_words, pdu_fault_words}
 use Rattle.station_decode.specs.Telegrams.{item_text}
 
@@ -35,7 +35,7 @@ abbrev pub nodes_known : Option Site → List (ℕ × List ℕ)
 nodes_known None = []
 nodes_known (Some site) = identified site
 
--- An identity by the name of its node, and otherwise by its number, behind a sign that is in no name.
+-- An identity by the name of its node, and otherwise by its number, after a sign that is in no name.
 abbrev pub word_of : Option (List ℕ) → ℕ → List ℕ
 word_of (Some name) id = name
 word_of None id = codes "#" ++ decimal id

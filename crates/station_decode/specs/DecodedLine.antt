@@ -1,17 +1,15 @@
 -- What `station decode --hex HEX` writes.
-use Rattle.std.specs.Prelude.{◌≡◌, ℕ, List, ◌++◌, take, codes, Option, Some, None, Ok, Err}
+use Rattle.std.specs.Prelude.{◌≡◌, ℕ, List, ◌++◌, codes, Option, Some, None, Ok, Err}
 use Rattle.std.specs.Io.KnownBytes.{Appends}
 use Rattle.layout_text.specs.FirstFault.{Fails}
-use Rattle.ixl_rules.specs.layout.Entries.{Site}
-use Rattle.ixl_rules.specs.layout.NamesResolved.{layout_in}
+use Rattle.ixl_spec.specs.layout.Entries.{Site}
+use Rattle.ixl_spec.specs.layout.NamesResolved.{layout_in}
 use Rattle.replay_words.specs.Read.{hexadecimal_or_none}
 use Rattle.replay_words.specs.declared.fault.Fault.{Fault}
 use Rattle.layout_text.specs.declared.fault.LayoutFault.{LayoutFault}
-use Rattle.station_check.specs.Failures.{told_line as station_line}
-use Rattle.station_check.specs.declared.failure.Failure.TheVariants as station
+use Rattle.station_check.specs.declared.failure.Failure.{Failure}
+use Rattle.station_check.specs.declared.failure.Failure.TheVariants.{Layout, Hex, OutOfMemory, NotWritten}
 use Rattle.station_decode.specs.Datagrams.{datagram_text}
-use Rattle.station_decode.specs.declared.failure.Failure.{Failure}
-use Rattle.station_decode.specs.declared.failure.Failure.TheVariants.{Station, Hex}
 
 -- a text is this layout, where there is a text
 abbrev pub IsLayout : Option (List ℕ) → Option Site → Type 0
@@ -45,26 +43,8 @@ abbrev pub IsNoWord : Option (List ℕ) → List ℕ → Type 0
 IsNoWord layout word = (site : Option Site) × IsLayout layout site × (fault : Fault) × (hexadecimal_or_none word ≡ Err fault)
 
 abbrev pub Explains : Option (List ℕ) → List ℕ → Failure → Type 0
-Explains layout word (Station (station.Layout fault)) = IsNoLayout fault layout
-Explains layout word (Station station.OutOfMemory) = CanDecode layout word
-Explains layout word (Station station.NotWritten) = CanDecode layout word
-Explains layout word (Station why) = ⊥
+Explains layout word (Layout fault) = IsNoLayout fault layout
 Explains layout word Hex = IsNoWord layout word
-
--- The writer of the line stays as it is, unless the line was begun.
-abbrev pub Leaves : {W : Type 0} → Failure → W → W → Type 0
-Leaves (Station station.NotWritten) old new = Unit {0}
-Leaves why old new = new ≡ old
-
--- the line that tells why, by the number and the name of a fault
-abbrev pub told_line : Failure → List ℕ
-told_line (Station why) = station_line why
-told_line Hex = codes "hex fault 4 Hexadecimal\n"
-
--- This line was told, as far as the writer took it, and nothing else.
-abbrev pub Tells : Failure → Option (List ℕ) → Option (List ℕ) → Type 0
-Tells why old new = (told : ℕ) × Appends old new (take told (told_line why))
-
--- Why nothing was decoded was told.
-abbrev pub Explained : {W : Type 0} → Option (List ℕ) → List ℕ → W → W → Option (List ℕ) → Option (List ℕ) → Type 0
-Explained layout word out_old out_new old new = (why : Failure) × Explains layout word why × Leaves why out_old out_new × Tells why old new
+Explains layout word OutOfMemory = CanDecode layout word
+Explains layout word NotWritten = CanDecode layout word
+Explains layout word why = ⊥

@@ -5,25 +5,18 @@ use Rattle.std.specs.Str.{bytes_eq}
 use Rattle.replay_words.specs.Cut.{words}
 use Rattle.replay_words.specs.Read.{decimal}
 use Rattle.replay_words.specs.declared.fault.Fault.{Fault}
-use Rattle.ixl_rules.specs.sci_telegram.declared.message.Protocol.{Protocol}
-use Rattle.ixl_rules.specs.sci_telegram.declared.message.Protocol.TheVariants as protocols
-use Rattle.ixl_rules.specs.sci_telegram.declared.message.Agreement.{Agreement}
-use Rattle.ixl_rules.specs.sci_telegram.declared.message.Agreement.TheVariants.{NoMatch, Match}
-use Rattle.ixl_rules.specs.sci_telegram.declared.message.Side.{Side}
-use Rattle.ixl_rules.specs.sci_telegram.declared.message.Side.TheVariants as sides
-use Rattle.ixl_rules.specs.sci_telegram.declared.message.Position.{Position}
-use Rattle.ixl_rules.specs.sci_telegram.declared.message.Position.TheVariants as positions
-use Rattle.ixl_rules.specs.sci_telegram.declared.message.Aspect.{Aspect}
-use Rattle.ixl_rules.specs.sci_telegram.declared.message.Aspect.TheVariants.{Stop, Proceed, Slow}
-use Rattle.ixl_rules.specs.sci_telegram.declared.message.Occupancy.{Occupancy}
-use Rattle.ixl_rules.specs.sci_telegram.declared.message.Occupancy.TheVariants.{Clear, Occupied}
-use Rattle.ixl_rules.specs.sci_telegram.declared.message.Initialisation.TheVariants.{InitialisationRequest, StartInitialisation, InitialisationCompleted, VersionCheck, VersionAnswer}
-use Rattle.ixl_rules.specs.sci_telegram.declared.message.PointMessage.TheVariants.{MovePoint, PointPosition, Timeout}
-use Rattle.ixl_rules.specs.sci_telegram.declared.message.SignalMessage.TheVariants.{IndicateAspect, IndicatedAspect}
-use Rattle.ixl_rules.specs.sci_telegram.declared.message.DetectionMessage.TheVariants.{OccupancyStatus}
-use Rattle.ixl_rules.specs.sci_telegram.declared.message.Message.{Message}
-use Rattle.ixl_rules.specs.sci_telegram.declared.message.Message.TheVariants.{Initialisation, Point, Signal, Detection}
-use Rattle.ixl_rules.specs.sci_telegram.declared.telegram.Telegram.{Telegram}
+use Rattle.ixl_spec.specs.sci_telegram.declared.message.Protocol.{Protocol}
+use Rattle.ixl_spec.specs.sci_telegram.declared.message.Protocol.TheVariants as protocols
+use Rattle.ixl_spec.specs.sci_telegram.declared.message.Agreement.{Agreement}
+use Rattle.ixl_spec.specs.sci_telegram.declared.message.Agreement.TheVariants.{NoMatch, Match}
+use Rattle.ixl_spec.specs.sci_telegram.Words.{aspect_of_word, occupancy_of_word, position_of_word, side_of_word}
+use Rattle.ixl_spec.specs.sci_telegram.declared.message.Initialisation.TheVariants.{InitialisationRequest, StartInitialisation, InitialisationCompleted, VersionCheck, VersionAnswer}
+use Rattle.ixl_spec.specs.sci_telegram.declared.message.PointMessage.TheVariants.{MovePoint, PointPosition, Timeout}
+use Rattle.ixl_spec.specs.sci_telegram.declared.message.SignalMessage.TheVariants.{IndicateAspect, IndicatedAspect}
+use Rattle.ixl_spec.specs.sci_telegram.declared.message.DetectionMessage.TheVariants.{OccupancyStatus}
+use Rattle.ixl_spec.specs.sci_telegram.declared.message.Message.{Message}
+use Rattle.ixl_spec.specs.sci_telegram.declared.message.Message.TheVariants.{Initialisation, Point, Signal, Detection}
+use Rattle.ixl_spec.specs.sci_telegram.declared.telegram.Telegram.{Telegram}
 
 -- ---- one word
 
@@ -40,32 +33,6 @@ agreement_said word =
     else if bytes_eq word (codes "match") then Some Match
     else None
 
-abbrev pub side_said : List ℕ → Option Side
-side_said word =
-    if bytes_eq word (codes "right") then Some sides.Right
-    else if bytes_eq word (codes "left") then Some sides.Left
-    else None
-
-abbrev pub position_said : List ℕ → Option Position
-position_said word =
-    if bytes_eq word (codes "right") then Some positions.Right
-    else if bytes_eq word (codes "left") then Some positions.Left
-    else if bytes_eq word (codes "none") then Some positions.NoEndPosition
-    else None
-
-abbrev pub aspect_said : List ℕ → Option Aspect
-aspect_said word =
-    if bytes_eq word (codes "stop") then Some Stop
-    else if bytes_eq word (codes "proceed") then Some Proceed
-    else if bytes_eq word (codes "slow") then Some Slow
-    else None
-
-abbrev pub occupancy_said : List ℕ → Option Occupancy
-occupancy_said word =
-    if bytes_eq word (codes "clear") then Some Clear
-    else if bytes_eq word (codes "occupied") then Some Occupied
-    else None
-
 -- a version is a number of one byte
 abbrev pub byte_in : Result ℕ Fault → Option ℕ
 byte_in (Ok number) = if nat_lt number 256 then Some number else None
@@ -74,7 +41,7 @@ byte_in (Err fault) = None
 abbrev pub version_said : List ℕ → Option ℕ
 version_said word = byte_in (decimal word)
 
--- ---- a message, and the words behind it
+-- ---- a message, and the words after it
 
 abbrev pub Said : Type 0
 Said = Option (Message × List (List ℕ))
@@ -108,16 +75,16 @@ initialisation_said protocol _ = None
 -- what one protocol alone has
 abbrev pub own_said : List (List ℕ) → Said
 own_said (first ∷ second ∷ behind) =
-    if are (codes "move") (codes "point") first second then with_value (λ side. Point (MovePoint side)) side_said behind
-    else if are (codes "point") (codes "position") first second then with_value (λ position. Point (PointPosition position)) position_said behind
+    if are (codes "move") (codes "point") first second then with_value (λ side. Point (MovePoint side)) side_of_word behind
+    else if are (codes "point") (codes "position") first second then with_value (λ position. Point (PointPosition position)) position_of_word behind
     else if are (codes "point") (codes "timeout") first second then Some (Point Timeout, behind)
-    else if are (codes "indicate") (codes "aspect") first second then with_value (λ aspect. Signal (IndicateAspect aspect)) aspect_said behind
-    else if are (codes "indicated") (codes "aspect") first second then with_value (λ aspect. Signal (IndicatedAspect aspect)) aspect_said behind
-    else if are (codes "occupancy") (codes "status") first second then with_value (λ occupancy. Detection (OccupancyStatus occupancy)) occupancy_said behind
+    else if are (codes "indicate") (codes "aspect") first second then with_value (λ aspect. Signal (IndicateAspect aspect)) aspect_of_word behind
+    else if are (codes "indicated") (codes "aspect") first second then with_value (λ aspect. Signal (IndicatedAspect aspect)) aspect_of_word behind
+    else if are (codes "occupancy") (codes "status") first second then with_value (λ occupancy. Detection (OccupancyStatus occupancy)) occupancy_of_word behind
     else None
 own_said _ = None
 
--- the words behind a protocol, where the first word names one
+-- the words after a protocol, where the first word names one
 abbrev pub under : Option Protocol → List (List ℕ) → List (List ℕ) → Said
 under (Some protocol) behind words = initialisation_said protocol behind
 under None behind words = own_said words

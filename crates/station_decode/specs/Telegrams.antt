@@ -5,17 +5,18 @@ use Rattle.std.specs.Fmt.{decimal}
 use Rattle.std.specs.List.{join_with_byte}
 use Rattle.std.specs.Str.{bytes_eq}
 use Rattle.hex.specs.Hex.{encode_lower}
-use Rattle.ixl_rules.specs.sci_telegram.declared.fault.SciFault.{SciFault}
-use Rattle.ixl_rules.specs.sci_telegram.declared.message.Initialisation.{Initialisation}
-use Rattle.ixl_rules.specs.sci_telegram.declared.message.Initialisation.TheVariants.{InitialisationRequest, StartInitialisation, InitialisationCompleted, VersionCheck, VersionAnswer}
-use Rattle.ixl_rules.specs.sci_telegram.declared.message.PointMessage.TheVariants.{MovePoint, PointPosition, Timeout}
-use Rattle.ixl_rules.specs.sci_telegram.declared.message.SignalMessage.TheVariants.{IndicateAspect, IndicatedAspect}
-use Rattle.ixl_rules.specs.sci_telegram.declared.message.DetectionMessage.TheVariants.{OccupancyStatus}
-use Rattle.ixl_rules.specs.sci_telegram.declared.message.Message.{Message}
-use Rattle.ixl_rules.specs.sci_telegram.declared.message.Message.TheVariants as says
-use Rattle.ixl_rules.specs.sci_telegram.declared.telegram.Telegram.{Telegram}
-use Rattle.ixl_rules.specs.sci_telegram.TelegramRead.{reading}
-use Rattle.station_decode.specs.Words.{protocol_word, agreement_word, side_word, position_word, aspect_word, occupancy_word, telegram_fault_words}
+use Rattle.ixl_spec.specs.sci_telegram.declared.fault.SciFault.{SciFault}
+use Rattle.ixl_spec.specs.sci_telegram.declared.message.Initialisation.{Initialisation}
+use Rattle.ixl_spec.specs.sci_telegram.declared.message.Initialisation.TheVariants.{InitialisationRequest, StartInitialisation, InitialisationCompleted, VersionCheck, VersionAnswer}
+use Rattle.ixl_spec.specs.sci_telegram.declared.message.PointMessage.TheVariants.{MovePoint, PointPosition, Timeout}
+use Rattle.ixl_spec.specs.sci_telegram.declared.message.SignalMessage.TheVariants.{IndicateAspect, IndicatedAspect}
+use Rattle.ixl_spec.specs.sci_telegram.declared.message.DetectionMessage.TheVariants.{OccupancyStatus}
+use Rattle.ixl_spec.specs.sci_telegram.declared.message.Message.{Message}
+use Rattle.ixl_spec.specs.sci_telegram.declared.message.Message.TheVariants as says
+use Rattle.ixl_spec.specs.sci_telegram.declared.telegram.Telegram.{Telegram}
+use Rattle.ixl_spec.specs.sci_telegram.TelegramRead.{reading}
+use Rattle.ixl_spec.specs.sci_telegram.Words.{aspect_word, occupancy_word, position_word, side_word}
+use Rattle.station_decode.specs.Words.{protocol_word, agreement_word, telegram_fault_words}
 
 -- which step of an initialisation a telegram is
 abbrev pub step_words : Initialisation → List (List ℕ)
@@ -35,7 +36,7 @@ message_words (says.Signal (IndicateAspect aspect)) = codes "indicate" ∷ codes
 message_words (says.Signal (IndicatedAspect aspect)) = codes "indicated" ∷ codes "aspect" ∷ aspect_word aspect ∷ []
 message_words (says.Detection (OccupancyStatus occupancy)) = codes "occupancy" ∷ codes "status" ∷ occupancy_word occupancy ∷ []
 
--- A name of a telegram, behind a word for it, where the PDU calls that end otherwise.
+-- A name of a telegram, after a word for it, where the PDU calls that end otherwise.
 abbrev pub name_words : List ℕ → List ℕ → List ℕ → List (List ℕ)
 name_words word called name = if bytes_eq name called then [] else word ∷ name ∷ []
 

@@ -1,23 +1,15 @@
 -- The words for what stands in PDUs and telegrams as a number: types, reasons, values, faults.
 use Rattle.std.specs.Prelude.{ℕ, ◌==◌, if◌then◌else◌, List, codes}
-use Rattle.ixl_rules.specs.rasta_pdu.declared.body.Body.{Body}
-use Rattle.ixl_rules.specs.rasta_pdu.declared.body.Body.TheVariants.{ConnectionRequest, ConnectionResponse, RetransmissionRequest, RetransmissionResponse, DisconnectionRequest, Heartbeat, Data, RetransmittedData}
-use Rattle.ixl_rules.specs.rasta_pdu.declared.fault.PduFault.{PduFault}
-use Rattle.ixl_rules.specs.rasta_pdu.declared.fault.PduFault.TheVariants as pdu_faults
-use Rattle.ixl_rules.specs.sci_telegram.declared.fault.SciFault.{SciFault}
-use Rattle.ixl_rules.specs.sci_telegram.declared.fault.SciFault.TheVariants as sci_faults
-use Rattle.ixl_rules.specs.sci_telegram.declared.message.Protocol.{Protocol}
-use Rattle.ixl_rules.specs.sci_telegram.declared.message.Protocol.TheVariants as protocols
-use Rattle.ixl_rules.specs.sci_telegram.declared.message.Agreement.{Agreement}
-use Rattle.ixl_rules.specs.sci_telegram.declared.message.Agreement.TheVariants.{NoMatch, Match}
-use Rattle.ixl_rules.specs.sci_telegram.declared.message.Side.{Side}
-use Rattle.ixl_rules.specs.sci_telegram.declared.message.Side.TheVariants as sides
-use Rattle.ixl_rules.specs.sci_telegram.declared.message.Position.{Position}
-use Rattle.ixl_rules.specs.sci_telegram.declared.message.Position.TheVariants as positions
-use Rattle.ixl_rules.specs.sci_telegram.declared.message.Aspect.{Aspect}
-use Rattle.ixl_rules.specs.sci_telegram.declared.message.Aspect.TheVariants.{Stop, Proceed, Slow}
-use Rattle.ixl_rules.specs.sci_telegram.declared.message.Occupancy.{Occupancy}
-use Rattle.ixl_rules.specs.sci_telegram.declared.message.Occupancy.TheVariants.{Clear, Occupied}
+use Rattle.ixl_spec.specs.rasta_pdu.declared.body.Body.{Body}
+use Rattle.ixl_spec.specs.rasta_pdu.declared.body.Body.TheVariants.{ConnectionRequest, ConnectionResponse, RetransmissionRequest, RetransmissionResponse, DisconnectionRequest, Heartbeat, Data, RetransmittedData}
+use Rattle.ixl_spec.specs.rasta_pdu.declared.fault.PduFault.{PduFault}
+use Rattle.ixl_spec.specs.rasta_pdu.declared.fault.PduFault.TheVariants as pdu_faults
+use Rattle.ixl_spec.specs.sci_telegram.declared.fault.SciFault.{SciFault}
+use Rattle.ixl_spec.specs.sci_telegram.declared.fault.SciFault.TheVariants as sci_faults
+use Rattle.ixl_spec.specs.sci_telegram.declared.message.Protocol.{Protocol}
+use Rattle.ixl_spec.specs.sci_telegram.declared.message.Protocol.TheVariants as protocols
+use Rattle.ixl_spec.specs.sci_telegram.declared.message.Agreement.{Agreement}
+use Rattle.ixl_spec.specs.sci_telegram.declared.message.Agreement.TheVariants.{NoMatch, Match}
 
 -- ---- PDUs
 
@@ -71,22 +63,3 @@ protocol_word protocols.Point = codes "SCI-P"
 abbrev pub agreement_word : Agreement → List ℕ
 agreement_word NoMatch = codes "mismatch"
 agreement_word Match = codes "match"
-
-abbrev pub side_word : Side → List ℕ
-side_word sides.Right = codes "right"
-side_word sides.Left = codes "left"
-
--- a point at no end position lies at none
-abbrev pub position_word : Position → List ℕ
-position_word positions.Right = codes "right"
-position_word positions.Left = codes "left"
-position_word positions.NoEndPosition = codes "none"
-
-abbrev pub aspect_word : Aspect → List ℕ
-aspect_word Stop = codes "stop"
-aspect_word Proceed = codes "proceed"
-aspect_word Slow = codes "slow"
-
-abbrev pub occupancy_word : Occupancy → List ℕ
-occupancy_word Clear = codes "clear"
-occupancy_word Occupied = codes "occupied"

@@ -6,9 +6,8 @@ ghost use Rattle.station_decode.specs.Datagrams.{body_text, closing_text, datagr
 use crate::item::{Ends, push_items};
 use crate::node::{key_in, node_word};
 use crate::word_table::{pdu_fault_words, reason_words, type_words};
-use ixl_rules::control_table::layout::Layout;
-use ixl_rules::control_table::sci_telegram::Name;
-use ixl_rules::rasta_pdu::{Body, Opening, Pdu, PduFault, read};
+use ixl_spec::rasta_pdu::{Body, Opening, Pdu, PduFault, read};
+use ixl_spec::{Layout, Name};
 use std::alloc::{AllocError, Global};
 
 /// The words for the bytes of a datagram, read under the key of the layout: who sends to whom, the type, the sequence number

@@ -1,13 +1,15 @@
 //! A datagram that is given in hexadecimal digits, put into words.
 
 ghost use Rattle.std.specs.Prelude.{◌≡◌, ◌≤◌, IfErr, IfOk, IsErr, OnOk, option_copied, string_bytes};
-ghost use Rattle.station_decode.specs.DecodedLine.{CanDecode, Explained, Explains, IsDecoded, IsLayout, IsNoLayout, Leaves};
+ghost use Rattle.station_check.specs.Failures.{Explained, Leaves};
+ghost use Rattle.station_decode.specs.DecodedLine.{CanDecode, Explains, IsDecoded, IsLayout, IsNoLayout};
 ghost use Rattle.station_decode.specs.inside.Decoded.{AreWords};
 
 use crate::datagram::datagram_words;
-use crate::failure::{Failure, tell_failure};
-use ixl_rules::control_table::layout::{Layout, LayoutFault};
+use ixl_spec::Layout;
+use layout::LayoutFault;
 use replay_words::hexadecimal_or_none;
+use station_check::{Failure, tell};
 use std::alloc::Global;
 use std::io::Write;
 
@@ -29,19 +31,16 @@ pub fn decode_text<W: Write, E: Write>(
     ensures faulty { (CanDecode (option_copied layout.entry) word.now → ⊥) → (result ≡ 1) × (out.new ≡ out.old) }
     ensures silent { result ≡ 0 → err.new ≡ err.old }
     // Only a beginning of the line was told where a write to `err` failed.
-    ensures explains { result ≡ 1 → Explained (option_copied layout.entry) word.now out.old out.new (E.contents err.old) (E.contents err.new) }
+    ensures explains { result ≡ 1 → Explained (Explains (option_copied layout.entry) word.now) result out.old out.new (E.contents err.old) (E.contents err.new) }
 {
     match decode(alloc, layout, word, out) {
         Ok(()) => 0,
-        Err(failure) => {
-            tell_failure(&failure, err);
-            1
-        }
+        Err(failure) => tell(&failure, err),
     }
 }
 
 /// Writes the line for a datagram.
-#[tactic(auto, using(crate::proofs::DecodedWords::leaves_same, crate::proofs::DecodedWords::can_decode))]
+#[tactic(auto, using(crate::proofs::DecodedWords::can_decode))]
 fn decode<W: Write>(
     alloc: Global,
     layout: Option<&str>,
@@ -66,7 +65,7 @@ fn decoded(alloc: Global, layout: Option<&str>, word: &str) -> Result<String, Fa
     let layout = read_layout(alloc, layout)?;
     let words = match hexadecimal_or_none(word) {
         Ok(bytes) => datagram_words(alloc, layout.as_ref(), &bytes).map_err(Failure::from),
-        Err(fault) => Err(Failure::from(fault)),
+        Err(_) => Err(Failure::Hex),
     };
     drop(layout);
     words

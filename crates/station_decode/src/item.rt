@@ -8,8 +8,9 @@ ghost use Rattle.station_decode.specs.inside.Spaced.{spaced};
 
 use crate::message::push_message;
 use crate::word_table::telegram_fault_words;
-use ixl_rules::control_table::sci_telegram::{Name, SciFault, Telegram, read};
-use ixl_rules::rasta_pdu::{Item, Items};
+use ixl_spec::Name;
+use ixl_spec::rasta_pdu::{Item, Items};
+use sci_telegram::{SciFault, Telegram, read};
 use std::alloc::{AllocError, Global};
 
 /// By which words a PDU calls its sender and its receiver.
@@ -36,7 +37,7 @@ pub(crate) fn push_items(
     push_others(alloc, text, ends, others)
 }
 
-/// Adds the items behind the first.
+/// Adds the items after the first.
 fn push_others(
     alloc: Global,
     text: &mut String,
@@ -51,7 +52,7 @@ fn push_others(
     Ok(())
 }
 
-/// Adds an item behind others.
+/// Adds an item after others.
 fn push_other(
     alloc: Global,
     text: &mut String,
@@ -111,7 +112,7 @@ fn push_telegram(text: &mut String, ends: Ends<'_>, telegram: &Telegram) -> Resu
     Ok(())
 }
 
-/// Adds a name behind a word for it, where the PDU calls that end otherwise.
+/// Adds a name after a word for it, where the PDU calls that end otherwise.
 fn push_name(text: &mut String, word: &str, called: &str, name: &Name) -> Result<(), AllocError>
     ensures { OnOk result (string_bytes text.new ≡ string_bytes text.old ++ spaced (name_words word.now called.now name.now)) }
 {

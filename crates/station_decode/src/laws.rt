@@ -1,8 +1,8 @@
 //! What the words of telegrams say is these telegrams.
 
 ghost use Rattle.std.specs.Prelude.{◌≡◌, ℕ, List, Some};
-ghost use Rattle.ixl_rules.specs.sci_telegram.Telegrams.{IsTelegram};
-ghost use Rattle.ixl_rules.specs.sci_telegram.declared.telegram.Telegram.{Telegram};
+ghost use Rattle.ixl_spec.specs.sci_telegram.Telegrams.{IsTelegram};
+ghost use Rattle.ixl_spec.specs.sci_telegram.declared.telegram.Telegram.{Telegram};
 ghost use Rattle.station_decode.specs.ReadBack.{telegram_said};
 ghost use Rattle.station_decode.specs.Telegrams.{telegram_text};
 

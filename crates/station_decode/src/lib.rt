@@ -3,7 +3,6 @@
 
 mod datagram;
 mod decode;
-mod failure;
 mod item;
 mod laws;
 mod message;

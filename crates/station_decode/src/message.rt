@@ -2,15 +2,12 @@
 
 ghost use Rattle.std.specs.Prelude.{◌≡◌, ◌++◌, OnOk, string_bytes};
 ghost use Rattle.std.specs.List.{join_with_byte};
-ghost use Rattle.ixl_rules.specs.sci_telegram.declared.message.Message.TheVariants as says;
+ghost use Rattle.ixl_spec.specs.sci_telegram.declared.message.Message.TheVariants as says;
 ghost use Rattle.station_decode.specs.Telegrams.{message_words, step_words};
 
-use crate::word_table::{
-    agreement_word, aspect_word, occupancy_word, position_word, protocol_word, side_word,
-};
-use ixl_rules::control_table::sci_telegram::{
-    DetectionMessage, Initialisation, Message, PointMessage, Protocol, SignalMessage,
-};
+use crate::word_table::{agreement_word, protocol_word};
+use ixl_spec::Protocol;
+use sci_telegram::{DetectionMessage, Initialisation, Message, PointMessage, SignalMessage};
 use std::alloc::AllocError;
 
 /// Adds what a telegram says.
@@ -62,11 +59,11 @@ fn push_point(text: &mut String, message: &PointMessage) -> Result<(), AllocErro
 {
     match message {
         PointMessage::MovePoint(side) => {
-            let side = side_word(*side);
+            let side = side.word();
             write!(text, "move point {side}")
         }
         PointMessage::PointPosition(position) => {
-            let position = position_word(*position);
+            let position = position.word();
             write!(text, "point position {position}")
         }
         PointMessage::Timeout => text.push_str("point timeout"),
@@ -81,7 +78,7 @@ fn push_signal(text: &mut String, message: &SignalMessage) -> Result<(), AllocEr
         SignalMessage::IndicateAspect(aspect) => ("indicate aspect", aspect),
         SignalMessage::IndicatedAspect(aspect) => ("indicated aspect", aspect),
     };
-    let aspect = aspect_word(*aspect);
+    let aspect = aspect.word();
     write!(text, "{words} {aspect}")
 }
 
@@ -91,7 +88,7 @@ fn push_detection(text: &mut String, message: &DetectionMessage) -> Result<(), A
 {
     match message {
         DetectionMessage::OccupancyStatus(occupancy) => {
-            let occupancy = occupancy_word(*occupancy);
+            let occupancy = occupancy.word();
             write!(text, "occupancy status {occupancy}")
         }
     }

@@ -1,12 +1,9 @@
 //! The nodes of a network by their identities.
 
-ghost use Rattle.std.specs.Prelude.{◌≡◌, IfOk, map, option_copied, string_bytes};
+ghost use Rattle.std.specs.Prelude.{◌≡◌, IfOk, option_copied, string_bytes};
 ghost use Rattle.station_decode.specs.Datagrams.{identified, key_in, name_among, node_word, nodes_known};
 
-use ixl_rules::control_table::layout::{Detector, Layout, Point, Signal};
-use ixl_rules::control_table::sci_telegram::Name;
-use ixl_rules::key_of;
-use ixl_rules::rasta_pdu::Key;
+use ixl_spec::{Key, Layout, Name, key_of};
 use std::alloc::{AllocError, Global};
 
 /// The key under which datagrams are read: the layout's, and otherwise the standard start of MD4.
@@ -19,7 +16,7 @@ pub(crate) fn key_in(layout: Option<&Layout>) -> Key
     }
 }
 
-/// The word for an identity: the name of its node in the layout, and otherwise its number behind a sign.
+/// The word for an identity: the name of its node in the layout, and otherwise its number after a sign.
 pub(crate) fn node_word(
     alloc: Global,
     layout: Option<&Layout>,
@@ -44,52 +41,10 @@ fn name_in(layout: Option<&Layout>, id: u32) -> Option<Name>
 }
 
 /// The name of the node of a layout that has an identity.
-#[tactic(auto, using(crate::proofs::Identified::among_first, crate::proofs::Identified::among_others))]
+#[tactic(auto, using(crate::proofs::Identified::named_of))]
 fn name_of(layout: &Layout, id: u32) -> Option<Name>
     ensures { result ≡ name_among (identified layout.now) id }
 {
-    let station = layout.station();
-    if station.id == id {
-        return Some(station.name);
-    }
-    if let Some(name) = signal_name(layout.signals(), id) {
-        return Some(name);
-    }
-    if let Some(name) = point_name(layout.points(), id) {
-        return Some(name);
-    }
-    detector_name(layout.detectors(), id)
-}
-
-fn signal_name(signals: &[Signal], id: u32) -> Option<Name>
-    ensures { result ≡ name_among (map (λ s. (s.id, s.name)) signals.now) id }
-{
-    for signal in signals {
-        if signal.id == id {
-            return Some(signal.name);
-        }
-    }
-    None
-}
-
-fn point_name(points: &[Point], id: u32) -> Option<Name>
-    ensures { result ≡ name_among (map (λ p. (p.id, p.name)) points.now) id }
-{
-    for point in points {
-        if point.id == id {
-            return Some(point.name);
-        }
-    }
-    None
-}
-
-fn detector_name(detectors: &[Detector], id: u32) -> Option<Name>
-    ensures { result ≡ name_among (map (λ d. (d.id, d.name)) detectors.now) id }
-{
-    for detector in detectors {
-        if detector.id() == id {
-            return Some(*detector.name());
-        }
-    }
-    None
+    let node = layout.node_with(id)?;
+    layout.node_name(node)
 }

@@ -3,21 +3,16 @@
 ghost use Rattle.std.specs.Prelude.{◌≡◌};
 ghost use Rattle.station_decode.specs.Words.{
   agreement_word,
-  aspect_word,
-  occupancy_word,
   pdu_fault_words,
-  position_word,
   protocol_word,
   reason_words,
-  side_word,
   telegram_fault_words,
   type_words,
 };
 
-use ixl_rules::control_table::sci_telegram::{
-    Agreement, Aspect, Occupancy, Position, Protocol, SciFault, Side,
-};
-use ixl_rules::rasta_pdu::{Body, PduFault};
+use ixl_spec::Protocol;
+use ixl_spec::rasta_pdu::{Body, PduFault};
+use sci_telegram::{Agreement, SciFault};
 
 /// The type of a PDU.
 pub(crate) fn type_words(body: &Body) -> &'static str
@@ -96,47 +91,5 @@ pub(crate) fn agreement_word(agreement: Agreement) -> &'static str
     match agreement {
         Agreement::NoMatch => "mismatch",
         Agreement::Match => "match",
-    }
-}
-
-/// A side of a point.
-pub(crate) fn side_word(side: Side) -> &'static str
-    ensures { result.now ≡ side_word side }
-{
-    match side {
-        Side::Right => "right",
-        Side::Left => "left",
-    }
-}
-
-/// Where a point lies.
-pub(crate) fn position_word(position: Position) -> &'static str
-    ensures { result.now ≡ position_word position }
-{
-    match position {
-        Position::Right => "right",
-        Position::Left => "left",
-        Position::NoEndPosition => "none",
-    }
-}
-
-/// What a signal shows.
-pub(crate) fn aspect_word(aspect: Aspect) -> &'static str
-    ensures { result.now ≡ aspect_word aspect }
-{
-    match aspect {
-        Aspect::Stop => "stop",
-        Aspect::Proceed => "proceed",
-        Aspect::Slow => "slow",
-    }
-}
-
-/// Whether a section is occupied.
-pub(crate) fn occupancy_word(occupancy: Occupancy) -> &'static str
-    ensures { result.now ≡ occupancy_word occupancy }
-{
-    match occupancy {
-        Occupancy::Clear => "clear",
-        Occupancy::Occupied => "occupied",
     }
 }

@@ -4,18 +4,20 @@ use Rattle.std.proofs.Math.Seq.{take-append-add, take-length}
 use Rattle.std.proofs.KnownBytes.{Appends-nil, Appends-trans, Appends-kept}
 use Rattle.std.specs.Io.KnownBytes.{Appends, Keeps}
 use Rattle.control_table.specs.layout.Entries.{Site}
+use Rattle.std.specs.Prelude.{IfNone, IfSome}
 use Rattle.std.specs.Result.{OnErr}
 use Rattle.std.proofs.lemmas.List.{map-append, take-append-le}
 use Rattle.simulator_event.specs.declared.event.Event.{Event}
-use Rattle.simulator_event.specs.declared.event.NodeId.{NodeId}
+use Rattle.simulator_event.specs.layout.declared.ids.NodeId.{NodeId}
 use Rattle.simulator_event.specs.refused.Refused.{Refused}
 use Rattle.simulator_event.specs.refused.Refused.TheVariants.{NoSuchNode, NeverSent, Drift, NotDriven, ClockLimit, OutOfMemory}
 use Rattle.simulator_event.specs.declared.reply.Reply.{Reply}
 use Rattle.simulator_event.specs.declared.reply.Answer.{Answer}
 use Rattle.replay_lines.specs.Answers.{answer_text, recorded}
 use Rattle.replay_lines.specs.Written.{event_line}
-use Rattle.station_drive.specs.Told.{Asks, Call, Carried, Grows, Heard, Sends}
-use Rattle.station_drive.specs.Doings.{added, recorded_line, Applies, Applying, Asking, Behaviour, Doing, Performs, Stops, after_doing, state_after, calls_of, calls_of_doing, text_of, line_of_doing}
+use Rattle.station_drive.specs.Told.{Asks, Call, Carried, Datagram, Grows, Heard, Nothing, Sends, heard_of}
+use Rattle.station_drive.specs.Rounds.{IsSilence}
+use Rattle.station_drive.specs.Doings.{added, recorded_line, Applies, Applying, Asking, Behaviour, Doing, EngineState, Performs, Stops, after_doing, state_after, calls_of, calls_of_doing, text_of, line_of_doing}
 
 -- ---- what is told grows
 
@@ -29,12 +31,12 @@ Grows-trans a None (Some z) xs ys p q = absurd q
 Grows-trans None (Some y) (Some z) xs ys p q = absurd p
 Grows-trans (Some x) (Some y) (Some z) xs ys p q = q ∙ ap (λ l. l ++ ys) p ∙ append_assoc x xs ys
 
--- calls behind others
+-- calls after others
 pub carried-on : {Net : Type 0} (carries : Net → Call → Net → Type 0) (a b c : Net) (xs ys : List Call) → Carried carries a b xs → Carried carries b c ys → Carried carries a c (xs ++ ys)
 carried-on carries a b c [] ys p q = subst (λ n. Carried carries n c ys) p q
 carried-on carries a b c (x ∷ xs) ys p q = (p.0, p.1, carried-on carries p.0 b c xs ys p.2 q)
 
--- ---- doings behind others
+-- ---- doings after others
 
 module _ {State : Type 0} (does : Behaviour State) where
   pub state_after-append : (p : State) (xs ys : List Doing) → state_after does p (xs ++ ys) ≡ state_after does (state_after does p xs) ys
@@ -71,7 +73,7 @@ module _ {State : Type 0} (does : Behaviour State) where
       let whole = length-append line (text_of does site (after_doing does p x) xs) in
       omega (arith, rest, part, whole)
 
-  -- all but the last line of doings behind others
+  -- all but the last line of doings after others
   lines_behind : (site : Site) (xs ys : List Doing) (a b : State) (count taken : ℕ) → b ≡ state_after does a xs
       → length (text_of does site b (take (count - 1) ys)) ≤ taken
       → length (text_of does site a (take (length xs + count - 1) (xs ++ ys))) ≤ length (text_of does site a xs) + taken
@@ -90,137 +92,154 @@ module _ {State : Type 0} (does : Behaviour State) where
       (sym (ap (λ (n : ℕ). take n (xs ++ ys)) counted ∙ take-append-add xs ys count))
       (omega (arith, few, both, joined))
 
--- ---- what was done, one behind another
+-- ---- what was done, one after another
 
-module _ {State Net : Type 0} {does : Behaviour State} {carries : Net → Call → Net → Type 0} {site : Site} where
-  pub performs_none : (a : State) (ca : Net) (ta : Option (List ℕ)) → Performs does carries site [] a a ca ca ta ta
-  performs_none a ca ta = record { state_is = refl; called = refl; written = Appends-nil ta }
+module _ {State Net : Type 0} {does : Behaviour State} {carries : Net → Call → Net → Type 0} where
+  pub performs_none : (a : EngineState State Net) → Performs does carries [] a a
+  performs_none a = record { same_site = refl; state_is = refl; called = refl; written = Appends-nil a.text }
 
-  pub performs_then : {xs ys : List Doing} {a b c : State} {ca cb cc : Net} {ta tb tc : Option (List ℕ)}
-      → Performs does carries site xs a b ca cb ta tb → Performs does carries site ys b c cb cc tb tc → Performs does carries site (xs ++ ys) a c ca cc ta tc
-  performs_then {xs} {ys} {a} {b} {c} {ca} {cb} {cc} {ta} {tb} {tc} first second = record {
-    state_is = second.state_is ∙ (ap (λ p. state_after does p ys) first.state_is ∙ sym (state_after-append does a xs ys));
-    called = subst (Carried carries ca cc) (calls_joined does a b xs ys first.state_is) (carried-on carries ca cb cc _ _ first.called second.called);
-    written = subst (Appends ta tc) (text_joined does site a b xs ys first.state_is) (Appends-trans ta tb tc _ _ first.written second.written);
+  -- what comes later is of the layout and the station that were reached
+  texts : {a b : EngineState State Net} {xs : List Doing} (ys : List Doing) → Performs does carries xs a b → text_of does a.site a.state xs ++ text_of does b.site b.state ys ≡ text_of does a.site a.state (xs ++ ys)
+  texts {a} {b} {xs} ys first =
+      ap (λ (p : Site). text_of does a.site a.state xs ++ text_of does p b.state ys) first.same_site ∙ text_joined does a.site a.state b.state xs ys first.state_is
+
+  pub performs_then : {xs ys : List Doing} {a b c : EngineState State Net} → Performs does carries xs a b → Performs does carries ys b c → Performs does carries (xs ++ ys) a c
+  performs_then {xs} {ys} {a} {b} {c} first second = record {
+    same_site = second.same_site ∙ first.same_site;
+    state_is = second.state_is ∙ (ap (λ p. state_after does p ys) first.state_is ∙ sym (state_after-append does a.state xs ys));
+    called = subst (Carried carries a.net c.net) (calls_joined does a.state b.state xs ys first.state_is) (carried-on carries a.net b.net c.net _ _ first.called second.called);
+    written = subst (Appends a.text c.text) (texts ys first) (Appends-trans a.text b.text c.text _ _ first.written second.written);
   }
 
   -- nothing was done
-  pub stops_none : (doings : List Doing) (a : State) (ca : Net) (ta : Option (List ℕ)) → Stops does carries site doings a a ca ca ta ta
-  stops_none doings a ca ta = record {
+  pub stops_none : (doings : List Doing) (a : EngineState State Net) → Stops does carries doings a a
+  stops_none doings a = record {
+    same_site = refl;
     count = 0;
     within = omega arith;
     state_is = refl;
     called = refl;
     taken = 0;
-    written = Appends-nil ta;
+    written = Appends-nil a.text;
+    lines = omega arith;
+  }
+
+  -- nothing was changed
+  pub stops_unmoved : (doings : List Doing) (a b : EngineState State Net) → b.site ≡ a.site → b.state ≡ a.state → b.net ≡ a.net → b.text ≡ a.text → Stops does carries doings a b
+  stops_unmoved doings a b site state net text = record {
+    same_site = site;
+    count = 0;
+    within = omega arith;
+    state_is = state;
+    called = net;
+    taken = 0;
+    written = subst (λ (t : Option (List ℕ)). Appends a.text t []) (sym text) (Appends-nil a.text);
     lines = omega arith;
   }
 
   -- all was done, and then it was given up
-  pub stops_all : {xs : List Doing} {a b : State} {ca cb : Net} {ta tb : Option (List ℕ)}
-      → Performs does carries site xs a b ca cb ta tb → (s : Stops does carries site xs a b ca cb ta tb) × (length xs ≤ s.count)
-  stops_all {xs} {a} {b} {ca} {cb} {ta} {tb} done =
+  pub stops_all : {xs : List Doing} {a b : EngineState State Net} → Performs does carries xs a b → (s : Stops does carries xs a b) × (length xs ≤ s.count)
+  stops_all {xs} {a} {b} done =
       let all : take (length xs) xs ≡ xs = take-length xs in
-      let text : List ℕ = text_of does site a xs in (
+      let text : List ℕ = text_of does a.site a.state xs in (
         record {
+          same_site = done.same_site;
           count = length xs;
           within = omega arith;
-          state_is = done.state_is ∙ ap (state_after does a) (sym all);
-          called = subst (Carried carries ca cb) (ap (calls_of does a) (sym all)) done.called;
+          state_is = done.state_is ∙ ap (state_after does a.state) (sym all);
+          called = subst (Carried carries a.net b.net) (ap (calls_of does a.state) (sym all)) done.called;
           taken = length text;
-          written = subst (Appends ta tb) (sym (take-length text) ∙ ap (λ (l : List Doing). take (length text) (text_of does site a l)) (sym all)) done.written;
-          lines = text_of-take does site a (length xs - 1) xs;
+          written = subst (Appends a.text b.text) (sym (take-length text) ∙ ap (λ (l : List Doing). take (length text) (text_of does a.site a.state l)) (sym all)) done.written;
+          lines = text_of-take does a.site a.state (length xs - 1) xs;
         },
         omega arith,
       )
 
   -- doings that were never come to
-  pub stops_before : {xs : List Doing} {a b : State} {ca cb : Net} {ta tb : Option (List ℕ)} (ys : List Doing)
-      → Stops does carries site xs a b ca cb ta tb → Stops does carries site (xs ++ ys) a b ca cb ta tb
-  stops_before {xs} {a} {b} {ca} {cb} {ta} {tb} ys s =
+  pub stops_before : {xs : List Doing} {a b : EngineState State Net} (ys : List Doing) → Stops does carries xs a b → Stops does carries (xs ++ ys) a b
+  stops_before {xs} {a} {b} ys s =
       let within = s.within in
       let longer = length-append xs ys in
       let fewer : s.count - 1 ≤ length xs = omega (arith, within) in
       let same : take s.count (xs ++ ys) ≡ take s.count xs = take-append-le s.count xs ys within in
       record {
+        same_site = s.same_site;
         count = s.count;
         within = omega (arith, within, longer);
-        state_is = s.state_is ∙ ap (state_after does a) (sym same);
-        called = subst (Carried carries ca cb) (ap (calls_of does a) (sym same)) s.called;
+        state_is = s.state_is ∙ ap (state_after does a.state) (sym same);
+        called = subst (Carried carries a.net b.net) (ap (calls_of does a.state) (sym same)) s.called;
         taken = s.taken;
-        written = subst (Appends ta tb) (ap (λ (l : List Doing). take s.taken (text_of does site a l)) (sym same)) s.written;
-        lines = subst (λ (l : List Doing). length (text_of does site a l) ≤ s.taken) (sym (take-append-le (s.count - 1) xs ys fewer)) s.lines;
+        written = subst (Appends a.text b.text) (ap (λ (l : List Doing). take s.taken (text_of does a.site a.state l)) (sym same)) s.written;
+        lines = subst (λ (l : List Doing). length (text_of does a.site a.state l) ≤ s.taken) (sym (take-append-le (s.count - 1) xs ys fewer)) s.lines;
       }
 
   -- what was done whole, and then a beginning of more
-  pub stops_behind : {xs ys : List Doing} {a b c : State} {ca cb cc : Net} {ta tb tc : Option (List ℕ)}
-      → Performs does carries site xs a b ca cb ta tb → Stops does carries site ys b c cb cc tb tc → (s : Stops does carries site (xs ++ ys) a c ca cc ta tc) × (length xs ≤ s.count)
-  stops_behind {xs} {ys} {a} {b} {c} {ca} {cb} {cc} {ta} {tb} {tc} first second =
+  pub stops_after : {xs ys : List Doing} {a b c : EngineState State Net} → Performs does carries xs a b → Stops does carries ys b c → (s : Stops does carries (xs ++ ys) a c) × (length xs ≤ s.count)
+  stops_after {xs} {ys} {a} {b} {c} first second =
       let done : List Doing = take second.count ys in
       let all : xs ++ done ≡ take (length xs + second.count) (xs ++ ys) = sym (take-append-add xs ys second.count) in
-      let before : List ℕ = text_of does site a xs in
-      let behind : List ℕ = text_of does site b done in
+      let before : List ℕ = text_of does a.site a.state xs in
+      let later : List ℕ = text_of does b.site b.state done in
       let within = second.within in
-      let longer = length-append xs ys in (
+      let longer = length-append xs ys in
+      let lines = subst (λ (p : Site). length (text_of does p b.state (take (second.count - 1) ys)) ≤ second.taken) first.same_site second.lines in (
         record {
+          same_site = second.same_site ∙ first.same_site;
           count = length xs + second.count;
           within = omega (arith, within, longer);
-          state_is = second.state_is ∙ (ap (λ p. state_after does p done) first.state_is ∙ (sym (state_after-append does a xs done) ∙ ap (state_after does a) all));
-          called = subst (Carried carries ca cc) (calls_joined does a b xs done first.state_is ∙ ap (calls_of does a) all) (carried-on carries ca cb cc _ _ first.called second.called);
+          state_is = second.state_is ∙ (ap (λ p. state_after does p done) first.state_is ∙ (sym (state_after-append does a.state xs done) ∙ ap (state_after does a.state) all));
+          called = subst (Carried carries a.net c.net) (calls_joined does a.state b.state xs done first.state_is ∙ ap (calls_of does a.state) all) (carried-on carries a.net b.net c.net _ _ first.called second.called);
           taken = length before + second.taken;
-          written = subst (Appends ta tc)
-              (sym (take-append-add before behind second.taken)
-              ∙ ap (take (length before + second.taken)) (text_joined does site a b xs done first.state_is ∙ ap (text_of does site a) all))
-              (Appends-trans ta tb tc _ _ first.written second.written);
-          lines = lines_behind does site xs ys a b second.count second.taken first.state_is second.lines;
+          written = subst (Appends a.text c.text)
+              (sym (take-append-add before later second.taken)
+              ∙ ap (take (length before + second.taken)) (texts done first ∙ ap (text_of does a.site a.state) all))
+              (Appends-trans a.text b.text c.text _ _ first.written second.written);
+          lines = lines_behind does a.site xs ys a.state b.state second.count second.taken first.state_is lines;
         },
         omega arith,
       )
 
-  pub stops_then : {xs ys : List Doing} {a b c : State} {ca cb cc : Net} {ta tb tc : Option (List ℕ)}
-      → Performs does carries site xs a b ca cb ta tb → Stops does carries site ys b c cb cc tb tc → Stops does carries site (xs ++ ys) a c ca cc ta tc
-  stops_then {xs} {ys} {a} {b} {c} {ca} {cb} {cc} {ta} {tb} {tc} first second = (stops_behind first second).0
+  pub stops_then : {xs ys : List Doing} {a b c : EngineState State Net} → Performs does carries xs a b → Stops does carries ys b c → Stops does carries (xs ++ ys) a c
+  stops_then {xs} {ys} {a} {b} {c} first second = (stops_after first second).0
 
-  -- given up before what is behind
-  pub stops_now : {xs : List Doing} {a b : State} {ca cb : Net} {ta tb : Option (List ℕ)} (ys : List Doing)
-      → Performs does carries site xs a b ca cb ta tb → Stops does carries site (xs ++ ys) a b ca cb ta tb
-  stops_now {xs} {a} {b} {ca} {cb} {ta} {tb} ys done = stops_before ys (stops_all done).0
+  -- given up before what comes after
+  pub stops_now : {xs : List Doing} {a b : EngineState State Net} (ys : List Doing) → Performs does carries xs a b → Stops does carries (xs ++ ys) a b
+  stops_now {xs} {a} {b} ys done = stops_before ys (stops_all done).0
 
-  pub stops_same : {xs ys : List Doing} {a b : State} {ca cb : Net} {ta tb : Option (List ℕ)} → xs ≡ ys → Stops does carries site xs a b ca cb ta tb → Stops does carries site ys a b ca cb ta tb
-  stops_same {xs} {ys} {a} {b} {ca} {cb} {ta} {tb} e s = subst (λ (l : List Doing). Stops does carries site l a b ca cb ta tb) e s
+  pub stops_same : {xs ys : List Doing} {a b : EngineState State Net} → xs ≡ ys → Stops does carries xs a b → Stops does carries ys a b
+  stops_same {xs} {ys} {a} {b} e s = subst (λ (l : List Doing). Stops does carries l a b) e s
+
+  pub performs_same : {xs ys : List Doing} {a b : EngineState State Net} → xs ≡ ys → Performs does carries xs a b → Performs does carries ys a b
+  performs_same {xs} {ys} {a} {b} e done = subst (λ (l : List Doing). Performs does carries l a b) e done
+
+  -- nothing was done after that
+  pub performs_rest : {xs : List Doing} {a b c : EngineState State Net} → Performs does carries xs a b → Performs does carries [] b c → Performs does carries xs a c
+  performs_rest {xs} {a} {b} {c} first second = performs_same (append-nil xs) (performs_then first second)
 
   -- what was written was handed on
-  pub performs_kept : {xs : List Doing} {a b : State} {ca cb : Net} {ta tb tc : Option (List ℕ)} → Performs does carries site xs a b ca cb ta tb → Keeps tb tc → Performs does carries site xs a b ca cb ta tc
-  performs_kept {xs} {a} {b} {ca} {cb} {ta} {tb} {tc} done kept = record {
-    state_is = done.state_is;
-    called = done.called;
-    written = Appends-kept ta tb tc _ done.written kept;
-  }
-
-  -- the same where the layout of what comes behind is the same, seen from there
-  pub performs_next : {other : Site} {xs ys : List Doing} {a b c : State} {ca cb cc : Net} {ta tb tc : Option (List ℕ)}
-      → other ≡ site → Performs does carries site xs a b ca cb ta tb → Performs does carries other ys b c cb cc tb tc → Performs does carries site (xs ++ ys) a c ca cc ta tc
-  performs_next {other} {xs} {ys} {a} {b} {c} {ca} {cb} {cc} {ta} {tb} {tc} e first second =
-      performs_then first (subst (λ (p : Site). Performs does carries p ys b c cb cc tb tc) e second)
-
-  pub stops_next : {other : Site} {xs ys : List Doing} {a b c : State} {ca cb cc : Net} {ta tb tc : Option (List ℕ)}
-      → other ≡ site → Performs does carries site xs a b ca cb ta tb → Stops does carries other ys b c cb cc tb tc → Stops does carries site (xs ++ ys) a c ca cc ta tc
-  stops_next {other} {xs} {ys} {a} {b} {c} {ca} {cb} {cc} {ta} {tb} {tc} e first second =
-      stops_then first (subst (λ (p : Site). Stops does carries p ys b c cb cc tb tc) e second)
+  pub performs_kept : (a : EngineState State Net) (text : Option (List ℕ)) → Keeps a.text text → Performs does carries [] a (record a { text = text })
+  performs_kept a text kept = record { same_site = refl; state_is = refl; called = refl; written = Appends-kept a.text a.text text [] (Appends-nil a.text) kept }
 
   -- one more event was applied
-  pub performs_push : {other : Site} {event : Event} {a b c : State} {ca cb cc : Net} {ta tb tc : Option (List ℕ)}
-      → (events : List Event) → other ≡ site → Performs does carries site (map Applying events) a b ca cb ta tb → Performs does carries other (Applying event ∷ []) b c cb cc tb tc
-      → Performs does carries site (map Applying (events ++ event ∷ [])) a c ca cc ta tc
-  performs_push {other} {event} {a} {b} {c} {ca} {cb} {cc} {ta} {tb} {tc} events e first second =
-      subst (λ (l : List Doing). Performs does carries site l a c ca cc ta tc) (sym (map-append Applying events (event ∷ []))) (performs_next e first second)
-
-  pub performs_same : {xs ys : List Doing} {a b : State} {ca cb : Net} {ta tb : Option (List ℕ)} → xs ≡ ys → Performs does carries site xs a b ca cb ta tb → Performs does carries site ys a b ca cb ta tb
-  performs_same {xs} {ys} {a} {b} {ca} {cb} {ta} {tb} e done = subst (λ (l : List Doing). Performs does carries site l a b ca cb ta tb) e done
+  pub performs_push : {event : Event} {a b c : EngineState State Net} (events : List Event) → Performs does carries (map Applying events) a b → Performs does carries (Applying event ∷ []) b c
+      → Performs does carries (map Applying (events ++ event ∷ [])) a c
+  performs_push {event} {a} {b} {c} events first second =
+      subst (λ (l : List Doing). Performs does carries l a c) (sym (map-append Applying events (event ∷ []))) (performs_then first second)
 
   -- a node asked
-  pub performs_asking : {node : NodeId} {heard : Heard} (a : State) {ca cb : Net} (ta : Option (List ℕ)) → carries ca (Asks node heard) cb → Performs does carries site (Asking node heard ∷ []) a a ca cb ta ta
-  performs_asking a {ca} {cb} ta told = record { state_is = refl; called = (cb, told, refl); written = Appends-nil ta }
+  pub performs_asking : {node : NodeId} {heard : Heard} (a : EngineState State Net) (net : Net) → carries a.net (Asks node heard) net → Performs does carries (Asking node heard ∷ []) a (record a { net = net })
+  performs_asking a net told = record { same_site = refl; state_is = refl; called = (net, told, refl); written = Appends-nil a.text }
+
+-- what was heard, by what was answered
+pub heard_some : {State Net Bytes : Type 0} (does : Behaviour State) (carries : Net → Call → Net → Type 0) (bytes : Bytes → List ℕ) (node : NodeId) (answer : Option Bytes) (a : EngineState State Net) (net : Net)
+    → carries a.net (Asks node (heard_of bytes (Ok answer))) net → IfSome answer (λ datagram. Performs does carries (Asking node (Datagram (bytes datagram)) ∷ []) a (record a { net = net }))
+heard_some does carries bytes node None a net told = tt
+heard_some does carries bytes node (Some datagram) a net told = performs_asking a net told
+
+pub heard_none : {State Net Bytes : Type 0} (does : Behaviour State) (carries : Net → Call → Net → Type 0) (bytes : Bytes → List ℕ) (node : NodeId) (answer : Option Bytes) (a : EngineState State Net) (net : Net)
+    → carries a.net (Asks node (heard_of bytes (Ok answer))) net → IfNone answer ((last : Heard) × IsSilence last × Performs does carries (Asking node last ∷ []) a (record a { net = net }))
+heard_none does carries bytes node None a net told = (Nothing, tt, performs_asking a net told)
+heard_none does carries bytes node (Some datagram) a net told = tt
 
 -- what was given up stays so, whatever fault is told
 pub stopped : {T E P : Type 0} (result : Result T E) → P → OnErr result P

@@ -1,3 +1,4 @@
+pub mod InOrder
 pub mod Composed
 pub mod Rows
 pub mod Turns

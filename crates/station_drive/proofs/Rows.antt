@@ -2,16 +2,16 @@
 use Rattle.std.proofs.Common.{◌≡◌, ℕ, zero, suc, ◌+◌, ◌-◌, List, [], ◌∷◌, ◌++◌, length, map, drop, Option, Some, None, slice_get, ◌<◌, ◌≤◌, replicate, refl, sym, ap, ◌∙◌, append_assoc, append-nil, length-append, arith}
 use Rattle.std.proofs.Math.Numerals.{add-one}
 use Rattle.std.proofs.lemmas.List.{length-replicate, map-append}
-use Rattle.std.specs.Prelude.{IfNone, IfSome, Ok, IsTrue, ◌↔◌, Bool, false}
+use Rattle.std.specs.Prelude.{IsTrue, ◌↔◌, Bool, false}
 use Rattle.std.specs.List.{AllByRecursion}
 use Rattle.control_table.specs.sci_telegram.declared.message.Side.{Side}
 use Rattle.simulator_event.specs.declared.event.Event.{Event}
 use Rattle.simulator_event.specs.declared.event.Event.TheVariants.{Deliver, Tick}
-use Rattle.simulator_event.specs.declared.event.NodeId.{NodeId}
+use Rattle.simulator_event.specs.layout.declared.ids.NodeId.{NodeId}
 use Rattle.station_drive.specs.declared.course.Drive.{Drive}
-use Rattle.station_drive.specs.Told.{Asks, Call, Datagram, Heard, Nothing, heard_of}
+use Rattle.station_drive.specs.Told.{Datagram, Nothing}
 use Rattle.station_drive.specs.Doings.{Doing, Asking, Applying}
-use Rattle.station_drive.specs.Rounds.{IsSilence, drives_after, Hearing, comings, hearing_of, hearings, ticks}
+use Rattle.station_drive.specs.Rounds.{drives_after, Hearing, comings, hearing_of, hearings, ticks}
 
 none-some : {A : Type 0} {x : A} → None ≡ Some x → ⊥
 none-some e = cc
@@ -93,17 +93,6 @@ not_past (x ∷ xs) (suc n) h e = not_past xs n (omega arith) e
 -- what a test that failed tells
 pub failed : {P : Type 0} (b : Bool) → (IsTrue b ↔ P) → b ≡ false → P → ⊥
 failed b h e p = let t = h.1 p in cc
-
--- what was heard, by what was answered
-pub asked_some : {Bytes Net : Type 0} (carries : Net → Call → Net → Type 0) (bytes : Bytes → List ℕ) (node : NodeId) (answer : Option Bytes) (a b : Net)
-    → carries a (Asks node (heard_of bytes (Ok answer))) b → IfSome answer (λ datagram. carries a (Asks node (Datagram (bytes datagram))) b)
-asked_some carries bytes node None a b told = tt
-asked_some carries bytes node (Some datagram) a b told = told
-
-pub asked_none : {Bytes Net : Type 0} (carries : Net → Call → Net → Type 0) (bytes : Bytes → List ℕ) (node : NodeId) (answer : Option Bytes) (a b : Net)
-    → carries a (Asks node (heard_of bytes (Ok answer))) b → IfNone answer ((last : Heard) × IsSilence last × carries a (Asks node last) b)
-asked_none carries bytes node None a b told = (Nothing, tt, told)
-asked_none carries bytes node (Some datagram) a b told = tt
 
 pub all-push : {A : Type 0} (P : A → Type 0) (xs : List A) (x : A) → AllByRecursion P xs → P x → AllByRecursion P (xs ++ x ∷ [])
 all-push P [] x h p = (p, tt)

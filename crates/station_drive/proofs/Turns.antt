@@ -1,11 +1,11 @@
--- Rounds behind others.
+-- Rounds after others.
 use Rattle.std.proofs.Common.{◌≡◌, ◌≤◌, length, ℕ, List, [], ◌∷◌, ◌++◌, map, Option, sym, ap, ◌∙◌, subst, append_assoc, append-nil}
 use Rattle.std.proofs.lemmas.List.{map-append}
 use Rattle.control_table.specs.layout.Entries.{Site}
-use Rattle.station_drive.specs.Doings.{Behaviour, Doing, Performs, Stops, state_after}
+use Rattle.station_drive.specs.Doings.{Behaviour, Doing, EngineState, Performs, Stops, state_after}
 use Rattle.station_drive.specs.Rounds.{RunSoFar, RoundHeard, round, rounds, after_round, run_after}
 use Rattle.station_drive.specs.Told.{Call, Grows}
-use Rattle.station_drive.proofs.Composed.{Grows-trans, performs_next, performs_same, state_after-append, stops_behind, stops_same}
+use Rattle.station_drive.proofs.Composed.{Grows-trans, performs_same, performs_then, state_after-append, stops_after, stops_same}
 
 module _ {State : Type 0} (does : Behaviour State) (site : Site) where
   -- how far a run has come after rounds
@@ -41,31 +41,30 @@ next_read a b c first turns turn p q =
     let reading : RoundHeard → ℕ = λ t. t.reading in
     subst (Grows a c) (ap (λ l. first ∷ l) (sym (map-append reading turns (turn ∷ [])))) (Grows-trans a b c (first ∷ map reading turns) (turn.reading ∷ []) p q)
 
-module _ {State Net : Type 0} {does : Behaviour State} {carries : Net → Call → Net → Type 0} {site : Site} where
+-- a round seen from the layout and the course that were at the beginning
+from_start : (other site : Site) (standing end : RunSoFar) (turn : RoundHeard) → other ≡ site → standing ≡ end → round other standing turn ≡ round site end turn
+from_start other site standing end turn e same = ap (λ (p : Site). round p standing turn) e ∙ ap (λ (s : RunSoFar). round site s turn) same
+
+module _ {State Net : Type 0} {does : Behaviour State} {carries : Net → Call → Net → Type 0} where
   -- one more round
-  pub next_round : {other : Site} {a b c : State} {ca cb cc : Net} {ta tb tc : Option (List ℕ)} (start standing : RunSoFar) (turns : List RoundHeard) (turn : RoundHeard)
-      → other ≡ site → standing ≡ standing_end does site a start turns
-      → Performs does carries site (rounds does site a start turns) a b ca cb ta tb → Performs does carries other (round other standing turn) b c cb cc tb tc
-      → Performs does carries site (rounds does site a start (turns ++ turn ∷ [])) a c ca cc ta tc
-  next_round {other} {a} {b} {c} {ca} {cb} {cc} {ta} {tb} {tc} start standing turns turn e same before now =
-      performs_same (sym (rounds-push does site a start turns turn))
-      (performs_next e before (performs_same (ap (λ (p : Site). round p standing turn) e ∙ ap (λ (s : RunSoFar). round site s turn) same) now))
+  pub next_round : {a b c : EngineState State Net} (start standing : RunSoFar) (turns : List RoundHeard) (turn : RoundHeard) → standing ≡ standing_end does a.site a.state start turns
+      → Performs does carries (rounds does a.site a.state start turns) a b → Performs does carries (round b.site standing turn) b c
+      → Performs does carries (rounds does a.site a.state start (turns ++ turn ∷ [])) a c
+  next_round {a} {b} {c} start standing turns turn same before now =
+      performs_same (sym (rounds-push does a.site a.state start turns turn)) (performs_then before (performs_same (from_start b.site a.site standing _ turn before.same_site same) now))
 
   -- a round that was broken off
-  pub broken_round : {other : Site} {a b c : State} {ca cb cc : Net} {ta tb tc : Option (List ℕ)} (start standing : RunSoFar) (turns : List RoundHeard) (turn : RoundHeard)
-      → other ≡ site → standing ≡ standing_end does site a start turns
-      → Performs does carries site (rounds does site a start turns) a b ca cb ta tb → Stops does carries other (round other standing turn) b c cb cc tb tc
-      → (s : Stops does carries site (rounds does site a start (turns ++ turn ∷ [])) a c ca cc ta tc) × (length (rounds does site a start turns) ≤ s.count)
-  broken_round {other} {a} {b} {c} {ca} {cb} {cc} {ta} {tb} {tc} start standing turns turn e same before now =
-      let here : Stops does carries site (round other standing turn) b c cb cc tb tc = subst (λ (p : Site). Stops does carries p (round other standing turn) b c cb cc tb tc) e now in
-      let cut : Stops does carries site (round site (standing_end does site a start turns) turn) b c cb cc tb tc =
-      stops_same (ap (λ (p : Site). round p standing turn) e ∙ ap (λ (s : RunSoFar). round site s turn) same) here in
-      let whole : List Doing = rounds does site a start turns in
-      subst (λ (l : List Doing). (s : Stops does carries site l a c ca cc ta tc) × (length whole ≤ s.count)) (sym (rounds-push does site a start turns turn)) (stops_behind before cut)
+  pub broken_round : {a b c : EngineState State Net} (start standing : RunSoFar) (turns : List RoundHeard) (turn : RoundHeard) → standing ≡ standing_end does a.site a.state start turns
+      → Performs does carries (rounds does a.site a.state start turns) a b → Stops does carries (round b.site standing turn) b c
+      → (s : Stops does carries (rounds does a.site a.state start (turns ++ turn ∷ [])) a c) × (length (rounds does a.site a.state start turns) ≤ s.count)
+  broken_round {a} {b} {c} start standing turns turn same before now =
+      let cut : Stops does carries (round a.site (standing_end does a.site a.state start turns) turn) b c = stops_same (from_start b.site a.site standing _ turn before.same_site same) now in
+      let whole : List Doing = rounds does a.site a.state start turns in
+      subst (λ (l : List Doing). (s : Stops does carries l a c) × (length whole ≤ s.count)) (sym (rounds-push does a.site a.state start turns turn)) (stops_after before cut)
 
-  pub next_standing : {a c : State} {ca cc : Net} {ta tc : Option (List ℕ)} (start standing after : RunSoFar) (turns : List RoundHeard) (turn : RoundHeard)
-      → Performs does carries site (rounds does site a start (turns ++ turn ∷ [])) a c ca cc ta tc
-      → standing ≡ standing_end does site a start turns → after ≡ run_after does c standing turn.reading
-      → after ≡ standing_end does site a start (turns ++ turn ∷ [])
-  next_standing {a} {c} {ca} {cc} {ta} {tc} start standing after turns turn performs same h =
-      h ∙ (ap (λ (s : RunSoFar). run_after does c s turn.reading) same ∙ sym (standing_end-push does site a start turns turn c performs.state_is))
+  pub next_standing : {a c : EngineState State Net} (start standing after : RunSoFar) (turns : List RoundHeard) (turn : RoundHeard)
+      → Performs does carries (rounds does a.site a.state start (turns ++ turn ∷ [])) a c
+      → standing ≡ standing_end does a.site a.state start turns → after ≡ run_after does c.state standing turn.reading
+      → after ≡ standing_end does a.site a.state start (turns ++ turn ∷ [])
+  next_standing {a} {c} start standing after turns turn performs same h =
+      h ∙ (ap (λ (s : RunSoFar). run_after does c.state s turn.reading) same ∙ sym (standing_end-push does a.site a.state start turns turn c.state performs.state_is))

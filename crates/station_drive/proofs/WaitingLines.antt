@@ -95,13 +95,13 @@ from_lower low time (line ∷ more) h r =
     let above = parts.0 in
     rises_more low line more (omega (arith, h, above)) ∙ parts.1
 
--- the lines behind others are in order too
+-- the lines after others are in order too
 pub rises_drop : (n : ℕ) (lines : List Line) → rises 0 lines ≡ true → rises 0 (drop n lines) ≡ true
 rises_drop zero lines r = r
 rises_drop (suc n) [] r = refl
 rises_drop (suc n) (line ∷ more) r = rises_drop n more (from_lower 0 line.0 more (omega arith) (rises_parts 0 line more r).1)
 
--- none is due behind a time that has not passed
+-- none is due after a time that has not passed
 none_due : (applied : Option ℕ) (passed time : ℕ) (lines : List Line) → passed < time → rises time lines ≡ true → due passed (waiting applied lines) ≡ []
 none_due applied passed time [] h r = due_of_none applied passed
 none_due applied passed time (line ∷ more) h r =

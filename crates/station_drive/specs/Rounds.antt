@@ -8,7 +8,7 @@ use Rattle.control_table.specs.sci_telegram.declared.message.Side.{Side}
 use Rattle.control_table.specs.sci_telegram.declared.message.Side.TheVariants as sides
 use Rattle.simulator_event.specs.declared.event.Event.{Event}
 use Rattle.simulator_event.specs.declared.event.Event.TheVariants.{Deliver, Reach, Tick, Time}
-use Rattle.simulator_event.specs.declared.event.NodeId.{NodeId}
+use Rattle.simulator_event.specs.layout.declared.ids.NodeId.{NodeId}
 use Rattle.station_drive.specs.declared.course.Drive.{Drive}
 use Rattle.station_drive.specs.Told.{Heard, Datagram, Nothing, Failed}
 use Rattle.station_drive.specs.Doings.{Behaviour, Doing, Asking, Applying, state_after}
@@ -45,7 +45,7 @@ pub record RunSoFar : Type 0 where
   -- the lines of the script that weren't applied
   pub left : List (ℕ × Event)
   -- of each point, to which side it was driven at the end of the last round, and the clock at the first of the rounds,
-  -- one behind another up to the last, at whose ends it was driven so
+  -- one after another up to the last, at whose ends it was driven so
   pub drives : List (Option Drive)
 
 -- ---- datagrams
@@ -66,7 +66,7 @@ hearings node (hearing ∷ more) = hearing_of (record { 0 = node }) hearing ++ h
 -- ---- the script
 
 -- the events of the lines whose milliseconds have passed, in their order, and the lines that are left; a line that isn't due holds
--- up none behind it
+-- up none after it
 abbrev pub due : ℕ → List (ℕ × Event) → List Event
 due passed [] = []
 due passed (line ∷ more) = if nat_le line.0 passed then line.1 ∷ due passed more else due passed more
@@ -121,22 +121,24 @@ abbrev pub ticks : ℕ → List Event
 ticks zero = []
 ticks (suc node) = ticks node ++ Tick (record { 0 = node }) ∷ []
 
--- how many whole milliseconds a reading lies behind the first
+-- how many whole milliseconds a reading lies after the first
 abbrev pub passed : RunSoFar → ℕ → ℕ
 passed so_far reading = (reading - so_far.first) / 1000
+
+-- time goes on, at equal rates
+abbrev pub time_passes : Site → ℕ → Event
+time_passes site elapsed = Time elapsed (replicate (length (node_names site)) elapsed)
 
 -- Time goes on at equal rates; each node hears; the lines of the script that are due; what was asked for; points reach their end
 -- positions; each node ticks.
 abbrev pub round : Site → RunSoFar → RoundHeard → List Doing
 round site so_far one =
-    let elapsed = one.reading - so_far.reading
-    in let nodes = length (node_names site)
-    in Applying (Time elapsed (replicate nodes elapsed))
+    Applying (time_passes site (one.reading - so_far.reading))
     ∷ (hearings 0 one.heard
     ++ (map Applying (due (passed so_far one.reading) so_far.left)
     ++ (map Applying one.asked
     ++ (map Applying (reaches one.jammed one.reading 0 so_far.drives)
-    ++ map Applying (ticks nodes)))))
+    ++ map Applying (ticks (length (node_names site)))))))
 
 -- how far a run has come after a round at this reading that left the station so
 abbrev pub run_after : {State : Type 0} → Behaviour State → State → RunSoFar → ℕ → RunSoFar

@@ -1,6 +1,6 @@
 -- What clocks and networks tell of their calls.
 use Rattle.std.specs.Prelude.{◌≡◌, ℕ, suc, List, [], ◌∷◌, ◌++◌, Option, Some, None, Result, Ok, Err}
-use Rattle.simulator_event.specs.declared.event.NodeId.{NodeId}
+use Rattle.simulator_event.specs.layout.declared.ids.NodeId.{NodeId}
 use Rattle.station_drive.specs.declared.datagrams.NetFault.{NetFault}
 
 -- what a network answered to a node that asked for a datagram
@@ -26,7 +26,7 @@ Grows old None more = Unit {0}
 Grows None (Some after) more = ⊥
 Grows (Some before) (Some after) more = after ≡ before ++ more
 
--- Calls of a network, one behind another, by what each call makes of what the network tells of itself.
+-- Calls of a network, one after another, by what each call makes of what the network tells of itself.
 abbrev pub Carried : {Net : Type 0} → (Net → Call → Net → Type 0) → Net → Net → List Call → Type 0
 Carried carries old new [] = new ≡ old
 Carried {Net} carries old new (call ∷ calls) = (mid : Net) × carries old call mid × Carried carries mid new calls

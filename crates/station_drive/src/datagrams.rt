@@ -1,11 +1,8 @@
 //! The network over which a station is driven.
 
-use arrayvec::ArrayVec;
+use replay_lines::Received;
 use simulator_event::NodeId;
 use thiserror::Error;
-
-/// The bytes that a node receives at once; longer datagrams are cut.
-pub type Received = ArrayVec<u8, 512>;
 
 /// A call of a network failed.
 #[derive(Clone, Copy, Debug, PartialEq, Eq, Error)]
@@ -25,7 +22,7 @@ pub trait Datagrams {
     /// What it tells now.
     ghost told: { Self → Told };
 
-    /// What a call makes of that: what it tells before the call and behind it.
+    /// What a call makes of that: what it tells before the call and after it.
     ghost carries: { Told → Call → Told → Type 0 };
 
     /// How many of its calls failed.

@@ -1,43 +1,55 @@
 //! An event is applied, what it adds is sent, and its line is recorded.
 
 ghost use Rattle.std.specs.Prelude.{◌≡◌, ◌↔◌, IsTrue, Err, [], ◌∷◌, IfOk, OnOk, OnErr, map, drop, take, string_bytes, ℕ};
-ghost use Rattle.std.specs.Io.KnownBytes.{Appends, Keeps};
+ghost use Rattle.std.specs.Io.KnownBytes.{Appends};
 ghost use Rattle.std.specs.Option.{option_map};
 ghost use Rattle.replay_lines.specs.Answers.{answer_text};
 ghost use Rattle.simulator_event.specs.refused.Refused.TheVariants as refused;
 ghost use Rattle.station_drive.specs.Told.{Carried, Sends};
-ghost use Rattle.station_drive.specs.Doings.{Applying, Performs, Stops, recorded_line};
+ghost use Rattle.station_drive.specs.Doings.{Applying, recorded_line};
+ghost use Rattle.station_drive.specs.Engines.{EnginePerforms, EngineStops};
 
 use crate::datagrams::Datagrams;
+use crate::engine::Engine;
 use crate::fault::DriveFault;
-use crate::station::Station;
 use control_table::Checked;
 use replay_lines::{AnswerText, recorded, write_event};
 use replay_words::write_as_taken;
-use simulator_event::{Answer, Event, Refused};
+use simulator_event::{Answer, Event, Refused, Station};
 use std::alloc::{AllocError, Global};
 use std::io::Write;
 
-/// Applies an event, sends the datagrams that it adds, and records it with its answer.
-pub(crate) fn perform<S: Station, N: Datagrams, W: Write>(
-    alloc: Global,
-    station: &mut S,
-    net: &mut N,
-    recorder: &mut W,
-    event: &Event,
-) -> Result<(), DriveFault>
-    ensures done { OnOk result (Performs S.does N.carries (S.site station.old) (Applying event.now ∷ []) (S.state station.old) (S.state station.new) (N.told net.old) (N.told net.new) (W.contents recorder.old) (W.contents recorder.new)) }
-    ensures stopped { OnErr result (Stops S.does N.carries (S.site station.old) (Applying event.now ∷ []) (S.state station.old) (S.state station.new) (N.told net.old) (N.told net.new) (W.contents recorder.old) (W.contents recorder.new)) }
-    ensures site { S.site station.new ≡ S.site station.old }
-{
-    let line = write_event(alloc, station.table(), event)?;
-    let before = station.sent_count();
-    let answer = recorded(station.apply(event));
-    if lacks_memory(answer) {
-        return Err(DriveFault::OutOfMemory);
+impl<S: Station, N: Datagrams, W: Write> Engine<S, N, W> {
+    /// Applies an event, sends the datagrams that it adds, and records it with its answer.
+    pub(crate) fn perform(&mut self, event: &Event) -> Result<(), DriveFault>
+        ensures done { OnOk result (EnginePerforms S.Station N.Datagrams (Applying event.now ∷ []) self.old self.new) }
+        ensures stopped { OnErr result (EngineStops S.Station N.Datagrams (Applying event.now ∷ []) self.old self.new) }
+    {
+        let line = write_event(self.alloc, self.station.table(), event)?;
+        let before = self.station.sent_count();
+        let answer = recorded(self.station.apply(event));
+        if lacks_memory(answer) {
+            return Err(DriveFault::OutOfMemory);
+        }
+        send_from(&self.station, &mut self.net, before);
+        write_line(
+            self.alloc,
+            self.station.table(),
+            line,
+            answer,
+            &mut self.recorder,
+        )
     }
-    send_from(station, net, before);
-    write_line(alloc, station.table(), line, answer, recorder)
+
+    /// What was written is handed on.
+    pub(crate) fn flush(&mut self) -> Result<(), DriveFault>
+        ensures { EnginePerforms S.Station N.Datagrams [] self.old self.new }
+    {
+        match self.recorder.flush() {
+            Ok(()) => Ok(()),
+            Err(_) => Err(DriveFault::WriteFailed),
+        }
+    }
 }
 
 /// Whether memory was lacking for an event.
@@ -93,14 +105,4 @@ fn write_line<W: Write>(
         return Err(DriveFault::WriteFailed);
     }
     Ok(())
-}
-
-/// What was written is handed on.
-pub(crate) fn flush<W: Write>(recorder: &mut W) -> Result<(), DriveFault>
-    ensures { Keeps (W.contents recorder.old) (W.contents recorder.new) }
-{
-    match recorder.flush() {
-        Ok(()) => Ok(()),
-        Err(_) => Err(DriveFault::WriteFailed),
-    }
 }

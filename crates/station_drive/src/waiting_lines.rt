@@ -7,7 +7,7 @@ ghost use Rattle.station_drive.specs.Rounds.{not_due};
 use simulator_event::Event;
 
 /// The lines of a script that weren't applied yet. In a script in order they are the last ones, and a round looks at no line
-/// behind the first that isn't due. In another script it looks at each.
+/// after the first that isn't due. In another script it looks at each.
 #[derive(Clone, Copy)]
 pub(crate) struct WaitingLines<'a> {
     /// The script without some of the lines in front, all of which were applied.

@@ -4,13 +4,10 @@ use Rattle.std.proofs.Math.ListN.{drop_of_length-le}
 use Rattle.std.proofs.lemmas.List.{drop_more, map-append}
 use Rattle.control_table.specs.layout.Entries.{RouteEntry, Site}
 use Rattle.control_table.specs.layout.declared.ids.RouteId.{RouteId}
-use Rattle.station_layout.specs.Lines.{cells, line_text}
+use Rattle.station_layout.specs.Lines.{cells}
 use Rattle.station_layout.specs.Row.{IsRowOf, Row}
-use Rattle.station_layout.specs.declared.form.Form.{Form}
-use Rattle.station_layout.specs.declared.form.Form.TheVariants.{Csv, Markdown}
 use Rattle.station_layout.specs.declared.row.Column.{Column}
 use Rattle.station_layout.specs.declared.row.Column.TheVariants as column
-use Rattle.station_layout.specs.inside.CellLines.{line_of}
 use Rattle.station_layout.specs.inside.Columns.{AreCells, IsCell}
 
 abbrev pub all_columns : List Column
@@ -42,7 +39,7 @@ row_is l a r texts route =
 -- ---- one cell after the other
 
 module _ {Y : Type 0} (view : Y → List ℕ) (l : Site) (a : RouteId) (r : RouteEntry) where
-  -- with cells of the columns behind the first so many, these are those of all columns
+  -- with cells of the columns after the first so many, these are those of all columns
   abbrev pub AreFirst : ℕ → List Y → Type 0
   AreFirst count texts = (rest : List (List ℕ)) → AreCells l a r (drop count all_columns) rest → AreCells l a r all_columns (map view texts ++ rest)
 
@@ -61,7 +58,3 @@ module _ {Y : Type 0} (view : Y → List ℕ) (l : Site) (a : RouteId) (r : Rout
   pub all_cells : (count : ℕ) (texts : List Y) → length all_columns ≤ count → AreFirst count texts → (row : Row) × IsRowOf l a r row × (map view texts ≡ cells row)
   all_cells count texts past so_far =
       row_is l a r (map view texts) (subst (λ ts. AreCells l a r all_columns ts) (append-nil (map view texts)) (so_far [] (none_left count past)))
-
-pub line_is : (form : Form) (row : Row) → line_of form (cells row) ≡ line_text form row
-line_is Markdown row = refl
-line_is Csv row = refl

@@ -34,7 +34,7 @@ one_more before between (first ∷ texts) text =
     ap (λ rest. before ++ (first ++ rest)) (one_more between between texts text ∙ ap (λ next. front ++ (next ++ text)) (always between texts))
     ∙ sym (append_assoc before (first ++ front) (between ++ text) ∙ ap (λ rest. before ++ rest) (append_assoc first front (between ++ text)))
 
--- a text is added behind what stands before it, in front of those that are left
+-- a text is added after what stands before it, in front of those that are left
 pub added : (cell before text rest : List ℕ) → (cell ++ (before ++ text)) ++ rest ≡ cell ++ (before ++ (text ++ rest))
 added cell before text rest = append_assoc cell (before ++ text) rest ∙ ap (λ more. cell ++ more) (append_assoc before text rest)
 
@@ -49,7 +49,7 @@ joined_step between before cell text new all left rest so_far is grown =
 pub joined_on : (between before cell all : List ℕ) (left rest : List (List ℕ)) → cell ++ joined before between left ≡ all → left ≡ rest → cell ++ joined before between rest ≡ all
 joined_on between before cell all left rest so_far is = sym (ap (λ texts. cell ++ joined before between texts) is) ∙ so_far
 
--- a name is added, and behind it what is said of it
+-- a name is added, and after it what is said of it
 pub worded_added : (cell before name own word named coloned new : List ℕ) → named ≡ cell ++ (before ++ name) → name ≡ own → coloned ≡ named ++ codes ": " → new ≡ coloned ++ word
     → new ≡ cell ++ (before ++ with_word own word)
 worded_added cell before name own word named coloned new first same second third =

@@ -1,4 +1,4 @@
--- A point is let go where it awaits a section, and none behind it.
+-- A point is let go where it awaits a section, and none after it.
 use Rattle.std.proofs.Common.{◌≡◌, ℕ, zero, suc, ◌+◌, ◌&&◌, ◌||◌, not, Bool, true, false, List, [], ◌∷◌, drop, Some, slice_get, refl, ap, sym, ◌∙◌, IsTrue, ◌↔◌, arith}
 use Rattle.std.specs.FinSet.{contains}
 use Rattle.std.specs.List.{Contains, list_any}

@@ -13,7 +13,7 @@ use Rattle.control_table.specs.Topology.{IsRoute, section_of}
 use Rattle.station_layout.specs.declared.conflict_reasons.ConflictReasons.{ConflictReasons}
 use Rattle.station_layout.specs.declared.form.Form.{Form}
 use Rattle.station_layout.specs.ListedPlaces.{ListsBelow, TellsIf}
-use Rattle.station_layout.specs.Lines.{AreRows, IsTable, lines_text}
+use Rattle.station_layout.specs.Lines.{AreRows, IsTable, cells, heads, table_text}
 use Rattle.station_layout.specs.Names.{parted, point_name, route_name, spaced, with_word}
 use Rattle.station_layout.specs.Reasons.{AreReasons, reason_words, word_if}
 use Rattle.station_layout.specs.Row.{IsConflictText, IsConflictsCell, IsLetGoAt, IsLetGoCell, IsLetGoText, IsRowOf, IsSectionsCell, LetsOneGo, Row, name_there, point_at, route_at, section_names}
@@ -131,4 +131,4 @@ same_rows l (suc k) xs ys x y =
     x.6 ∙ ap (λ front. front ++ x.2 ∷ []) (same_rows l k x.0 y.0 x.3 y.3) ∙ ap (λ row. y.0 ++ row ∷ []) (same_row l (route_at k) x.1 y.1 x.2 y.2 x.4 y.4 x.5 y.5) ∙ sym y.6
 
 pub one_table : (form : Form) (l : Site) (one other : List ℕ) → IsTable form l one → IsTable form l other → one ≡ other
-one_table form l one other x y = x.2 ∙ ap (lines_text form) (same_rows l (length l.routes) x.0 y.0 x.1 y.1) ∙ sym y.2
+one_table form l one other x y = x.2 ∙ ap (λ (rows : List Row). table_text form (map cells (heads ∷ rows))) (same_rows l (length l.routes) x.0 y.0 x.1 y.1) ∙ sym y.2

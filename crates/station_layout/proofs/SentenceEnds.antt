@@ -1,4 +1,4 @@
--- What ends with a part has no words behind it, and more words behind a part are joined to those before it.
+-- What ends with a part has no words after it, and more words after a part are joined to those before it.
 use Rattle.std.proofs.Common.{◌≡◌, ◌∙◌, ℕ, List, [], ◌++◌, append_assoc, ap}
 use Rattle.std.proofs.lemmas.List.{append-nil}
 

@@ -1,4 +1,4 @@
--- What is told behind the line of a fault.
+-- What is told after the line of a fault.
 use Rattle.std.specs.Prelude.{◌≡◌, ◌⊎◌, ◌≤◌, ℕ, List, length, take, Option, None, Ok}
 use Rattle.std.specs.Option.{option_map, unwrap_or}
 use Rattle.std.specs.Io.KnownBytes.{Appends}
@@ -14,7 +14,7 @@ use Rattle.layout_text.specs.declared.fault.LayoutFault.{LayoutFault}
 use Rattle.layout_text.specs.declared.fault.LayoutFault.TheVariants as fault
 use Rattle.toml.specs.Data.{Members}
 use Rattle.toml.specs.Parse.{parse_document}
-use Rattle.station_check.specs.Report.{Explained}
+use Rattle.station_check.specs.Failures.{Explained, ExplainsReport}
 use Rattle.station_layout.specs.Advice.{advice_line}
 use Rattle.station_layout.specs.EntryAdvice.{missing_told, wrong_told}
 use Rattle.station_layout.specs.Places.{place_behind}
@@ -25,7 +25,7 @@ use Rattle.station_layout.specs.declared.advice.Advice.{Advice}
 use Rattle.station_layout.specs.declared.advice.Advice.TheVariants.{Broken, Entry, Layout, Nothing}
 use Rattle.station_layout.specs.declared.advice.EntryAdvice.{EntryAdvice}
 
--- The advice for a text that is no TOML: the place behind some beginning of it, where reading stopped; or the fault alone,
+-- The advice for a text that is no TOML: the place after some beginning of it, where reading stopped; or the fault alone,
 -- where memory was lacking when it was read once more.
 abbrev pub IsBroken : List ℕ → Advice → Type 0
 IsBroken text (Broken at) = (n : ℕ) × (n ≤ length text) × (at ≡ place_behind (take n text))
@@ -88,5 +88,6 @@ abbrev pub Advised : List ℕ → Option (List ℕ) → Option (List ℕ) → Ty
 Advised text old new = (advice : Advice) × IsAdvice text advice × ((told : ℕ) × Appends old new (take told (advice_line advice)))
 
 -- Why there is no report was told as `check_text` tells it, and then the advice.
-abbrev pub ExplainedTwice : {W : Type 0} → List ℕ → W → W → Option (List ℕ) → Option (List ℕ) → Type 0
-ExplainedTwice text out_old out_new old new = (between : Option (List ℕ)) × Explained text out_old out_new old between × Advised text between new
+abbrev pub ExplainedTwice : {W : Type 0} → ℕ → List ℕ → W → W → Option (List ℕ) → Option (List ℕ) → Type 0
+ExplainedTwice status text out_old out_new old new =
+    (between : Option (List ℕ)) × Explained (ExplainsReport text) status out_old out_new old between × Advised text between new

@@ -1,13 +1,14 @@
 -- What is wrong with a route, in words.
 use Rattle.std.specs.Prelude.{ℕ, List, ◌++◌, codes}
 use Rattle.control_table.specs.Sides.{other}
-use Rattle.station_layout.specs.PortWords.{port_words, side_word}
+use Rattle.control_table.specs.sci_telegram.Words.{side_word}
+use Rattle.station_layout.specs.PortWords.{port_words}
 use Rattle.station_layout.specs.declared.detail.PathDetail.{PathDetail}
 use Rattle.station_layout.specs.declared.detail.PathDetail.TheVariants.{Empty, DeadEnd, Astray, Twice, ComesBack, OpenLeg, FlankLacks, EndsElsewhere, EndsAtEntry, InTheWay}
 use Rattle.station_layout.specs.declared.detail.PointDetail.{PointDetail}
 use Rattle.station_layout.specs.declared.detail.PointDetail.TheVariants.{BothSides, FlankAt, OffPath, OnPath, PointAt}
 
--- the words for what is wrong with a path, behind those that it is the path of its route
+-- the words for what is wrong with a path, after those that it is the path of its route
 unfoldable pub path_words : PathDetail → List ℕ
 path_words Empty = codes "is empty"
 path_words (DeadEnd port) = codes "breaks at " ++ (port_words port ++ codes ": nothing is joined to it")
@@ -24,7 +25,7 @@ path_words (EndsElsewhere port exit) = codes "ends at " ++ (port_words port ++ (
 path_words (EndsAtEntry entry) = codes "has its entry signal " ++ (entry ++ codes " for its exit")
 path_words (InTheWay name port) = codes "passes " ++ (port_words port ++ (codes ", where signal " ++ (name ++ codes " stands in the way")))
 
--- the words for what is wrong with the points of a route, behind the route
+-- the words for what is wrong with the points of a route, after the route
 unfoldable pub point_words : PointDetail → List ℕ
 point_words (OffPath name) = codes "writes point " ++ (name ++ codes " under `points`, and its path doesn't lead over it")
 point_words (PointAt name s) =

@@ -2,8 +2,6 @@
 use Rattle.std.specs.Prelude.{ℕ, List, [], ◌++◌, codes, slice_get}
 use Rattle.std.specs.List.{join_by}
 use Rattle.std.specs.Option.{option_map, unwrap_or}
-use Rattle.control_table.specs.sci_telegram.declared.message.Aspect.{Aspect}
-use Rattle.control_table.specs.sci_telegram.declared.message.Aspect.TheVariants as aspect
 use Rattle.control_table.specs.layout.declared.ids.BorderId.{BorderId}
 use Rattle.control_table.specs.layout.declared.ids.PointId.{PointId}
 use Rattle.control_table.specs.layout.declared.ids.RouteId.{RouteId}
@@ -32,12 +30,6 @@ route_name l a = unwrap_or (option_map (λ route. route.name) (slice_get l.route
 abbrev pub exit_name : Site → Exit → List ℕ
 exit_name l (exit.Signal s) = signal_name l s
 exit_name l (exit.Border b) = border_name l b
-
--- the words of the field for aspects
-abbrev pub aspect_word : Aspect → List ℕ
-aspect_word aspect.Stop = codes "stop"
-aspect_word aspect.Proceed = codes "proceed"
-aspect_word aspect.Slow = codes "slow"
 
 -- words with a space between each two
 abbrev pub spaced : List (List ℕ) → List ℕ

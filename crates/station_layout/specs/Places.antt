@@ -16,12 +16,12 @@ some_and test (Some x) = test x
 abbrev pub goes_on : ℕ → Bool
 goes_on byte = nat_le 128 byte && nat_lt byte 192
 
--- The place behind one more byte. Behind the end of a line stands the first column of the next one.
+-- The place after one more byte. After the end of a line stands the first column of the next one.
 abbrev pub behind : TextPlace → ℕ → TextPlace
 behind at byte =
     if byte == 10 then record { line = counted at.line; column = 1 }
     else (if goes_on byte then at else record { line = at.line; column = counted at.column })
 
--- the place behind a text
+-- the place after a text
 abbrev pub place_behind : List ℕ → TextPlace
 place_behind text = fold behind (record { line = 1; column = 1 }) text

@@ -1,7 +1,6 @@
 -- What `station plan FILE` writes, and why it writes no plan.
-use Rattle.std.specs.Prelude.{◌≡◌, ℕ, List, ◌++◌, take, codes, Option, Some, None, Ok, Err, IsOk}
+use Rattle.std.specs.Prelude.{◌≡◌, ℕ, List, Option, Some, None, Ok, Err, IsOk}
 use Rattle.std.specs.Io.KnownBytes.{Appends}
-use Rattle.std.specs.Fmt.{decimal}
 use Rattle.control_table.specs.layout.Entries.{Site}
 use Rattle.control_table.specs.layout.declared.ids.RouteId.{RouteId}
 use Rattle.drawing.specs.Svg.{svg_text}
@@ -9,13 +8,12 @@ use Rattle.drawing.specs.declared.picture.Picture.{Picture}
 use Rattle.replay_lines.specs.Text.{FailsAt}
 use Rattle.replay_lines.specs.declared.text.SessionFault.{SessionFault}
 use Rattle.replay_words.specs.declared.fault.Fault.TheVariants.{Name}
-use Rattle.station_check.specs.Failures.{ExplainsTable, told_line as station_line}
+use Rattle.station_check.specs.Failures.{ExplainsTable}
 use Rattle.station_check.specs.Report.{IsSound}
-use Rattle.station_check.specs.declared.failure.Failure.TheVariants as station
+use Rattle.station_check.specs.declared.failure.Failure.{Failure}
+use Rattle.station_check.specs.declared.failure.Failure.TheVariants.{Route, Picture as Faulty, OutOfMemory, NotWritten}
 use Rattle.station_plan.specs.Plan.{IsPlanOf}
 use Rattle.station_plan.specs.declared.shown.Seen.{Seen}
-use Rattle.station_layout.specs.declared.failure.Failure.{Failure}
-use Rattle.station_layout.specs.declared.failure.Failure.TheVariants.{Station, Route, Picture as Faulty}
 use Rattle.station_layout.specs.NamedEntries.{route_called}
 use Rattle.station_layout.specs.SeenByLines.{IsSeenIn}
 use Rattle.station_layout.specs.Sightings.{sightings}
@@ -86,36 +84,12 @@ ShowsNothing layout name seen fault =
 -- Why no plan is drawn: the layout's text is none, or its table isn't sound; or no route has the name; or a line of the
 -- picture is faulty, the first; or neither, but memory is lacking.
 abbrev pub ExplainsDrawn : List ℕ → Option (List ℕ) → Option (List ℕ) → Failure → Type 0
-ExplainsDrawn layout name seen (Station station.OutOfMemory) = CanPlan layout name seen
-ExplainsDrawn layout name seen (Station why) = ExplainsTable layout why
 ExplainsDrawn layout name seen Route = AsksNothing layout name
 ExplainsDrawn layout name seen (Faulty fault) = ShowsNothing layout name seen fault
+ExplainsDrawn layout name seen OutOfMemory = CanPlan layout name seen
+ExplainsDrawn layout name seen why = ExplainsTable layout why
 
 -- Why no plan is written: none is drawn, or it couldn't be written.
 abbrev pub Explains : List ℕ → Option (List ℕ) → Option (List ℕ) → Failure → Type 0
-Explains layout name seen (Station station.NotWritten) = CanPlan layout name seen
+Explains layout name seen NotWritten = CanPlan layout name seen
 Explains layout name seen why = ExplainsDrawn layout name seen why
-
--- The writer of the plan stays as it is, unless the plan was begun.
-abbrev pub Leaves : {W : Type 0} → Failure → W → W → Type 0
-Leaves (Station station.NotWritten) old new = Unit {0}
-Leaves why old new = new ≡ old
-
--- how the fault of a picture is told
-abbrev pub picture_fault_text : SessionFault → List ℕ
-picture_fault_text fault = codes "picture fault " ++ (decimal fault.number ++ (codes " at line " ++ (decimal fault.line ++ codes "\n")))
-
--- the line that tells why, by the number and the name of a fault, or by its number and its line
-abbrev pub told_line : Failure → List ℕ
-told_line (Station why) = station_line why
-told_line Route = codes "route fault 2 Name\n"
-told_line (Faulty fault) = picture_fault_text fault
-
--- This line was told, as far as the writer took it, and nothing else.
-abbrev pub Tells : Failure → Option (List ℕ) → Option (List ℕ) → Type 0
-Tells why old new = (told : ℕ) × Appends old new (take told (told_line why))
-
--- Why there is no plan was told.
-abbrev pub Explained : {W : Type 0} → List ℕ → Option (List ℕ) → Option (List ℕ) → W → W → Option (List ℕ) → Option (List ℕ) → Type 0
-Explained layout name seen out_old out_new old new =
-    (why : Failure) × Explains layout name seen why × Leaves why out_old out_new × Tells why old new

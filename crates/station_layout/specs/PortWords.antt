@@ -1,14 +1,8 @@
--- Ports and sides as they are written.
+-- Ports as they are written.
 use Rattle.std.specs.Prelude.{ℕ, List, ◌++◌, codes}
-use Rattle.control_table.specs.sci_telegram.declared.message.Side.{Side}
-use Rattle.control_table.specs.sci_telegram.declared.message.Side.TheVariants as side
 use Rattle.layout_text.specs.declared.entries.End.{End}
 use Rattle.layout_text.specs.declared.entries.End.TheVariants as end
 use Rattle.layout_text.specs.declared.entries.PortName.{PortName}
-
-unfoldable pub side_word : Side → List ℕ
-side_word side.Left = codes "left"
-side_word side.Right = codes "right"
 
 -- the word of a port
 unfoldable pub end_word : End → List ℕ

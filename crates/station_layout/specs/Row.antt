@@ -15,8 +15,8 @@ use Rattle.control_table.specs.AwaitedSections.{Awaits}
 use Rattle.control_table.specs.Table.{AreSections, Conflict, RouteRequires}
 use Rattle.station_layout.specs.declared.conflict_reasons.ConflictReasons.{ConflictReasons}
 use Rattle.station_layout.specs.ListedPlaces.{ListsBelow, ListsOne}
-use Rattle.station_layout.specs.PortWords.{side_word}
-use Rattle.station_layout.specs.Names.{aspect_word, exit_name, parted, point_name, route_name, section_name, signal_name, spaced, with_word}
+use Rattle.control_table.specs.sci_telegram.Words.{aspect_word, side_word}
+use Rattle.station_layout.specs.Names.{exit_name, parted, point_name, route_name, section_name, signal_name, spaced, with_word}
 use Rattle.station_layout.specs.Reasons.{AreReasons, reason_words}
 
 -- the cells of a row
@@ -89,7 +89,7 @@ abbrev pub IsRequired : Site → RouteId → PointId → Type 0
 IsRequired l a p = (s : Side) × RouteRequires l a p s
 
 -- A point is let go at a place of the sections of a route: the route requires it, and it awaits the section there, and none
--- behind it.
+-- after it.
 pub record IsLetGoAt (l : Site) (a : RouteId) (sections : List SectionId) (place : ℕ) (p : PointId) : Type 0 where
   pub required : IsRequired l a p
   pub section : SectionId

@@ -87,7 +87,7 @@ module _ (w : LayoutText) where
   abbrev pub entry_in : TableName → ℕ → Place
   entry_in table n = record { table = table; entry = counted n }
 
-  -- among so many behind the first n
+  -- among so many after the first n
   abbrev pub first_behind : Common → TableName → ℕ → ℕ → Option Place
   first_behind what table n zero = None
   first_behind what table n (suc left) = if has table n what then Some (entry_in table n) else first_behind what table (n + 1) left

@@ -3,21 +3,17 @@
 --
 --     time N                                    no plan shows it
 --     signal NAME stop|proceed|slow ROUTE|-     what it shows, and the route that has authority from it
---     point NAME left|right|none                or with `driven left` or `driven right` behind it
+--     point NAME left|right|none                or with `driven left` or `driven right` after it
 --     section NAME clear|occupied
 --     route NAME free|set
 --     safe, unsafe                              no plan shows it
 --     ok, accepted, refused .., no ..           an answer, which no plan shows
 use Rattle.std.specs.Prelude.{ℕ, true, false, Bool, ◌||◌, if◌then◌else◌, List, [], ◌∷◌, codes, Result, Ok, Err}
 use Rattle.std.specs.List.{enumerate_from}
+use Rattle.std.specs.Option.{ok_or}
 use Rattle.std.specs.Str.{bytes_eq}
 use Rattle.control_table.specs.layout.Entries.{Site}
-use Rattle.control_table.specs.sci_telegram.declared.message.Aspect.{Aspect}
-use Rattle.control_table.specs.sci_telegram.declared.message.Aspect.TheVariants as aspect
-use Rattle.control_table.specs.sci_telegram.declared.message.Occupancy.{Occupancy}
-use Rattle.control_table.specs.sci_telegram.declared.message.Occupancy.TheVariants as occupancy
-use Rattle.control_table.specs.sci_telegram.declared.message.Position.{Position}
-use Rattle.control_table.specs.sci_telegram.declared.message.Position.TheVariants as position
+use Rattle.control_table.specs.sci_telegram.Words.{aspect_of_word, occupancy_of_word, position_of_word, side_of_word}
 use Rattle.replay_words.specs.declared.fault.Fault.{Fault}
 use Rattle.replay_words.specs.declared.fault.Fault.TheVariants.{Words}
 use Rattle.replay_words.specs.Fault.{◌>>=◌}
@@ -32,31 +28,11 @@ use Rattle.station_layout.specs.NamedEntries.{route_called, signal_called}
 
 -- ---- single words
 
-abbrev pub aspect_said : List ℕ → Result Aspect Fault
-aspect_said word =
-    if bytes_eq word (codes "stop") then Ok aspect.Stop
-    else if bytes_eq word (codes "proceed") then Ok aspect.Proceed
-    else if bytes_eq word (codes "slow") then Ok aspect.Slow
-    else Err Words
-
-abbrev pub position_said : List ℕ → Result Position Fault
-position_said word =
-    if bytes_eq word (codes "left") then Ok position.Left
-    else if bytes_eq word (codes "right") then Ok position.Right
-    else if bytes_eq word (codes "none") then Ok position.NoEndPosition
-    else Err Words
-
+-- to which side a point is driven, no plan shows
 abbrev pub side_said : List ℕ → Result (Unit {0}) Fault
-side_said word =
-    if bytes_eq word (codes "left") then Ok tt
-    else if bytes_eq word (codes "right") then Ok tt
-    else Err Words
-
-abbrev pub occupancy_said : List ℕ → Result Occupancy Fault
-occupancy_said word =
-    if bytes_eq word (codes "clear") then Ok occupancy.Clear
-    else if bytes_eq word (codes "occupied") then Ok occupancy.Occupied
-    else Err Words
+side_said word = do
+  side ← ok_or (side_of_word word) Words
+  Ok tt
 
 abbrev pub set_said : List ℕ → Result Bool Fault
 set_said word =
@@ -72,7 +48,7 @@ authority_said l word =
       route ← route_called l word
       Ok tt
 
--- ---- lines, by the words behind the first
+-- ---- lines, by the words after the first
 
 abbrev pub time_sighting : List (List ℕ) → Result Sighting Fault
 time_sighting (millis ∷ []) = do
@@ -82,7 +58,7 @@ time_sighting other = Err Words
 
 abbrev pub signal_sighting : Site → List (List ℕ) → Result Sighting Fault
 signal_sighting l (name ∷ shown ∷ authority ∷ []) = do
-  aspect ← aspect_said shown
+  aspect ← ok_or (aspect_of_word shown) Words
   signal ← signal_called l name
   has ← authority_said l authority
   Ok (seen.Signal signal aspect)
@@ -96,14 +72,14 @@ driven_said other = Err Words
 abbrev pub point_sighting : Site → List (List ℕ) → Result Sighting Fault
 point_sighting l (name ∷ lies ∷ driven) = do
   is ← driven_said driven
-  position ← position_said lies
+  position ← ok_or (position_of_word lies) Words
   point ← point_named l name
   Ok (seen.Point point position)
 point_sighting l other = Err Words
 
 abbrev pub section_sighting : Site → List (List ℕ) → Result Sighting Fault
 section_sighting l (name ∷ is ∷ []) = do
-  occupancy ← occupancy_said is
+  occupancy ← ok_or (occupancy_of_word is) Words
   section ← section_named l name
   Ok (seen.Section section occupancy)
 section_sighting l other = Err Words
@@ -123,7 +99,7 @@ verdict other = Err Words
 abbrev pub is_answer : List ℕ → Bool
 is_answer first = bytes_eq first (codes "ok") || bytes_eq first (codes "accepted") || bytes_eq first (codes "refused") || bytes_eq first (codes "no")
 
--- what no plan shows, by the first word of its line and the words behind it
+-- what no plan shows, by the first word of its line and the words after it
 abbrev pub not_shown : List ℕ → List (List ℕ) → Result Sighting Fault
 not_shown first rest =
     if bytes_eq first (codes "time") then time_sighting rest

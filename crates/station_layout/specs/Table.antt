@@ -2,7 +2,7 @@
 use Rattle.std.specs.Prelude.{◌≡◌, ℕ, List, Option}
 use Rattle.std.specs.Io.KnownBytes.{Appends}
 use Rattle.control_table.specs.layout.Entries.{Site}
-use Rattle.station_check.specs.Failures.{ExplainsTable, Tells}
+use Rattle.station_check.specs.Failures.{ExplainsTable}
 use Rattle.station_check.specs.Report.{IsSound}
 use Rattle.station_check.specs.declared.failure.Failure.{Failure}
 use Rattle.station_check.specs.declared.failure.Failure.TheVariants.{OutOfMemory, NotWritten}
@@ -19,12 +19,3 @@ abbrev pub Explains : List ℕ → Failure → Type 0
 Explains text OutOfMemory = Unit {0}
 Explains text NotWritten = (site : Site) × IsSound text site
 Explains text failure = ExplainsTable text failure
-
--- The writer of the table stays as it is, unless the table was begun.
-abbrev pub Leaves : {W : Type 0} → Failure → W → W → Type 0
-Leaves NotWritten old new = Unit {0}
-Leaves failure old new = new ≡ old
-
--- Why there is no table was told.
-abbrev pub Explained : {W : Type 0} → List ℕ → W → W → Option (List ℕ) → Option (List ℕ) → Type 0
-Explained text out_old out_new old new = (failure : Failure) × Explains text failure × Leaves failure out_old out_new × Tells failure old new

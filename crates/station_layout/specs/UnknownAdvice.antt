@@ -61,7 +61,7 @@ module _ (w : LayoutText) where
   unfoldable pub missed : Spot → Missed → Option EntryAdvice
   missed at what = if is_there what then None else Some (Unknown at what)
 
-  -- the first item under a key that names what isn't there, counted from 1 behind so many others
+  -- the first item under a key that names what isn't there, counted from 1 after so many others
   abbrev pub first_missed : {A : Type 0} → Place → FieldKey → (A → Missed) → ℕ → List A → Option EntryAdvice
   first_missed place key name_of n [] = None
   first_missed place key name_of n (x ∷ xs) = option_or (missed (spot_of place key (counted n)) (name_of x)) (first_missed place key name_of (counted n) xs)

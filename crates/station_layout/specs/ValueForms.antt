@@ -1,10 +1,11 @@
 -- Whether values have the form that their key wants, and what is wrong with them.
-use Rattle.std.specs.Prelude.{ℕ, ℤ, pos, ◌==◌, ◌&&◌, ◌||◌, nat_le, Bool, true, false, List, length, codes, Option, Some, None, if◌then◌else◌}
+use Rattle.std.specs.Prelude.{ℕ, ℤ, pos, ◌==◌, ◌&&◌, ◌||◌, nat_le, Bool, true, false, List, length, codes, Option, Some, None, is_some, if◌then◌else◌}
 use Rattle.std.specs.Char.{is_ascii_hexdigit}
 use Rattle.std.specs.List.{list_all, list_any, before_first, after_first}
 use Rattle.std.specs.Str.{bytes_eq}
 use Rattle.toml.specs.Data.{Data, Items, no_items, item, Members, no_members, member, as_str, as_array, as_table, as_integer}
-use Rattle.layout_text.specs.Values.{is_dot, is_name}
+use Rattle.control_table.specs.sci_telegram.Words.{aspect_of_word, side_of_word}
+use Rattle.layout_text.specs.Values.{is_dot, is_name, route_aspect}
 use Rattle.layout_text.specs.declared.fault.Place.{Place}
 use Rattle.station_layout.specs.FieldKeys.{item_key, kind_of}
 use Rattle.station_layout.specs.Places.{counted, some_and}
@@ -24,7 +25,7 @@ abbrev pub is_port_text : List ℕ → Bool
 is_port_text text = if list_any is_dot text then is_name (before_first is_dot text) && is_end_word (after_first is_dot text) else false
 
 abbrev pub is_aspect_word : List ℕ → Bool
-is_aspect_word word = bytes_eq word (codes "proceed") || bytes_eq word (codes "slow")
+is_aspect_word word = is_some (route_aspect (aspect_of_word word))
 
 -- 32 hexadecimal digits
 abbrev pub is_code_text : List ℕ → Bool
@@ -53,7 +54,7 @@ is_id d = is_id_number (as_integer d)
 
 -- a member is a point with its side
 abbrev pub is_side_word : List ℕ → Bool
-is_side_word word = bytes_eq word (codes "left") || bytes_eq word (codes "right")
+is_side_word word = is_some (side_of_word word)
 
 abbrev pub side_fits : List ℕ → Data → Bool
 side_fits point side = some_and (λ word. is_name point && is_side_word word) (as_str side)
@@ -74,7 +75,7 @@ fits k d = some_and (text_fits k) (as_str d)
 
 -- ---- what is wrong with a value
 
--- The first item of the array under a key that isn't as another key wants its value, counted from 1 behind so many others.
+-- The first item of the array under a key that isn't as another key wants its value, counted from 1 after so many others.
 abbrev pub unfit_item : Place → FieldKey → FieldKey → ℕ → Items → Option EntryAdvice
 unfit_item place key one n no_items = None
 unfit_item place key one n (item d ds) =

@@ -10,9 +10,8 @@ use crate::sentence::Part::{self, Nothing};
 use crate::sentence::{Sentence, Words};
 use crate::text_place::TextPlace;
 use arrayvec::ArrayString;
-use control_table::TableFault;
 use control_table::layout::{LayoutFault, Place, TableName};
-use control_table::sci_telegram::Name;
+use control_table::{Name, TableFault};
 use layout_text::PortName;
 use std::fmt;
 

@@ -5,12 +5,11 @@ ghost use Rattle.station_layout.specs.Names.{parted, spaced};
 ghost use Rattle.station_layout.specs.Row.{flank_texts, is_written, names_of_points, points_at, section_names};
 
 use crate::layout_names::{point_name, section_name, written};
-use crate::port_words::side_word;
-use control_table::layout::{Element, Layout, PointId, Route, SectionId};
-use control_table::sci_telegram::Side;
+use control_table::layout::{Element, Route};
+use control_table::{Layout, PointId, SectionId, Side};
 use std::alloc::{AllocError, Global};
 
-/// Adds a text to a cell, behind what stands before it there.
+/// Adds a text to a cell, after what stands before it there.
 pub(crate) fn add(cell: &mut String, before: &str, text: &str) -> Result<(), AllocError>
     ensures { OnOk result (string_bytes cell.new ≡ string_bytes cell.old ++ (before.now ++ text.now)) }
 {
@@ -81,7 +80,7 @@ pub(crate) fn flank_cell(
     let mut before = "";
     for (point, side) in flank {
         add(&mut cell, before, written(&point_name(layout, *point)))?;
-        add(&mut cell, ": ", side_word(*side))?;
+        add(&mut cell, ": ", side.word())?;
         before = "; ";
     }
     Ok(cell)

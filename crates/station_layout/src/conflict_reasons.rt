@@ -5,8 +5,7 @@ ghost use Rattle.station_layout.specs.Names.{spaced};
 ghost use Rattle.station_layout.specs.Reasons.{AreReasons, reason_words};
 
 use crate::cells::add;
-use control_table::Checked;
-use control_table::layout::RouteId;
+use control_table::{Checked, RouteId};
 use std::alloc::AllocError;
 
 /// Which reasons two routes have to conflict.

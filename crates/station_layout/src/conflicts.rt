@@ -6,11 +6,10 @@ ghost use Rattle.station_layout.specs.Row.{IsConflictText, IsConflictsCell};
 use crate::cells::add;
 use crate::conflict_reasons::{add_reasons, reasons};
 use crate::layout_names::{route_name, written};
-use control_table::Checked;
-use control_table::layout::RouteId;
+use control_table::{Checked, RouteId};
 use std::alloc::{AllocError, Global};
 
-/// Adds what is told of a route that conflicts with another, behind what stands before it: its name, and the reasons.
+/// Adds what is told of a route that conflicts with another, after what stands before it: its name, and the reasons.
 fn add_conflict(
     table: &Checked,
     route: RouteId,

@@ -1,7 +1,6 @@
 //! What may be wrong with a route.
 
-use control_table::FaultyRoute;
-use control_table::sci_telegram::{Name, Side};
+use control_table::{FaultyRoute, Name, Side};
 use layout_text::PortName;
 
 /// What is told of a route.

@@ -13,14 +13,14 @@ use std::alloc::Global;
 use std::io::Write;
 
 /// Checks the text of a layout as `check_text` does, with the same output, the same first line on `err` and the same status.
-/// Where it isn't sound, or the text is no layout, `err` is told a second line behind it: what is wrong, in words.
+/// Where it isn't sound, or the text is no layout, `err` is told a second line after it: what is wrong, in words.
 pub fn explain_text<W: Write, E: Write>(alloc: Global, layout: &str, out: &mut W, err: &mut E) -> u8
     ensures status { result ≤ 1 }
     ensures done { result ≡ 0 → (site : Site) × IsSound layout.now site × Reported site (W.contents out.old) (W.contents out.new) }
     ensures faulty { ((site : Site) → IsSound layout.now site → ⊥) → (result ≡ 1) × (out.new ≡ out.old) }
     ensures silent { result ≡ 0 → err.new ≡ err.old }
     // Only a beginning of each line was told where a write to `err` failed.
-    ensures explains { result ≡ 1 → ExplainedTwice layout.now out.old out.new (E.contents err.old) (E.contents err.new) }
+    ensures explains { result ≡ 1 → ExplainedTwice result layout.now out.old out.new (E.contents err.old) (E.contents err.new) }
 {
     let status = check_text(alloc, layout, out, err);
     if status != 0 {

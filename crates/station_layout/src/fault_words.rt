@@ -56,7 +56,7 @@ const DOUBLE_JOINT: Words = &["", " joins a port with itself", "", "", "", ""];
 
 const LACKS_MEMORY: Words = &["memory is lacking", "", "", "", "", ""];
 
-// For faults of which more is told in words, behind a place or a route.
+// For faults of which more is told in words, after a place or a route.
 const BEHIND: Words = &["", " ", "", "", "", ""];
 
 /// The words for a fault of a layout.

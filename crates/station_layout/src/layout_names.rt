@@ -5,8 +5,8 @@ ghost use Rattle.std.specs.Option.{unwrap_or};
 ghost use Rattle.station_layout.specs.Names as text;
 ghost use Rattle.station_layout.specs.LayoutNames.{element_name, exit_name, leg_names, point_name, port_name, route_name, signal_name};
 
-use control_table::layout::{Element, Exit, Layout, PointId, Port, Route, RouteId, SectionId};
-use control_table::sci_telegram::Name;
+use control_table::layout::{Element, Exit, Port, Route};
+use control_table::{Layout, Name, PointId, RouteId, SectionId};
 use layout_text::PortName;
 
 /// The item of a list at a place, counted from 0.

@@ -3,7 +3,6 @@
 #![tactic(auto)]
 
 // The track plan, with a route or with what is seen in a picture.
-mod failure;
 mod named_entries;
 mod picture_text;
 mod request;

@@ -3,7 +3,7 @@
 ghost use Rattle.std.specs.Prelude.{◌≡◌};
 ghost use Rattle.station_layout.specs.NamedEntries.{route_called, signal_called};
 
-use control_table::layout::{Layout, RouteId, SignalId};
+use control_table::{Layout, RouteId, SignalId};
 use replay_words::Fault;
 use station_plan::{route_place, signal_place};
 

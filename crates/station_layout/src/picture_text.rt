@@ -37,7 +37,7 @@ pub(crate) fn read_sightings(
     Ok(said)
 }
 
-/// Keeps what one line says behind those before it.
+/// Keeps what one line says after those before it.
 fn keep_line(table: &Checked, line: &str, said: &mut Vec<Sighting>) -> Result<(), Fault>
     ensures ok { OnOk result ((this : Sighting) × (sighting table.now line.now ≡ Ok this) × (said.new.items ≡ said.old.items ++ this ∷ [])) }
     ensures err { IfErr result (λ fault. Fails fault (sighting table.now line.now)) }

@@ -1,22 +1,10 @@
-//! The words for ports and sides.
+//! The words for ports.
 
 ghost use Rattle.std.specs.Prelude.{◌≡◌, Some};
-ghost use Rattle.station_layout.specs.PortWords.{port_words, side_word};
+ghost use Rattle.station_layout.specs.PortWords.{port_words};
 
-use control_table::sci_telegram::Side;
 use layout_text::PortName;
 use std::fmt;
-
-/// The word for a side.
-#[tactic(auto, unfolding(crate::specs::PortWords::side_word))]
-pub(crate) fn side_word(side: Side) -> &'static str
-    ensures { result.now ≡ side_word side }
-{
-    match side {
-        Side::Left => "left",
-        Side::Right => "right",
-    }
-}
 
 /// The words for the ports of an element.
 pub(crate) const END_WORDS: &[&str; 6] = &["a", "b", "tip", "left", "right", "end"];

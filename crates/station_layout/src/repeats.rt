@@ -7,7 +7,8 @@ ghost use Rattle.station_layout.specs.Repeats.{back_at, comes_back, comes_twice,
 
 use crate::detail::PathDetail;
 use crate::layout_names::{element_name, item_at};
-use control_table::layout::{Element, Layout, Port, Route, SectionId};
+use control_table::layout::{Element, Port, Route};
+use control_table::{Layout, SectionId};
 
 /// Whether an element comes twice on a path.
 #[tactic(auto, unfolding(crate::specs::Repeats::comes_twice))]

@@ -4,8 +4,7 @@ ghost use Rattle.std.specs.Prelude.{IfErr, IfOk, option_copied};
 ghost use Rattle.station_layout.specs.PlanText.{IsAsked, IsNoRoute};
 
 use crate::named_entries::route_called;
-use control_table::Checked;
-use control_table::layout::RouteId;
+use control_table::{Checked, RouteId};
 use replay_words::Fault;
 
 /// The route of a name, where one is asked for; fault 2 where no route has this name.

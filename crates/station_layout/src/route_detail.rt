@@ -16,8 +16,8 @@ use crate::repeats::repeated_detail;
 use crate::route_sides::{guard, unused_leg};
 use crate::route_start::{is_written, start_of};
 use crate::side_detail::{contrary_at, lacking_at, wrong_detail};
-use control_table::layout::{Element, Exit, Layout, Port, Route, RouteId};
-use control_table::{FaultyRoute, TableFault};
+use control_table::layout::{Element, Exit, Port, Route};
+use control_table::{FaultyRoute, Layout, RouteId, TableFault};
 
 /// The break of a path between a port and that by which the next element is left.
 #[tactic(auto, unfolding(crate::specs::RouteDetails::break_at))]

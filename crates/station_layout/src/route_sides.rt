@@ -5,8 +5,8 @@ ghost use Rattle.control_table.specs.Sides.{leg, other};
 ghost use Rattle.station_layout.specs.RouteSides.{guard, guard_behind, is_need, is_on_path, requires_at, requires_on, side_of, unused_leg, used_behind};
 
 use crate::joints::joined_to;
-use control_table::layout::{Element, End, Layout, PointId, Port};
-use control_table::sci_telegram::Side;
+use control_table::layout::{Element, End, Port};
+use control_table::{Layout, PointId, Side};
 
 /// The side at which a point leads to its leg.
 fn side_of(end: End) -> Option<Side>

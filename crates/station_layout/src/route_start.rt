@@ -4,8 +4,8 @@ ghost use Rattle.std.specs.Prelude.{◌≡◌};
 ghost use Rattle.station_layout.specs.RouteStart.{is_written, start_of};
 
 use crate::layout_names::item_at;
-use control_table::layout::{Layout, PointId, Port, Route};
-use control_table::sci_telegram::Side;
+use control_table::layout::{Port, Route};
+use control_table::{Layout, PointId, Side};
 
 /// The port at which the entry signal of a route stands.
 pub(crate) fn start_of(layout: &Layout, route: &Route) -> Option<Port>

@@ -10,9 +10,8 @@ use crate::cells::{flank_cell, points_cell, sections_cell};
 use crate::conflicts::conflicts_cell;
 use crate::layout_names::{exit_name, signal_name, written};
 use crate::points_let_go::let_go_cell;
-use control_table::Checked;
-use control_table::layout::{Route, RouteId};
-use control_table::sci_telegram::Side;
+use control_table::layout::Route;
+use control_table::{Checked, RouteId, Side};
 use std::alloc::{AllocError, Global};
 
 /// A column of the table.
@@ -57,9 +56,6 @@ const COLUMNS: &[Column] = &[
     Column::Conflicts,
 ];
 
-/// The words for aspects.
-const ASPECT_WORDS: [&str; 3] = ["stop", "proceed", "slow"];
-
 /// The cell in a column of the row of a route, of which this is the entry.
 #[tactic(auto, using(crate::proofs::NamesWritten::signal_written, crate::proofs::NamesWritten::exit_written))]
 fn cell_of(
@@ -78,7 +74,7 @@ fn cell_of(
         Column::Route => String::from_str(alloc, entry.name().as_str()),
         Column::Entry => String::from_str(alloc, written(&signal_name(layout, entry.entry().0))),
         Column::Exit => String::from_str(alloc, written(&exit_name(layout, entry.exit()))),
-        Column::Aspect => String::from_str(alloc, ASPECT_WORDS[entry.aspect() as usize]),
+        Column::Aspect => String::from_str(alloc, entry.aspect().word()),
         Column::Right => points_cell(alloc, layout, entry, Side::Right),
         Column::Left => points_cell(alloc, layout, entry, Side::Left),
         Column::Flank => flank_cell(alloc, layout, entry.flank()),

@@ -5,11 +5,10 @@ ghost use Rattle.station_layout.specs.PlanText.{IsReadable};
 ghost use Rattle.station_layout.specs.SeenByLines.{IsSeenBy, IsSeenIn, put, with_aspect, with_occupancy, with_position, with_set};
 ghost use Rattle.station_layout.specs.inside.Drawn.{ExplainsSeen};
 
-use crate::failure::Failure;
 use crate::picture_text::read_sightings;
 use crate::sighting::Sighting;
-use control_table::Checked;
-use control_table::layout::Layout;
+use control_table::{Checked, Layout};
+use station_check::Failure;
 use station_plan::Seen;
 use std::alloc::{AllocError, Global};
 
@@ -26,7 +25,10 @@ pub(crate) fn seen_in(
     let Some(text) = picture else {
         return Ok(None);
     };
-    let sightings = read_sightings(alloc, table, text)?;
+    let sightings = match read_sightings(alloc, table, text) {
+        Ok(sightings) => sightings,
+        Err(fault) => return Err(Failure::Picture(fault)),
+    };
     let seen = seen_by(alloc, table.layout(), &sightings)?;
     Ok(Some(seen))
 }

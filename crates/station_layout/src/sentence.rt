@@ -6,9 +6,8 @@ ghost use Rattle.station_layout.specs.inside.Sentences.{part_words, sentence_wor
 use crate::advice::Spot;
 use crate::entry_words::{PlaceWords, SpotWords};
 use crate::field_key::FieldKey;
-use crate::port_words::{PortWords, side_word};
-use control_table::FaultyRoute;
-use control_table::sci_telegram::{Name, Side};
+use crate::port_words::PortWords;
+use control_table::{FaultyRoute, Name, Side};
 use layout_text::{Place, PortName, TableName};
 use std::fmt;
 
@@ -41,7 +40,7 @@ impl fmt::Display for Part {
             Part::Key(key) => f.write_str(key.word()),
             Part::Name(name) => f.write_str(name.as_str()),
             Part::Port(port) => PortWords(*port).fmt(f),
-            Part::Side(side) => f.write_str(side_word(*side)),
+            Part::Side(side) => f.write_str(side.word()),
             Part::Id(id) => id.fmt(f),
             Part::Number(number) => number.fmt(f),
             Part::Integer(value) => value.fmt(f),
@@ -53,7 +52,7 @@ impl fmt::Display for Part {
     }
 }
 
-/// The words of a sentence: before its first part, between each two, and behind the last.
+/// The words of a sentence: before its first part, between each two, and after the last.
 pub(crate) type Words = &'static [&'static str; 6];
 
 /// Words with up to five parts between them.

@@ -6,7 +6,7 @@ ghost use Rattle.station_layout.specs.declared.advice.Common.TheVariants as comm
 ghost use Rattle.station_layout.specs.SharedAdvice.{detector_shared, double_told, entries, has, id_in, id_shared, joins, name_in, name_shared, place_having, port_told, same_port_name, shared_with};
 
 use crate::advice::{Common, EntryAdvice};
-use control_table::sci_telegram::Name;
+use control_table::Name;
 use layout_text::{Place, PortName, TableName, WrittenJoint, WrittenLayout};
 
 /// Whether two ports are the same.

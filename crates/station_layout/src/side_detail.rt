@@ -11,8 +11,8 @@ use crate::route_sides::{
     guard, guard_behind, is_on_path, other, requires_on, unused_leg, used_behind,
 };
 use crate::route_start::{is_written, start_of};
-use control_table::layout::{Layout, PointId, Port, Route};
-use control_table::sci_telegram::Side;
+use control_table::layout::{Port, Route};
+use control_table::{Layout, PointId, Side};
 
 /// Where a route writes points.
 #[derive(Clone, Copy)]

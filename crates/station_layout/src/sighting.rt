@@ -6,8 +6,9 @@ ghost use Rattle.station_layout.specs.inside.WordTables.{word_said};
 ghost use Rattle.station_layout.specs.Sightings.{driven_said, point_sighting, route_sighting, section_sighting, sighting, signal_sighting, time_sighting};
 
 use crate::named_entries::{route_called, signal_called};
-use control_table::layout::{Layout, PointId, RouteId, SectionId, SignalId};
-use control_table::sci_telegram::{Aspect, Occupancy, Position};
+use control_table::{
+    Aspect, Layout, Occupancy, PointId, Position, RouteId, SectionId, Side, SignalId,
+};
 use replay_lines::{point_named, section_named};
 use replay_words::{Fault, Words, decimal};
 
@@ -26,31 +27,8 @@ pub(crate) enum Sighting {
     Other,
 }
 
-/// What a signal shows.
-const ASPECTS: &[(&str, Aspect)] = &[
-    ("stop", Aspect::Stop),
-    ("proceed", Aspect::Proceed),
-    ("slow", Aspect::Slow),
-];
-
-/// Where a point lies.
-const POSITIONS: &[(&str, Position)] = &[
-    ("left", Position::Left),
-    ("right", Position::Right),
-    ("none", Position::NoEndPosition),
-];
-
-/// Whether a section is occupied.
-const OCCUPANCIES: &[(&str, Occupancy)] = &[
-    ("clear", Occupancy::Clear),
-    ("occupied", Occupancy::Occupied),
-];
-
 /// Whether a route is set.
 const STATES: &[(&str, bool)] = &[("free", false), ("set", true)];
-
-/// To which side a point is driven, which no plan shows.
-const SIDES: &[(&str, ())] = &[("left", ()), ("right", ())];
 
 /// What a word says by a table.
 fn word_said<T: Copy>(rows: &[(&str, T)], word: &str) -> Result<T, Fault>
@@ -144,7 +122,7 @@ fn signal(layout: &Layout, mut words: Words<'_>) -> Result<Sighting, Fault>
     let Some((aspect, authority)) = two_words(words) else {
         return Err(Fault::Words);
     };
-    let aspect = word_said(ASPECTS, aspect)?;
+    let aspect = Aspect::of_word(aspect).ok_or(Fault::Words)?;
     let signal = signal_called(layout, name)?;
     // The route that has authority from the signal, or a hyphen.
     if authority != "-" {
@@ -160,7 +138,7 @@ fn point(layout: &Layout, mut words: Words<'_>) -> Result<Sighting, Fault>
         return Err(Fault::Words);
     };
     driven_said(words)?;
-    let position = word_said(POSITIONS, position)?;
+    let position = Position::of_word(position).ok_or(Fault::Words)?;
     let point = point_named(layout, name)?;
     Ok(Sighting::Point(point, position))
 }
@@ -171,7 +149,7 @@ fn section(layout: &Layout, words: Words<'_>) -> Result<Sighting, Fault>
     let Some((name, occupancy)) = two_words(words) else {
         return Err(Fault::Words);
     };
-    let occupancy = word_said(OCCUPANCIES, occupancy)?;
+    let occupancy = Occupancy::of_word(occupancy).ok_or(Fault::Words)?;
     let section = section_named(layout, name)?;
     Ok(Sighting::Section(section, occupancy))
 }
@@ -187,7 +165,7 @@ fn route(layout: &Layout, words: Words<'_>) -> Result<Sighting, Fault>
     Ok(Sighting::Route(route, is_set))
 }
 
-/// To which side a point is driven, if it is.
+/// To which side a point is driven, if it is, which no plan shows.
 fn driven_said(mut words: Words<'_>) -> Result<(), Fault>
     ensures { result ≡ driven_said words.entry }
 {
@@ -200,5 +178,8 @@ fn driven_said(mut words: Words<'_>) -> Result<(), Fault>
     if first != "driven" {
         return Err(Fault::Words);
     }
-    word_said(SIDES, side)
+    match Side::of_word(side) {
+        Some(_) => Ok(()),
+        None => Err(Fault::Words),
+    }
 }

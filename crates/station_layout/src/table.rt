@@ -2,9 +2,10 @@
 
 ghost use Rattle.std.specs.Prelude.{◌≡◌, ◌≤◌, IsErr, IfErr, IfOk, OnOk};
 ghost use Rattle.control_table.specs.layout.Entries.{Site};
+ghost use Rattle.station_check.specs.Failures.{Explained, Leaves};
 ghost use Rattle.station_check.specs.Report.{IsSound};
 ghost use Rattle.station_layout.specs.Lines.{IsTable};
-ghost use Rattle.station_layout.specs.Table.{Explained, Explains, Leaves, Tabled};
+ghost use Rattle.station_layout.specs.Table.{Explains, Tabled};
 
 use crate::form::Form;
 use crate::lines::lines;
@@ -28,14 +29,11 @@ pub fn table_text<W: Write, E: Write>(
     ensures faulty { ((site : Site) → IsSound layout.now site → ⊥) → (result ≡ 1) × (out.new ≡ out.old) }
     ensures silent { result ≡ 0 → err.new ≡ err.old }
     // Only a beginning of the line was told where a write to `err` failed.
-    ensures explains { result ≡ 1 → Explained layout.now out.old out.new (E.contents err.old) (E.contents err.new) }
+    ensures explains { result ≡ 1 → Explained (Explains layout.now) result out.old out.new (E.contents err.old) (E.contents err.new) }
 {
     match write_table(alloc, layout, form, out) {
         Ok(()) => 0,
-        Err(failure) => {
-            tell(&failure, err);
-            1
-        }
+        Err(failure) => tell(&failure, err),
     }
 }
 
@@ -51,7 +49,6 @@ fn table_lines(alloc: Global, text: &str, form: Form) -> Result<Vec<u8>, Failure
 }
 
 /// Writes the control table of a text at once.
-#[tactic(auto, using(crate::proofs::Tables::leaves_same))]
 fn write_table<W: Write>(alloc: Global, text: &str, form: Form, out: &mut W) -> Result<(), Failure>
     ensures done { OnOk result ((site : Site) × IsSound text.now site × Tabled form site (W.contents out.old) (W.contents out.new)) }
     ensures faulty { ((site : Site) → IsSound text.now site → ⊥) → IsErr result × (out.new ≡ out.old) }

@@ -10,7 +10,7 @@ pub(crate) struct TextPlace {
     pub(crate) column: usize,
 }
 
-/// The place behind one more byte.
+/// The place after one more byte.
 fn behind(at: TextPlace, byte: u8) -> TextPlace
     ensures { result ≡ behind at byte }
 {
@@ -30,7 +30,7 @@ fn behind(at: TextPlace, byte: u8) -> TextPlace
     }
 }
 
-/// The place behind a text.
+/// The place after a text.
 pub(crate) fn place_behind(text: &[u8]) -> TextPlace
     ensures { result ≡ place_behind text.now }
 {

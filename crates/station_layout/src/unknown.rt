@@ -7,7 +7,7 @@ ghost use Rattle.station_layout.specs.UnknownAdvice.{detector_missed, first_miss
 use crate::advice::{Common, EntryAdvice, Missed, Spot};
 use crate::field_key::FieldKey;
 use crate::shared::{entry_at, place_having};
-use control_table::sci_telegram::{Name, Side};
+use control_table::{Name, Side};
 use layout_text::{End, Place, PortName, TableName, WrittenJoint, WrittenLayout, WrittenRoute};
 
 /// The table in which an element stands that has a port of this word.

@@ -6,12 +6,12 @@ ghost use Rattle.std.specs.List.{list_all};
 ghost use Rattle.toml.specs.View.{items_view, view, table_view};
 ghost use Rattle.layout_text.specs.Values.{is_name};
 ghost use Rattle.station_layout.specs.inside.WordLists.{is_among};
-ghost use Rattle.station_layout.specs.ValueForms.{fits, is_id, is_port_text, misfit, side_fits, sides_fit, text_fits, unfit_item};
+ghost use Rattle.station_layout.specs.ValueForms.{fits, is_aspect_word, is_id, is_port_text, misfit, side_fits, sides_fit, text_fits, unfit_item};
 
 use crate::advice::{EntryAdvice, Spot};
 use crate::field_key::{FieldKey, kind_of};
 use crate::port_words::END_WORDS;
-use control_table::sci_telegram::Name;
+use control_table::{Aspect, Name, Side};
 use layout_text::Place;
 use toml::{Table, Value};
 
@@ -38,12 +38,6 @@ fn is_id(value: &Value) -> bool
     }
 }
 
-/// The words of sides.
-const SIDE_WORDS: &[&str] = &["left", "right"];
-
-/// The words of the aspects that a route may have.
-const ASPECT_WORDS: &[&str] = &["proceed", "slow"];
-
 /// Whether a word is one of these.
 fn is_among(words: &[&str], word: &str) -> bool
     ensures { result ≡ is_among words.now word.now }
@@ -58,6 +52,16 @@ fn is_port_text(text: &str) -> bool
     match text.split_once('.') {
         Some((element, word)) => is_name(element) && is_among(END_WORDS, word),
         None => false,
+    }
+}
+
+/// Whether a word is that of an aspect that a route may have.
+fn is_aspect_word(word: &str) -> bool
+    ensures { result ≡ is_aspect_word word.now }
+{
+    match Aspect::of_word(word) {
+        None | Some(Aspect::Stop) => false,
+        Some(_) => true,
     }
 }
 
@@ -85,7 +89,7 @@ fn text_fits(key: FieldKey, text: &str) -> bool
         FieldKey::Name | FieldKey::Section | FieldKey::Entry | FieldKey::Exit => is_name(text),
         FieldKey::At => is_port_text(text),
         FieldKey::Code => text.len() == DIGITS && are_digits(text.as_bytes()),
-        FieldKey::Aspect => is_among(ASPECT_WORDS, text),
+        FieldKey::Aspect => is_aspect_word(text),
         _ => false,
     }
 }
@@ -95,7 +99,7 @@ fn side_fits(point: &str, side: &Value) -> bool
     ensures { result ≡ side_fits point.now (view side.now) }
 {
     match side.as_str() {
-        Some(word) => is_name(point) && is_among(SIDE_WORDS, word),
+        Some(word) => is_name(point) && Side::of_word(word).is_some(),
         None => false,
     }
 }

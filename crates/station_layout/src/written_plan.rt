@@ -1,15 +1,15 @@
 //! The plan of a text, with what is wrong written where there is none.
 
 ghost use Rattle.std.specs.Prelude.{◌≡◌, ◌≤◌, IfErr, IfOk, IsErr, OnOk, option_copied};
-ghost use Rattle.station_layout.specs.PlanText.{CanPlan, Explained, Explains, ExplainsDrawn, IsDrawn, IsPlanned, Leaves};
+ghost use Rattle.station_check.specs.Failures.{Explained, Leaves};
+ghost use Rattle.station_layout.specs.PlanText.{CanPlan, Explains, ExplainsDrawn, IsDrawn, IsPlanned};
 ghost use Rattle.station_layout.specs.inside.Drawn.{ExplainsDrawnOf, IsDrawnOf};
 
-use crate::failure::{Failure, tell_failure};
 use crate::request::route_asked;
 use crate::seen::seen_in;
 use control_table::Checked;
 use drawing::svg;
-use station_check::table_of;
+use station_check::{Failure, table_of, tell};
 use station_plan::{Shown, plan};
 use std::alloc::Global;
 use std::io::Write;
@@ -32,14 +32,11 @@ pub fn plan_text<W: Write, E: Write>(
     ensures faulty { (CanPlan layout.now (option_copied route.entry) (option_copied picture.entry) → ⊥) → (result ≡ 1) × (out.new ≡ out.old) }
     ensures silent { result ≡ 0 → err.new ≡ err.old }
     // Only a beginning of the line was told where a write to `err` failed.
-    ensures explains { result ≡ 1 → Explained layout.now (option_copied route.entry) (option_copied picture.entry) out.old out.new (E.contents err.old) (E.contents err.new) }
+    ensures explains { result ≡ 1 → Explained (Explains layout.now (option_copied route.entry) (option_copied picture.entry)) result out.old out.new (E.contents err.old) (E.contents err.new) }
 {
     match write_plan(alloc, layout, route, picture, out) {
         Ok(()) => 0,
-        Err(failure) => {
-            tell_failure(&failure, err);
-            1
-        }
+        Err(failure) => tell(&failure, err),
     }
 }
 
@@ -89,7 +86,9 @@ fn drawn_of(
     ensures drawn { IfOk result (λ text. IsDrawnOf table.now (option_copied route.entry) (option_copied picture.entry) text.items) }
     ensures explains { IfErr result (ExplainsDrawnOf table.now (option_copied route.entry) (option_copied picture.entry)) }
 {
-    let route = route_asked(table, route)?;
+    let Ok(route) = route_asked(table, route) else {
+        return Err(Failure::Route);
+    };
     let seen = seen_in(alloc, table, picture)?;
     let plan = plan(alloc, table, &Shown { route, seen })?;
     let text = svg(alloc, &plan);

@@ -1,7 +1,7 @@
 -- What the processes of nodes come to.
 use Rattle.std.proofs.Common.{◌≡◌, ◌∙◌, ap, ℕ, List, [], ◌∷◌, Option, Some, None, Result, Ok, Err, append-nil, refl, subst, sym}
 use Rattle.std.specs.Prelude.{OnErr, OnOk}
-use Rattle.node_kinds.specs.simulator_run.layout.Entries.{Site}
+use Rattle.node_kinds.specs.simulator_spec.layout.Entries.{Site}
 use Rattle.node_kinds.specs.node_drive.Beginning.{first_course, last_line}
 use Rattle.node_kinds.specs.node_drive.Calls.{Call, Calls, CallsCut, Grows, Reads, Told, between}
 use Rattle.node_kinds.specs.node_drive.Drives.{CutOff, Ran}
@@ -11,7 +11,7 @@ use Rattle.node_kinds.specs.Interlockings.{InterlockingNode, interlocking_kind}
 use Rattle.node_kinds.specs.Openings.{Equipment, Opening}
 use Rattle.node_kinds.specs.ixl_table.Table.{IsTableOf}
 use Rattle.node_kinds.specs.node_drive.node_lines.declared.order.Order.{Order}
-use Rattle.node_kinds.specs.simulator_run.Nodes.{Node}
+use Rattle.node_kinds.specs.simulator_spec.Nodes.{Node}
 use Rattle.station_node.specs.Processes.{NodeCut, NodeRuns, ProcessCut, at_end, at_once, in_life, rest_of, resting, Controls, lived, ControlsCut, living, LifeCut, unmade, cut, Lives, Opens, ReadsAt, StationCut, cut_off, StationRuns, interlocking_made, left_of, standing}
 
 -- ---- what is so of a result of either kind

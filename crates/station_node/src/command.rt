@@ -6,14 +6,11 @@ ghost use Rattle.node_kinds.specs.node_drive.replay_lines.Names.{node_names};
 use crate::digest::layout_digest;
 use crate::failure::NodeFailure;
 use crate::process::run_node;
-use node_addresses::read_addresses;
-use node_kinds::node_drive::node_lines::replay_lines::node_named;
 use node_kinds::node_drive::{NodeFault, Outside};
-use node_kinds::simulator_run::ixl_rules::control_table::Checked;
-use node_kinds::simulator_run::ixl_rules::control_table::layout::Layout;
-use node_kinds::simulator_run::simulator_event::NodeId;
+use node_kinds::node_named;
+use node_kinds::simulator_spec::{Checked, Layout, NodeId};
 use node_network::{Lines, Machine, NodeClock, NodeSocket, OpenFault, Recorded};
-use station_check::{table_of, tell};
+use station_check::{read_addresses, table_of, tell};
 use std::alloc::Global;
 use std::fs;
 use std::fs::Files;
@@ -24,7 +21,7 @@ use std::time::Clock as Timer;
 
 /// What `station node` is asked.
 #[derive(Clone, Copy)]
-pub struct Asked<'a> {
+pub struct NodeOptions<'a> {
     /// The text of the layout.
     pub layout: &'a str,
     /// The name of the node.
@@ -49,15 +46,12 @@ pub fn run<
     I: Read + Drop,
     O: Write + Drop,
     E: Write + Drop,
->(rt: &R, asked: &Asked<'_>, input: I, output: O, complaints: E, err: &mut E) -> u8
+>(rt: &R, asked: &NodeOptions<'_>, input: I, output: O, complaints: E, err: &mut E) -> u8
     ensures { result ≤ 1 }
 {
     let table = match table_of(rt.alloc(), asked.layout) {
         Ok(table) => table,
-        Err(failure) => {
-            tell(&failure, err);
-            return 1;
-        }
+        Err(failure) => return tell(&failure, err),
     };
     match begin(rt, asked, &table, input, output, complaints) {
         Ok(()) => 0,
@@ -69,7 +63,7 @@ pub fn run<
     }
 }
 
-/// Judges the name and the addresses, and runs the process.
+/// Judges the name and the addresses, opens the lines, and runs the process.
 fn begin<
     R: Files + Net + Timer + RandomSource + Eprint + AllocGlobal,
     I: Read + Drop,
@@ -77,14 +71,15 @@ fn begin<
     E: Write + Drop,
 >(
     rt: &R,
-    asked: &Asked<'_>,
+    asked: &NodeOptions<'_>,
     table: &Checked,
     input: I,
     output: O,
     complaints: E,
 ) -> Result<(), NodeFailure> {
     let own = own_of(rt, table.layout(), asked)?;
-    run_own(rt, asked, table, &own, input, output, complaints)
+    let lines = lines_of(rt, asked.operator, own.node, input, output)?;
+    run_own(rt, asked, table, &own, lines, complaints)
 }
 
 /// What a process is of its own: which node it is, where all nodes are, and the number of its first PDU.
@@ -99,7 +94,7 @@ struct Own {
 fn own_of<R: RandomSource + AllocGlobal>(
     rt: &R,
     layout: &Layout,
-    asked: &Asked<'_>,
+    asked: &NodeOptions<'_>,
 ) -> Result<Own, NodeFailure> {
     let Ok(node) = node_named(layout, asked.name) else {
         return Err(NodeFailure::NoNode);
@@ -119,7 +114,7 @@ fn own_of<R: RandomSource + AllocGlobal>(
     })
 }
 
-/// Opens what a process has outside, its lines first, and runs it.
+/// Opens the socket and the clock of a process, and runs it over these lines.
 fn run_own<
     R: Files + Net + Timer + Eprint + AllocGlobal,
     I: Read + Drop,
@@ -127,14 +122,12 @@ fn run_own<
     E: Write + Drop,
 >(
     rt: &R,
-    asked: &Asked<'_>,
+    asked: &NodeOptions<'_>,
     table: &Checked,
     own: &Own,
-    input: I,
-    output: O,
+    lines: Lines<R, I, O>,
     complaints: E,
 ) -> Result<(), NodeFailure> {
-    let lines = lines_of(rt, asked.operator, own.node, input, output)?;
     match open_socket(rt, asked, own) {
         Ok((socket, clock)) => {
             let machine = Machine::new(rt.alloc(), clock, socket, lines, complaints);
@@ -147,7 +140,7 @@ fn run_own<
 /// Opens the socket of a node, and starts its clock.
 fn open_socket<'a, R: Net + Timer + Eprint + AllocGlobal>(
     rt: &'a R,
-    asked: &Asked<'_>,
+    asked: &NodeOptions<'_>,
     own: &Own,
 ) -> Result<(NodeSocket, NodeClock<'a, R>), OpenFault> {
     let socket = NodeSocket::open(rt, rt.alloc(), &own.addresses, own.node)?;
@@ -158,7 +151,7 @@ fn open_socket<'a, R: Net + Timer + Eprint + AllocGlobal>(
 /// Starts the clock of a node, and tells the digest of the layout on standard error: all nodes have to have the same one.
 fn start_clock<'a, R: Timer + Eprint + AllocGlobal>(
     rt: &'a R,
-    asked: &Asked<'_>,
+    asked: &NodeOptions<'_>,
 ) -> Result<NodeClock<'a, R>, OpenFault> {
     let clock = NodeClock::start(rt, asked.clock)?;
     let Ok(digest) = layout_digest(rt.alloc(), asked.layout) else {
@@ -173,7 +166,7 @@ fn start_clock<'a, R: Timer + Eprint + AllocGlobal>(
 /// asked for.
 fn run_over<R: Files + Eprint + AllocGlobal, O: Outside + Drop>(
     rt: &R,
-    asked: &Asked<'_>,
+    asked: &NodeOptions<'_>,
     table: &Checked,
     own: &Own,
     outside: O,
@@ -195,7 +188,7 @@ fn run_over<R: Files + Eprint + AllocGlobal, O: Outside + Drop>(
 /// The record that is asked for, if one is, with its first line.
 fn recorder_for<R: Files>(
     rt: &R,
-    asked: &Asked<'_>,
+    asked: &NodeOptions<'_>,
     first: u32,
 ) -> Result<Option<R::File>, NodeFailure> {
     let Some(path) = asked.record else {
@@ -211,7 +204,7 @@ fn recorder_for<R: Files>(
 }
 
 /// Writes the first line of a record.
-fn write_head<W: Write>(asked: &Asked<'_>, first: u32, recorder: &mut W) -> io::Result<()> {
+fn write_head<W: Write>(asked: &NodeOptions<'_>, first: u32, recorder: &mut W) -> io::Result<()> {
     let name = asked.name;
     match asked.for_ms {
         Some(for_ms) => recorder.writeln(format_args!("node {name} first {first} for {for_ms}")),

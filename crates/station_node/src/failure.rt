@@ -1,8 +1,8 @@
 //! Why a node's process doesn't run to its end.
 
-use node_addresses::AddressesFault;
 use node_kinds::node_drive::NodeFault;
 use node_network::OpenFault;
+use station_check::AddressesFault;
 use std::fmt;
 
 /// Why a node's process doesn't run to its end.

@@ -10,7 +10,7 @@ mod lives;
 mod process;
 mod replay;
 
-pub use command::{Asked, run};
+pub use command::{NodeOptions, run};
 pub use digest::layout_digest;
 pub use process::run_node;
 pub use replay::replay_node_text;

@@ -9,19 +9,25 @@ ghost use Rattle.node_kinds.specs.node_drive.Drives.{CutOff, Ran};
 ghost use Rattle.node_kinds.specs.Openings.{opening_kind, untold};
 ghost use Rattle.station_node.specs.Processes.{Opens, left_of, standing};
 
-use node_kinds::node_drive::{Course, Node, NodeFault, Outside, drive};
-use node_kinds::simulator_run::ixl_rules::control_table::Checked;
+use node_kinds::node_drive::{Course, NodeFault, NodeMachine, Outside, drive};
+use node_kinds::simulator_spec::Checked;
 use node_kinds::{Equipment, OpeningNode};
 use std::alloc::Global;
 
-/// What a process is told of itself: the station, the number of its first PDU, when it began by the reading of its clock, and for how
-/// many milliseconds it runs.
+/// The life of a process: the number of its first PDU, when it began by the reading of its clock, and for how many milliseconds it
+/// runs.
 #[derive(Clone, Copy)]
-pub(crate) struct Told<'a> {
-    pub(crate) table: &'a Checked,
+pub(crate) struct Life {
     pub(crate) first: u32,
     pub(crate) begins: u64,
     pub(crate) for_ms: u64,
+}
+
+/// What a process is told of itself: the station, and its life.
+#[derive(Clone, Copy)]
+pub(crate) struct Told<'a> {
+    pub(crate) table: &'a Checked,
+    pub(crate) life: Life,
 }
 
 /// Waits until the first line is in force and each contact has told how it is, or until the process is over.
@@ -33,8 +39,8 @@ pub(crate) fn open<'a, O: Outside>(
     outside: &mut O,
 ) -> Result<OpeningNode<'a>, NodeFault>
     requires { course.old ≡ first_course }
-    ensures done { IfOk result (λ opening. Opens told.entry.table.now (equipment_of equipment.entry) told.entry.for_ms told.entry.begins (opening_now opening).state course.new (O.told outside.old) (O.told outside.new)) }
-    ensures stopped { OnErr result (CutOff opening_kind told.entry.for_ms told.entry.begins (standing (untold told.entry.table.now (equipment_of equipment.entry)) first_course) (O.told outside.old) (O.told outside.new)) }
+    ensures done { IfOk result (λ opening. Opens told.entry.table.now (equipment_of equipment.entry) told.entry.life.for_ms told.entry.life.begins (opening_now opening).state course.new (O.told outside.old) (O.told outside.new)) }
+    ensures stopped { OnErr result (CutOff opening_kind told.entry.life.for_ms told.entry.life.begins (standing (untold told.entry.table.now (equipment_of equipment.entry)) first_course) (O.told outside.old) (O.told outside.new)) }
 {
     let mut opening = OpeningNode::new(alloc, told.table, equipment)?;
     match drive(
@@ -42,8 +48,8 @@ pub(crate) fn open<'a, O: Outside>(
         &mut opening,
         course,
         outside,
-        told.begins,
-        told.for_ms,
+        told.life.begins,
+        told.life.for_ms,
     ) {
         Ok(_) => Ok(opening),
         Err(fault) => {
@@ -53,23 +59,22 @@ pub(crate) fn open<'a, O: Outside>(
     }
 }
 
-/// The node lives, from the reading at which it was made, until its process has gone on for so many milliseconds behind its beginning.
+/// The node lives, from the reading at which it was made, until its process has gone on for so many milliseconds after its beginning.
 /// Then it is gone.
-pub(crate) fn live<N: Node + Drop, O: Outside>(
+pub(crate) fn live<N: NodeMachine + Drop, O: Outside>(
     alloc: Global,
     node: N,
     course: &mut Course,
     outside: &mut O,
     now: u64,
-    begins: u64,
-    for_ms: u64,
+    life: Life,
 ) -> Result<(), NodeFault>
     requires { (N.node node).reached ≤ (O.told outside.old).latest }
-    ensures done { OnOk result ((ticks : ℕ) × (state : N.State) × Ran N.does (left_of for_ms begins now) now ticks (standing_of (N.node node) course.old) (standing state course.new) (O.told outside.old) (O.told outside.new)) }
-    ensures stopped { OnErr result (CutOff N.does (left_of for_ms begins now) now (standing_of (N.node node) course.old) (O.told outside.old) (O.told outside.new)) }
+    ensures done { OnOk result ((ticks : ℕ) × (state : N.State) × Ran N.does (left_of life.for_ms life.begins now) now ticks (standing_of (N.node node) course.old) (standing state course.new) (O.told outside.old) (O.told outside.new)) }
+    ensures stopped { OnErr result (CutOff N.does (left_of life.for_ms life.begins now) now (standing_of (N.node node) course.old) (O.told outside.old) (O.told outside.new)) }
 {
     let mut node = node;
-    let left = for_ms.saturating_sub(now.saturating_sub(begins));
+    let left = life.for_ms.saturating_sub(now.saturating_sub(life.begins));
     drive(alloc, &mut node, course, outside, now, left)?;
     Ok(())
 }

@@ -1,14 +1,12 @@
 //! A record of a node's process, applied to a fresh node again.
 
-ghost use Rattle.std.specs.Prelude.{◌≡◌, ◌⊎◌};
+ghost use Rattle.std.specs.Prelude.{◌≡◌, ◌⊎◌, IfErr};
+ghost use Rattle.station_check.specs.Failures.{status_of};
 
 use crate::process::run_node;
 use node_kinds::node_drive::NodeFault;
-use node_kinds::node_drive::node_lines::replay_lines::{SessionFault, node_named};
-use node_kinds::node_drive::node_lines::replay_words::{Fault, Lines, Words, decimal};
-use node_kinds::simulator_run::ixl_rules::control_table::Checked;
-use node_kinds::simulator_run::ixl_rules::control_table::layout::Layout;
-use node_kinds::simulator_run::simulator_event::NodeId;
+use node_kinds::simulator_spec::{Checked, Layout, NodeId};
+use node_kinds::{Fault, Lines, SessionFault, Words, decimal, node_named};
 use node_network::Replayed;
 use station_check::{Failure, table_of, tell};
 use std::alloc::Global;
@@ -39,10 +37,7 @@ pub fn replay_node_text<W: Write, E: Write>(
     match verdict(alloc, layout, name, record, out) {
         Ok(None) => 0,
         Ok(Some(_)) => 3,
-        Err(failure) => {
-            tell(&failure, err);
-            1
-        }
+        Err(failure) => tell(&failure, err),
     }
 }
 
@@ -54,7 +49,9 @@ fn verdict<W: Write>(
     name: &str,
     record: &str,
     out: &mut W,
-) -> Result<Option<u64>, Failure> {
+) -> Result<Option<u64>, Failure>
+    ensures { IfErr result (λ failure. status_of failure ≡ 1) }
+{
     let table = table_of(alloc, layout)?;
     let differs = difference(alloc, &table, name, record)?;
     let written = match differs {
@@ -72,7 +69,9 @@ fn difference(
     table: &Checked,
     name: &str,
     record: &str,
-) -> Result<Option<u64>, Failure> {
+) -> Result<Option<u64>, Failure>
+    ensures { IfErr result (λ failure. status_of failure ≡ 1) }
+{
     let mut lines = Lines::of(whole_lines(record));
     let (_, first) = lines.next().unwrap_or((1, ""));
     let head = match head_said(table.layout(), name, first) {

@@ -1,7 +1,7 @@
 -- Cancels, one after another.
 use Rattle.std.proofs.Common.{◌≡◌, ◌∙◌, ◌+◌, ◌-◌, ◌<◌, ◌≤◌, ℕ, suc, sym, ap, List, [], ◌∷◌, ◌++◌, arith}
 use Rattle.std.proofs.lemmas.List.{append_assoc, append-nil}
-use Rattle.panel_desk.specs.node_lines.ixl_rules.declared.command.Command.TheVariants.{Cancel}
+use Rattle.panel_desk.specs.node_lines.ixl_spec.declared.command.Command.TheVariants.{Cancel}
 use Rattle.panel_desk.specs.node_lines.simulator_event.declared.event.Event.{Event}
 use Rattle.panel_desk.specs.node_lines.simulator_event.declared.event.Event.TheVariants.{Request}
 use Rattle.station_panel.specs.Asked.{cancels}

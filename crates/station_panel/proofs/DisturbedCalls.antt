@@ -2,8 +2,8 @@
 use Rattle.std.proofs.Common.{◌≡◌, ◌+◌, ◌<◌, ℕ, nat_le, slice_set, take, drop, Bool, true, false, List, [], ◌∷◌, ◌++◌, if◌then◌else◌, inl, inr, ◌∙◌, length, map, refl, sym, ap, subst, arith}
 use Rattle.std.proofs.Math.Numerals.{add-one}
 use Rattle.std.proofs.lemmas.List.{append_assoc, drop-set-lt, drop_more, map-append, take_more_set}
-use Rattle.panel_desk.specs.node_lines.simulator_event.declared.event.NodeId.{NodeId}
-use Rattle.station_network.specs.station_drive.Told.{Call, Sends}
+use Rattle.panel_desk.specs.node_lines.simulator_event.layout.declared.ids.NodeId.{NodeId}
+use Rattle.station_drive.specs.Told.{Call, Sends}
 use Rattle.station_panel.specs.DisturbedNetwork.{Decided, DisturbedView, GoesOn, LateView, Released, Releases, SentIf, Waits, comes_late, counted, flag_at, flags_from, late_of, saturated}
 use Rattle.station_panel.specs.Inside.{FirstGoes, Keeps, LosesIf, is_first_due}
 use Rattle.station_panel.specs.declared.disturbed.Late.{Late}

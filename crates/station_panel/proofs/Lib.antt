@@ -1,3 +1,4 @@
+pub mod FromItsBeginning
 pub mod Cancels
 pub mod DisturbedCalls
 pub mod Readings

@@ -1,9 +1,9 @@
--- Readings one behind the other, and the drives behind a round.
+-- Readings one after the other, and the drives after a round.
 use Rattle.std.proofs.Common.{◌≡◌, ◌∙◌, ℕ, suc, List, [], ◌∷◌, ◌++◌, length, Option, Some, None, refl, sym, ap, append_assoc, append-nil}
 use Rattle.panel_desk.specs.node_lines.sci_telegram.declared.message.Side.{Side}
-use Rattle.station_network.specs.station_drive.declared.course.Drive.{Drive}
-use Rattle.station_network.specs.station_drive.Rounds.{drives_after}
-use Rattle.station_network.specs.station_drive.Told.{Grows}
+use Rattle.station_drive.specs.declared.course.Drive.{Drive}
+use Rattle.station_drive.specs.Rounds.{drives_after}
+use Rattle.station_drive.specs.Told.{Grows}
 
 pub grows_none : {A : Type 0} (told : Option (List A)) → Grows told told []
 grows_none None = tt

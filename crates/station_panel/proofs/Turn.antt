@@ -1,20 +1,21 @@
 -- A turn of a panel.
-use Rattle.std.proofs.Common.{◌≡◌, ◌∙◌, ◌≤◌, ◌-◌, ◌/◌, ℕ, List, length, Option, Some, Result, Ok, Err, refl, ap, subst}
+use Rattle.std.proofs.Common.{◌≡◌, ◌≤◌, ◌-◌, ◌/◌, ◌++◌, ℕ, Bool, List, Option, Some, Result, Ok, Err, length, refl, ap, sym, subst, ◌∙◌}
 use Rattle.std.specs.Result.{IfOk, OnErr, OnOk}
 use Rattle.panel_desk.specs.Answers.{DeskView}
-use Rattle.panel_desk.specs.declared.panel_line.PanelLine.{PanelLine}
+use Rattle.panel_desk.specs.Boards.{Notes, none, shown_anew}
+use Rattle.panel_desk.specs.declared.pictured.Pictured as pictures
 use Rattle.panel_desk.specs.node_lines.layout.Entries.{Site}
 use Rattle.panel_desk.specs.node_lines.simulator_event.declared.event.Event.{Event}
-use Rattle.station_network.specs.station_drive.Doings.{Behaviour}
-use Rattle.station_network.specs.station_drive.Rounds.{Hearing, RunSoFar, round}
-use Rattle.station_panel.specs.Asked.{events_asked, faults_after}
-use Rattle.station_network.specs.station_drive.Told.{Call}
-use Rattle.station_panel.specs.DisturbedNetwork.{DisturbedView}
-use Rattle.station_panel.specs.Faults.{FaultsView}
+use Rattle.station_drive.specs.declared.datagrams.Datagrams as networks
+use Rattle.station_drive.specs.simulator_event.declared.station.Station as stations
+use Rattle.station_drive.specs.Drives.{BreaksRound, MakesRound}
+use Rattle.station_drive.specs.Rounds.{RunSoFar, run_after}
+use Rattle.station_panel.specs.DisturbedNetwork.{DisturbedView, Passes, Released, heeded}
+use Rattle.station_panel.specs.Shown.{fault_lines}
 use Rattle.station_panel.specs.declared.ending.Ending.{Ending}
 use Rattle.station_panel.specs.declared.ending.Ending.TheVariants as ends
-use Rattle.panel_desk.specs.Boards.{Notes, none}
-use Rattle.station_panel.specs.Turns.{IsOver, Moment, Turns, doings}
+use Rattle.station_panel.specs.Turns.{HasPartOfRound, HasRound, IsLived, IsOver, Moment, asked_at, engine_of, wanted}
+use Rattle.station_panel.proofs.Readings.{as_many}
 
 pub stopped : {T E : Type 0} {A : Type 0} (result : Result T E) → A → OnErr result A
 stopped (Ok value) is = tt
@@ -44,22 +45,72 @@ pub over : (for_ms first now last : ℕ) (ending : Ending) → now ≡ first →
 over for_ms first now last ends.TimeIsOver is late = subst (λ (n : ℕ). for_ms ≤ (last - n) / 1000) is (late refl)
 over for_ms first now last ends.MemoryIsFull is late = tt
 
-module _ {Station State Network Net : Type 0} (does : Behaviour State) (told : Network → Net) (carries : Net → Call → Net → Type 0) (site : Site) (state : Station → State) (lines : Station → List PanelLine) where
-  -- what a round did, by what was wanted
-  pub doings_are : (reading : ℕ) (old : Moment Station Network) (heard : List Hearing) (course : RunSoFar) (events : List Event) (faults : FaultsView) (routes : ℕ)
-      → course ≡ old.run → routes ≡ length site.routes → events ≡ events_asked routes old.desk.waiting → faults ≡ faults_after old.desk.waiting old.faults
-      → round site course (record { reading = reading; heard = heard; asked = events; jammed = faults.jammed }) ≡ doings does told carries site state lines reading old heard
-  doings_are reading old heard course events faults routes is_course is_routes are_events are_faults =
-      ap (λ (k : RunSoFar). round site k (record { reading = reading; heard = heard; asked = events; jammed = faults.jammed })) is_course
-      ∙ ap (λ (l : List Event). round site old.run (record { reading = reading; heard = heard; asked = l; jammed = faults.jammed }))
-      (are_events ∙ ap (λ (n : ℕ). events_asked n old.desk.waiting) is_routes)
-      ∙ ap (λ (f : FaultsView). round site old.run (record { reading = reading; heard = heard; asked = events_asked (length site.routes) old.desk.waiting; jammed = f.jammed })) are_faults
+-- after a round, made or given up, a run has a drive for each point as before
+pub drives_kept : {Station T E : Type 0} (s : stations.Ghosts Station) (result : Result T E) (reading : ℕ) (state : s.State) (old new : RunSoFar) (before after : Site) → length old.drives ≡ length before.points
+    → OnOk result (new ≡ run_after s.does state old reading) → OnErr result (new ≡ old) → OnOk result (after ≡ before) → OnErr result (after ≡ before) → length new.drives ≡ length after.points
+drives_kept s (Ok done) reading state old new before after had made given_up same other =
+    ap (λ (r : RunSoFar). length r.drives) made ∙ (as_many reading (s.does.driven state) 0 old.drives ∙ (had ∙ sym (ap (λ (l : Site). length l.points) same)))
+drives_kept s (Err fault) reading state old new before after had made given_up same other = ap (λ (r : RunSoFar). length r.drives) given_up ∙ (had ∙ sym (ap (λ (l : Site). length l.points) other))
 
-  -- turns that began so began so
-  pub turns_from : (limit : ℕ) (station : Station) (net : DisturbedView Network) (desk : DeskView) (text : Option (List ℕ)) (run other : RunSoFar) (faults others : FaultsView) (readings : List ℕ) (last : Moment Station Network)
-      → run ≡ other → faults ≡ others
-      → Turns does told carries site state lines limit (record { station = station; net = net; run = run; desk = desk; faults = faults; text = text }) readings last
-      → Turns does told carries site state lines limit (record { station = station; net = net; run = other; desk = desk; faults = others; text = text }) readings last
-  turns_from limit station net desk text run other faults others readings last is are turns =
-      subst (λ (f : FaultsView). Turns does told carries site state lines limit (record { station = station; net = net; run = other; desk = desk; faults = f; text = text }) readings last) are
-      (subst (λ (r : RunSoFar). Turns does told carries site state lines limit (record { station = station; net = net; run = r; desk = desk; faults = faults; text = text }) readings last) is turns)
+module _ {Station Network : Type 0} (s : stations.Ghosts Station) (n : networks.Ghosts Network) where
+  -- an engine that was begun anew for its round, as a panel saw it before
+  pub record BegunAs (reading : ℕ) (seen : Moment Station Network) (station : Station) (net : DisturbedView Network) (text : Option (List ℕ)) (jammed : List Bool) : Type 0 where
+    pub begun : Released n.told n.carries (heeded seen.faults reading seen.net) net
+    pub station_is : station ≡ seen.station
+    pub text_is : text ≡ seen.text
+    pub jammed_is : jammed ≡ seen.faults.jammed
+
+  module _ {reading : ℕ} {seen : Moment Station Network} {station : Station} {net : DisturbedView Network} {text : Option (List ℕ)} {jammed : List Bool} (b : BegunAs reading seen station net text jammed) where
+    -- its round is one of the panel
+    pub round_made : (asked : List Event) (old new : Moment Station Network) → seen ≡ old
+        → MakesRound s.does (Passes n.told n.carries) seen.run reading asked jammed (record { site = s.site station; state = s.state station; net = net; text = text }) (engine_of s new)
+        → HasRound s n reading asked old new
+    round_made asked old new same made = subst (λ (m : Moment Station Network). HasRound s n reading asked m new) same (record {
+      net = net;
+      begun = b.begun;
+      round =
+          subst (λ (j : List Bool). MakesRound s.does (Passes n.told n.carries) seen.run reading asked j (record (engine_of s seen) { net = net }) (engine_of s new)) b.jammed_is
+          (moved (λ (st : Station) (t : Option (List ℕ)). MakesRound s.does (Passes n.told n.carries) seen.run reading asked jammed (record { site = s.site st; state = s.state st; net = net; text = t }) (engine_of s new))
+          b.station_is b.text_is made);
+    })
+
+    pub part_made : (asked : List Event) (old new : Moment Station Network) → seen ≡ old
+        → BreaksRound s.does (Passes n.told n.carries) seen.run reading asked jammed (record { site = s.site station; state = s.state station; net = net; text = text }) (engine_of s new)
+        → HasPartOfRound s n reading asked old new
+    part_made asked old new same made = subst (λ (m : Moment Station Network). HasPartOfRound s n reading asked m new) same (record {
+      net = net;
+      begun = b.begun;
+      round =
+          subst (λ (j : List Bool). BreaksRound s.does (Passes n.told n.carries) seen.run reading asked j (record (engine_of s seen) { net = net }) (engine_of s new)) b.jammed_is
+          (moved (λ (st : Station) (t : Option (List ℕ)). BreaksRound s.does (Passes n.told n.carries) seen.run reading asked jammed (record { site = s.site st; state = s.state st; net = net; text = t }) (engine_of s new))
+          b.station_is b.text_is made);
+    })
+
+  -- the round of what was wanted
+  pub round_wanted : (reading : ℕ) (old start new : Moment Station Network) (events : List Event) → start ≡ wanted old → events ≡ asked_at s old
+      → HasRound s n reading events start new → HasRound s n reading (asked_at s old) (wanted old) new
+  round_wanted reading old start new events is are round = moved (λ e m. HasRound s n reading e m new) are is round
+
+  pub part_wanted : (reading : ℕ) (old start new : Moment Station Network) (events : List Event) → start ≡ wanted old → events ≡ asked_at s old
+      → HasPartOfRound s n reading events start new → HasPartOfRound s n reading (asked_at s old) (wanted old) new
+  part_wanted reading old start new events is are round = moved (λ e m. HasPartOfRound s n reading e m new) are is round
+
+  -- after it the desk alone was changed
+  at_another_desk : {reading : ℕ} {asked : List Event} {old new : Moment Station Network} (desk : DeskView) → HasRound s n reading asked old new → HasRound s n reading asked old (record new { desk = desk })
+  at_another_desk desk h = record { net = h.net; begun = h.begun; round = h.round }
+
+  pub round_shown : (reading : ℕ) (asked : List Event) (old mid new : Moment Station Network) (desk : DeskView) → new ≡ record mid { desk = desk } → HasRound s n reading asked old mid → HasRound s n reading asked old new
+  round_shown reading asked old mid new desk is h = subst (λ (m : Moment Station Network). HasRound s n reading asked old m) (sym is) (at_another_desk desk h)
+
+module _ {Station Network : Type 0} (s : stations.Ghosts Station) (n : networks.Ghosts Network) (p : pictures.Ghosts Station) where
+  -- a turn, by its round and by what the desk shows after it
+  pub lived : (limit reading : ℕ) (old mid : Moment Station Network) (desk : DeskView) (bytes : ℕ)
+      → HasRound s n reading (asked_at s old) (wanted old) mid → mid.run ≡ run_after s.does (s.state mid.station) old.run reading → mid.desk ≡ (wanted old).desk → mid.faults ≡ (wanted old).faults
+      → Notes (shown_anew (s.site mid.station) (p.lines mid.station ++ fault_lines mid.faults bytes limit) mid.desk) desk → IsLived s n p limit reading old (record mid { desk = desk })
+  lived limit reading old mid desk bytes round run desk_is faults notes = record {
+    round = at_another_desk s n desk round;
+    run = run;
+    faults = faults;
+    bytes = bytes;
+    notes = subst (λ (d : DeskView). Notes (shown_anew (s.site mid.station) (p.lines mid.station ++ fault_lines mid.faults bytes limit) d) desk) desk_is notes;
+  }

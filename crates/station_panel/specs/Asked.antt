@@ -1,7 +1,7 @@
 -- What the commands of a round ask for.
 use Rattle.std.specs.Prelude.{ℕ, zero, suc, Bool, true, false, if◌then◌else◌, List, [], ◌∷◌}
 use Rattle.std.specs.List.{flat_map}
-use Rattle.panel_desk.specs.node_lines.ixl_rules.declared.command.Command.TheVariants.{Cancel}
+use Rattle.panel_desk.specs.node_lines.ixl_spec.declared.command.Command.TheVariants.{Cancel}
 use Rattle.panel_desk.specs.node_lines.simulator_event.declared.event.Event.{Event}
 use Rattle.panel_desk.specs.node_lines.simulator_event.declared.event.Event.TheVariants as happens
 use Rattle.panel_desk.specs.declared.panel_command.PanelCommand.{PanelCommand}
@@ -26,11 +26,11 @@ events_by routes (wants.Event event) = if may_be_asked event then event ∷ [] e
 events_by routes wants.CancelAll = cancels 0 routes
 events_by routes (wants.Disturb disturbance) = []
 
--- those for which commands ask, one behind the other, each once
+-- those for which commands ask, one after the other, each once
 abbrev pub events_asked : ℕ → List PanelCommand → List Event
 events_asked routes commands = flat_map (events_by routes) commands
 
--- what is disturbed behind a command, and behind commands
+-- what is disturbed after a command, and after commands
 abbrev pub faults_by : PanelCommand → FaultsView → FaultsView
 faults_by (wants.Disturb disturbance) faults = disturbed disturbance faults
 faults_by other faults = faults

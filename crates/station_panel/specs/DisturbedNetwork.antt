@@ -1,10 +1,11 @@
 -- A network that an operator disturbs: which of the datagrams that are sent are lost, and which come late. What a node hears is what
 -- the network below answers.
-use Rattle.std.specs.Prelude.{◌≡◌, ◌⊎◌, ◌==◌, not, ◌*◌, ◌+◌, ◌^◌, ◌-◌, ℕ, suc, min, nat_le, nat_lt, Bool, true, false, if◌then◌else◌, List, [], ◌∷◌, ◌++◌, length, map, drop, get_or, replicate}
+use Rattle.std.specs.Prelude.{◌≡◌, ◌⊎◌, ◌==◌, not, ◌*◌, ◌+◌, ◌^◌, ◌-◌, ℕ, suc, min, nat_le, nat_lt, Bool, true, false, if◌then◌else◌, List, [], ◌∷◌, ◌++◌, length, map, get_or, replicate}
 use Rattle.panel_desk.specs.node_lines.layout.Entries.{Site}
-use Rattle.panel_desk.specs.node_lines.ixl_rules.rasta_pdu.Header.{receiver_of}
-use Rattle.panel_desk.specs.node_lines.simulator_event.declared.event.NodeId.{NodeId}
-use Rattle.station_network.specs.station_drive.Told.{Asks, Call, Sends}
+use Rattle.panel_desk.specs.node_lines.layout.Nodes.{identities}
+use Rattle.panel_desk.specs.node_lines.ixl_spec.rasta_pdu.Header.{sender_of}
+use Rattle.panel_desk.specs.node_lines.simulator_event.layout.declared.ids.NodeId.{NodeId}
+use Rattle.station_drive.specs.Told.{Asks, Call, Sends}
 use Rattle.station_panel.specs.Faults.{FaultsView}
 use Rattle.station_panel.specs.declared.disturbed.Disturbed.{Disturbed}
 use Rattle.station_panel.specs.declared.disturbed.Late.{Late}
@@ -55,10 +56,6 @@ saturated number = min number (2 ^ 64 - 1)
 
 -- ---- how it begins
 
--- the identities of the nodes of a layout, in their order
-abbrev pub identities : Site → List ℕ
-identities site = site.station.id ∷ (map (λ s. s.id) site.signals ++ (map (λ p. p.id) site.points ++ map (λ d. d.id) site.detectors))
-
 -- a network between the nodes of a layout, of which nothing is disturbed yet
 abbrev pub undisturbed : {Network : Type 0} → Site → Network → DisturbedView Network
 undisturbed site net = record {
@@ -98,9 +95,9 @@ abbrev pub is_one_cut : List Bool → ℕ → List ℕ → ℕ → Bool
 is_one_cut cut sender [] place = false
 is_one_cut cut sender (id ∷ more) place = if id == sender then flag_at cut place else is_one_cut cut sender more (suc place)
 
--- Whether the node is cut off that sent these bytes: its identity stands behind that of the receiver.
+-- whether the node is cut off that sent these bytes
 abbrev pub is_sender_cut : {Network : Type 0} → DisturbedView Network → List ℕ → Bool
-is_sender_cut d bytes = if nat_lt (length bytes) 4 then false else is_one_cut d.cut (receiver_of (drop 4 bytes)) d.ids 0
+is_sender_cut d bytes = is_one_cut d.cut (sender_of bytes) d.ids 0
 
 -- a datagram is lost where its receiver or its sender is cut off
 abbrev pub is_cut_off : {Network : Type 0} → DisturbedView Network → NodeId → List ℕ → Bool
@@ -124,7 +121,7 @@ is_empty (one ∷ more) = false
 abbrev pub comes_late : {Network : Type 0} → DisturbedView Network → Bool
 comes_late d = if nat_lt 0 d.delay then true else not (is_empty d.late)
 
--- it waits until it is due, behind those that wait
+-- it waits until it is due, after those that wait
 abbrev pub Waits : {Network : Type 0} → DisturbedView Network → NodeId → List ℕ → DisturbedView Network → Type 0
 Waits d to bytes new = new ≡ record d { late = d.late ++ record { to = to; bytes = bytes; due = saturated (d.reading + d.delay) } ∷ [] }
 

@@ -5,8 +5,8 @@ use Rattle.panel_desk.specs.declared.desk_opened.PageAsked.{PageAsked}
 use Rattle.panel_desk.specs.declared.panel_line.PanelLine.{PanelLine}
 use Rattle.panel_desk.specs.node_lines.layout.Entries.{Site}
 use Rattle.panel_desk.specs.node_lines.replay_lines.Names.{node_names}
-use Rattle.panel_desk.specs.panel_board.Lines.{blank}
-use Rattle.panel_desk.specs.panel_board.State.{about}
+use Rattle.panel_desk.specs.Lines.{blank}
+use Rattle.panel_desk.specs.State.{about}
 use Rattle.serde_json.specs.Read.{read}
 use Rattle.station_panel.specs.Faults.{no_faults}
 use Rattle.station_panel.specs.Shown.{fault_lines}

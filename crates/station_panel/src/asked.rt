@@ -6,10 +6,7 @@ ghost use Rattle.panel_desk.specs.declared.panel_command.PanelCommand.TheVariant
 ghost use Rattle.station_panel.specs.Asked.{cancels, events_by, faults_after, faults_by, may_be_asked};
 
 use crate::faults::Faults;
-use panel_desk::PanelCommand;
-use panel_desk::node_lines::ixl_rules::Command;
-use panel_desk::node_lines::ixl_rules::control_table::layout::RouteId;
-use panel_desk::node_lines::simulator_event::Event;
+use panel_desk::{Command, Event, PanelCommand, RouteId};
 use std::alloc::AllocError;
 
 /// Whether an operator may ask for an event: a command, an occupancy, or a restart.
@@ -22,7 +19,7 @@ pub(crate) fn may_be_asked(event: &Event) -> bool
     }
 }
 
-/// Adds the events that commands ask for, one behind the other.
+/// Adds the events that commands ask for, one after the other.
 pub(crate) fn add_events(
     events: &mut Vec<Event>,
     routes: usize,
@@ -86,7 +83,7 @@ fn add_cancels(events: &mut Vec<Event>, routes: usize) -> Result<(), AllocError>
     Ok(())
 }
 
-/// What commands disturb is disturbed, one behind the other.
+/// What commands disturb is disturbed, one after the other.
 pub(crate) fn disturb_by(faults: &mut Faults, commands: &[PanelCommand])
     ensures { faults.new ≡ faults_after commands.now faults.old }
 {

@@ -1,22 +1,14 @@
 //! A network that is disturbed.
 
-ghost use Rattle.std.specs.Prelude.{◌≡◌, ◌++◌, IfOk, OnOk, map};
-ghost use Rattle.station_panel.specs.DisturbedNetwork.{Released, comes_late, disturbance, flag_at, flags_from, heeded, identities, is_cut_off, is_one_cut, is_sender_cut, is_turn, undisturbed};
+ghost use Rattle.std.specs.Prelude.{◌≡◌, IfOk};
+ghost use Rattle.station_panel.specs.DisturbedNetwork.{Released, comes_late, disturbance, flag_at, flags_from, heeded, is_cut_off, is_one_cut, is_sender_cut, is_turn, undisturbed};
 ghost use Rattle.station_panel.specs.Inside.{FirstGoes, Keeps, Loses, is_first_due};
 
 use crate::faults::Faults;
-use panel_desk::node_lines::ixl_rules::control_table::layout::Layout;
-use panel_desk::node_lines::ixl_rules::rasta_pdu::receiver_of;
-use panel_desk::node_lines::simulator_event::NodeId;
-use station_network::station_drive::{Datagrams, NetFault, Received};
+use panel_desk::{Layout, MICROS, NodeId, sender_of};
+use station_drive::{Datagrams, NetFault, Received};
 use std::alloc::{AllocError, Global};
 use std::collections::VecDeque;
-
-/// How many microseconds a millisecond has.
-const MICROS: u64 = 1000;
-
-/// Where the sender's identity stands in a datagram: behind the length, the type and the receiver's.
-const SENDER: usize = 4;
 
 /// A datagram that comes late.
 #[derive(Drop)]
@@ -67,7 +59,7 @@ impl<N: Drop> Disturbed<N> {
     pub fn of(alloc: Global, net: N, layout: &Layout) -> Result<Disturbed<N>, AllocError>
         ensures { IfOk result (λ d. disturbance d ≡ undisturbed layout.now net) }
     {
-        let ids = identities(alloc, layout)?;
+        let ids = layout.identities(alloc)?;
         let cut = vec![in alloc; false; ids.len()]?;
         Ok(Disturbed {
             net,
@@ -135,11 +127,7 @@ impl<N> Disturbed<N> {
     fn is_sender_cut(&self, bytes: &[u8]) -> bool
         ensures { result ≡ is_sender_cut (disturbance self.now) bytes.now }
     {
-        if bytes.len() < SENDER {
-            return false;
-        }
-        let (_, behind) = bytes.split_at(SENDER);
-        is_one_cut(&self.cut, receiver_of(behind), &self.ids)
+        is_one_cut(&self.cut, sender_of(bytes), &self.ids)
     }
 
     /// Keeps bytes that come late, if memory is there for them, and answers whether it does.
@@ -251,43 +239,4 @@ fn is_one_cut(cut: &[bool], sender: u32, ids: &[u32]) -> bool
         }
     }
     false
-}
-
-/// The identities of all nodes, in their order.
-fn identities(alloc: Global, layout: &Layout) -> Result<Vec<u32>, AllocError>
-    ensures { IfOk result (λ ids. ids.items ≡ identities layout.now) }
-{
-    let mut ids = Vec::new(alloc);
-    ids.push(layout.station().id)?;
-    add_signals(&mut ids, layout)?;
-    add_points(&mut ids, layout)?;
-    add_detectors(&mut ids, layout)?;
-    Ok(ids)
-}
-
-fn add_signals(ids: &mut Vec<u32>, layout: &Layout) -> Result<(), AllocError>
-    ensures { OnOk result (ids.new.items ≡ ids.old.items ++ map (λ one. one.id) layout.now.signals) }
-{
-    for signal in layout.signals() {
-        ids.push(signal.id)?;
-    }
-    Ok(())
-}
-
-fn add_points(ids: &mut Vec<u32>, layout: &Layout) -> Result<(), AllocError>
-    ensures { OnOk result (ids.new.items ≡ ids.old.items ++ map (λ one. one.id) layout.now.points) }
-{
-    for point in layout.points() {
-        ids.push(point.id)?;
-    }
-    Ok(())
-}
-
-fn add_detectors(ids: &mut Vec<u32>, layout: &Layout) -> Result<(), AllocError>
-    ensures { OnOk result (ids.new.items ≡ ids.old.items ++ map (λ one. one.id) layout.now.detectors) }
-{
-    for detector in layout.detectors() {
-        ids.push(detector.id())?;
-    }
-    Ok(())
 }

@@ -3,7 +3,7 @@
 ghost use Rattle.std.specs.Prelude.{◌≡◌, ◌≤◌, Some};
 ghost use Rattle.station_panel.specs.declared.ending.Ending.TheVariants as ends;
 
-use station_network::station_drive::DriveFault;
+use station_drive::DriveFault;
 use std::alloc::AllocError;
 use std::io;
 

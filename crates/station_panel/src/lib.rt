@@ -1,5 +1,5 @@
 //! The engine of a signaller's panel: rounds in which requests are answered, what was asked for happens to a station, and the
-//! desk shows the picture of the station behind the round.
+//! desk shows the picture of the station after the round.
 #![tactic(auto)]
 
 mod asked;
@@ -10,16 +10,15 @@ mod faults;
 mod log_lines;
 mod memory;
 mod noting;
+mod panel;
 mod picture_shown;
-mod seat;
 mod service;
 
-pub use attendance::attend;
 pub use disturbed::Disturbed;
 pub use ending::{Ending, Limits, PanelFault};
 pub use noting::Noting;
-pub use seat::places;
-pub use service::serve;
+pub use picture_shown::places;
+pub use service::{PanelOptions, Served, serve};
 
 // What a panel is made of.
 pub use panel_connections::{Listens, Loopback, tell_address};
@@ -27,4 +26,4 @@ pub use panel_desk::node_lines::{Authority, Known, LinkState};
 pub use panel_desk::{Desk, Mode, PageAsked, PanelLine, Pictured, open_desk};
 
 // What crates above need of the crates below.
-pub use station_network;
+pub use station_drive;

@@ -1,6 +1,6 @@
 //! How much memory the datagrams take that were sent.
 
-use station_network::station_drive::Station;
+use station_drive::Station;
 
 /// What is kept of a datagram beside its bytes, in the network and in the index of its copies.
 const BESIDE: u64 = 72;

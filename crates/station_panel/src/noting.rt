@@ -4,13 +4,10 @@ ghost use Rattle.std.specs.Prelude.{◌≡◌};
 ghost use Rattle.station_panel.specs.Asked.{may_be_asked};
 
 use crate::asked::may_be_asked;
-use panel_desk::node_lines::ixl_rules::control_table::Checked;
-use panel_desk::node_lines::ixl_rules::control_table::layout::PointId;
-use panel_desk::node_lines::ixl_rules::control_table::sci_telegram::Side;
-use panel_desk::node_lines::replay_lines::recorded;
-use panel_desk::node_lines::simulator_event::{Answer, Event, Refused, Reply};
-use panel_desk::{PanelLine, Pictured};
-use station_network::station_drive::{Outgoing, Station};
+use panel_desk::{
+    Answer, Checked, Event, PanelLine, Pictured, PointId, Refused, Reply, Side, recorded,
+};
+use station_drive::{Outgoing, Station};
 use std::alloc::{AllocError, Global};
 
 /// A station, and what it answered to the events that an operator may ask for since it was last told to forget.
@@ -73,6 +70,10 @@ impl<S: Station> Station for Noting<S> {
 
     fn sent_at(&self, place: usize) -> Option<Outgoing<'_>> {
         self.station.sent_at(place)
+    }
+
+    fn arrival(&self, place: usize) -> Option<Outgoing<'_>> {
+        self.station.arrival(place)
     }
 
     fn driven(&self, point: PointId) -> Option<Side> {

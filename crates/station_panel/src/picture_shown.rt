@@ -1,15 +1,25 @@
 //! What is seen is shown on the desk.
 
-ghost use Rattle.std.specs.Prelude.{◌≡◌, ◌++◌, OnOk};
+ghost use Rattle.std.specs.Prelude.{◌≡◌, ◌++◌, IfOk, OnOk};
 ghost use Rattle.panel_desk.specs.Boards.{shown_anew};
+ghost use Rattle.station_panel.specs.Opened.{place_count};
 ghost use Rattle.station_panel.specs.Shown.{cut_lines, fault_lines, jam_lines};
 
 use crate::faults::Faults;
-use panel_desk::node_lines::ixl_rules::control_table::layout::PointId;
-use panel_desk::node_lines::simulator_event::NodeId;
-use panel_desk::{Desk, PanelLine, Pictured, show_lines};
-use station_network::station_drive::Station;
+use panel_desk::{Desk, NodeId, PanelLine, Pictured, PointId, show_lines};
+use station_drive::Station;
 use std::alloc::{AllocError, Global};
+
+/// How many places a board needs for the picture of a station, with what is disturbed.
+pub fn places<S: Station + Pictured>(alloc: Global, station: &S) -> Result<usize, AllocError>
+    ensures { IfOk result (λ places. places ≡ place_count (S.site station.now) (S.lines station.now)) }
+{
+    let mut lines = station.picture(alloc)?;
+    let layout = station.table().layout();
+    let faults = Faults::none(alloc, layout.nodes(), layout.points().len())?;
+    add_fault_lines(&mut lines, &faults, 0, 0)?;
+    Ok(lines.len())
+}
 
 /// Shows the picture of a station anew, with what is disturbed, and how much memory is taken.
 pub(crate) fn show_picture<S: Station + Pictured>(

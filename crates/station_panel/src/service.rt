@@ -1,22 +1,40 @@
 //! A panel of a station, from its desk to its end.
 
-ghost use Rattle.std.specs.Prelude.{◌≡◌, ◌⊎◌, IfOk, None, OnErr};
-ghost use Rattle.panel_desk.specs.Answers.{DeskView};
-ghost use Rattle.station_panel.specs.DisturbedNetwork.{DisturbedView, disturbance, undisturbed};
+ghost use Rattle.std.specs.Prelude.{◌≡◌, [], IfOk, IsErr, OnErr, length};
+ghost use Rattle.panel_desk.specs.node_lines.replay_lines.Names.{node_names};
+ghost use Rattle.station_drive.specs.Drives.{beginning};
+ghost use Rattle.station_panel.specs.DisturbedNetwork.{disturbance, undisturbed};
+ghost use Rattle.station_panel.specs.Faults.{no_faults};
 ghost use Rattle.station_panel.specs.Opened.{IsOpened, page_of};
-ghost use Rattle.station_panel.specs.Turns.{Attended, CutShort, EndsSo, Moment};
+ghost use Rattle.station_panel.specs.Served.{IsAttended, IsBroken, IsServed, IsServedShort, seen_engine};
 
-use crate::attendance::attend;
 use crate::disturbed::Disturbed;
 use crate::ending::{Ending, Limits, PanelFault};
+use crate::faults::Faults;
+use crate::memory::Memory;
 use crate::noting::Noting;
-use crate::seat::places;
+use crate::panel::Panel;
+use crate::picture_shown::places;
 use panel_connections::{Listens, tell_address};
 use panel_desk::{Desk, PageAsked, Pictured, open_desk};
-use station_network::station_drive::{Clock, Datagrams, Station};
-use std::alloc::Global;
+use station_drive::{Clock, Course, Datagrams, Engine, Station};
+use std::alloc::{AllocError, Global};
 use std::io::Write;
 use std::random::RandomSource;
+
+/// What `station panel` is asked: its page, and up to when it is attended.
+#[derive(Clone, Copy, Debug)]
+pub struct PanelOptions<'a> {
+    pub page: PageAsked<'a>,
+    pub limits: Limits,
+}
+
+/// How a panel ended, and its record, which is handed back.
+#[derive(Drop)]
+pub struct Served<W> {
+    pub ended: Result<Ending, PanelFault>,
+    pub recorder: W,
+}
 
 /// A station with its network and its desk.
 #[derive(Drop)]
@@ -26,8 +44,8 @@ struct Room<S, N> {
     desk: Desk,
 }
 
-/// Serves a panel of a station, over a network, by a clock, with a record and a listener for browsers. Its desk is made, the
-/// address of its page is written to `out`, and it is attended up to its limits, as `attend` does that.
+/// Serves a panel of the station of an engine, by a clock, with a listener for browsers. Its desk is made, the address of its page
+/// is written to `out`, and it is attended up to its limits: after a first reading of the clock each further one makes a turn.
 pub fn serve<
     S: Station + Pictured + Drop,
     N: Datagrams + Drop,
@@ -38,34 +56,102 @@ pub fn serve<
     O: Write,
 >(
     rt: &R,
-    alloc: Global,
-    station: S,
-    net: N,
+    engine: Engine<S, N, W>,
     clock: &mut C,
-    recorder: &mut W,
     listener: &mut L,
-    page: &PageAsked<'_>,
-    limits: Limits,
+    asked: &PanelOptions<'_>,
     out: &mut O,
-) -> Result<Ending, PanelFault>
-    ensures done { IfOk result (λ ending. (opened : DeskView) × IsOpened (S.site station) (S.lines station) (page_of page.now) opened × (last : Moment S N) × (told : Attended S.does N.told N.carries (S.site station) S.state S.lines limits.memory station (undisturbed (S.site station) net) opened (W.contents recorder.old) (C.readings clock.old) (C.readings clock.new) last) × EndsSo limits.for_ms told.first told.readings ending × (last.text ≡ W.contents recorder.new)) }
-    // No turn was begun, or the station and its network were left so behind the turns that were made whole.
-    ensures stopped { OnErr result ((recorder.new ≡ recorder.old) ⊎ ((opened : DeskView) × IsOpened (S.site station) (S.lines station) (page_of page.now) opened × (last : Moment S N) × Attended S.does N.told N.carries (S.site station) S.state S.lines limits.memory station (undisturbed (S.site station) net) opened (W.contents recorder.old) (C.readings clock.old) None last × (left : S) × (left_net : DisturbedView N) × CutShort S.does N.told N.carries (S.site station) S.state S.lines last left left_net (W.contents recorder.new))) }
+) -> Served<W>
+    ensures done { IfOk result.ended (IsServed S.Station N.Datagrams S.Pictured (page_of asked.now.page) asked.now.limits engine (C.readings clock.old) (C.readings clock.new) (W.contents result.recorder)) }
+    ensures stopped { OnErr result.ended (IsServedShort S.Station N.Datagrams S.Pictured (page_of asked.now.page) asked.now.limits engine (C.readings clock.old) (W.contents result.recorder)) }
 {
-    let mut room = open_room(rt, alloc, station, net, page)?;
-    tell_address(page.port, out)?;
-    let ending = attend(
-        rt,
+    let (alloc, station, net, recorder) = engine.into_parts();
+    let page = &asked.page;
+    let ended = open_room(rt, alloc, station, net, page);
+    let Room { station, net, desk } = match ended {
+        Ok(room) => room,
+        Err(fault) => return not_begun(fault, recorder),
+    };
+    if let Err(error) = tell_address(page.port, out) {
+        return not_begun(PanelFault::from(error), recorder);
+    }
+    let engine = Engine {
         alloc,
-        &mut room.station,
-        &mut room.net,
-        clock,
+        station,
+        net,
         recorder,
-        listener,
-        &mut room.desk,
-        limits,
-    )?;
-    Ok(ending)
+    };
+    attend_engine(rt, engine, desk, clock, listener, asked.limits)
+}
+
+/// A panel didn't begin.
+fn not_begun<W>(fault: PanelFault, recorder: W) -> Served<W>
+    ensures fault { IsErr result.ended }
+    ensures recorder { result.recorder ≡ recorder }
+{
+    Served {
+        ended: Err(fault),
+        recorder,
+    }
+}
+
+/// Attends a panel with a desk up to its limits. After a first reading of the clock each further one makes a turn.
+fn attend_engine<
+    S: Station + Pictured + Drop,
+    N: Datagrams + Drop,
+    C: Clock,
+    W: Write,
+    R: RandomSource,
+    L: Listens,
+>(
+    rt: &R,
+    engine: Engine<Noting<S>, Disturbed<N>, W>,
+    desk: Desk,
+    clock: &mut C,
+    listener: &mut L,
+    limits: Limits,
+) -> Served<W>
+    ensures done { IfOk result.ended (IsAttended S.Station N.Datagrams S.Pictured limits (seen_engine engine) desk (C.readings clock.old) (C.readings clock.new) (W.contents result.recorder)) }
+    ensures stopped { OnErr result.ended (IsBroken S.Station N.Datagrams S.Pictured limits (seen_engine engine) desk (C.readings clock.old) (W.contents result.recorder)) }
+{
+    let first = clock.read();
+    let (course, faults) = match begin(&engine, first) {
+        Ok(both) => both,
+        Err(_) => {
+            let (_, recorder) = engine.into_outside();
+            return not_begun(PanelFault::OutOfMemory, recorder);
+        }
+    };
+    let commands = Vec::new(engine.alloc);
+    let mut panel = Panel {
+        engine,
+        course,
+        desk,
+        faults,
+        commands,
+        memory: Memory::new(),
+    };
+    let ended = match panel.attend(rt, clock, listener, limits) {
+        Ok(ending) => Ok(ending),
+        Err(fault) => Err(PanelFault::from(fault)),
+    };
+    Served {
+        ended,
+        recorder: panel.into_recorder(),
+    }
+}
+
+/// How a run of a panel begins at a first reading of the clock: nothing is disturbed.
+fn begin<'a, S: Station, N, W: Write>(
+    engine: &Engine<S, N, W>,
+    first: u64,
+) -> Result<(Course<'a>, Faults), AllocError>
+    ensures course { IfOk result (λ both. both.0 ≡ beginning (S.site engine.now.station) [] first) }
+    ensures faults { IfOk result (λ both. both.1 ≡ no_faults (length (node_names (S.site engine.now.station))) (length (S.site engine.now.station).points)) }
+{
+    let layout = engine.station.table().layout();
+    let faults = Faults::none(engine.alloc, layout.nodes(), layout.points().len())?;
+    Ok((engine.begin(&[], first)?, faults))
 }
 
 /// Makes the desk of a station, and its network.

@@ -288,7 +288,7 @@ module _ (l : Site) where
 
 -- ---- tables
 
--- all stand in tables behind this one
+-- all stand in tables after this one
 abbrev Behind : ℕ → List Subject → Type 0
 Behind k xs = (s : Subject) → Contains xs s → k < table s
 

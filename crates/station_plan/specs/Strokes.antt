@@ -40,6 +40,6 @@ text_of (Text at anchor words) = string_bytes words
 abbrev pub strokes : List Mark → List (List ℕ)
 strokes marks = flat_map (λ mark. stroke_of (string_bytes mark.class) mark.shape) marks
 
--- what the texts among marks say, one behind the other
+-- what the texts among marks say, one after the other
 abbrev pub written : List Mark → List ℕ
 written marks = flat_map (λ mark. text_of mark.shape) marks

@@ -35,7 +35,7 @@ impl Sketch {
         true
     }
 
-    /// Puts an element behind those that a search found before.
+    /// Puts an element after those that a search found before.
     pub(crate) fn enlist(&mut self, element: usize) {
         put(&mut self.order, self.found, element);
         self.found = self.found.saturating_add(1);

@@ -15,8 +15,7 @@ use crate::style::STYLE;
 use crate::thing::Thing;
 use crate::thing_list::things;
 use crate::units::Units;
-use control_table::Checked;
-use control_table::layout::Layout;
+use control_table::{Checked, Layout};
 use drawing::{Anchor, Frame, Group, Picture, Strip};
 use std::alloc::{AllocError, Global};
 

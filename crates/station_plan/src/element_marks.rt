@@ -8,8 +8,8 @@ use crate::marks::Marks;
 use crate::sketch::{Sketch, sign, spot};
 use crate::units::Units;
 use crate::yard::Place;
+use control_table::Name;
 use control_table::layout::End;
-use control_table::sci_telegram::Name;
 use drawing::{Anchor, Spot};
 use std::alloc::AllocError;
 
@@ -90,7 +90,7 @@ fn draw_connector(marks: &mut Marks, sketch: &Sketch, place: Place) -> Result<()
     marks.number(along(end, side, slope, ring), number)
 }
 
-/// Draws the tip or a leg of a point. No buffer stands behind an open one: that of a trap point just ends.
+/// Draws the tip or a leg of a point. No buffer stands after an open one: that of a trap point just ends.
 pub(crate) fn draw_branch(
     marks: &mut Marks,
     more: &mut Marks,

@@ -45,7 +45,7 @@ fn add_groups(groups: &mut Vec<Group>, alloc: Global, things: Vec<Thing>) -> Res
     Ok(())
 }
 
-/// Adds things as groups, in order, and behind them what is written below the plan, to a list that is empty.
+/// Adds things as groups, in order, and after them what is written below the plan, to a list that is empty.
 pub(crate) fn add_all(
     groups: &mut Vec<Group>,
     alloc: Global,

@@ -40,7 +40,7 @@ pub(crate) const EMPTY: Room = Room {
     is_occupied: false,
 };
 
-/// What lies behind the last row.
+/// What lies after the last row.
 const BEHIND: Room = Room {
     y: Units(0),
     above: Units(0),

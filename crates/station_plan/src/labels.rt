@@ -3,8 +3,8 @@
 use crate::sketch::Sketch;
 use crate::subjects::{element_name, section_of};
 use crate::units::{Units, count};
-use control_table::layout::{Element, Layout, SectionId, Track};
-use control_table::sci_telegram::Name;
+use control_table::layout::{Element, Track};
+use control_table::{Layout, Name, SectionId};
 
 /// How wide a letter is.
 pub(crate) const LETTER: Units = Units(6);

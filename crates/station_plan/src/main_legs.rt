@@ -2,8 +2,8 @@
 
 use crate::sketch::Sketch;
 use crate::yard::{FAR, Place};
-use control_table::layout::{End, PointId, Route};
-use control_table::sci_telegram::{Aspect, Side};
+use control_table::layout::{End, Route};
+use control_table::{Aspect, PointId, Side};
 
 /// The base of the number of a way, whose digits are at most `FAR`.
 const BASE: usize = 1001;
@@ -119,7 +119,7 @@ impl Sketch {
         }
     }
 
-    /// How good the way behind a leg is, as a number; the least one is the best. Its digits: how many points it passes to a
+    /// How good the way after a leg is, as a number; the least one is the best. Its digits: how many points it passes to a
     /// border, at best; how much shorter it is than the longest that could be; the number of the element to which the leg
     /// leads.
     fn way_behind(&self, leg: Place) -> usize {

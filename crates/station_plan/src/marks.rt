@@ -5,7 +5,7 @@ ghost use Rattle.station_plan.specs.Strokes.{circle, line, polygon, stroke_of, s
 
 use crate::element_marks::moved;
 use crate::labels::{LINE, WRAP};
-use control_table::sci_telegram::Name;
+use control_table::Name;
 use drawing::{Anchor, Mark, Shape, Spot};
 use std::alloc::{AllocError, Global};
 

@@ -4,7 +4,8 @@ use crate::element_marks::moved;
 use crate::marks::Marks;
 use crate::shown::{Shown, route_words};
 use crate::units::Units;
-use control_table::layout::{Layout, Route};
+use control_table::Layout;
+use control_table::layout::Route;
 use drawing::{Anchor, Spot};
 use std::alloc::AllocError;
 
@@ -22,7 +23,7 @@ enum Sample {
     Lamps(&'static str, &'static str),
 }
 
-/// What marks a route, behind its own line.
+/// What marks a route, after its own line.
 const ROUTE_LINES: &[(Sample, &str)] = &[
     (
         Sample::Guard,
@@ -68,7 +69,7 @@ pub(crate) fn draw_legend(
     Ok(())
 }
 
-/// Draws what the marks of a route mean, behind what is said of it.
+/// Draws what the marks of a route mean, after what is said of it.
 fn draw_route(
     marks: &mut Marks,
     layout: &Layout,

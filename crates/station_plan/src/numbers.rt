@@ -1,7 +1,8 @@
 //! The elements of a layout, by numbers: tracks first, then points, then borders, each in table order.
 
 use crate::yard::Place;
-use control_table::layout::{BorderId, Element, End, Layout, PointId, Port, TrackId};
+use control_table::layout::{Element, End, Port};
+use control_table::{BorderId, Layout, PointId, TrackId};
 
 /// How many elements of each kind there are.
 #[derive(Clone, Copy)]

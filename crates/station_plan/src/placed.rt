@@ -9,8 +9,8 @@ use crate::numbers::Numbers;
 use crate::subjects::{element_name, same_section, section_of};
 use crate::thing::Subject;
 use crate::yard::Place;
-use control_table::layout::{End, Joint, Layout, Point, Signal, Track};
-use control_table::sci_telegram::Name;
+use control_table::layout::{End, Joint, Point, Signal, Track};
+use control_table::{Layout, Name};
 use std::alloc::AllocError;
 
 /// What is to be drawn of one subject.

@@ -4,8 +4,8 @@ ghost use Rattle.std.specs.Prelude.{◌≡◌};
 ghost use Rattle.std.specs.List.{position};
 ghost use Rattle.std.specs.Str.{bytes_eq};
 
+use control_table::Name;
 use control_table::layout::{Point, Route, Signal};
-use control_table::sci_telegram::Name;
 
 /// An entry of a table of the layout, which goes by a name.
 pub(crate) trait Named {

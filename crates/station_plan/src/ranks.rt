@@ -80,7 +80,7 @@ impl Sketch {
         }
     }
 
-    /// Lays lines that hang at nothing behind one another, as long as they are together no longer than the longest way: so
+    /// Lays lines that hang at nothing after one another, as long as they are together no longer than the longest way: so
     /// they can share a row.
     fn lay_beside(&mut self, longest: usize) {
         let mut begin: usize = 0;

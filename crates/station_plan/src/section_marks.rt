@@ -10,8 +10,8 @@ use crate::labels::{LETTER, LINE, lines};
 use crate::marks::Marks;
 use crate::sketch::{Sketch, spot};
 use crate::units::{Units, count};
-use control_table::layout::{Detector, Layout, Point, SectionId, Track};
-use control_table::sci_telegram::Name;
+use control_table::layout::{Detector, Point, Track};
+use control_table::{Layout, Name, SectionId};
 use drawing::{Anchor, Spot};
 use std::alloc::AllocError;
 
@@ -149,7 +149,7 @@ pub(crate) fn draw_detector(marks: &mut Marks, name: &Name, at: Spot) -> Result<
     marks.text("label", moved(at, 30, 0), Anchor::Start, name.as_str())
 }
 
-/// Writes the names of the sections of a detection controller behind its own, with so many letters on a line. It tells how
+/// Writes the names of the sections of a detection controller after its own, with so many letters on a line. It tells how
 /// far down they come.
 pub(crate) fn draw_list(
     more: &mut Marks,
@@ -177,7 +177,7 @@ pub(crate) fn draw_list(
     Ok(Units(next.y) + LINE + Units(5))
 }
 
-/// Writes words behind so many letters.
+/// Writes words after so many letters.
 fn draw_words(more: &mut Marks, begin: Spot, before: usize, words: &str) -> Result<(), AllocError> {
     let at = moved(begin, LETTER.times(count(before)).0, 0);
     more.text("label", at, Anchor::Start, words)

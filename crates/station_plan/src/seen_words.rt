@@ -6,8 +6,7 @@ ghost use Rattle.station_plan.specs.Faces.{aspect_state, known, leg_state, occup
 use crate::places::place_of;
 use crate::shown::{Seen, Shown};
 use crate::thing::Subject;
-use control_table::layout::Layout;
-use control_table::sci_telegram::{Aspect, Name, Occupancy, Position, Side};
+use control_table::{Aspect, Layout, Name, Occupancy, Position, Side};
 
 /// What is known at a place of a list, if anything is.
 fn known<T: Copy>(list: &[Option<T>], place: Option<usize>) -> Option<T>

@@ -3,11 +3,11 @@
 use crate::placed::Placed;
 use crate::section_marks::{detector_of, tint};
 use crate::thing::Subject;
-use control_table::layout::{
-    BorderId, Detector, Element, Exit, Layout, PointId, Route, RouteId, SectionId, SignalId,
+use control_table::layout::{Detector, Element, Exit, Route};
+use control_table::{
+    Aspect, BorderId, Layout, Occupancy, PointId, Position, RouteId, SectionId, Side, SignalId,
     TrackId,
 };
-use control_table::sci_telegram::{Aspect, Occupancy, Position, Side};
 use std::alloc::{AllocError, Global};
 
 /// What is seen of a station. What a list lacks isn't known.
@@ -182,16 +182,8 @@ pub(crate) fn route_words(
     let name = route.name().as_str();
     let entry = exit_word(layout, Exit::Signal(route.entry()));
     let exit = exit_word(layout, route.exit());
-    let aspect = aspect_word(route.aspect());
+    let aspect = route.aspect().word();
     format!(in alloc; "route {name} from {entry} to {exit}, {aspect}")
-}
-
-fn aspect_word(aspect: Aspect) -> &'static str {
-    match aspect {
-        Aspect::Stop => "stop",
-        Aspect::Proceed => "proceed",
-        Aspect::Slow => "slow",
-    }
 }
 
 /// The name of the signal or the border at which a route may end.

@@ -9,7 +9,7 @@ use crate::marks::Marks;
 use crate::sketch::{Sketch, sign};
 use crate::units::Units;
 use crate::yard::Place;
-use control_table::sci_telegram::Name;
+use control_table::Name;
 use drawing::{Anchor, Spot};
 use std::alloc::AllocError;
 

@@ -7,7 +7,8 @@ use crate::strands::{NOTHING, Strand};
 use crate::units::Units;
 use crate::widths::{CONNECTOR, POINT};
 use crate::yard::{ElementFacts, Place, PortFacts, UNJOINED, UNKNOWN};
-use control_table::layout::{Element, Layout};
+use control_table::Layout;
+use control_table::layout::Element;
 use drawing::Spot;
 use std::alloc::{AllocError, Global};
 

@@ -5,8 +5,8 @@ ghost use Rattle.control_table.specs.Topology.{section_of};
 ghost use Rattle.station_plan.specs.Subjects.{kind_text, name_text, own_name, same_section, element_name};
 
 use crate::thing::Subject;
-use control_table::layout::{Element, End, Layout, SectionId};
-use control_table::sci_telegram::Name;
+use control_table::layout::{Element, End};
+use control_table::{Layout, Name, SectionId};
 
 /// The word of a subject's kind, and the name that it goes by.
 pub(crate) fn words_of(subject: &Subject) -> (&'static str, &Name)
@@ -27,7 +27,7 @@ pub(crate) fn words_of(subject: &Subject) -> (&'static str, &Name)
     }
 }
 
-/// The word of a joint's port, behind a dot.
+/// The word of a joint's port, after a dot.
 pub(crate) fn end_word(subject: &Subject) -> &'static str
     ensures { own_name subject.now ++ result.now ≡ name_text subject.now }
 {

@@ -1,7 +1,7 @@
 //! What a plan draws.
 
+use control_table::Name;
 use control_table::layout::End;
-use control_table::sci_telegram::Name;
 use drawing::Mark;
 
 /// What a thing in a plan stands for, with its name.

@@ -19,8 +19,8 @@ use crate::signal_marks::draw_signal;
 use crate::sketch::{Sketch, spot};
 use crate::thing::{Subject, Thing};
 use crate::units::Units;
-use control_table::Checked;
-use control_table::layout::{Detector, Layout};
+use control_table::layout::Detector;
+use control_table::{Checked, Layout};
 use drawing::Spot;
 use std::alloc::{AllocError, Global};
 

@@ -14,7 +14,7 @@ pub(crate) const POINT: Units = Units(14);
 const BORDER: Units = Units(10);
 /// How long a signal is, from its foot to the joint.
 const SIGNAL: Units = Units(36);
-/// How far a signal stands away from a joint behind which a leg parts at its side.
+/// How far a signal stands away from a joint after which a leg parts at its side.
 const CLEAR: Units = Units(22);
 /// The room beside a text.
 const BESIDE: Units = Units(14);

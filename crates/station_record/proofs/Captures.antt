@@ -6,17 +6,16 @@ use Rattle.std.proofs.lemmas.Option.{slice_get_cases}
 use Rattle.capture_file.specs.Blocks.{head, packet_block}
 use Rattle.capture_file.specs.Captures.{IsCapture}
 use Rattle.capture_file.specs.Journeys.{Sent}
-use Rattle.capture_file.specs.declared.fault.CaptureFault.TheVariants.{TooLong, Exists, CannotWrite}
+use Rattle.capture_file.specs.declared.fault.CaptureFault.TheVariants.{TooLong}
 use Rattle.capture_file.specs.declared.journey.Endpoint.{Endpoint}
 use Rattle.replay.specs.rasta_core.Links.{OnLink}
 use Rattle.replay.specs.World.{IsFirst, Played}
 use Rattle.replay.specs.layout.Entries.{Site}
 use Rattle.replay.specs.replay_lines.declared.session.Entry.{Entry}
-use Rattle.replay.specs.station_check.declared.failure.Failure.TheVariants.{Layout, Table, Line, OutOfMemory, NotWritten}
+use Rattle.replay.specs.station_check.declared.failure.Failure.{Failure}
+use Rattle.replay.specs.station_check.declared.failure.Failure.TheVariants.{Capture, OutOfMemory}
 use Rattle.station_record.specs.CapturedSession.{IsCaptureOf, IsFileOf, captured}
 use Rattle.station_record.specs.Traffic.{left_by}
-use Rattle.station_record.specs.declared.capture_failure.CaptureFailure.{CaptureFailure}
-use Rattle.station_record.specs.declared.capture_failure.CaptureFailure.TheVariants.{Station, Capture}
 use Rattle.station_record.specs.inside.CapturesSoFar.{Adds, Captures, IsNoCapture, IsNoFile}
 
 pub begins : (given : List Endpoint) (file : List ℕ) → file ≡ head → IsCapture [] file → IsCaptureOf given [] file
@@ -54,35 +53,30 @@ ends given sent count place file counted past is = subst (λ (all : List OnLink)
 -- ---- of a session
 
 -- what is sent from a first world on is what the session sends
-pub file_told : {F : Type 0} (given : List Endpoint) (items : F → List ℕ) (site : Site) (first : Played) (entries : List Entry) (tried : Result F CaptureFailure) → IsFirst site first
+pub file_told : {F : Type 0} (given : List Endpoint) (items : F → List ℕ) (site : Site) (first : Played) (entries : List Entry) (tried : Result F Failure) → IsFirst site first
     → IfOk tried (λ file. IsCaptureOf given (left_by first entries).run.sent (items file)) → IfOk tried (λ file. IsFileOf site entries given (items file))
 file_told given items site first entries (Ok file) begins is = record { first = first; begins = begins; is = is }
 file_told given items site first entries (Err why) begins is = tt
 
-no_file : (site : Site) (first : Played) (entries : List Entry) (why : CaptureFailure) → IsFirst site first → IsNoCapture (left_by first entries).run.sent why → IsNoFile site entries why
-no_file site first entries (Station (Layout fault)) begins so = so
-no_file site first entries (Station (Table fault)) begins so = so
-no_file site first entries (Station (Line fault)) begins so = so
-no_file site first entries (Station OutOfMemory) begins so = tt
-no_file site first entries (Station NotWritten) begins so = so
+no_file : (site : Site) (first : Played) (entries : List Entry) (why : Failure) → IsFirst site first → IsNoCapture (left_by first entries).run.sent why → IsNoFile site entries why
+no_file site first entries OutOfMemory begins so = tt
 no_file site first entries (Capture TooLong) begins so = record { first = first; begins = begins; has = so }
-no_file site first entries (Capture Exists) begins so = so
-no_file site first entries (Capture CannotWrite) begins so = so
+no_file site first entries other begins so = absurd so
 
-pub no_file_told : {F : Type 0} (site : Site) (first : Played) (entries : List Entry) (tried : Result F CaptureFailure) → IsFirst site first
+pub no_file_told : {F : Type 0} (site : Site) (first : Played) (entries : List Entry) (tried : Result F Failure) → IsFirst site first
     → IfErr tried (IsNoCapture (left_by first entries).run.sent) → IfErr tried (IsNoFile site entries)
 no_file_told site first entries (Ok file) begins so = tt
 no_file_told site first entries (Err why) begins so = no_file site first entries why begins so
 
--- ---- behind a session
+-- ---- after a session
 
 -- what a network lends that is the one of a world
-pub capture_of_sent : {F : Type 0} (given : List Endpoint) (items : F → List ℕ) (sent : List OnLink) (now behind : Played) (tried : Result F CaptureFailure) → sent ≡ now.run.sent → now ≡ behind
+pub capture_of_sent : {F : Type 0} (given : List Endpoint) (items : F → List ℕ) (sent : List OnLink) (now behind : Played) (tried : Result F Failure) → sent ≡ now.run.sent → now ≡ behind
     → IfOk tried (λ file. IsCaptureOf given sent (items file)) → IfOk tried (λ file. IsCaptureOf given behind.run.sent (items file))
 capture_of_sent given items sent now behind tried same is so =
     subst (λ (all : List OnLink). IfOk tried (λ file. IsCaptureOf given all (items file))) (same ∙ ap (λ (w : Played). w.run.sent) is) so
 
-pub no_capture_of_sent : {F : Type 0} (sent : List OnLink) (now behind : Played) (tried : Result F CaptureFailure) → sent ≡ now.run.sent → now ≡ behind → IfErr tried (IsNoCapture sent)
+pub no_capture_of_sent : {F : Type 0} (sent : List OnLink) (now behind : Played) (tried : Result F Failure) → sent ≡ now.run.sent → now ≡ behind → IfErr tried (IsNoCapture sent)
     → IfErr tried (IsNoCapture behind.run.sent)
 no_capture_of_sent sent now behind tried same is so =
     subst (λ (all : List OnLink). IfErr tried (IsNoCapture all)) (same ∙ ap (λ (w : Played). w.run.sent) is) so

@@ -2,7 +2,7 @@
 use Rattle.std.proofs.Common.{◌≡◌, ◌∙◌, ℕ, ◌+◌, ◌≤◌, List, [], ◌∷◌, ◌++◌, length, drop, map, refl, ap, sym, subst}
 use Rattle.std.proofs.Math.ListN.{drop_of_length-le}
 use Rattle.std.proofs.lemmas.List.{append-nil, append_assoc}
-use Rattle.replay.specs.simulator_run.Tried.{Played, after}
+use Rattle.replay.specs.simulator_spec.Tried.{Played, after}
 use Rattle.replay.specs.replay_lines.declared.session.Entry.{Entry}
 use Rattle.station_record.specs.Changes.{TellsEvents, TellsLanes, watch_of}
 use Rattle.station_record.specs.Marks.{Mark, mark_of, marks_of}
@@ -58,7 +58,7 @@ pub marks_close : (entries : List Entry) (place : ℕ) (now : Played) (old whole
 unfolding marks_of
 marks_close entries place now old whole past so = sym (append-nil old) ∙ ap (λ es. old ++ marks_of (place + 1) now es) (sym (drop_of_length-le entries past)) ∙ so
 
--- ---- the world behind all
+-- ---- the world after all
 
 pub behind_more : (entries : List Entry) (place : ℕ) (entry : Entry) (now then whole : Played) → drop place entries ≡ entry ∷ drop (place + 1) entries → then ≡ after now entry.event
     → world_behind now (drop place entries) ≡ whole → world_behind then (drop (place + 1) entries) ≡ whole

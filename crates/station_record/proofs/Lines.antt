@@ -17,7 +17,7 @@ use Rattle.station_record.specs.Traffic.{OnWire, by_event, done_by, sent_behind,
 use Rattle.station_record.specs.inside.Places.{line_if}
 use Rattle.station_record.proofs.Applied.{data_stays}
 
--- What was written so far, and behind it the lines of the entries from a place on, are those of all.
+-- What was written so far, and after it the lines of the entries from a place on, are those of all.
 pub record GoesOn (site : Site) (first : Played) (all : List Entry) (place : ℕ) (now : Played) (old new : Option (List ℕ)) : Type 0 where
   pub written : List ℕ
   pub appended : Appends old new written
@@ -32,7 +32,7 @@ done_first : (site : Site) (done : Option OnWire) (sent : List OnWire) → line_
 done_first site None sent = refl
 done_first site (Some one) sent = refl
 
--- The lines of an event: that of what it does to a datagram, and behind it those of what is sent by it.
+-- The lines of an event: that of what it does to a datagram, and after it those of what is sent by it.
 pub lines_of_event : (happening : Event) (old new : Played) (site : Site) (time count : ℕ) (refused : Option Refused) (sent : List OnLink) (begun told text : List ℕ) → site ≡ old.sited.site → time ≡ old.run.time
     → count ≡ length old.run.sent → refused ≡ refusal_of happening old → new ≡ after old happening → sent ≡ new.run.sent → begun ≡ []
     → told ≡ begun ++ line_if site (done_by time refused happening) → text ≡ told ++ lines_text site (sent_behind count sent) → text ≡ lines_text old.sited.site (by_event happening old)
@@ -45,7 +45,7 @@ lines_of_event happening old new site time count refused sent begun told text si
     ∙ (ap (λ t. t ++ lines_text site (sent_behind count sent)) done
     ∙ (same ∙ done_first old.sited.site (done_by old.run.time (refusal_of happening old) happening) (sent_behind (length old.run.sent) (after old happening).run.sent)))
 
--- the lines of an event stand before those of the events behind it
+-- the lines of an event stand before those of the events after it
 one_first : (site : Site) (now next : Played) (this : Entry) (left : List Entry) (text : List ℕ) → now.sited.site ≡ site
     → text ≡ lines_text now.sited.site (by_event this.event now) → next ≡ after now this.event
     → text ++ lines_text site (traffic next left) ≡ lines_text site (traffic now (this ∷ left))

@@ -1,9 +1,9 @@
--- What is told of lanes that were looked at behind an event.
+-- What is told of lanes that were looked at after an event.
 use Rattle.std.proofs.Common.{◌≡◌, ◌∙◌, ◌↔◌, ℕ, ◌+◌, ◌≤◌, Bool, true, false, IsTrue, List, [], ◌∷◌, ◌++◌, length, drop, map, refl, ap, sym, subst, inl, inr}
 use Rattle.std.proofs.Math.ListN.{drop_of_length-le}
 use Rattle.std.proofs.lemmas.Bool.{false≢true}
 use Rattle.std.proofs.lemmas.List.{append-nil, append_assoc}
-use Rattle.replay.specs.simulator_run.Tried.{Played}
+use Rattle.replay.specs.simulator_spec.Tried.{Played}
 use Rattle.station_record.specs.Changes.{TellsLane, TellsLanes, change_to, watch_of}
 use Rattle.station_record.specs.Seen.{seen_at}
 use Rattle.station_record.specs.inside.FirstChanges.{first_change}

@@ -7,7 +7,7 @@ use Rattle.station_record.specs.Lines.{lines_text}
 use Rattle.station_record.specs.Traffic.{sent_behind}
 use Rattle.station_record.specs.inside.Places.{line_at}
 
--- the line of a place stands before those behind it
+-- the line of a place stands before those after it
 one_first : (site : Site) (sent : List OnLink) (place : ℕ) → line_at site (slice_get sent place) ++ lines_text site (sent_behind (suc place) sent) ≡ lines_text site (sent_behind place sent)
 one_first site [] zero = refl
 one_first site [] (suc place) = refl

@@ -2,10 +2,10 @@
 use Rattle.std.proofs.Common.{◌≡◌, ◌∙◌, ℕ, zero, suc, ◌<◌, ◌≤◌, Bool, List, [], ◌∷◌, length, Some, None, refl, ap, sym, subst, arith}
 use Rattle.std.specs.Prelude.{IfSome, slice_get}
 use Rattle.std.specs.Option.{option_map}
-use Rattle.replay.specs.ixl_rules.State.{IxlState, RouteState}
-use Rattle.replay.specs.ixl_rules.Table.{passes}
+use Rattle.replay.specs.ixl_spec.State.{IxlState, RouteState}
+use Rattle.replay.specs.ixl_spec.Table.{passes}
 use Rattle.replay.specs.simulator.ixl_state.State.{AtRoute, StateView, field_of, rest_of}
-use Rattle.replay.specs.simulator.ixl_state.ixl_field.Field.{FieldState, Rest, kept}
+use Rattle.replay.specs.simulator.ixl_state.ixl_known.Field.{FieldState, Rest, kept}
 use Rattle.station_record.specs.Links.{link_of}
 use Rattle.station_record.specs.Seen.{progress_of}
 use Rattle.lane_chart.specs.declared.lane.Progress.{Progress}

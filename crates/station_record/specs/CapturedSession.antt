@@ -1,13 +1,13 @@
 -- What a recorded session comes to as a capture.
-use Rattle.std.specs.Prelude.{◌≡◌, ◌<◌, ℕ, Bool, true, false, List, [], ◌∷◌, ◌++◌, length, map, take, codes, slice_get, Option, Some, Ok}
+use Rattle.std.specs.Prelude.{◌≡◌, ◌<◌, ℕ, Bool, true, false, List, [], ◌∷◌, ◌++◌, length, map, codes, slice_get, Option, Some, Ok}
 use Rattle.std.specs.Io.KnownBytes.{Appends}
 use Rattle.std.specs.List.{flat_map}
 use Rattle.capture_file.specs.Blocks.{head, packet_block}
 use Rattle.capture_file.specs.Captures.{IsCapture}
-use Rattle.capture_file.specs.Faults.{fault_line}
 use Rattle.capture_file.specs.NodeEnds.{end_of}
 use Rattle.capture_file.specs.declared.fault.CaptureFault.TheVariants.{TooLong}
 use Rattle.capture_file.specs.Journeys.{Sent}
+use Rattle.capture_file.specs.declared.journey.TheConstants.{MOST_BYTES}
 use Rattle.capture_file.specs.declared.journey.Endpoint.{Endpoint}
 use Rattle.capture_file.specs.declared.journey.Journey.{Journey}
 use Rattle.replay.specs.ReplayedSession.{Explains as ExplainsStation}
@@ -16,12 +16,10 @@ use Rattle.replay.specs.layout.Entries.{Site}
 use Rattle.replay.specs.rasta_core.Links.{OnLink}
 use Rattle.replay.specs.replay_lines.Session.{session}
 use Rattle.replay.specs.replay_lines.declared.session.Entry.{Entry}
-use Rattle.replay.specs.station_check.Failures.{told_line as station_line}
 use Rattle.replay.specs.station_check.Report.{IsSound}
-use Rattle.replay.specs.station_check.declared.failure.Failure.TheVariants as station
+use Rattle.replay.specs.station_check.declared.failure.Failure.{Failure}
+use Rattle.replay.specs.station_check.declared.failure.Failure.TheVariants.{Capture}
 use Rattle.station_record.specs.Traffic.{left_by, sender}
-use Rattle.station_record.specs.declared.capture_failure.CaptureFailure.{CaptureFailure}
-use Rattle.station_record.specs.declared.capture_failure.CaptureFailure.TheVariants.{Station, Capture}
 
 -- ---- datagrams
 
@@ -51,7 +49,7 @@ pub record HasTooLong (sent : List OnLink) : Type 0 where
   pub place : ℕ
   pub one : OnLink
   pub there : slice_get sent place ≡ Some one
-  pub long : 512 < length one.datagram.bytes
+  pub long : MOST_BYTES < length one.datagram.bytes
 
 -- ---- sessions
 
@@ -92,25 +90,6 @@ pub record IsCaptured (layout text : List ℕ) (given : List Endpoint) (before n
 -- ---- what fails
 
 -- Why no capture is written: as a session isn't replayed, or a datagram is too long.
-abbrev pub Explains : List ℕ → List ℕ → CaptureFailure → Type 0
-Explains layout text (Station why) = ExplainsStation layout text why
+abbrev pub Explains : List ℕ → List ℕ → Failure → Type 0
 Explains layout text (Capture TooLong) = IsTooLong layout text
-Explains layout text (Capture fault) = ⊥
-
--- The writer stays as it is, unless the capture was begun.
-abbrev pub Leaves : {W : Type 0} → CaptureFailure → W → W → Type 0
-Leaves (Station station.NotWritten) old new = Unit {0}
-Leaves why old new = new ≡ old
-
--- the line that tells why
-abbrev pub told_line : CaptureFailure → List ℕ
-told_line (Station why) = station_line why
-told_line (Capture fault) = fault_line fault
-
--- This line was told, as far as the writer took it, and nothing else.
-abbrev pub Tells : CaptureFailure → Option (List ℕ) → Option (List ℕ) → Type 0
-Tells why old new = (told : ℕ) × Appends old new (take told (told_line why))
-
--- Why no capture was written was told.
-abbrev pub Explained : {W : Type 0} → List ℕ → List ℕ → W → W → Option (List ℕ) → Option (List ℕ) → Type 0
-Explained layout text out_old out_new old new = (why : CaptureFailure) × Explains layout text why × Leaves why out_old out_new × Tells why old new
+Explains layout text why = ExplainsStation layout text why

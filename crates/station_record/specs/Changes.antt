@@ -1,6 +1,6 @@
 -- The changes of a session: each time when a lane shows something else than before, in the order of the session, once.
 use Rattle.std.specs.Prelude.{◌≡◌, ◌≢◌, ◌⊎◌, ◌+◌, ℕ, List, [], ◌∷◌, ◌++◌, map}
-use Rattle.replay.specs.simulator_run.Tried.{Played, after}
+use Rattle.replay.specs.simulator_spec.Tried.{Played, after}
 use Rattle.replay.specs.replay_lines.declared.session.Entry.{Entry}
 use Rattle.lane_chart.specs.declared.change.Change.{Change}
 use Rattle.station_record.specs.declared.watch.Watch.{Watch}

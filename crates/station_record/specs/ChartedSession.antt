@@ -1,6 +1,5 @@
 -- What is written of a recorded session that is drawn, and what is told where none is drawn.
-use Rattle.std.specs.Prelude.{◌≡◌, ℕ, ◌*◌, ◌-◌, ◌^◌, min, codes, List, ◌++◌, map, take, Option, Some, None, Result, Ok, Err}
-use Rattle.std.specs.Fmt.{decimal}
+use Rattle.std.specs.Prelude.{◌≡◌, ℕ, ◌*◌, ◌-◌, ◌^◌, min, List, map, Option, Some, None, Result, Ok, Err}
 use Rattle.std.specs.Io.KnownBytes.{Appends}
 use Rattle.drawing.specs.Svg.{svg_text}
 use Rattle.drawing.specs.declared.picture.Picture.{Picture}
@@ -10,18 +9,16 @@ use Rattle.lane_chart.specs.declared.drawn.DrawnRow.{DrawnRow}
 use Rattle.lane_chart.specs.declared.scale.Window.{Window}
 use Rattle.replay.specs.World.{AnswersSame, IsFirst}
 use Rattle.replay.specs.layout.Entries.{Site}
-use Rattle.replay.specs.simulator_run.Tried.{Played}
+use Rattle.replay.specs.simulator_spec.Tried.{Played}
 use Rattle.replay.specs.replay_lines.Session.{session}
 use Rattle.replay.specs.replay_lines.declared.session.Entry.{Entry}
 use Rattle.replay.specs.ReplayedSession.{Explains as ExplainsStation}
-use Rattle.replay.specs.station_check.Failures.{told_line as station_line}
 use Rattle.replay.specs.station_check.Report.{IsSound}
-use Rattle.replay.specs.station_check.declared.failure.Failure.TheVariants as station
+use Rattle.replay.specs.station_check.declared.failure.Failure.{Failure}
+use Rattle.replay.specs.station_check.declared.failure.Failure.TheVariants.{Differs}
 use Rattle.station_record.specs.Differences.{DiffersIn}
 use Rattle.station_record.specs.Story.{IsStoryOf}
 use Rattle.station_record.specs.declared.chart.Cut.{Cut}
-use Rattle.station_record.specs.declared.chart_failure.ChartFailure.{ChartFailure}
-use Rattle.station_record.specs.declared.chart_failure.ChartFailure.TheVariants.{Differs, Station}
 use Rattle.station_record.specs.declared.story.Story.{Story}
 
 -- a time in microseconds, or another one where none is given; products end at the greatest of a machine word
@@ -29,7 +26,7 @@ abbrev pub micros_or : ℕ → Option ℕ → ℕ
 micros_or otherwise (Some millis) = min (millis * 1000) (2 ^ 64 - 1)
 micros_or otherwise None = otherwise
 
--- The part of true time that is drawn: no time behind the end of the session.
+-- The part of true time that is drawn: no time after the end of the session.
 abbrev pub window_of : Cut → ℕ → Window
 window_of cut end = record { from = micros_or 0 cut.from; to = min (micros_or end cut.to) end }
 
@@ -59,9 +56,10 @@ IsCharted layout text cut before now = (chart : List ℕ) × IsSessionChart layo
 -- ---- why there is none
 
 -- A call has failed, and not since an event differs.
-abbrev pub IsFaulty : {A : Type 0} → Result A ChartFailure → Type 0
-IsFaulty (Err (Station why)) = Unit {0}
-IsFaulty _ = ⊥
+abbrev pub IsFaulty : {A : Type 0} → Result A Failure → Type 0
+IsFaulty (Err (Differs line)) = ⊥
+IsFaulty (Err why) = Unit {0}
+IsFaulty (Ok _) = ⊥
 
 -- The texts are without a fault, but an event answers otherwise than it was recorded, the first at this line.
 pub record DiffersAt (layout text : List ℕ) (line : ℕ) : Type 0 where
@@ -72,34 +70,6 @@ pub record DiffersAt (layout text : List ℕ) (line : ℕ) : Type 0 where
   pub differs : DiffersIn site entries (Differs line)
 
 -- Why nothing is drawn: as a session isn't replayed, or an event answers otherwise than it was recorded.
-abbrev pub Explains : List ℕ → List ℕ → ChartFailure → Type 0
-Explains layout text (Station why) = ExplainsStation layout text why
+abbrev pub Explains : List ℕ → List ℕ → Failure → Type 0
 Explains layout text (Differs line) = DiffersAt layout text line
-
--- The writer of the picture stays as it is, unless the picture was begun.
-abbrev pub Leaves : {W : Type 0} → ChartFailure → W → W → Type 0
-Leaves (Station station.NotWritten) old new = Unit {0}
-Leaves why old new = new ≡ old
-
--- how a difference is told
-abbrev pub difference_text : ℕ → List ℕ
-difference_text line = codes "differs at line " ++ (decimal line ++ codes "\n")
-
--- the line that tells why
-abbrev pub told_line : ChartFailure → List ℕ
-told_line (Station why) = station_line why
-told_line (Differs line) = difference_text line
-
--- This line was told, as far as the writer took it, and nothing else.
-abbrev pub Tells : ChartFailure → Option (List ℕ) → Option (List ℕ) → Type 0
-Tells why old new = (told : ℕ) × Appends old new (take told (told_line why))
-
--- the status where nothing is drawn
-abbrev pub status_of : ChartFailure → ℕ
-status_of (Station why) = 1
-status_of (Differs line) = 3
-
--- Why nothing was drawn was told, and the status is that of it.
-abbrev pub Explained : {W : Type 0} → ℕ → List ℕ → List ℕ → W → W → Option (List ℕ) → Option (List ℕ) → Type 0
-Explained status layout text out_old out_new old new =
-    (why : ChartFailure) × (status ≡ status_of why) × Explains layout text why × Leaves why out_old out_new × Tells why old new
+Explains layout text why = ExplainsStation layout text why

@@ -5,13 +5,13 @@ use Rattle.std.specs.List.{flat_map}
 use Rattle.replay.specs.replay_lines.Names.{node_names}
 use Rattle.replay.specs.layout.Entries.{Site}
 use Rattle.replay.specs.simulator_event.Refused.{number_of}
-use Rattle.replay.specs.simulator_event.declared.event.NodeId.{NodeId}
+use Rattle.replay.specs.simulator_event.layout.declared.ids.NodeId.{NodeId}
 use Rattle.station_decode.specs.Datagrams.{datagram_text}
 use Rattle.station_record.specs.Traffic.{OnWire}
 use Rattle.station_record.specs.declared.fate.Fate.{Fate}
 use Rattle.station_record.specs.declared.fate.Fate.TheVariants.{Sent, Delivered, Lost}
 
--- microseconds as milliseconds, with three digits behind the point
+-- microseconds as milliseconds, with three digits after the point
 abbrev pub time_text : ℕ → List ℕ
 time_text time =
     decimal (time / 1000) ++ (codes "." ++ (decimal (time / 100 % 10) ++ (decimal (time / 10 % 10) ++ decimal (time % 10))))

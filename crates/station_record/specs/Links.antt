@@ -1,9 +1,9 @@
 -- How far the interlocking's links are.
 use Rattle.std.specs.Prelude.{ℕ, Bool, if◌then◌else◌, slice_get}
-use Rattle.replay.specs.ixl_rules.State.{IxlState, KnownDetectorState}
-use Rattle.replay.specs.ixl_rules.Table.{passes}
-use Rattle.replay.specs.ixl_rules.View.{is_detector_up, is_point_ready, is_point_up, is_signal_ready, is_signal_up}
-use Rattle.replay.specs.ixl_rules.ixl_client.Client.{is_ready}
+use Rattle.replay.specs.ixl_spec.State.{IxlState, KnownDetectorState}
+use Rattle.replay.specs.ixl_spec.Table.{passes}
+use Rattle.replay.specs.ixl_spec.View.{is_detector_up, is_point_ready, is_point_up, is_signal_ready, is_signal_up}
+use Rattle.replay.specs.ixl_spec.ixl_client.Client.{is_ready}
 use Rattle.lane_chart.specs.declared.lane.Readiness.{Readiness}
 use Rattle.lane_chart.specs.declared.lane.Readiness.TheVariants.{Down, Ready, Up}
 

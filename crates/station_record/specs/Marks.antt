@@ -4,7 +4,7 @@ use Rattle.lane_chart.specs.declared.change.Happening.{Happening}
 use Rattle.replay.specs.layout.Entries.{Site}
 use Rattle.replay.specs.simulator_event.declared.event.Event.{Event}
 use Rattle.replay.specs.simulator_event.declared.event.Event.TheVariants as event
-use Rattle.replay.specs.simulator_run.Tried.{Played, after}
+use Rattle.replay.specs.simulator_spec.Tried.{Played, after}
 use Rattle.replay.specs.replay_lines.Answers.{answer_text}
 use Rattle.replay.specs.replay_lines.Written.{event_line}
 use Rattle.replay.specs.replay_lines.declared.session.Entry.{Entry}
@@ -28,7 +28,7 @@ abbrev pub node_of : Event → Option ℕ
 node_of (event.Restart node clock first) = Some node.0
 node_of _ = None
 
--- the words of an event, and behind them its answer
+-- the words of an event, and after them its answer
 abbrev pub with_answer : Option (List ℕ) → List ℕ → List ℕ
 with_answer (Some happened) answered = happened ++ (codes " = " ++ answered)
 with_answer None answered = answered

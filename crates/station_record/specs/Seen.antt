@@ -1,17 +1,17 @@
 -- What is seen of each lane in a world.
 use Rattle.std.specs.Prelude.{◌==◌, ℕ, nat_lt, if◌then◌else◌, List, length, find, Option, None, slice_get}
 use Rattle.std.specs.Option.{option_map}
-use Rattle.replay.specs.ixl_rules.State.{RouteState}
-use Rattle.replay.specs.ixl_rules.declared.phase.Phase.{Phase}
-use Rattle.replay.specs.ixl_rules.declared.phase.Phase.TheVariants as phase
+use Rattle.replay.specs.ixl_spec.State.{RouteState}
+use Rattle.replay.specs.ixl_spec.declared.phase.Phase.{Phase}
+use Rattle.replay.specs.ixl_spec.declared.phase.Phase.TheVariants as phase
 use Rattle.replay.specs.layout.declared.ids.RouteId.{RouteId}
 use Rattle.replay.specs.sci_telegram.declared.message.Aspect.{Aspect}
 use Rattle.replay.specs.sci_telegram.declared.message.Occupancy.{Occupancy}
 use Rattle.replay.specs.sci_telegram.declared.message.Position.{Position}
-use Rattle.replay.specs.simulator.simulator_snapshot.declared.snapshot.Held.{Held}
-use Rattle.replay.specs.simulator_run.Interlocking.{held_of}
-use Rattle.replay.specs.simulator_run.Seen.{shown_by}
-use Rattle.replay.specs.simulator_run.Tried.{Played, driven}
+use Rattle.replay.specs.simulator.simulator_event.declared.snapshot.Held.{Held}
+use Rattle.replay.specs.simulator_spec.Interlocking.{held_of}
+use Rattle.replay.specs.simulator_spec.Seen.{shown_by}
+use Rattle.replay.specs.simulator_spec.Tried.{Played, driven}
 use Rattle.lane_chart.specs.declared.lane.Lane.{Lane}
 use Rattle.lane_chart.specs.declared.lane.Kind.{Kind}
 use Rattle.lane_chart.specs.declared.lane.Kind.TheVariants as kind
@@ -51,20 +51,20 @@ progress_of (phase.Ended clock freed) = progress.Ended freed
 
 -- how far a route is
 abbrev pub progress_at : Played → ℕ → Option Progress
-progress_at world place = option_map (λ (kept : RouteState). progress_of kept.phase) (slice_get world.run.station.ixl.routes place)
+progress_at world place = option_map (λ (kept : RouteState). progress_of kept.phase) (slice_get world.run.interlocking.ixl.routes place)
 
 -- ---- a lane
 
 abbrev pub seen_of : Played → ℕ → Kind → Seen
 seen_of world place kind.Aspect = seen.Aspect (aspect_at world place)
-seen_of world place kind.Authority = seen.Authority (held_for place (held_of world.sited.table world.run.station world.run.frozen))
+seen_of world place kind.Authority = seen.Authority (held_for place (held_of world.sited.table world.run.interlocking world.run.frozen))
 seen_of world place kind.Position = seen.Position (position_at world place)
 seen_of world place kind.Drive = seen.Drive (driven world (record { 0 = place }))
 seen_of world place kind.Section = seen.Section (occupancy_at world place)
 seen_of world place kind.Route = seen.Route (progress_at world place)
-seen_of world place kind.SignalLink = seen.Link (signal_link world.run.station.ixl place)
-seen_of world place kind.PointLink = seen.Link (point_link world.run.station.ixl place)
-seen_of world place kind.DetectorLink = seen.Link (detector_link world.run.station.ixl place)
+seen_of world place kind.SignalLink = seen.Link (signal_link world.run.interlocking.ixl place)
+seen_of world place kind.PointLink = seen.Link (point_link world.run.interlocking.ixl place)
+seen_of world place kind.DetectorLink = seen.Link (detector_link world.run.interlocking.ixl place)
 
 abbrev pub seen_at : Played → Lane → Seen
 seen_at world lane = seen_of world lane.place lane.kind

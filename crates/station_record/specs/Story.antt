@@ -1,12 +1,12 @@
 -- What happens in a session.
 use Rattle.std.specs.Prelude.{◌≡◌, List, [], ◌∷◌, map}
-use Rattle.replay.specs.simulator_run.Tried.{Played, after}
+use Rattle.replay.specs.simulator_spec.Tried.{Played, after}
 use Rattle.replay.specs.replay_lines.declared.session.Entry.{Entry}
 use Rattle.station_record.specs.declared.story.Story.{Story}
 use Rattle.station_record.specs.Changes.{IsHistory}
 use Rattle.station_record.specs.Marks.{marks_of, seen_mark}
 
--- the world behind all events of a session
+-- the world after all events of a session
 unfoldable pub world_behind : Played → List Entry → Played
 world_behind now [] = now
 world_behind now (entry ∷ later) = world_behind (after now entry.event) later

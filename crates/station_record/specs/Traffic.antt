@@ -6,7 +6,7 @@ use Rattle.replay.specs.rasta_core.Names.{partner_of}
 use Rattle.replay.specs.rasta_core.identity.Role.{Role}
 use Rattle.replay.specs.simulator_event.declared.event.Event.{Event}
 use Rattle.replay.specs.simulator_event.declared.event.Event.TheVariants as event
-use Rattle.replay.specs.simulator_event.declared.event.NodeId.{NodeId}
+use Rattle.replay.specs.simulator_event.layout.declared.ids.NodeId.{NodeId}
 use Rattle.replay.specs.simulator_event.refused.Refused.{Refused}
 use Rattle.replay.specs.World.{Played, after, receiver, refusal_of}
 use Rattle.station_record.specs.declared.fate.Fate.{Fate}
@@ -32,7 +32,7 @@ sent_on one = record {
   bytes = one.datagram.bytes;
 }
 
--- those behind so many
+-- those after so many
 abbrev pub sent_behind : ℕ → List OnLink → List OnWire
 sent_behind count sent = map sent_on (drop count sent)
 
@@ -62,7 +62,7 @@ abbrev pub traffic : Played → List Entry → List OnWire
 traffic world [] = []
 traffic world (entry ∷ more) = by_event entry.event world ++ traffic (after world entry.event) more
 
--- the world behind them
+-- the world after them
 abbrev pub left_by : Played → List Entry → Played
 left_by world [] = world
 left_by world (entry ∷ more) = left_by (after world entry.event) more

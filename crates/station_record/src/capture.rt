@@ -3,18 +3,17 @@
 ghost use Rattle.std.specs.Prelude.{◌≡◌, ◌≤◌, IsErr, IfErr, IfOk, OnOk};
 ghost use Rattle.replay.specs.ReplayedSession.{CanReplay};
 ghost use Rattle.replay.specs.World.{played};
-ghost use Rattle.station_record.specs.CapturedSession.{Explained, Explains, IsCaptureOf, IsCaptured, IsFileOf, IsSessionCapture, Leaves};
+ghost use Rattle.replay.specs.station_check.Failures.{Explained, Leaves};
+ghost use Rattle.station_record.specs.CapturedSession.{Explains, IsCaptureOf, IsCaptured, IsFileOf, IsSessionCapture};
 ghost use Rattle.station_record.specs.Traffic.{left_by};
 ghost use Rattle.station_record.specs.inside.CapturesSoFar.{IsNoCapture, IsNoFile};
 
-use crate::capture_failure::{CaptureFailure, tell_failure};
-use crate::replayed::{apply_all, first_world};
+use crate::replayed::apply_all;
 use crate::sent_captured::capture_of;
 use crate::texts::{Texts, read_texts};
 use capture_file::Endpoint;
 use control_table::Checked;
-use replay::Entry;
-use replay::simulator::World;
+use replay::{Entry, Failure, World, first_world, tell};
 use std::alloc::Global;
 use std::io::Write;
 
@@ -37,14 +36,11 @@ pub fn capture_session<W: Write, E: Write>(
     ensures faulty { (CanReplay layout.now recording.now → ⊥) → (result ≡ 1) × (out.new ≡ out.old) }
     ensures silent { result ≡ 0 → err.new ≡ err.old }
     // Only a beginning of the line was told where a write to `err` failed.
-    ensures explains { result ≡ 1 → Explained layout.now recording.now out.old out.new (E.contents err.old) (E.contents err.new) }
+    ensures explains { result ≡ 1 → Explained (Explains layout.now recording.now) result out.old out.new (E.contents err.old) (E.contents err.new) }
 {
     match capture(alloc, layout, recording, endpoints, out) {
         Ok(()) => 0,
-        Err(failure) => {
-            tell_failure(&failure, err);
-            1
-        }
+        Err(failure) => tell(&failure, err),
     }
 }
 
@@ -55,7 +51,7 @@ fn capture<W: Write>(
     recording: &str,
     endpoints: &[Endpoint],
     out: &mut W,
-) -> Result<(), CaptureFailure>
+) -> Result<(), Failure>
     ensures done { OnOk result (IsCaptured layout.now recording.now endpoints.now (W.contents out.old) (W.contents out.new)) }
     ensures faulty { (CanReplay layout.now recording.now → ⊥) → IsErr result × (out.new ≡ out.old) }
     ensures explains { IfErr result (λ failure. Explains layout.now recording.now failure × Leaves failure out.old out.new) }
@@ -72,7 +68,7 @@ pub(crate) fn session_capture(
     layout: &str,
     recording: &str,
     endpoints: &[Endpoint],
-) -> Result<Vec<u8>, CaptureFailure>
+) -> Result<Vec<u8>, Failure>
     ensures done { IfOk result (λ file. IsSessionCapture layout.now recording.now endpoints.now file.items) }
     ensures replays { OnOk result (CanReplay layout.now recording.now) }
     ensures faulty { (CanReplay layout.now recording.now → ⊥) → IsErr result }
@@ -90,7 +86,7 @@ fn file_of(
     table: Checked,
     entries: &[Entry],
     endpoints: &[Endpoint],
-) -> Result<Vec<u8>, CaptureFailure>
+) -> Result<Vec<u8>, Failure>
     ensures is { IfOk result (λ file. IsFileOf table entries.now endpoints.now file.items) }
     ensures failed { IfErr result (IsNoFile table entries.now) }
 {
@@ -106,7 +102,7 @@ fn capture_behind(
     world: &mut World,
     entries: &[Entry],
     endpoints: &[Endpoint],
-) -> Result<Vec<u8>, CaptureFailure>
+) -> Result<Vec<u8>, Failure>
     ensures is { IfOk result (λ file. IsCaptureOf endpoints.now (left_by (played world.old) entries.now).run.sent file.items) }
     ensures failed { IfErr result (IsNoCapture (left_by (played world.old) entries.now).run.sent) }
 {

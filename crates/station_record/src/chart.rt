@@ -2,22 +2,19 @@
 
 ghost use Rattle.std.specs.Prelude.{◌≡◌, ◌⊎◌, IfErr, IfOk, OnOk};
 ghost use Rattle.replay.specs.ReplayedSession.{CanReplay};
-ghost use Rattle.station_record.specs.ChartedSession.{Explained, Explains, IsCharted, IsFaulty, IsSessionChart, IsTextOf, Leaves, micros_or, window_of};
+ghost use Rattle.replay.specs.station_check.Failures.{Explained, Leaves};
+ghost use Rattle.station_record.specs.ChartedSession.{Explains, IsCharted, IsFaulty, IsSessionChart, IsTextOf, micros_or, window_of};
 ghost use Rattle.station_record.specs.Differences.{DiffersIn};
 ghost use Rattle.station_record.specs.inside.ChartedTexts.{IsChartedBy};
 
-use crate::chart_failure::{ChartFailure, tell_difference};
 use crate::story::{Story, story_of};
 use crate::texts::{Texts, read_texts};
-use control_table::layout::Layout;
+use control_table::Layout;
 use drawing::svg;
 use lane_chart::{Window, chart, drawn_rows};
-use replay::station_check::tell;
+use replay::{Failure, MICROS, tell};
 use std::alloc::{AllocError, Global};
 use std::io::Write;
-
-/// How many microseconds a millisecond has.
-const MICROS: u64 = 1000;
 
 /// Which part of a session is drawn, in milliseconds of true time. Without them it begins with the session, and it ends with it
 /// at the latest.
@@ -46,18 +43,11 @@ pub fn chart_text<W: Write, E: Write>(
     ensures faulty { (CanReplay layout.now recording.now → ⊥) → (result ≡ 1) × (out.new ≡ out.old) }
     ensures silent { result ≡ 0 → err.new ≡ err.old }
     // Only a beginning of the line was told where a write to `err` failed.
-    ensures explains { (result ≡ 0 → ⊥) → Explained result layout.now recording.now out.old out.new (E.contents err.old) (E.contents err.new) }
+    ensures explains { (result ≡ 0 → ⊥) → Explained (Explains layout.now recording.now) result out.old out.new (E.contents err.old) (E.contents err.new) }
 {
     match write_chart(alloc, layout, recording, cut, out) {
         Ok(()) => 0,
-        Err(ChartFailure::Differs(line)) => {
-            tell_difference(line, err);
-            3
-        }
-        Err(ChartFailure::Station(failure)) => {
-            tell(&failure, err);
-            1
-        }
+        Err(failure) => tell(&failure, err),
     }
 }
 
@@ -68,7 +58,7 @@ fn write_chart<W: Write>(
     recording: &str,
     cut: Cut,
     out: &mut W,
-) -> Result<(), ChartFailure>
+) -> Result<(), Failure>
     ensures done { OnOk result (IsCharted layout.now recording.now cut (W.contents out.old) (W.contents out.new)) }
     ensures faulty { (CanReplay layout.now recording.now → ⊥) → IsFaulty result × (out.new ≡ out.old) }
     ensures explains { IfErr result (λ failure. Explains layout.now recording.now failure × Leaves failure out.old out.new) }
@@ -80,12 +70,7 @@ fn write_chart<W: Write>(
 }
 
 /// Judges the texts, applies the session, and draws what happens in it.
-fn session_chart(
-    alloc: Global,
-    layout: &str,
-    recording: &str,
-    cut: Cut,
-) -> Result<Vec<u8>, ChartFailure>
+fn session_chart(alloc: Global, layout: &str, recording: &str, cut: Cut) -> Result<Vec<u8>, Failure>
     ensures drawn { IfOk result (λ text. IsSessionChart layout.now recording.now cut text.items) }
     ensures replays { OnOk result (CanReplay layout.now recording.now) }
     ensures faulty { (CanReplay layout.now recording.now → ⊥) → IsFaulty result }
@@ -98,7 +83,7 @@ fn session_chart(
 }
 
 /// Applies the session of texts, and draws what happens in it.
-fn chart_of(alloc: Global, texts: &Texts, cut: Cut) -> Result<Vec<u8>, ChartFailure>
+fn chart_of(alloc: Global, texts: &Texts, cut: Cut) -> Result<Vec<u8>, Failure>
     ensures drawn { IfOk result (λ text. IsChartedBy texts.now.table texts.now.entries.items cut text.items) }
     ensures differs { IfErr result (DiffersIn texts.now.table texts.now.entries.items) }
 {
@@ -119,7 +104,7 @@ fn micros_or(otherwise: u64, millis: Option<u64>) -> u64
     }
 }
 
-/// The part of true time that is drawn: no time behind the end of the session.
+/// The part of true time that is drawn: no time after the end of the session.
 fn window_of(cut: Cut, end: u64) -> Window
     ensures { result ≡ window_of cut end }
 {

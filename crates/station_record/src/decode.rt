@@ -1,22 +1,18 @@
 //! A recorded session, put into words.
 
 ghost use Rattle.std.specs.Prelude.{◌≡◌, ◌≤◌, IsErr, IfErr, OnOk};
-ghost use Rattle.replay.specs.ReplayedSession.{CanReplay, Explained, Explains};
-ghost use Rattle.replay.specs.station_check.Failures.{Leaves};
+ghost use Rattle.replay.specs.ReplayedSession.{CanReplay, Explains};
+ghost use Rattle.replay.specs.station_check.Failures.{ExplainedParts, IsLate, LeavesParts};
 ghost use Rattle.std.specs.Io.KnownBytes.{Appends};
 ghost use Rattle.replay.specs.World.{played};
 ghost use Rattle.station_record.specs.DecodedSession.{IsDecoded, IsTold};
 ghost use Rattle.station_record.specs.Lines.{lines_text};
 ghost use Rattle.station_record.specs.Traffic.{traffic};
-ghost use Rattle.station_record.specs.inside.Late.{IsLate};
 
 use crate::event_lines::event_lines;
-use crate::replayed::first_world;
 use crate::texts::{Texts, read_texts};
 use control_table::Checked;
-use replay::Entry;
-use replay::simulator::World;
-use replay::station_check::{Failure, tell};
+use replay::{Entry, Failure, World, first_world, tell};
 use std::alloc::Global;
 use std::io::Write;
 
@@ -36,14 +32,11 @@ pub fn decode_session_text<W: Write, E: Write>(
     ensures faulty { (CanReplay layout.now recording.now → ⊥) → (result ≡ 1) × (out.new ≡ out.old) }
     ensures silent { result ≡ 0 → err.new ≡ err.old }
     // Only a beginning of the line was told where a write to `err` failed.
-    ensures explains { result ≡ 1 → Explained layout.now recording.now out.old out.new (E.contents err.old) (E.contents err.new) }
+    ensures explains { result ≡ 1 → ExplainedParts (Explains layout.now recording.now) result out.old out.new (E.contents err.old) (E.contents err.new) }
 {
     match decode(alloc, layout, recording, out) {
         Ok(()) => 0,
-        Err(failure) => {
-            tell(&failure, err);
-            1
-        }
+        Err(failure) => tell(&failure, err),
     }
 }
 
@@ -56,7 +49,7 @@ fn decode<W: Write>(
 ) -> Result<(), Failure>
     ensures done { OnOk result (IsDecoded layout.now recording.now (W.contents out.old) (W.contents out.new)) }
     ensures faulty { (CanReplay layout.now recording.now → ⊥) → IsErr result × (out.new ≡ out.old) }
-    ensures explains { IfErr result (λ failure. Explains layout.now recording.now failure × Leaves failure out.old out.new) }
+    ensures explains { IfErr result (λ failure. Explains layout.now recording.now failure × LeavesParts failure out.old out.new) }
 {
     let texts = read_texts(alloc, layout, recording)?;
     let Texts { table, entries } = texts;

@@ -3,9 +3,7 @@
 ghost use Rattle.std.specs.Prelude.{◌≡◌};
 ghost use Rattle.station_record.specs.Traffic.{sender};
 
-use replay::receiver;
-use replay::simulator::NodeId;
-use replay::simulator::simulator_run::ixl_rules::rasta_core::Role;
+use replay::{NodeId, Role, receiver};
 
 /// The node that sent on a link. Its partner would have sent to it.
 pub(crate) fn sender(who: Role, link: usize) -> NodeId

@@ -10,10 +10,8 @@ use crate::ends::sender;
 use crate::fate::Fate;
 use crate::line::line;
 use crate::replayed::try_event;
-use control_table::layout::Layout;
-use replay::receiver;
-use replay::simulator::simulator_field::Network;
-use replay::simulator::{Event, Refused, World};
+use control_table::Layout;
+use replay::{Event, Network, Refused, World, receiver};
 use std::alloc::{AllocError, Global};
 
 /// Adds the line for what becomes of a datagram at a moment.
@@ -51,7 +49,7 @@ fn push_sent(
     push_line(alloc, layout, one.at, fate, one.bytes, text)
 }
 
-/// Adds the lines of the datagrams that were sent behind so many.
+/// Adds the lines of the datagrams that were sent after so many.
 fn push_all_sent(
     alloc: Global,
     layout: &Layout,

@@ -1,6 +1,6 @@
 //! What becomes of datagrams.
 
-use replay::simulator::{NodeId, Refused};
+use replay::{NodeId, Refused};
 
 /// What becomes of a datagram on the network of a station. The network may refuse to deliver or to lose it.
 #[derive(Clone, Copy)]

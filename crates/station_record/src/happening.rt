@@ -6,8 +6,7 @@ ghost use Rattle.station_record.specs.Marks.{is_marked, mark_of, node_of, seen_m
 
 use control_table::Checked;
 use lane_chart::Happening;
-use replay::simulator::{Event, World};
-use replay::{AnswerText, Entry, write_event};
+use replay::{AnswerText, Entry, Event, World, write_event};
 use std::alloc::{AllocError, Global};
 
 /// Whether an event is marked: a command, or a node that is made anew.

@@ -3,7 +3,7 @@
 ghost use Rattle.std.specs.Prelude.{◌≡◌, ◌++◌, IfOk, OnOk};
 ghost use Rattle.station_record.specs.Lanes.{lanes_below, lanes_of};
 
-use control_table::layout::Layout;
+use control_table::Layout;
 use lane_chart::{Kind, Lane};
 use std::alloc::{AllocError, Global};
 

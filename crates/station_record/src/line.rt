@@ -4,9 +4,8 @@ ghost use Rattle.std.specs.Prelude.{◌≡◌, IfOk, Some, string_bytes};
 ghost use Rattle.station_record.specs.Lines.{line_text};
 
 use crate::fate::Fate;
-use control_table::layout::Layout;
-use replay::replay_lines::node_name;
-use replay::simulator::NodeId;
+use control_table::Layout;
+use replay::NodeId;
 use station_decode::datagram_words;
 use std::alloc::{AllocError, Global};
 use std::fmt;
@@ -45,7 +44,7 @@ impl<'a> fmt::Display for NodeText<'a> {
     ghost output = { λ text. Some (node_text text.layout.now text.node) };
 
     fn fmt<W: fmt::Write>(&self, f: &mut fmt::Formatter<W>) -> fmt::Result {
-        match node_name(self.layout, self.node) {
+        match self.layout.node_name(self.node) {
             Some(name) => {
                 let name = name.as_str();
                 write!(f, "{name}")

@@ -1,23 +1,12 @@
 //! A world to which the events of a session happen again.
 
 ghost use Rattle.std.specs.Prelude.{◌≡◌, IfOk, OnOk};
-ghost use Rattle.replay.specs.World.{IsFirst, after, played, refusal_of};
+ghost use Rattle.replay.specs.World.{after, played, refusal_of};
 ghost use Rattle.station_record.specs.Traffic.{left_by};
 ghost use Rattle.station_record.specs.inside.Late.{IsKnown};
 
-use control_table::Checked;
-use replay::simulator::{Event, Refused, World};
-use replay::{self, Entry};
-use std::alloc::{AllocError, Global};
-
-/// The first world of a table.
-pub(crate) fn first_world(alloc: Global, table: Checked) -> Result<World, AllocError>
-    ensures { IfOk result (λ world. IsFirst table (played world)) }
-{
-    // Every checked layout is a station, in which no name stands twice.
-    table.layout();
-    World::new(alloc, table)
-}
+use replay::{Entry, Event, Refused, Station, World};
+use std::alloc::AllocError;
 
 /// Applies an event, and tells why it can't happen, if it can't.
 pub(crate) fn try_event(world: &mut World, event: &Event) -> Result<Option<Refused>, AllocError>
@@ -25,7 +14,7 @@ pub(crate) fn try_event(world: &mut World, event: &Event) -> Result<Option<Refus
     ensures world { OnOk result (played world.new ≡ after (played world.old) event.now) }
     ensures sited { OnOk result (world.new.sited ≡ world.old.sited) }
 {
-    match replay::try_event(world, event) {
+    match Station::apply(world, event) {
         Ok(_) => Ok(None),
         Err(why) => known(why),
     }

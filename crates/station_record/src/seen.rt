@@ -2,16 +2,14 @@
 
 ghost use Rattle.std.specs.Prelude.{◌≡◌};
 ghost use Rattle.replay.specs.World.{played};
-ghost use Rattle.replay.specs.simulator_run.Interlocking.{held_of};
+ghost use Rattle.replay.specs.simulator_spec.Interlocking.{held_of};
 ghost use Rattle.station_record.specs.Seen.{aspect_at, held_for, occupancy_at, position_at, progress_at, progress_of, seen_at};
-ghost use Rattle.replay.specs.simulator_run.Tried.{driven};
+ghost use Rattle.replay.specs.simulator_spec.Tried.{driven};
 
 use crate::links::{detector_link, point_link, signal_link};
-use control_table::sci_telegram::{Aspect, Occupancy, Position, Side};
-use control_table::{PointId, RouteId, SectionId, SignalId};
+use control_table::{Aspect, Occupancy, PointId, Position, RouteId, SectionId, Side, SignalId};
 use lane_chart::{Kind, Lane, Progress, Seen};
-use replay::simulator::simulator_run::ixl_rules::Phase;
-use replay::simulator::{Held, World};
+use replay::{Held, Phase, World};
 
 /// What a signal shows.
 fn aspect_at(world: &World, place: usize) -> Option<Aspect>
@@ -93,7 +91,7 @@ fn progress_at(world: &World, place: usize) -> Option<Progress>
 
 /// What is seen of a lane, where these pairs of signal and route are held.
 pub(crate) fn seen_at(world: &World, held: &[Held], lane: Lane) -> Seen
-    requires held { held.now ≡ held_of world.now.sited.table world.now.run.station world.now.run.frozen }
+    requires held { held.now ≡ held_of world.now.sited.table world.now.run.interlocking world.now.run.frozen }
     ensures { result ≡ seen_at (played world.now) lane }
 {
     let Lane { kind, place } = lane;

@@ -5,11 +5,9 @@ ghost use Rattle.station_record.specs.CapturedSession.{IsCaptureOf, comment, jou
 ghost use Rattle.replay.specs.simulator.simulator_field.Network.{lent};
 ghost use Rattle.station_record.specs.inside.CapturesSoFar.{Captures, IsNoCapture};
 
-use crate::capture_failure::CaptureFailure;
 use crate::ends::sender;
 use capture_file::{CaptureFault, Endpoint, Journey, MOST_BYTES, begin, end_of, push_datagram};
-use replay::receiver;
-use replay::simulator::simulator_field::{Network, SentOn};
+use replay::{Failure, Network, SentOn, receiver};
 use std::alloc::Global;
 
 /// What is remarked of a datagram.
@@ -37,7 +35,7 @@ fn push_sent(
     given: &[Endpoint],
     place: usize,
     file: &mut Vec<u8>,
-) -> Result<(), CaptureFailure>
+) -> Result<(), Failure>
     ensures added { OnOk result (Captures given.now (slice_get network.now.sent place) file.old.items file.new.items) }
     ensures failed { IfErr result (IsNoCapture network.now.sent) }
 {
@@ -45,7 +43,7 @@ fn push_sent(
         return Ok(());
     };
     if one.bytes.len() > MOST_BYTES {
-        return Err(CaptureFailure::Capture(CaptureFault::TooLong));
+        return Err(Failure::Capture(CaptureFault::TooLong));
     }
     push_datagram(
         alloc,
@@ -62,7 +60,7 @@ pub(crate) fn capture_of(
     alloc: Global,
     network: &Network,
     given: &[Endpoint],
-) -> Result<Vec<u8>, CaptureFailure>
+) -> Result<Vec<u8>, Failure>
     ensures is { IfOk result (λ file. IsCaptureOf given.now network.now.sent file.items) }
     ensures failed { IfErr result (IsNoCapture network.now.sent) }
 {

@@ -1,9 +1,9 @@
 //! A session, applied again to a world, and what changes in it.
 
 ghost use Rattle.std.specs.Prelude.{◌≡◌, ◌++◌, IfErr, IfOk, List, OnOk, ◌↔◌, IsTrue, map};
-ghost use Rattle.replay.specs.World.{AnswersSame, IsFirst, answer, played};
-ghost use Rattle.replay.specs.simulator_run.Interlocking.{held_of};
-ghost use Rattle.replay.specs.simulator_run.Tried.{Played, after};
+ghost use Rattle.replay.specs.World.{AnswersSame, IsFirst, played};
+ghost use Rattle.replay.specs.simulator_spec.Interlocking.{held_of};
+ghost use Rattle.replay.specs.simulator_spec.Tried.{Played};
 ghost use Rattle.station_record.specs.Changes.{TellsLane, TellsLanes, watch_of};
 ghost use Rattle.station_record.specs.Differences.{DiffersFrom, DiffersIn};
 ghost use Rattle.station_record.specs.Seen.{seen_at};
@@ -11,16 +11,14 @@ ghost use Rattle.station_record.specs.Story.{IsStoryOf};
 ghost use Rattle.station_record.specs.inside.FirstChanges.{first_change};
 ghost use Rattle.lane_chart.specs.declared.change.Change.{Change as ChangeTold};
 
-use crate::chart_failure::ChartFailure;
 use crate::happening::add_happening;
 use crate::lane_list::lanes_of;
-use crate::replayed::first_world;
 use crate::seen::seen_at;
 use crate::watch::Watch;
 use control_table::Checked;
 use lane_chart::{Change, Happening, Lane, Seen};
-use replay::simulator::{Answer, Held, Refused, World};
-use replay::{Entry, recorded, try_event};
+use replay::replay_lines::agrees;
+use replay::{Entry, Failure, Held, World, first_world};
 use std::alloc::{AllocError, Global};
 
 /// What happens in a session.
@@ -49,7 +47,7 @@ fn look(
     watch: Watch,
     changes: &mut Vec<Change>,
 ) -> Result<Seen, AllocError>
-    requires held { held.now ≡ held_of world.now.sited.table world.now.run.station world.now.run.frozen }
+    requires held { held.now ≡ held_of world.now.sited.table world.now.run.interlocking world.now.run.frozen }
     ensures seen { IfOk result (λ seen. seen ≡ seen_at (played world.now) watch.lane) }
     ensures told { OnOk result ((told : List ChangeTold) × TellsLane line (played world.now) watch told × (changes.new.items ≡ changes.old.items ++ told)) }
 {
@@ -68,7 +66,7 @@ fn look(
     Ok(seen)
 }
 
-/// Looks at each lane behind an event, and adds what changed.
+/// Looks at each lane after an event, and adds what changed.
 fn look_at_all(
     alloc: Global,
     world: &World,
@@ -121,28 +119,9 @@ fn first_changes(alloc: Global, time: u64, watches: &[Watch]) -> Result<Vec<Chan
     Ok(changes)
 }
 
-fn is_answered(one: &Result<Answer, Refused>, other: &Result<Answer, Refused>) -> bool
-    ensures { IsTrue result ↔ (one.now ≡ other.now) }
-{
-    one == other
-}
-
-/// Applies the event of an entry, and tells whether it answers as it was recorded. One that can't happen leaves the world as
-/// it is.
-fn agrees(world: &mut World, entry: &Entry) -> Result<bool, AllocError>
-    ensures same { IfOk result (λ same. IsTrue same ↔ (answer (played world.old) entry.now.event ≡ entry.now.answer)) }
-    ensures happens { OnOk result (played world.new ≡ after (played world.old) entry.now.event) }
-{
-    let answer = recorded(try_event(world, &entry.event));
-    if let Err(Refused::OutOfMemory) = answer {
-        return Err(AllocError);
-    }
-    Ok(is_answered(&answer, &entry.answer))
-}
-
 /// Applies the events of a session to a world, and tells what happens, unless an event answers otherwise than it was
 /// recorded.
-fn story_from(alloc: Global, world: &mut World, entries: &[Entry]) -> Result<Story, ChartFailure>
+fn story_from(alloc: Global, world: &mut World, entries: &[Entry]) -> Result<Story, Failure>
     ensures agree { OnOk result (AnswersSame (played world.old) entries.now) }
     ensures told { IfOk result (IsStoryOf (played world.old) entries.now) }
     ensures differs { IfErr result (DiffersFrom (played world.old) entries.now) }
@@ -154,7 +133,7 @@ fn story_from(alloc: Global, world: &mut World, entries: &[Entry]) -> Result<Sto
     for (place, entry) in entries.iter().enumerate() {
         add_happening(alloc, world, place + 1, entry, &mut happenings)?;
         if !agrees(world, entry)? {
-            return Err(ChartFailure::Differs(place as u64 + 1));
+            return Err(Failure::Differs(place as u64 + 1));
         }
         let next = look_at_all(alloc, world, place + 1, &watches, &mut changes)?;
         watches = next;
@@ -168,7 +147,7 @@ fn story_from(alloc: Global, world: &mut World, entries: &[Entry]) -> Result<Sto
 
 /// What happens in a session on a station of this table, from its first world on, where each event answers as it was
 /// recorded. Otherwise the error tells of the first that doesn't, or memory was refused.
-pub fn story_of(alloc: Global, table: Checked, entries: &[Entry]) -> Result<Story, ChartFailure>
+pub fn story_of(alloc: Global, table: Checked, entries: &[Entry]) -> Result<Story, Failure>
     ensures told { IfOk result (λ story. (first : Played) × IsFirst table first × AnswersSame first entries.now × IsStoryOf first entries.now story) }
     ensures differs { IfErr result (DiffersIn table entries.now) }
 {

@@ -5,8 +5,7 @@ ghost use Rattle.replay.specs.ReplayedSession.{CanReplay, Explains};
 ghost use Rattle.station_record.specs.inside.SoundTexts.{AreTexts};
 
 use control_table::Checked;
-use replay::station_check::{Failure, table_of};
-use replay::{Entry, read_session};
+use replay::{Entry, Failure, read_session, table_of};
 use std::alloc::Global;
 
 /// A layout's table, and a session on it.

@@ -1,4 +1,4 @@
-//! What is looked at behind each event.
+//! What is looked at after each event.
 
 use lane_chart::{Lane, Seen};
 

@@ -1,4 +1,3 @@
-pub mod WorldAnswers
 pub mod RunEnds
 pub mod Seen
 pub mod PanelWorlds

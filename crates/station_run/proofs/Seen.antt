@@ -1,13 +1,17 @@
 -- What is seen of a world, as lines.
-use Rattle.std.proofs.Common.{◌≡◌, ◌∙◌, ◌+◌, ◌-◌, ◌<◌, ◌≤◌, ℕ, zero, suc, refl, sym, ap, subst, Bool, false, List, [], ◌∷◌, ◌++◌, length, Option, Some, None, arith}
-use Rattle.std.specs.Prelude.{slice_get, IfSome, if◌then◌else◌}
+use Rattle.std.proofs.Common.{◌≡◌, ◌∙◌, ◌+◌, ◌-◌, ◌<◌, ◌≤◌, ℕ, zero, suc, refl, sym, ap, subst, Bool, true, false, List, [], ◌∷◌, ◌++◌, drop, length, Option, Some, None, arith}
+use Rattle.std.specs.Prelude.{◌==◌, ◌&&◌, ◌||◌, ◌↔◌, slice_get, IfSome, IsTrue, if◌then◌else◌}
+use Rattle.std.specs.List.{Contains, list_any}
 use Rattle.std.specs.Option.{option_map, option_map_or}
+use Rattle.std.proofs.lemmas.Bool.{eq-eqb, eqb-true, false≢true}
 use Rattle.std.proofs.lemmas.List.{append_assoc, append-nil}
-use Rattle.station_record.specs.replay.ixl_rules.State.{IxlState, RouteState}
-use Rattle.station_record.specs.replay.ixl_rules.Table.{Row, at}
-use Rattle.station_record.specs.replay.ixl_rules.View.{holds_section}
+use Rattle.station_record.specs.replay.ixl_spec.State.{IxlState, RouteState}
+use Rattle.station_record.specs.replay.ixl_spec.Table.{Row, at}
+use Rattle.station_record.specs.replay.ixl_spec.Due.{HoldsSection}
+use Rattle.station_record.specs.replay.ixl_spec.View.{freed_sections, holds_section, is_set}
+use Rattle.station_record.specs.replay.ixl_spec.declared.phase.Phase.{Phase}
 use Rattle.station_record.specs.replay.layout.declared.ids.RouteId.{RouteId}
-use Rattle.station_record.specs.replay.simulator.ixl_state.ixl_field.Field.{FieldState, Rest, kept}
+use Rattle.station_record.specs.replay.simulator.ixl_state.ixl_known.Field.{FieldState, Rest, kept}
 use Rattle.station_record.specs.replay.simulator.ixl_state.State.{AtRoute, HasRoute, StateView, field_of, rest_of}
 use Rattle.station_panel.specs.panel_desk.declared.panel_line.PanelLine.{PanelLine}
 use Rattle.station_run.specs.Panel.{each, lock_of, locking}
@@ -39,15 +43,47 @@ at_past (first ∷ others) (suc place) test beyond = at_past others place test (
 
 -- ---- routes that lock a section
 
+-- what is decided alike is the same
+same_test : (a b : Bool) → (IsTrue a → IsTrue b) → (IsTrue b → IsTrue a) → a ≡ b
+same_test true b to from = sym (to refl)
+same_test false true to from = from refl
+same_test false false to from = refl
+
+has_one : (section : ℕ) (list : List ℕ) → IsTrue (list_any (λ other. other == section) list) → Contains list section
+has_one section [] is = absurd (false≢true is)
+has_one section (first ∷ others) is = by_first (first == section) refl is (has_one section others) where
+  by_first : (b : Bool) → first == section ≡ b → IsTrue (b || list_any (λ other. other == section) others) → (IsTrue (list_any (λ other. other == section) others) → Contains others section) → Contains (first ∷ others) section
+  by_first true same passed behind = (0, omega arith, eqb-true first section same)
+  by_first false differs passed behind = let there = behind passed in (suc there.0, omega (arith, there.1), there.2)
+
+one_passes : (section : ℕ) (list : List ℕ) → Contains list section → IsTrue (list_any (λ other. other == section) list)
+one_passes section [] has = absurd (omega (arith, has.1))
+one_passes section (first ∷ others) (zero, below, at) = ap (λ b. b || list_any (λ other. other == section) others) (eq-eqb first section at)
+one_passes section (first ∷ others) (suc place, below, at) = or_true (first == section) _ (one_passes section others (place, omega (arith, below), at)) where
+  or_true : (a b : Bool) → IsTrue b → IsTrue (a || b)
+  or_true true b is = refl
+  or_true false b is = is
+
+-- the sections that a route locks, as the test of one
+pub locked_is : (row : Row) (phase : Phase) (section : ℕ) (told : Bool) → IsTrue told ↔ HoldsSection row phase section → told ≡ holds_section row phase section
+locked_is row phase section told same = same_test told (holds_section row phase section)
+    (λ is. let holds = same.0 is in both (is_set phase) _ holds.0 (one_passes section _ holds.1))
+    (λ is. same.1 (apart (is_set phase) is))
+  where
+    both : (a b : Bool) → IsTrue a → IsTrue b → IsTrue (a && b)
+    both a b is also = ap (λ c. c && b) is ∙ also
+
+    apart : (a : Bool) → IsTrue (a && list_any (λ other. other == section) (drop (freed_sections phase) row.sections)) → IsTrue a × Contains (drop (freed_sections phase) row.sections) section
+    apart true is = (refl, has_one section _ is)
+    apart false is = absurd (false≢true is)
+
 -- what is told of a route of the table
-pub locked_there : (state : StateView) (number section : ℕ) (row : Row) (route : RouteState) (told : Bool) → AtRoute state number (λ row kept. route ≡ kept) → HasRoute state number
-    → slice_get state.sited.table.rows number ≡ Some row → told ≡ holds_section row route.phase section
+pub locked_there : (state : StateView) (number section : ℕ) (told : Bool) → HasRoute state number → AtRoute state number (λ row kept. IsTrue told ↔ HoldsSection row kept.phase section)
     → told ≡ lock_of (slice_get state.sited.table.rows number) (slice_get state.ixl.routes number) section
-locked_there state number section row route told same has row_is is =
-    let route_is : slice_get state.ixl.routes number ≡ Some route = has.2.1 ∙ ap Some (sym (same has.0 has.1 has.2))
-    in is
-    ∙ sym (ap (λ (r : Option Row). lock_of r (Some route) section) row_is)
-    ∙ sym (ap (λ (r : Option RouteState). lock_of (slice_get state.sited.table.rows number) r section) route_is)
+locked_there state number section told has same =
+    locked_is has.0 has.1.phase section told (same has.0 has.1 has.2)
+    ∙ sym (ap (λ (r : Option Row). lock_of r (Some has.1) section) has.2.0)
+    ∙ sym (ap (λ (r : Option RouteState). lock_of (slice_get state.sited.table.rows number) r section) has.2.1)
 
 -- one more route doesn't lock it
 pub locking_next : (rows : List Row) (routes : List RouteState) (section number all : ℕ) (told : Bool) (wanted : Option RouteId) → number < all

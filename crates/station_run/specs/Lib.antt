@@ -1,6 +1,5 @@
-pub mod Worlds
-pub mod Failures
 pub mod Runs
+pub mod StationRuns
 pub mod Panel
 pub mod Panels
 pub mod Inside

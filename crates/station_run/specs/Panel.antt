@@ -1,22 +1,23 @@
 -- What a panel shows of a world: true time, what the interlocking takes, and of each thing what is seen of it, or what the
 -- interlocking knows of it, in the order of the layout.
-use Rattle.std.specs.Prelude.{ℕ, zero, suc, ◌+◌, ◌-◌, ◌^◌, ◌/◌, ◌==◌, min, Bool, true, false, if◌then◌else◌, List, [], ◌∷◌, length, Option, Some, None, slice_get}
+use Rattle.std.specs.Prelude.{ℕ, zero, suc, ◌/◌, ◌==◌, Bool, true, false, if◌then◌else◌, List, [], ◌∷◌, length, Option, Some, None, slice_get}
 use Rattle.std.specs.List.{flat_map}
 use Rattle.std.specs.Option.{option_map_or}
 use Rattle.station_record.specs.replay.layout.Entries.{RouteEntry, Site}
+use Rattle.station_record.specs.replay.layout.Nodes.{detector_link, point_link}
 use Rattle.station_record.specs.replay.layout.declared.ids.RouteId.{RouteId}
 use Rattle.station_record.specs.replay.sci_telegram.declared.message.Aspect.TheVariants as aspects
 use Rattle.station_record.specs.replay.sci_telegram.declared.message.Occupancy.TheVariants as occupancies
 use Rattle.station_record.specs.replay.sci_telegram.declared.message.Position.TheVariants as positions
-use Rattle.station_record.specs.replay.ixl_rules.State.{IxlState, RouteState}
-use Rattle.station_record.specs.replay.ixl_rules.Table.{Row, at}
-use Rattle.station_record.specs.replay.ixl_rules.View.{holds_section, is_holding, is_point_ready, is_set, is_signal_ready}
+use Rattle.station_record.specs.replay.ixl_spec.State.{IxlState, RouteState}
+use Rattle.station_record.specs.replay.ixl_spec.Table.{Row, at}
+use Rattle.station_record.specs.replay.ixl_spec.View.{holds_section, is_holding, is_point_ready, is_set, is_signal_ready}
 use Rattle.station_record.specs.replay.rasta_core.Ends.{reading_of}
-use Rattle.station_record.specs.replay.simulator_run.ixl_client.Client.{is_ready}
-use Rattle.station_record.specs.replay.simulator_run.Interlocking.{held_of}
-use Rattle.station_record.specs.replay.simulator_run.Refusals.{driven_at}
-use Rattle.station_record.specs.replay.simulator_run.Seen.{shown_by}
-use Rattle.station_record.specs.replay.simulator_run.simulator_snapshot.declared.snapshot.Held.{Held}
+use Rattle.station_record.specs.replay.simulator_spec.ixl_client.Client.{is_ready}
+use Rattle.station_record.specs.replay.simulator_spec.Interlocking.{held_of}
+use Rattle.station_record.specs.replay.simulator_spec.Refusals.{driven_at}
+use Rattle.station_record.specs.replay.simulator_spec.Seen.{shown_by}
+use Rattle.station_record.specs.replay.simulator_spec.simulator_event.declared.snapshot.Held.{Held}
 use Rattle.station_panel.specs.panel_desk.declared.panel_line.Mode.{Mode}
 use Rattle.station_panel.specs.panel_desk.declared.panel_line.Mode.TheVariants.{Ready, Holding, WaitingForResume}
 use Rattle.station_panel.specs.panel_desk.declared.panel_line.PanelLine.{PanelLine}
@@ -24,7 +25,7 @@ use Rattle.station_panel.specs.panel_desk.declared.panel_line.PanelLine.TheVaria
 use Rattle.station_panel.specs.panel_desk.node_lines.declared.operator_line.Authority.{Authority}
 use Rattle.station_panel.specs.panel_desk.node_lines.declared.operator_line.Known.TheVariants as known
 use Rattle.station_panel.specs.panel_desk.node_lines.declared.operator_line.LinkState.TheVariants as link
-use Rattle.station_run.specs.Worlds.{Played}
+use Rattle.station_record.specs.replay.World.{Played}
 use Rattle.station_run.specs.declared.thing.Thing.{Thing}
 use Rattle.station_run.specs.declared.thing.Thing.TheVariants.{Aspect as SignalAspect, Lies, Stands, Locked, SignalLink, PointLink, DetectorLink, HeldRoute, Route}
 
@@ -36,7 +37,7 @@ mode_of false true = Ready
 mode_of false false = WaitingForResume
 
 abbrev pub mode_seen : Played → Mode
-mode_seen world = mode_of (is_holding (reading_of world.run.station.clock) world.run.station.ixl) world.run.station.ixl.resumed
+mode_seen world = mode_of (is_holding (reading_of world.run.interlocking.clock) world.run.interlocking.ixl) world.run.interlocking.ixl.resumed
 
 -- ---- routes
 
@@ -68,13 +69,9 @@ locking rows routes section number (suc more) =
 
 -- ---- links
 
--- a number ends at the greatest of a machine word
-abbrev pub saturated : ℕ → ℕ
-saturated number = min number (2 ^ 64 - 1)
-
--- the link to the controller of a place among all; its node counts from the interlocking, which is 0
+-- the link to the controller of the node of a number
 abbrev pub link_line : ℕ → Bool → PanelLine
-link_line place ready = line.Known (known.Link (record { 0 = saturated (place + 1) }) (if ready then link.Ready else link.Lost))
+link_line number ready = line.Known (known.Link (record { 0 = number }) (if ready then link.Ready else link.Lost))
 
 abbrev pub is_detector_ready : IxlState → ℕ → Bool
 is_detector_ready ixl place = at ixl.detectors place (λ detector. is_ready detector.client.stage)
@@ -86,13 +83,13 @@ abbrev pub line_at : Played → Thing → ℕ → PanelLine
 line_at world SignalAspect place = line.Shows (record { 0 = place }) (option_map_or shown_by (slice_get world.run.signals place) aspects.Stop)
 line_at world Lies place = line.Lies (record { 0 = place }) (option_map_or (λ p. p) (slice_get world.run.positions place) positions.NoEndPosition) (driven_at place world.run.points)
 line_at world Stands place = line.Stands (record { 0 = place }) (option_map_or (λ o. o) (slice_get world.run.occupancies place) occupancies.Clear)
-line_at world Locked place = line.Locked (record { 0 = place }) (locking world.sited.table.rows world.run.station.ixl.routes place 0 (length world.sited.table.rows))
-line_at world SignalLink place = link_line place (is_signal_ready world.run.station.ixl place)
-line_at world PointLink place = link_line (saturated (length world.sited.site.signals + place)) (is_point_ready world.run.station.ixl place)
-line_at world DetectorLink place = link_line (saturated (saturated (length world.sited.site.signals + length world.sited.site.points) + place)) (is_detector_ready world.run.station.ixl place)
+line_at world Locked place = line.Locked (record { 0 = place }) (locking world.sited.table.rows world.run.interlocking.ixl.routes place 0 (length world.sited.table.rows))
+line_at world SignalLink place = link_line (suc place) (is_signal_ready world.run.interlocking.ixl place)
+line_at world PointLink place = link_line (suc (point_link world.sited.site place)) (is_point_ready world.run.interlocking.ixl place)
+line_at world DetectorLink place = link_line (suc (detector_link world.sited.site place)) (is_detector_ready world.run.interlocking.ixl place)
 line_at world HeldRoute place =
-    line.Known (known.Signal (record { 0 = place }) (authority_of world.sited.site.routes (route_held place (held_of world.sited.table world.run.station world.run.frozen))))
-line_at world Route place = line.Known (known.Route (record { 0 = place }) (option_map_or (λ kept. is_set kept.phase) (slice_get world.run.station.ixl.routes place) false))
+    line.Known (known.Signal (record { 0 = place }) (authority_of world.sited.site.routes (route_held place (held_of world.sited.table world.run.interlocking world.run.frozen))))
+line_at world Route place = line.Known (known.Route (record { 0 = place }) (option_map_or (λ kept. is_set kept.phase) (slice_get world.run.interlocking.ixl.routes place) false))
 
 -- how many things of a kind there are
 abbrev pub count : Site → Thing → ℕ

@@ -3,8 +3,6 @@
 //! driven from a panel, which is what `station panel` does.
 #![tactic(auto)]
 
-mod driven_world;
-mod failure;
 mod machine;
 mod panel_machine;
 mod pictured_world;
@@ -12,12 +10,20 @@ mod prepared;
 mod thing;
 mod watched;
 
-pub use driven_world::drive;
-pub use failure::RunFailure;
-pub use machine::{Asked, run};
-pub use panel_machine::{PanelAsked, attend_station, panel};
-pub use prepared::{Prepared, prepare};
-pub use station_panel::{Limits, PageAsked};
+pub use machine::{RunOptions, run};
+pub use panel_machine::{Attended, panel};
+pub use prepared::{Prepared, StationRun, prepare};
+pub use station_panel::{Limits, PageAsked, PanelOptions};
 
 // What crates above need of the crates below.
 pub use station_record;
+
+// The everyday items of the crates below.
+pub use station_record::{
+    Aspect, BitRow, BorderId, CLOCK_LIMIT, Checked, Command, Datagram, Detector, DetectorId,
+    Failure, Key, LATEST_CLOCK, LIFETIME, LIFETIME_MICROS, LONGEST_DATAGRAM, Layout, MICROS,
+    Millis, Name, Node, NodeId, Occupancy, Outbox, Point, PointId, Position, Protocol, QUIET_TIME,
+    ROUND, ROUND_MICROS, Role, Route, RouteId, SectionId, Side, Signal, SignalId, Start, Verdict,
+    check_text, decode_text, is_intact, is_request, receiver_of, replay_text, sender_of, sim_text,
+    table_of, tell,
+};

@@ -1,25 +1,25 @@
 //! What `station run` does.
 
+ghost use Rattle.std.specs.IoError.{error_kind};
 ghost use Rattle.std.specs.Prelude.{◌≡◌, ◌≤◌, IfErr, IfOk};
-ghost use Rattle.station_run.specs.Failures.{IsOfMachine, Leaves, Tells};
-ghost use Rattle.station_run.specs.Inside.{IsOfRun};
-ghost use Rattle.station_run.specs.Runs.{CanRun, Explained, IsWhole, RunsSomehow};
-ghost use Rattle.station_run.specs.Worlds.{played};
-ghost use Rattle.station_run.specs.declared.failure.RunFailure.{RunFailure as Why};
+ghost use Rattle.station_record.specs.replay.World.{played};
+ghost use Rattle.station_record.specs.replay.station_check.Failures.{Explained};
+ghost use Rattle.station_run.specs.Inside.{IsOfMachine, IsOfRun, IsOfSystem, of_opening};
+ghost use Rattle.station_run.specs.Runs.{CanRun, Explains, IsWhole, RunsSomehow};
 
-use crate::failure::{RunFailure, tell_run};
-use crate::prepared::{Prepared, prepare};
+use crate::prepared::{StationRun, prepare};
 use crate::watched::Watched;
-use station_panel::station_network::{RoundClock, Sockets};
-use std::fs;
+use station_panel::station_drive::{Clock, OpenFault, RoundClock, Sockets};
+use station_record::{Failure, tell};
 use std::fs::Files;
 use std::io::{BufWriter, Eprint, Write};
 use std::net::Net;
 use std::time::Clock as Timer;
+use std::{fs, io};
 
 /// What `station run` is asked: the texts of the layout and the script, where the record goes, and for how many milliseconds.
 #[derive(Clone, Copy, Debug)]
-pub struct Asked<'a> {
+pub struct RunOptions<'a> {
     pub layout: &'a str,
     pub script: &'a str,
     /// The path of the record.
@@ -41,7 +41,7 @@ pub(crate) struct Machine<'a, R: Files> {
 /// wanted, the seconds that have passed are shown on standard error.
 pub fn run<R: Files + Net + Timer + Eprint + AllocGlobal, O: Write, E: Write>(
     rt: &R,
-    asked: &Asked<'_>,
+    asked: &RunOptions<'_>,
     out: &mut O,
     err: &mut E,
     progress: bool,
@@ -51,28 +51,50 @@ pub fn run<R: Files + Net + Timer + Eprint + AllocGlobal, O: Write, E: Write>(
     ensures faulty { (CanRun asked.now.layout.now asked.now.script.now → ⊥) → (result ≡ 1) × (out.new ≡ out.old) }
     ensures silent { result ≡ 0 → err.new ≡ err.old }
     // Only a beginning of the line was told where a write to `err` failed.
-    ensures explains { result ≡ 1 → Explained asked.now.layout.now asked.now.script.now out.old out.new (E.contents err.old) (E.contents err.new) }
+    ensures explains { result ≡ 1 → Explained (Explains asked.now.layout.now asked.now.script.now) result out.old out.new (E.contents err.old) (E.contents err.new) }
 {
     let prepared = match prepare(rt.alloc(), asked.layout, asked.script) {
         Ok(prepared) => prepared,
-        Err(failure) => return fail(RunFailure::Failed(failure), err),
+        Err(failure) => return tell(&failure, err),
     };
     match open(rt, prepared.nodes(), asked.record) {
-        Ok(machine) => run_on(rt, prepared, machine, asked.for_ms, out, err, progress),
+        Ok(
+            Machine {
+                sockets,
+                recorder,
+                clock,
+            },
+        ) => {
+            let station = prepared.over(rt.alloc(), sockets, recorder);
+            let clock = Watched::new(clock, rt, progress);
+            run_watched(station, clock, asked.for_ms, out, err)
+        }
         Err(failure) => {
             drop(prepared);
-            fail(failure, err)
+            tell(&failure, err)
         }
     }
 }
 
-/// Tells a failure, and answers the status to end with.
-pub(crate) fn fail<E: Write>(failure: RunFailure, err: &mut E) -> u8
-    ensures status { result ≡ 1 }
-    ensures told { Tells failure (E.contents err.old) (E.contents err.new) }
+/// Why a run doesn't begin whose sockets can't be opened.
+fn of_opening(fault: OpenFault) -> Failure
+    ensures { result ≡ of_opening fault }
 {
-    tell_run(&failure, err);
-    1
+    match fault {
+        OpenFault::OutOfMemory => Failure::OutOfMemory,
+        OpenFault::NoSocket => Failure::CannotRun,
+    }
+}
+
+/// Why a run doesn't begin to which the system refuses something.
+fn of_system(error: io::Error) -> Failure
+    ensures { IsOfSystem (error_kind error) result }
+{
+    if error.kind() == io::ErrorKind::OutOfMemory {
+        Failure::OutOfMemory
+    } else {
+        Failure::CannotRun
+    }
 }
 
 /// Opens the sockets of so many nodes, then the record, and starts a clock.
@@ -80,12 +102,11 @@ pub(crate) fn open<'a, R: Files + Net + Timer + AllocGlobal>(
     rt: &'a R,
     nodes: usize,
     record: &str,
-) -> Result<Machine<'a, R>, RunFailure>
+) -> Result<Machine<'a, R>, Failure>
     ensures { IfErr result IsOfMachine }
 {
-    let sockets = Sockets::open(rt, rt.alloc(), nodes)?;
-    let recorder = BufWriter::new(rt.alloc(), fs::create(rt, record)?)?;
-    let clock = RoundClock::start(rt)?;
+    let sockets = Sockets::open(rt, rt.alloc(), nodes).map_err(of_opening)?;
+    let (recorder, clock) = begin(rt, record).map_err(of_system)?;
     Ok(Machine {
         sockets,
         recorder,
@@ -93,39 +114,32 @@ pub(crate) fn open<'a, R: Files + Net + Timer + AllocGlobal>(
     })
 }
 
-/// Drives a station by what was opened.
-fn run_on<R: Files + Timer + Eprint + AllocGlobal, O: Write, E: Write>(
-    rt: &R,
-    prepared: Prepared,
-    machine: Machine<'_, R>,
+/// Makes the record, and starts a clock.
+fn begin<'a, R: Files + Timer + AllocGlobal>(
+    rt: &'a R,
+    record: &str,
+) -> io::Result<(BufWriter<R::File>, RoundClock<'a, R>)> {
+    let recorder = BufWriter::new(rt.alloc(), fs::create(rt, record)?)?;
+    let clock = RoundClock::start(rt)?;
+    Ok((recorder, clock))
+}
+
+/// Drives a station over sockets by a clock that is watched.
+fn run_watched<W: Write + Drop, C: Clock + Drop, P: Eprint, O: Write, E: Write>(
+    station: StationRun<Sockets, W>,
+    clock: Watched<'_, C, P>,
     for_ms: u64,
     out: &mut O,
     err: &mut E,
-    progress: bool,
 ) -> u8
     ensures status { result ≤ 1 }
-    ensures done { result ≡ 0 → RunsSomehow (played prepared.station.0) prepared.script.items for_ms (O.contents out.old) (O.contents out.new) }
+    ensures done { result ≡ 0 → RunsSomehow (played station.engine.station) station.script for_ms (O.contents out.old) (O.contents out.new) }
     ensures silent { result ≡ 0 → err.new ≡ err.old }
-    ensures told { result ≡ 1 → (failure : Why) × IsOfRun failure × Leaves failure out.old out.new × Tells failure (E.contents err.old) (E.contents err.new) }
+    ensures told { result ≡ 1 → Explained IsOfRun result out.old out.new (E.contents err.old) (E.contents err.new) }
 {
-    let Machine {
-        sockets,
-        recorder,
-        clock,
-    } = machine;
-    let (mut sockets, mut recorder) = (sockets, recorder);
-    let mut clock = Watched::new(clock, rt, progress);
-    let status = prepared.run(
-        rt.alloc(),
-        &mut sockets,
-        &mut clock,
-        for_ms,
-        &mut recorder,
-        out,
-        err,
-    );
+    let (mut station, mut clock) = (station, clock);
+    let status = station.run(&mut clock, for_ms, out, err);
     clock.end();
-    drop(sockets);
-    drop(recorder);
+    drop(station);
     status
 }

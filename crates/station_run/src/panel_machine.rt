@@ -1,33 +1,23 @@
 //! What `station panel` does.
 
-ghost use Rattle.std.specs.Prelude.{◌≡◌, ◌≤◌, []};
+ghost use Rattle.std.specs.Prelude.{◌≡◌, ◌≤◌, [], IfErr, IsOk, OnOk};
 ghost use Rattle.station_panel.specs.Opened.{page_of};
-ghost use Rattle.station_run.specs.Failures.{Tells};
+ghost use Rattle.station_record.specs.replay.station_check.Failures.{Failed};
 ghost use Rattle.station_run.specs.Inside.{IsOfRun};
-ghost use Rattle.station_run.specs.Panels.{IsAttended, IsAttendedOverSockets, IsAttendedSomehow, IsPanel};
+ghost use Rattle.station_run.specs.Panels.{IsAttended, IsAttendedSomehow, IsPanel};
 ghost use Rattle.station_run.specs.Runs.{CanRun, Explains};
-ghost use Rattle.station_run.specs.declared.failure.RunFailure.{RunFailure as Why};
 
-use crate::failure::RunFailure;
-use crate::machine::{Machine, fail, open};
-use crate::prepared::{Prepared, prepare};
-use station_panel::station_network::Sockets;
-use station_panel::station_network::station_drive::{Clock, Datagrams};
-use station_panel::{Ending, Limits, Listens, Loopback, PageAsked, PanelFault, serve};
-use station_record::replay::station_check::Failure;
-use std::alloc::Global;
+use crate::machine::{Machine, open};
+use crate::pictured_world::PicturedWorld;
+use crate::prepared::{StationRun, prepare};
+use station_panel::station_drive::{Clock, Datagrams, Engine, Sockets};
+use station_panel::{Ending, Listens, Loopback, PanelFault, PanelOptions, serve};
+use station_record::{Failure, tell};
 use std::fs::Files;
 use std::io::Write;
 use std::net::Net;
 use std::random::RandomSource;
 use std::time::Clock as Timer;
-
-/// What `station panel` is asked.
-#[derive(Clone, Copy, Debug)]
-pub struct PanelAsked<'a> {
-    pub page: PageAsked<'a>,
-    pub limits: Limits,
-}
 
 /// Attends a panel of a new station of a layout: its nodes run over sockets, as `run` has them, each event is recorded, and a
 /// browser of this machine gets a page with which the station is operated. The address of the page is written to `out`, and
@@ -35,7 +25,7 @@ pub struct PanelAsked<'a> {
 /// told why.
 pub fn panel<R: Files + Net + Timer + RandomSource + AllocGlobal, O: Write, E: Write>(
     rt: &R,
-    asked: &PanelAsked<'_>,
+    asked: &PanelOptions<'_>,
     out: &mut O,
     err: &mut E,
 ) -> u8
@@ -44,156 +34,119 @@ pub fn panel<R: Files + Net + Timer + RandomSource + AllocGlobal, O: Write, E: W
     ensures faulty { (CanRun asked.now.page.layout.now [] → ⊥) → (result ≡ 1) × (out.new ≡ out.old) }
     ensures silent { result ≡ 0 → err.new ≡ err.old }
     // Only a beginning of the line was told where a write to `err` failed.
-    ensures explains { result ≡ 1 → (failure : Why) × Explains asked.now.page.layout.now [] failure × Tells failure (E.contents err.old) (E.contents err.new) }
+    ensures explains { result ≡ 1 → Failed (Explains asked.now.page.layout.now []) result (E.contents err.old) (E.contents err.new) }
 {
     let prepared = match prepare(rt.alloc(), asked.page.layout, "") {
         Ok(prepared) => prepared,
-        Err(failure) => return fail(RunFailure::Failed(failure), err),
+        Err(failure) => return tell(&failure, err),
     };
     match open(rt, prepared.nodes(), asked.page.record) {
-        Ok(machine) => attend_machine(rt, prepared, machine, asked, out, err),
+        Ok(
+            Machine {
+                sockets,
+                recorder,
+                clock,
+            },
+        ) => {
+            let station = prepared.over(rt.alloc(), sockets, recorder);
+            attend_browsers(rt, station, clock, asked, out, err)
+        }
         Err(failure) => {
             drop(prepared);
-            fail(failure, err)
+            tell(&failure, err)
         }
     }
-}
-
-/// Attends a panel of a station over what was opened.
-fn attend_machine<R: Files + Net + Timer + RandomSource + AllocGlobal, O: Write, E: Write>(
-    rt: &R,
-    prepared: Prepared,
-    machine: Machine<'_, R>,
-    asked: &PanelAsked<'_>,
-    out: &mut O,
-    err: &mut E,
-) -> u8
-    ensures status { result ≤ 1 }
-    ensures done { result ≡ 0 → IsAttendedSomehow (page_of asked.now.page) asked.now.limits prepared.station }
-    ensures silent { result ≡ 0 → err.new ≡ err.old }
-    ensures told { result ≡ 1 → (failure : Why) × IsOfRun failure × Tells failure (E.contents err.old) (E.contents err.new) }
-{
-    let Machine {
-        sockets,
-        recorder,
-        clock,
-    } = machine;
-    let (mut recorder, mut clock) = (recorder, clock);
-    let status = attend_browsers(
-        rt,
-        rt.alloc(),
-        prepared,
-        sockets,
-        &mut clock,
-        &mut recorder,
-        asked,
-        out,
-        err,
-    );
-    drop(recorder);
-    drop(clock);
-    status
 }
 
 /// Attends a panel of a station over sockets, and listens for browsers of this machine.
-fn attend_browsers<R: Net + RandomSource, C: Clock, W: Write, O: Write, E: Write>(
+fn attend_browsers<R: Net + RandomSource, C: Clock + Drop, W: Write + Drop, O: Write, E: Write>(
     rt: &R,
-    alloc: Global,
-    prepared: Prepared,
-    sockets: Sockets,
-    clock: &mut C,
-    recorder: &mut W,
-    asked: &PanelAsked<'_>,
+    station: StationRun<Sockets, W>,
+    clock: C,
+    asked: &PanelOptions<'_>,
     out: &mut O,
     err: &mut E,
 ) -> u8
     ensures status { result ≤ 1 }
-    ensures done { result ≡ 0 → IsAttendedOverSockets (page_of asked.now.page) asked.now.limits prepared.station sockets (C.readings clock.old) (C.readings clock.new) (W.contents recorder.old) (W.contents recorder.new) }
+    ensures done { result ≡ 0 → IsAttendedSomehow (page_of asked.now.page) asked.now.limits station.engine.station }
     ensures silent { result ≡ 0 → err.new ≡ err.old }
-    ensures told { result ≡ 1 → (failure : Why) × IsOfRun failure × Tells failure (E.contents err.old) (E.contents err.new) }
+    ensures told { result ≡ 1 → Failed IsOfRun result (E.contents err.old) (E.contents err.new) }
 {
+    let mut clock = clock;
     match Loopback::open(rt, asked.page.port) {
         Ok(mut listener) => {
-            let status = attend_station(
+            let Attended { ended, recorder } = station.attend(
                 rt,
-                alloc,
-                prepared,
-                sockets,
-                clock,
-                recorder,
+                &mut clock,
                 &mut listener,
                 asked,
                 out,
-                err,
             );
             drop(listener);
-            status
+            drop(recorder);
+            match ended {
+                Ok(()) => 0,
+                Err(failure) => tell(&failure, err),
+            }
         }
         Err(_) => {
-            drop(prepared);
-            drop(sockets);
-            fail(RunFailure::CannotRun, err)
+            drop(station);
+            tell(&Failure::CannotRun, err)
         }
     }
 }
 
-/// Attends a panel of a station, over a network, by a clock, with a record and a listener for browsers. It writes what `panel`
-/// writes.
-pub fn attend_station<
-    R: RandomSource,
-    N: Datagrams + Drop,
-    C: Clock,
-    W: Write,
-    L: Listens,
-    O: Write,
-    E: Write,
->(
-    rt: &R,
-    alloc: Global,
-    prepared: Prepared,
-    net: N,
-    clock: &mut C,
-    recorder: &mut W,
-    listener: &mut L,
-    asked: &PanelAsked<'_>,
-    out: &mut O,
-    err: &mut E,
-) -> u8
-    ensures status { result ≤ 1 }
-    ensures done { result ≡ 0 → IsAttended N.told N.carries (page_of asked.now.page) asked.now.limits prepared.station net (C.readings clock.old) (C.readings clock.new) (W.contents recorder.old) (W.contents recorder.new) }
-    ensures silent { result ≡ 0 → err.new ≡ err.old }
-    ensures told { result ≡ 1 → (failure : Why) × IsOfRun failure × Tells failure (E.contents err.old) (E.contents err.new) }
-{
-    let Prepared { station, script: _ } = prepared;
-    let ended = serve(
-        rt,
-        alloc,
-        station,
-        net,
-        clock,
-        recorder,
-        listener,
-        &asked.page,
-        asked.limits,
-        out,
-    );
-    match ended {
-        Ok(ending) => tell_ending(ending, out),
-        Err(PanelFault::OutOfMemory) => fail(RunFailure::Failed(Failure::OutOfMemory), err),
-        Err(PanelFault::CannotRun) => fail(RunFailure::CannotRun, err),
+/// How a panel was attended, and its record, which is handed back.
+#[derive(Drop)]
+pub struct Attended<W> {
+    pub ended: Result<(), Failure>,
+    pub recorder: W,
+}
+
+impl<N: Datagrams + Drop, W: Write> StationRun<N, W> {
+    /// Attends a panel of the station, by a clock, with a listener for browsers. It writes what `panel` writes.
+    pub fn attend<R: RandomSource, C: Clock, L: Listens, O: Write>(
+        self,
+        rt: &R,
+        clock: &mut C,
+        listener: &mut L,
+        asked: &PanelOptions<'_>,
+        out: &mut O,
+    ) -> Attended<W>
+        ensures done { OnOk result.ended (IsAttended N.Datagrams (page_of asked.now.page) asked.now.limits self.engine (C.readings clock.old) (C.readings clock.new) (W.contents result.recorder)) }
+        ensures told { IfErr result.ended IsOfRun }
+    {
+        let StationRun { engine, script: _ } = self;
+        let (alloc, station, net, recorder) = engine.into_parts();
+        let engine = Engine {
+            alloc,
+            station: PicturedWorld(station),
+            net,
+            recorder,
+        };
+        let served = serve(rt, engine, clock, listener, asked, out);
+        Attended {
+            ended: tell_ending(served.ended, out),
+            recorder: served.recorder,
+        }
     }
 }
 
-/// Tells why a panel ended, and answers the status to end with.
-fn tell_ending<O: Write>(ending: Ending, out: &mut O) -> u8
-    ensures { result ≤ 1 }
+/// Tells why a panel ended, unless it is that its time is over.
+fn tell_ending<O: Write>(ended: Result<Ending, PanelFault>, out: &mut O) -> Result<(), Failure>
+    ensures well { IsOk result → IsOk ended }
+    ensures why { IfErr result IsOfRun }
 {
-    let told = match ending {
-        Ending::TimeIsOver => Ok(()),
-        Ending::MemoryIsFull => out.writeln("stopped: the datagrams take all memory that they may"),
+    let told = match ended {
+        Ok(Ending::TimeIsOver) => Ok(()),
+        Ok(Ending::MemoryIsFull) => {
+            out.writeln("stopped: the datagrams take all memory that they may")
+        }
+        Err(PanelFault::OutOfMemory) => return Err(Failure::OutOfMemory),
+        Err(PanelFault::CannotRun) => return Err(Failure::CannotRun),
     };
     match told {
-        Ok(()) => 0,
-        Err(_) => 1,
+        Ok(()) => Ok(()),
+        Err(_) => Err(Failure::NotWritten),
     }
 }

@@ -1,29 +1,23 @@
 //! What a panel shows of a world.
 
-ghost use Rattle.std.specs.Prelude.{◌≡◌, ◌<◌, ◌+◌, ◌++◌, ◌/◌, ◌==◌, IfOk, OnOk, drop, length, slice_get};
-ghost use Rattle.std.specs.List.{flat_map, list_any};
-ghost use Rattle.station_record.specs.replay.ixl_rules.View.{freed_sections, is_point_ready, is_signal_ready};
+ghost use Rattle.std.specs.Prelude.{◌≡◌, ◌<◌, ◌+◌, ◌++◌, ◌/◌, IfOk, OnOk, length, slice_get};
+ghost use Rattle.std.specs.List.{flat_map};
+ghost use Rattle.station_record.specs.replay.ixl_spec.View.{is_point_ready, is_signal_ready};
 ghost use Rattle.std.specs.Option.{option_map_or};
 ghost use Rattle.station_run.specs.Panel.{all_of, authority_of, count, is_detector_ready, line_at, link_line, lock_of, locking, mode_seen, pictured, route_held};
 ghost use Rattle.station_run.specs.declared.thing.Thing.TheVariants.{Aspect, DetectorLink, Lies, PointLink, Route as RouteSet, SignalLink, Stands};
-ghost use Rattle.station_record.specs.replay.simulator_run.Interlocking.{held_of};
-ghost use Rattle.station_run.specs.Worlds.{played};
+ghost use Rattle.station_record.specs.replay.simulator_spec.Interlocking.{held_of};
+ghost use Rattle.station_record.specs.replay.World.{played};
+ghost use Rattle.station_record.specs.replay.layout.Nodes.{HasNode, meant_node, number_of};
 
-use crate::driven_world::Running;
 use crate::thing::Thing;
+use control_table::{Checked, Side};
 use station_panel::{Authority, Known, LinkState, Mode, PanelLine, Pictured};
-use station_record::replay::simulator::simulator_run::ixl_rules::Phase;
-use station_record::replay::simulator::simulator_run::ixl_rules::control_table::layout::{
-    PointId, Route, RouteId, SectionId, SignalId,
+use station_record::{
+    DetectorId, Event, Held, MICROS, Node, Outgoing, PointId, Refused, Reply, Route, RouteId,
+    SectionId, SignalId, Station, World,
 };
-use station_record::replay::simulator::{Held, NodeId, World};
 use std::alloc::{AllocError, Global};
-
-/// How many microseconds a millisecond has.
-const MICROS: u64 = 1000;
-
-/// How long an interlocking holds, in milliseconds of its clock.
-const HOLD: u64 = 6000;
 
 /// The kinds of things, in the order in which they are shown.
 const THINGS: [Thing; 9] = [
@@ -38,10 +32,51 @@ const THINGS: [Thing; 9] = [
     Thing::Route,
 ];
 
-impl Pictured for Running {
+/// A world as a panel shows it.
+#[derive(Drop)]
+pub(crate) struct PicturedWorld(pub(crate) World);
+
+impl Station for PicturedWorld {
+    ghost use Rattle.station_record.specs.replay.World.{Played, played, worlds};
+
+    ghost State = { Played };
+
+    ghost state = { λ s. played s.0 };
+
+    ghost does = { worlds };
+
+    ghost site = { λ s. s.0.sited.site };
+
+    fn apply(&mut self, event: &Event) -> Result<Reply, Refused> {
+        Station::apply(&mut self.0, event)
+    }
+
+    fn table(&self) -> &Checked {
+        self.0.table()
+    }
+
+    fn sent_count(&self) -> usize {
+        self.0.sent_count()
+    }
+
+    fn sent_at(&self, place: usize) -> Option<Outgoing<'_>> {
+        self.0.sent_at(place)
+    }
+
+    fn arrival(&self, place: usize) -> Option<Outgoing<'_>> {
+        self.0.arrival(place)
+    }
+
+    fn driven(&self, point: PointId) -> Option<Side> {
+        self.0.driven(point)
+    }
+}
+
+impl Pictured for PicturedWorld {
+    ghost use Rattle.station_record.specs.replay.World.{played};
     ghost use Rattle.station_run.specs.Panel.{pictured};
 
-    ghost lines = { λ s. pictured (record { sited = s.0.sited; run = s.0.run }) };
+    ghost lines = { λ s. pictured (played s.0) };
 
     fn picture(&self, alloc: Global) -> Result<Vec<PanelLine>, AllocError> {
         all_lines(alloc, &self.0)
@@ -122,10 +157,9 @@ fn line_at(world: &World, thing: Thing, place: usize) -> PanelLine
 fn mode(world: &World) -> Mode
     ensures { result ≡ mode_seen (played world.now) }
 {
-    let state = world.interlocking();
-    if world.interlocking_clock() < state.created().saturating_add(HOLD) {
+    if world.is_holding() {
         Mode::Holding
-    } else if state.is_resumed() {
+    } else if world.interlocking().is_resumed() {
         Mode::Ready
     } else {
         Mode::WaitingForResume
@@ -185,9 +219,10 @@ fn route_line(world: &World, place: usize) -> PanelLine
     })
 }
 
-/// The link to the controller of a place among all.
-fn link_line(place: usize, ready: bool) -> PanelLine
-    ensures { result ≡ link_line place ready }
+/// The link to a controller.
+fn link_line(world: &World, node: Node, ready: bool) -> PanelLine
+    requires { HasNode world.now.sited.site (meant_node node) }
+    ensures { result ≡ link_line (number_of world.now.sited.site (meant_node node)) ready }
 {
     let state = if ready {
         LinkState::Ready
@@ -195,56 +230,56 @@ fn link_line(place: usize, ready: bool) -> PanelLine
         LinkState::Lost
     };
     PanelLine::Known(Known::Link {
-        node: NodeId(place.saturating_add(1)),
+        node: world.table().layout().node_id(node),
         state,
     })
 }
 
 /// Whether the initialisation of a signal was completed in its present connection.
 fn is_signal_ready(world: &World, place: usize) -> bool
-    ensures { result ≡ is_signal_ready world.now.run.station.ixl place }
+    ensures { result ≡ is_signal_ready world.now.run.interlocking.ixl place }
 {
     world.interlocking().field().is_signal_ready(place)
 }
 
 /// The link to the controller of a signal.
 fn signal_link(world: &World, place: usize) -> PanelLine
+    requires { place < length world.now.sited.site.signals }
     ensures { result ≡ line_at (played world.now) SignalLink place }
 {
-    link_line(place, is_signal_ready(world, place))
+    let node = Node::Signal(SignalId(place));
+    link_line(world, node, is_signal_ready(world, place))
 }
 
 /// Whether the initialisation of a point was completed in its present connection.
 fn is_point_ready(world: &World, place: usize) -> bool
-    ensures { result ≡ is_point_ready world.now.run.station.ixl place }
+    ensures { result ≡ is_point_ready world.now.run.interlocking.ixl place }
 {
     world.interlocking().field().is_point_ready(place)
 }
 
 /// The link to the controller of a point.
 fn point_link(world: &World, place: usize) -> PanelLine
+    requires { place < length world.now.sited.site.points }
     ensures { result ≡ line_at (played world.now) PointLink place }
 {
-    let signals = world.table().layout().signals().len();
-    link_line(signals.saturating_add(place), is_point_ready(world, place))
+    let node = Node::Point(PointId(place));
+    link_line(world, node, is_point_ready(world, place))
 }
 
 /// The link to a detector.
 fn detector_link(world: &World, place: usize) -> PanelLine
+    requires { place < length world.now.sited.site.detectors }
     ensures { result ≡ line_at (played world.now) DetectorLink place }
 {
-    let layout = world.table().layout();
-    let before = layout.signals().len().saturating_add(layout.points().len());
-    link_line(
-        before.saturating_add(place),
-        is_detector_ready(world, place),
-    )
+    let node = Node::Detector(DetectorId(place));
+    link_line(world, node, is_detector_ready(world, place))
 }
 
 /// Whether the initialisation of a detector was completed in its present connection.
 #[tactic(auto, using(crate::proofs::Seen::at_read, crate::proofs::Seen::at_past))]
 fn is_detector_ready(world: &World, place: usize) -> bool
-    ensures { result ≡ is_detector_ready world.now.run.station.ixl place }
+    ensures { result ≡ is_detector_ready world.now.run.interlocking.ixl place }
 {
     let field = world.interlocking().field();
     if place < field.detectors() {
@@ -256,7 +291,7 @@ fn is_detector_ready(world: &World, place: usize) -> bool
 
 /// The route that is held for a signal, if one is.
 fn held_at(world: &World, place: usize) -> Option<RouteId>
-    ensures { result ≡ route_held place (held_of world.now.sited.table world.now.run.station world.now.run.frozen) }
+    ensures { result ≡ route_held place (held_of world.now.sited.table world.now.run.interlocking world.now.run.frozen) }
 {
     let held = world.held();
     first_held(&held, place)
@@ -289,7 +324,7 @@ fn authority_of(routes: &[Route], route: Option<RouteId>) -> Option<Authority>
 
 /// The first route that locks a section.
 fn locking(world: &World, section: usize) -> Option<RouteId>
-    ensures { result ≡ locking world.now.sited.table.rows world.now.run.station.ixl.routes section 0 (length world.now.sited.table.rows) }
+    ensures { result ≡ locking world.now.sited.table.rows world.now.run.interlocking.ixl.routes section 0 (length world.now.sited.table.rows) }
 {
     for number in 0..world.interlocking().table().rows().len() {
         if locks(world, number, section) {
@@ -302,32 +337,8 @@ fn locking(world: &World, section: usize) -> Option<RouteId>
 /// Whether a route locks a section.
 fn locks(world: &World, number: usize, section: usize) -> bool
     requires { number < length world.now.sited.table.rows }
-    ensures { result ≡ lock_of (slice_get world.now.sited.table.rows number) (slice_get world.now.run.station.ixl.routes number) section }
+    ensures { result ≡ lock_of (slice_get world.now.sited.table.rows number) (slice_get world.now.run.interlocking.ixl.routes number) section }
 {
-    let state = world.interlocking();
-    let route = state.route(number);
-    let sections = state.table().rows()[number].sections();
-    route.is_set() && is_left(sections, freed(route.phase()), section)
-}
-
-/// How many sections of a route are freed.
-fn freed(phase: Phase) -> usize
-    ensures { result ≡ freed_sections phase }
-{
-    match phase {
-        Phase::Ended { freed, .. } => freed,
-        _ => 0,
-    }
-}
-
-/// Whether a section stands in a list behind so many.
-fn is_left(sections: &[usize], freed: usize, section: usize) -> bool
-    ensures { result ≡ list_any (λ other. other == section) (drop freed sections.now) }
-{
-    for place in freed..sections.len() {
-        if sections[place] == section {
-            return true;
-        }
-    }
-    false
+    world.interlocking().keeps_route(number);
+    world.locked(RouteId(number)).contains(section)
 }

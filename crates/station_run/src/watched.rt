@@ -2,7 +2,7 @@
 
 ghost use Rattle.std.specs.Prelude.{◌≡◌};
 
-use station_panel::station_network::station_drive::Clock;
+use station_panel::station_drive::Clock;
 use std::io::Eprint;
 
 /// How many microseconds a second has.

@@ -3,7 +3,7 @@
 use crate::command_bench::expect_of;
 use crate::run_bench::SMALL;
 use crate::runs::read;
-use station_run::station_record::{Asked, capture_session, capture_to_file};
+use station_run::station_record::{CaptureOptions, capture_session, capture_to_file};
 use std::alloc::Global;
 use std::fs;
 
@@ -14,7 +14,7 @@ const OUT: &str = "capture";
 const SESSION: &str = "time 6000000 = ok\ntick IXL1 = ok\n";
 
 /// A session with a line that isn't one, of which a capture is to be written over another.
-const FAULTY: Asked<'static> = Asked {
+const FAULTY: CaptureOptions<'static> = CaptureOptions {
     layout: SMALL,
     recording: "tick IXL1",
     endpoints: &[],
@@ -28,8 +28,8 @@ const EXISTS: &str = "capture fault 2 Exists\n";
 const UNWRITTEN: &str = "cannot write\n";
 
 /// What is asked of the session, with a file to which its capture goes.
-const fn asked(out: &str, force: bool) -> Asked<'_> {
-    Asked {
+const fn asked(out: &str, force: bool) -> CaptureOptions<'_> {
+    CaptureOptions {
         layout: SMALL,
         recording: SESSION,
         endpoints: &[],
@@ -39,7 +39,7 @@ const fn asked(out: &str, force: bool) -> Asked<'_> {
 }
 
 /// Whether a capture ends with this status, and just this text is told.
-fn ends(rt: &HostRuntime, asked: &Asked<'_>, status: u8, text: &str) -> bool {
+fn ends(rt: &HostRuntime, asked: &CaptureOptions<'_>, status: u8, text: &str) -> bool {
     let mut err = Vec::new(rt.alloc());
     let ended = capture_to_file(rt, asked, &mut err);
     ended == status && err.as_slice() == text.as_bytes()

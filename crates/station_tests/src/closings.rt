@@ -1,20 +1,16 @@
-//! What closes a client's link behind the handshake, and by which reason.
+//! What closes a client's link after the handshake, and by which reason.
 
-use crate::controllers::{KEY, MADE_AT, MANY, OPENED_AT, STATION, answer, hosted, name};
-use control_table::sci_telegram::{Aspect, Occupancy, Protocol};
-use station_run::station_record::replay::simulator::simulator_run::ixl_rules::ixl_client::{
-    Client, Command, Indications, Peer,
-};
-use station_run::station_record::replay::simulator::simulator_run::ixl_rules::rasta_core::Outbox;
-use station_run::station_record::replay::simulator::simulator_run::ixl_rules::rasta_pdu::Datagram;
-use station_run::station_record::replay::simulator::simulator_run::object_host::{
-    Controller, Hosted,
-};
-use station_run::station_record::replay::simulator::simulator_run::signal_ctl::Signal;
-use station_run::station_record::replay::simulator::simulator_run::tds_ctl::Detection;
+use crate::controllers::{FIRST, KEY, MANY, OPENED_AT, STATION, answer, hosted, name};
+use control_table::sci_telegram::Protocol;
+use control_table::{Aspect, Occupancy};
+use ixl_client::{Client, Command, Indications, Peer};
+use object_host::{Controller, Hosted};
+use signal_ctl::Signal;
+use station_run::{Datagram, Outbox};
 use std::alloc::Global;
 use std::mem;
 use std::process::Abort;
+use tds_ctl::Detection;
 
 /// The identity of the controller.
 const CONTROLLER: u32 = 2;
@@ -30,7 +26,7 @@ const OTHER_VERSION: Expected = (Protocol::LightSignal, 2, &["OC1"]);
 /// The controller tells of GA first.
 const OTHER_ORDER: Expected = (Protocol::TrainDetection, 1, &["GP", "GA"]);
 
-/// The type of a disconnection request, which stands behind the length of a PDU. Behind its stamps stand a detail, 0, and the
+/// The type of a disconnection request, which stands after the length of a PDU. After its stamps stand a detail, 0, and the
 /// reason, of two bytes each.
 const DISCONNECTION: [u8; 2] = [0x48, 0x18];
 
@@ -67,7 +63,7 @@ fn client(rt: &impl Abort, alloc: Global, expected: Expected) -> Client {
         name: name(rt, "OC1"),
         objects,
     };
-    let made = Client::new(alloc, STATION, CONTROLLER, KEY, peer, 0, MADE_AT);
+    let made = Client::new(alloc, STATION, CONTROLLER, KEY, peer, FIRST);
     made.expect(rt, "there is memory")
 }
 

@@ -1,14 +1,9 @@
 //! Controllers that answer an interlocking or a client.
 
-use control_table::sci_telegram::Name;
+use control_table::Name;
 use md4::STANDARD;
-use station_run::station_record::replay::simulator::simulator_run::ixl_rules::rasta_core::Millis;
-use station_run::station_record::replay::simulator::simulator_run::ixl_rules::rasta_pdu::{
-    Datagram, Key,
-};
-use station_run::station_record::replay::simulator::simulator_run::object_host::{
-    Controller, Hosted, Input,
-};
+use object_host::{Controller, Hosted, Input, Parties};
+use station_run::{Datagram, Key, Millis, Start};
 use std::alloc::Global;
 use std::process::Abort;
 
@@ -21,6 +16,12 @@ pub(crate) const STATION: u32 = 1;
 pub(crate) const MADE_AT: Millis = 94000;
 
 pub(crate) const OPENED_AT: Millis = 100000;
+
+/// How each end begins.
+pub(crate) const FIRST: Start = Start {
+    first_sequence_number: 0,
+    now: MADE_AT,
+};
 
 /// How many datagrams a step hands out at most in these tests.
 pub(crate) const MANY: usize = 64;
@@ -36,10 +37,14 @@ pub(crate) fn hosted<C: Controller>(
     named: (&str, u32),
     object: C,
 ) -> Hosted<C> {
-    let (own, peer) = (name(rt, named.0), name(rt, "IXL1"));
-    let made = Hosted::new(
-        alloc, named.1, STATION, own, peer, KEY, 0, MADE_AT, object, 1,
-    );
+    let parties = Parties {
+        own: named.1,
+        partner: STATION,
+        own_name: name(rt, named.0),
+        peer_name: name(rt, "IXL1"),
+        key: KEY,
+    };
+    let made = Hosted::new(alloc, parties, FIRST, object, 1);
     made.expect(rt, "there is memory")
 }
 

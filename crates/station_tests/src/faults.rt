@@ -3,8 +3,8 @@
 use arrayvec::{ArrayString, ArrayVec};
 use control_table::TableFault;
 use control_table::layout::LayoutFault;
-use station_panel::station_network::station_drive::DriveFault;
-use station_run::station_record::replay::station_check::{Failure, tell};
+use station_panel::station_drive::DriveFault;
+use station_run::{Failure, tell};
 use std::fmt::Write;
 
 /// More bytes than any of these texts has.

@@ -1,8 +1,7 @@
 //! A network over memory.
 
-use station_panel::station_network::MemoryNetwork;
-use station_panel::station_network::station_drive::Datagrams;
-use station_run::station_record::replay::simulator::NodeId;
+use station_panel::station_drive::{Datagrams, MemoryNetwork};
+use station_run::NodeId;
 
 /// Whether a node receives these bytes, or nothing.
 pub(crate) fn receives<N: Datagrams>(net: &mut N, node: usize, wanted: Option<&[u8]>) -> bool {

@@ -19,7 +19,7 @@ use crate::node_stories::stories::{
     calls_that_fail_change_nothing, nothing_old_is_heard, rests, stories_are_seen,
 };
 use crate::run_bench::SMALL;
-use station_run::station_record::replay::station_check::table_of;
+use station_run::table_of;
 
 /// What is tried with the small station.
 #[derive(Clone, Copy)]

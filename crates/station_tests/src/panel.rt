@@ -3,9 +3,9 @@
 
 use crate::panel_bench::{Asks, Sevens, Visit, Visits, count, has, page};
 use crate::run_bench::{SMALL, is_same};
-use station_panel::station_network::{MemoryNetwork, SteppingClock};
+use station_panel::station_drive::{MemoryNetwork, SteppingClock};
 use station_panel::{Limits, Listens, Loopback};
-use station_run::{PanelAsked, attend_station, prepare};
+use station_run::{Attended, PanelOptions, prepare};
 use std::alloc::Global;
 use std::cell::RefCell;
 use std::io::{Read, Write};
@@ -13,8 +13,8 @@ use std::net::{Net, TcpStream};
 use std::process::Abort;
 
 /// What a panel is asked in a test, at a port.
-fn asked<'a>(port: u16, for_ms: u64) -> PanelAsked<'a> {
-    PanelAsked {
+fn asked<'a>(port: u16, for_ms: u64) -> PanelOptions<'a> {
+    PanelOptions {
         page: page(port),
         limits: Limits {
             for_ms,
@@ -33,15 +33,14 @@ struct Left {
 /// Attends a panel of the small station over memory for so many milliseconds, with these visits.
 fn attend(rt: &impl Abort, alloc: Global, visits: &'static [Visit], for_ms: u64) -> Left {
     let told = RefCell::new(Vec::new(alloc));
-    let mut record = Vec::new(alloc);
     let mut listener = Visits::new(alloc, visits, &told);
-    let status = attend_small(rt, alloc, &mut listener, &mut record, &asked(8080, for_ms));
-    assert!(rt; status == 0);
+    let attended = attend_small(rt, alloc, &mut listener, &asked(8080, for_ms));
+    assert!(rt; attended.ended.is_ok());
     Left {
         told: told
             .try_replace(Vec::new(alloc))
             .expect(rt, "what was told"),
-        record,
+        record: attended.recorder,
     }
 }
 
@@ -50,23 +49,13 @@ fn attend_small<L: Listens>(
     rt: &impl Abort,
     alloc: Global,
     listener: &mut L,
-    record: &mut Vec<u8>,
-    asked: &PanelAsked<'_>,
-) -> u8 {
+    asked: &PanelOptions<'_>,
+) -> Attended<Vec<u8>> {
     let prepared = prepare(alloc, SMALL, "").expect(rt, "a station");
-    let (mut out, mut err) = (Vec::new(alloc), Vec::new(alloc));
-    attend_station(
-        &Sevens,
-        alloc,
-        prepared,
-        MemoryNetwork::new(alloc, 0),
-        &mut SteppingClock::new(alloc, 0, 10_000),
-        record,
-        listener,
-        asked,
-        &mut out,
-        &mut err,
-    )
+    let station = prepared.over(alloc, MemoryNetwork::new(alloc, 0), Vec::new(alloc));
+    let mut clock = SteppingClock::new(alloc, 0, 10_000);
+    let mut out = Vec::new(alloc);
+    station.attend(&Sevens, &mut clock, listener, asked, &mut out)
 }
 
 /// Each refusal, and what stands in its place where nothing is wrong.
@@ -151,9 +140,8 @@ fn page_over_loopback(rt: &(impl Abort + Net), alloc: Global) -> Vec<u8> {
     browser
         .write_all(request.as_bytes())
         .expect(rt, "it is sent");
-    let mut record = Vec::new(alloc);
-    let status = attend_small(rt, alloc, &mut listener, &mut record, &asked(port, 100));
-    assert!(rt; status == 0);
+    let attended = attend_small(rt, alloc, &mut listener, &asked(port, 100));
+    assert!(rt; attended.ended.is_ok());
     let mut told = Vec::new(alloc);
     browser.read_to_end(&mut told).expect(rt, "an answer");
     told

@@ -2,10 +2,11 @@
 
 use crate::panel_bench::{Asks, Sevens, Visit, Visits, count, has, page};
 use crate::run_bench::SMALL;
+use control_table::{Checked, Layout};
 use node_network::MemoryOutside;
-use node_panel::{Heard, attend_node};
-use station_panel::{Desk, Pictured, open_desk};
-use station_run::station_record::replay::station_check::table_of;
+use node_panel::{Heard, Room, attend_node};
+use station_panel::{Pictured, open_desk};
+use station_run::table_of;
 use std::alloc::Global;
 use std::cell::RefCell;
 use std::process::Abort;
@@ -15,29 +16,34 @@ type Stage = (&'static [&'static str], &'static [Visit], u64);
 
 /// A panel of the small station's node.
 #[derive(Drop)]
-struct Seat {
+struct Seat<'a> {
     outside: MemoryOutside,
-    heard: Heard,
-    desk: Desk,
+    room: Room<'a>,
 }
 
 /// A panel whose node is joined in its first turn.
-fn panel_joined(rt: &impl Abort, alloc: Global) -> Seat {
-    let table = table_of(alloc, SMALL).expect(rt, "a table");
-    let heard = Heard::nothing(alloc, table.layout()).expect(rt, "nothing heard");
+fn panel_joined<'a>(rt: &impl Abort, alloc: Global, layout: &'a Layout) -> Seat<'a> {
+    let table = small_table(rt, alloc);
+    let heard = Heard::nothing(alloc, layout).expect(rt, "nothing heard");
     let places = heard.picture(alloc).expect(rt, "a picture").len();
     let desk = open_desk(&Sevens, alloc, table, places, &page(8080)).expect(rt, "a desk");
     let mut outside = MemoryOutside::new(alloc, 0, 10);
     outside.listen();
-    Seat {
-        outside,
+    let room = Room {
+        layout,
         heard,
         desk,
-    }
+    };
+    Seat { outside, room }
+}
+
+/// The table of the small station.
+fn small_table(rt: &impl Abort, alloc: Global) -> Checked {
+    table_of(alloc, SMALL).expect(rt, "a table")
 }
 
 /// Attends a panel for a stage, and answers what browsers were told.
-fn attend(rt: &impl Abort, alloc: Global, seat: &mut Seat, stage: &Stage) -> Vec<u8> {
+fn attend(rt: &impl Abort, alloc: Global, seat: &mut Seat<'_>, stage: &Stage) -> Vec<u8> {
     let (lines, visits, until) = *stage;
     for line in lines {
         seat.outside.bring_line(line).expect(rt, "a line");
@@ -58,26 +64,23 @@ fn attend(rt: &impl Abort, alloc: Global, seat: &mut Seat, stage: &Stage) -> Vec
 fn attend_until(
     rt: &impl Abort,
     alloc: Global,
-    seat: &mut Seat,
+    seat: &mut Seat<'_>,
     visits: &mut Visits<'_>,
     until: u64,
 ) {
-    let table = table_of(alloc, SMALL).expect(rt, "a table");
     let attended = attend_node(
         &Sevens,
         alloc,
-        table.layout(),
         &mut seat.outside,
         visits,
-        &mut seat.heard,
-        &mut seat.desk,
+        &mut seat.room,
         until,
     );
     assert!(rt; attended.is_ok());
 }
 
 /// Whether the next line that was asked of the node is this.
-fn asks(rt: &impl Abort, seat: &mut Seat, line: &str) -> bool {
+fn asks(rt: &impl Abort, seat: &mut Seat<'_>, line: &str) -> bool {
     seat.outside
         .take_written()
         .is_some_and(|written| written.as_str() == line)
@@ -135,7 +138,8 @@ const GONE: Stage = (&[], &[(2, Asks::Get("/state?after=0"))], 800);
 
 #[test]
 fn a_panel_shows_what_a_node_tells(rt: HostRuntime) {
-    let mut seat = panel_joined(&rt, rt.alloc());
+    let table = small_table(&rt, rt.alloc());
+    let mut seat = panel_joined(&rt, rt.alloc(), table.layout());
     let told = attend(&rt, rt.alloc(), &mut seat, &JOINED);
     assert!(rt; has(&told, "link IXL1 ready") && has(&told, "link S1 ready"));
     assert!(rt; has(&told, "section GP unknown") && has(&told, "indicates S1 stop"));
@@ -152,7 +156,8 @@ fn a_panel_shows_what_a_node_tells(rt: HostRuntime) {
 
 #[test]
 fn a_panel_knows_nothing_of_a_node_that_has_gone(rt: HostRuntime) {
-    let mut seat = panel_joined(&rt, rt.alloc());
+    let table = small_table(&rt, rt.alloc());
+    let mut seat = panel_joined(&rt, rt.alloc(), table.layout());
     attend(&rt, rt.alloc(), &mut seat, &JOINED);
     attend(&rt, rt.alloc(), &mut seat, &SET);
     let told = attend(&rt, rt.alloc(), &mut seat, &LOST);

@@ -1,9 +1,7 @@
 //! Stations that are driven over memory and over sockets, and what comes of it.
 
-use station_panel::station_network::station_drive::{Clock, Datagrams};
-use station_panel::station_network::{MemoryNetwork, NetCall};
-use station_run::station_record::replay::replay_text;
-use station_run::{Asked, prepare, run};
+use station_panel::station_drive::{Clock, Datagrams, MemoryNetwork, NetCall};
+use station_run::{RunOptions, prepare, replay_text, run};
 use std::alloc::Global;
 use std::io;
 use std::io::Write;
@@ -48,7 +46,7 @@ impl Write for Disk {
 #[derive(Drop)]
 struct HastyClock {
     latest: u64,
-    /// By how much it goes on at the next reading, and at the one behind that, in microseconds.
+    /// By how much it goes on at the next reading, and at the one after that, in microseconds.
     steps: (u64, u64),
 }
 
@@ -89,7 +87,7 @@ pub(crate) struct Left {
     pub(crate) first_sent: u64,
 }
 
-/// Which call of a network was the first that sent, counted from 1. Where none did, the one behind the last.
+/// Which call of a network was the first that sent, counted from 1. Where none did, the one after the last.
 fn first_sent(net: &MemoryNetwork) -> u64 {
     let mut number: u64 = 1;
     for call in net.calls() {
@@ -107,20 +105,19 @@ pub(crate) fn run_over_memory(rt: &impl Abort, alloc: Global, drive: Drive<'_>) 
         rt,
         "a station and its script",
     );
-    let mut net = MemoryNetwork::new(alloc, drive.failing);
+    let net = MemoryNetwork::new(alloc, drive.failing);
     let mut clock = HastyClock {
         latest: 0,
         steps: (0, drive.begins),
     };
-    let mut disk = Disk {
+    let disk = Disk {
         kept: Vec::new(alloc),
         left: drive.room,
     };
     let (mut out, mut err) = (Vec::new(alloc), Vec::new(alloc));
-    let for_ms = drive.for_ms;
-    let status = prepared.run(
-        alloc, &mut net, &mut clock, for_ms, &mut disk, &mut out, &mut err,
-    );
+    let mut station = prepared.over(alloc, net, disk);
+    let status = station.run(&mut clock, drive.for_ms, &mut out, &mut err);
+    let (net, disk) = station.into_outside();
     Left {
         status,
         record: disk.kept,
@@ -140,7 +137,7 @@ pub(crate) struct Told {
 }
 
 /// Runs a station over sockets.
-pub(crate) fn run_over_sockets(rt: &HostRuntime, asked: &Asked<'_>) -> Told {
+pub(crate) fn run_over_sockets(rt: &HostRuntime, asked: &RunOptions<'_>) -> Told {
     let (mut out, mut err) = (Vec::new(rt.alloc()), Vec::new(rt.alloc()));
     let status = run(rt, asked, &mut out, &mut err, false);
     Told { status, out, err }

@@ -5,7 +5,7 @@ use crate::run_bench::{
     Drive, Left, SMALL, Told, is_same, lacks_delivery, run_over_memory, run_over_sockets,
     whole_lines,
 };
-use station_run::Asked;
+use station_run::RunOptions;
 use std::alloc::{AllocError, Global};
 use std::fs::File;
 use std::ops::Range;
@@ -29,7 +29,7 @@ route R3 free
 safe
 ";
 
-/// R1 is set in the round behind the one in which the restart hold is ended.
+/// R1 is set in the round after the one in which the restart hold is ended.
 const SCRIPT: &str = "at 8000 resume\nat 8010 set R1\n";
 
 const WHOLE: Drive<'static> = Drive {
@@ -148,8 +148,8 @@ const UNWRITTEN: &str = "unwritten";
 const LATE_SCRIPT: &str = "at 8000 resume\nat 8100 set R1\n";
 
 /// What is asked of the small station, with a record.
-const fn asked(record: &str) -> Asked<'_> {
-    Asked {
+const fn asked(record: &str) -> RunOptions<'_> {
+    RunOptions {
         layout: SMALL,
         script: LATE_SCRIPT,
         record,
@@ -208,7 +208,7 @@ const FAILED: &[Failed] = &[
 ];
 
 /// Whether a run fails, and tells just this text.
-fn is_told(rt: &HostRuntime, asked: &Asked<'_>, text: &str) -> bool {
+fn is_told(rt: &HostRuntime, asked: &RunOptions<'_>, text: &str) -> bool {
     let told = run_over_sockets(rt, asked);
     told.status == 1 && told.out.is_empty() && told.err.as_slice() == text.as_bytes()
 }
@@ -235,7 +235,7 @@ fn needs_sockets(rt: &HostRuntime) -> bool {
 /// The first of these texts that isn't told, if one isn't.
 fn first_untold(rt: &HostRuntime, failed: &[Failed]) -> Option<&'static str> {
     for (layout, script, record, text) in failed {
-        let asked = Asked {
+        let asked = RunOptions {
             layout: *layout,
             script: *script,
             ..asked(*record)

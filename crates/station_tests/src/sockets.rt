@@ -1,9 +1,8 @@
 //! Sockets of the machine, and its clock.
 
 use crate::memory::receives;
-use station_panel::station_network::station_drive::{Clock, Datagrams, NetFault};
-use station_panel::station_network::{RoundClock, Sockets};
-use station_run::station_record::replay::simulator::NodeId;
+use station_panel::station_drive::{Clock, Datagrams, NetFault, RoundClock, Sockets};
+use station_run::NodeId;
 use std::alloc::Global;
 use std::cell::Cell;
 use std::io;

@@ -48,7 +48,7 @@ Usage: station check [OPTIONS] <FILE>
 
 Arguments:
   <FILE>
-          The layout, a TOML file
+          The layout, a TOML file (- for a file that is read is standard input)
 
 Options:
       --explain
@@ -66,7 +66,7 @@ const SHORT_CHECK_HELP: &str = "Checks the layout of a station and its table of 
 Usage: station check [OPTIONS] <FILE>
 
 Arguments:
-  <FILE>  The layout, a TOML file
+  <FILE>  The layout, a TOML file (- for a file that is read is standard input)
 
 Options:
       --explain  Tells a fault in a second line, in words
@@ -87,7 +87,7 @@ Usage: station plan [OPTIONS] <FILE>
 
 Arguments:
   <FILE>
-          The layout, a TOML file
+          The layout, a TOML file (- for a file that is read is standard input)
 
 Options:
       --route <R>
@@ -131,7 +131,7 @@ Usage: station sim <FILE> <EVENTS>
 
 Arguments:
   <FILE>
-          The layout, a TOML file
+          The layout, a TOML file (- for a file that is read is standard input)
 
   <EVENTS>
           The lines of events
@@ -156,7 +156,7 @@ Usage: station replay [OPTIONS] <FILE> <RECORD>
 
 Arguments:
   <FILE>
-          The layout, a TOML file
+          The layout, a TOML file (- for a file that is read is standard input)
 
   <RECORD>
           The recorded session
@@ -185,7 +185,7 @@ Usage: station run --script <S> --record <R> --for <MS> <FILE>
 
 Arguments:
   <FILE>
-          The layout, a TOML file
+          The layout, a TOML file (- for a file that is read is standard input)
 
 Options:
       --script <S>
@@ -220,7 +220,7 @@ Usage: station panel [OPTIONS] <FILE>
 
 Arguments:
   <FILE>
-          The layout, a TOML file
+          The layout, a TOML file (- for a file that is read is standard input)
 
 Options:
       --port <P>
@@ -252,7 +252,7 @@ Usage: station table [OPTIONS] <FILE>
 
 Arguments:
   <FILE>
-          The layout, a TOML file
+          The layout, a TOML file (- for a file that is read is standard input)
 
 Options:
       --csv
@@ -279,7 +279,7 @@ Usage: station chart [OPTIONS] <FILE> <RECORD>
 
 Arguments:
   <FILE>
-          The layout, a TOML file
+          The layout, a TOML file (- for a file that is read is standard input)
 
   <RECORD>
           The recorded session
@@ -303,7 +303,7 @@ const SHORT_DECODE_HELP: &str = "Puts a datagram, or those of a session, into wo
 Usage: station decode [OPTIONS] [FILE] [RECORD]
 
 Arguments:
-  [FILE]    The layout, a TOML file
+  [FILE]    The layout, a TOML file (- for a file that is read is standard input)
   [RECORD]  The recorded session
 
 Options:
@@ -332,7 +332,7 @@ Usage: station capture [OPTIONS] <FILE> <RECORD> <OUT>
 
 Arguments:
   <FILE>
-          The layout, a TOML file
+          The layout, a TOML file (- for a file that is read is standard input)
 
   <RECORD>
           The recorded session
@@ -359,7 +359,7 @@ const SHORT_NODE_HELP: &str = "Runs one node of a station as a process of its ow
 Usage: station node [OPTIONS] --addresses <ADDRESSES> <FILE> <NAME>
 
 Arguments:
-  <FILE>  The layout, a TOML file
+  <FILE>  The layout, a TOML file (- for a file that is read is standard input)
   <NAME>  The name of the node, as the layout has it
 
 Options:

@@ -1,7 +1,7 @@
 //! Lines and a session are answered as they should be, or want of memory is told: with all memory, with any one allocation
 //! refused, and with all refused from any one on. So nothing here takes memory but what is tried, and the room for answers.
 
-use station_run::station_record::replay::{replay_text, sim_text};
+use station_run::{replay_text, sim_text};
 use std::alloc::Global;
 
 /// One track with a route over it.

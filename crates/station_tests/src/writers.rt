@@ -2,7 +2,7 @@
 //! told once more, so that the tests also hold with any one allocation refused.
 
 use arrayvec::ArrayVec;
-use station_run::station_record::replay::station_check::check_text;
+use station_run::check_text;
 use std::alloc::Global;
 use std::io;
 use std::io::Write;

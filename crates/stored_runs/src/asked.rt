@@ -3,13 +3,12 @@
 use crate::failure::Failure;
 use crate::files::NOTHING;
 use crate::kind::Kind;
-use node_record::{Cut as NodeCut, chart_node_text, decode_node_text};
+use node_record::{Cut as NodeCut, NodeRecord, chart_node_text, decode_node_text};
 use simulator_pair_text::pair_text;
 use station_layout::{Form, explain_text, plan_text, table_text};
-use station_record::replay::station_check::check_text;
-use station_record::replay::{replay_text, sim_text};
-use station_record::station_decode::decode_text;
-use station_record::{Cut, chart_text, decode_session_text};
+use station_record::{
+    Cut, chart_text, check_text, decode_session_text, decode_text, replay_text, sim_text,
+};
 use std::alloc::Global;
 use std::io::Write;
 
@@ -27,7 +26,7 @@ pub(crate) struct Asked<'a> {
 }
 
 impl<'a> Asked<'a> {
-    /// Does it, and writes what comes of it: what was told of a fault or a difference behind the rest, and the status.
+    /// Does it, and writes what comes of it: what was told of a fault or a difference after the rest, and the status.
     pub(crate) fn show<W: Write>(self, alloc: Global, out: &mut W) -> Result<(), Failure> {
         let mut told = Vec::new(alloc);
         let status = match self.kind {
@@ -73,7 +72,14 @@ impl<'a> Asked<'a> {
             to: None,
         };
         match self.kind {
-            Kind::ChartNode => chart_node_text(alloc, layout, self.word, record, cut, out, told),
+            Kind::ChartNode => {
+                let recorded = NodeRecord {
+                    layout,
+                    name: self.word,
+                    recording: record,
+                };
+                chart_node_text(alloc, recorded, cut, out, told)
+            }
             _ => decode_node_text(alloc, layout, self.word, record, out, told),
         }
     }

@@ -37,7 +37,7 @@ pub(crate) fn carry_out<W: Write>(
     Ok(())
 }
 
-/// Shows one case, behind its first line.
+/// Shows one case, after its first line.
 fn show<W: Write>(rt: &HostRuntime, kind: Kind, case: &str, out: &mut W) -> Result<(), Failure> {
     let title = title_of(case);
     let text = text_of(rt, title, case)?;
@@ -84,7 +84,7 @@ fn show_checked<W: Write>(
     asked.show(alloc, out)
 }
 
-/// The text behind many lines of comment.
+/// The text after many lines of comment.
 fn behind_comments(alloc: Global, text: &str) -> Result<String, AllocError> {
     let mut long = String::new(alloc);
     for _ in 0..MANY {

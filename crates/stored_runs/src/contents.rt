@@ -3,8 +3,8 @@
 ghost use Rattle.std.specs.Prelude.{◌<◌, length};
 
 use crate::failure::Failure;
-use control_table::layout::{Layout, Route, RouteId};
-use control_table::{Checked, check};
+use control_table::layout::Route;
+use control_table::{Checked, Layout, RouteId, check};
 use std::alloc::Global;
 use std::io;
 use std::io::Write;

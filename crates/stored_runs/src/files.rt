@@ -2,7 +2,7 @@
 
 use crate::failure::Failure;
 use control_table::Checked;
-use station_record::replay::station_check::table_of;
+use station_record::table_of;
 use std::alloc::Global;
 use std::fs;
 

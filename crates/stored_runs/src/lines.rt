@@ -12,7 +12,7 @@ use std::io::Write;
 /// What stands in a frame in place of a line.
 const MARK: &str = "LINE";
 
-/// Shows what comes of each line of a text alone, behind the line if that is text.
+/// Shows what comes of each line of a text alone, after the line if that is text.
 pub(crate) fn show_each<W: Write>(
     alloc: Global,
     asked: Asked<'_>,
@@ -27,7 +27,7 @@ pub(crate) fn show_each<W: Write>(
     Ok(())
 }
 
-/// Runs a frame with each line of a text, behind this line.
+/// Runs a frame with each line of a text, after this line.
 pub(crate) fn show_framed<W: Write>(
     alloc: Global,
     asked: Asked<'_>,

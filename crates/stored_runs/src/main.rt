@@ -11,21 +11,21 @@
 //!   `chart-node LAYOUT NAME RECORD` draws it;
 //! - `chart LAYOUT SESSION FROM TO`: a session is drawn, from one time in milliseconds to another, or a hyphen where none is
 //!   asked for;
-//! - `restarts NAME LAYOUT EVENTS ROUNDS NUMBER: NODES`: each of these nodes is made anew behind every NUMBERth event that the
-//!   lines of EVENTS come to, ROUNDS follow behind them, and the station has to be safe after every event.
+//! - `restarts NAME LAYOUT EVENTS ROUNDS NUMBER: NODES`: each of these nodes is made anew after every NUMBERth event that the
+//!   lines of EVENTS come to, ROUNDS follow after them, and the station has to be safe after every event.
 //!
 //! Of layouts, most of them a small station with a change:
 //!
 //! - `report CASES`: what `station check` writes, and its status;
-//! - `commented CASES`: the same of the text behind many lines of comment;
+//! - `commented CASES`: the same of the text after many lines of comment;
 //! - `explain CASES`: what `station check --explain` writes, and its status;
 //! - `table LAYOUT` and `csv LAYOUT`: the control table of a layout, in either form;
 //! - `plan LAYOUT ROUTE PICTURE`: the track plan of a layout, with a route and with what is seen in a picture, or a hyphen where
 //!   none is asked for;
 //! - `contents CASES`: what the layout reads from the text, and what the control table says of each route.
 //!
-//! An empty line parts two cases. The first line of a case names a layout of the folder `layouts`, and says behind a colon
-//! what is so in it. Each line `-OLD` behind it, with a line `+NEW`, puts NEW in place of the first OLD in its text.
+//! An empty line parts two cases. The first line of a case names a layout of the folder `layouts`, and says after a colon
+//! what is so in it. Each line `-OLD` after it, with a line `+NEW`, puts NEW in place of the first OLD in its text.
 //!
 //! Of datagrams:
 //!
@@ -38,7 +38,7 @@
 //! - `each-pair FRAME LINES`: so with the text of a frame, once for each line of a file, which comes in place of its word
 //!   `LINE`.
 //!
-//! Behind the line comes what was written, and last the status.
+//! After the line comes what was written, and last the status.
 #![tactic(auto)]
 
 mod asked;

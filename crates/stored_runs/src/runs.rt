@@ -11,7 +11,7 @@ use std::io::{BufWriter, Write};
 /// The file that names what is run.
 const RUNS: &str = "runs";
 
-/// Carries out each line of the list behind the line itself.
+/// Carries out each line of the list after the line itself.
 pub(crate) fn carry_out_all(rt: &HostRuntime) -> Result<(), Failure> {
     let runs = read(rt, RUNS)?;
     let mut out = BufWriter::new(rt.alloc(), rt.stdout())?;

@@ -3,11 +3,11 @@ use Rattle.std.specs.Prelude.{ℕ, Bool, List, [], ◌∷◌, Option, Some, None
 use Rattle.ixl_state.specs.rasta_pdu.PduRead.{reading}
 use Rattle.ixl_state.specs.rasta_pdu.declared.key.Key.{Key}
 use Rattle.ixl_state.specs.rasta_core.Outbox.{OutboxState}
-use Rattle.ixl_state.specs.ixl_rules.StepSoFar.{StepSoFar}
-use Rattle.ixl_state.specs.ixl_rules.State.{IxlState}
-use Rattle.ixl_state.specs.ixl_rules.Table.{Table}
-use Rattle.ixl_state.specs.ixl_rules.Commands.{refusal}
-use Rattle.ixl_state.specs.ixl_rules.Step.{Input, Reply, Tick, Datagram, Commands, Ticked, Received, answer_by, verdict_of}
+use Rattle.ixl_state.specs.ixl_spec.StepSoFar.{StepSoFar}
+use Rattle.ixl_state.specs.ixl_spec.State.{IxlState}
+use Rattle.ixl_state.specs.ixl_spec.Table.{Table}
+use Rattle.ixl_state.specs.ixl_spec.Commands.{refusal}
+use Rattle.ixl_state.specs.ixl_spec.Step.{Input, Reply, Tick, Datagram, Commands, Ticked, Received, answer_by, verdict_of}
 use Rattle.ixl_state.specs.State.{Goes, StateView}
 
 -- a part of a step that hands out nothing

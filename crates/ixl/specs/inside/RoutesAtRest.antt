@@ -1,7 +1,7 @@
 -- Routes that rest.
 use Rattle.std.specs.Prelude.{◌≡◌, ℕ, ◌<◌, Bool, true, false}
-use Rattle.ixl_state.specs.ixl_rules.declared.phase.Phase.{Phase}
-use Rattle.ixl_state.specs.ixl_rules.declared.phase.Phase.TheVariants as phase
+use Rattle.ixl_state.specs.ixl_spec.declared.phase.Phase.{Phase}
+use Rattle.ixl_state.specs.ixl_spec.declared.phase.Phase.TheVariants as phase
 use Rattle.ixl_state.specs.State.{AtRoute, StateView}
 
 -- a route that is free or proceeds

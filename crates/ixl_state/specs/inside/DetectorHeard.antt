@@ -1,11 +1,11 @@
 -- What is looked at where a detector is heard.
 use Rattle.std.specs.Prelude.{◌≡◌, ℕ, Bool, List, ◌++◌, if◌then◌else◌}
-use Rattle.ixl_rules.specs.bit_row.Places.{Places}
-use Rattle.ixl_rules.specs.rasta_core.Outbox.{OutboxState}
-use Rattle.ixl_rules.specs.ixl_client.declared.indication.Indication.{Indication}
-use Rattle.ixl_rules.specs.StepSoFar.{Leads, StepSoFar}
-use Rattle.ixl_rules.specs.State.{IxlState}
-use Rattle.ixl_rules.specs.Step.{told_before, told_now}
+use Rattle.ixl_spec.specs.bit_row.Places.{Places}
+use Rattle.ixl_spec.specs.rasta_core.Outbox.{OutboxState}
+use Rattle.ixl_spec.specs.ixl_client.declared.indication.Indication.{Indication}
+use Rattle.ixl_spec.specs.StepSoFar.{Leads, StepSoFar}
+use Rattle.ixl_spec.specs.State.{IxlState}
+use Rattle.ixl_spec.specs.Step.{told_before, told_now}
 use Rattle.ixl_state.specs.State.{AllAt, Goes, StateView}
 
 -- a part of a step that hands out nothing

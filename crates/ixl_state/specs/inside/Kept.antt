@@ -1,16 +1,17 @@
 -- What holds of every state of an interlocking.
 use Rattle.std.specs.Prelude.{◌≡◌, ℕ, ◌<◌, List, length, Some, slice_get, IsTrue}
-use Rattle.ixl_rules.specs.bit_row.Places.{Has}
+use Rattle.ixl_spec.specs.bit_row.Places.{Has}
 use Rattle.release.specs.Passage.{PassageState}
-use Rattle.ixl_rules.specs.sci_telegram.declared.message.Side.{Side}
+use Rattle.ixl_spec.specs.sci_telegram.declared.message.Side.{Side}
 use Rattle.route_lock.specs.Locks.{Holds, LockState}
-use Rattle.ixl_rules.specs.State.{RouteState}
-use Rattle.ixl_rules.specs.Table.{Row}
-use Rattle.ixl_rules.specs.View.{freed_sections, is_set, was_authorised}
-use Rattle.ixl_rules.specs.declared.phase.Phase.{Phase}
+use Rattle.ixl_spec.specs.First.{key_of}
+use Rattle.ixl_spec.specs.State.{RouteState}
+use Rattle.ixl_spec.specs.Table.{Row}
+use Rattle.ixl_spec.specs.View.{freed_sections, is_set, was_authorised}
+use Rattle.ixl_spec.specs.declared.phase.Phase.{Phase}
 use Rattle.ixl_table.specs.Locks.{AreLocksOf, HaveSectionsLeft, IsKeptRoute}
 use Rattle.ixl_table.specs.Table.{SitedTable, as_point, as_route}
-use Rattle.ixl_field.specs.Field.{FieldState}
+use Rattle.ixl_known.specs.Field.{AllUnder, FieldState}
 
 -- a passage leads over the sections of a row, and nothing was seen beyond them
 pub record IsPassageOf (row : Row) (passage : PassageState) : Type 0 where
@@ -22,12 +23,14 @@ pub record HoldsAlike (old new : Phase) : Type 0 where
   pub set : is_set new ≡ is_set old
   pub freed : freed_sections new ≡ freed_sections old
 
--- a controller for each signal, point and detector of a site, and the sections are reported as its table says
+-- a controller for each signal, point and detector of a site, the sections are reported as its table says, and every link
+-- is under the key of its network
 pub record IsFieldOf (sited : SitedTable) (field : FieldState) : Type 0 where
   pub reporters : field.reporters ≡ sited.table.reporters
   pub known_signals : length field.known_signals ≡ length sited.site.signals
   pub known_points : length field.known_points ≡ length sited.site.points
   pub detectors : length field.detectors ≡ length sited.site.detectors
+  pub keys : AllUnder (key_of sited.site) field
 
 -- a route is kept for each row
 pub record AreRoutesOf (sited : SitedTable) (routes : List RouteState) : Type 0 where

@@ -1,17 +1,17 @@
 -- What the parts of a table are made to be.
 use Rattle.std.specs.Prelude.{◌≡◌, ◌⊎◌, ℕ, suc, ◌<◌, List, length, Some, slice_get}
 use Rattle.std.specs.List.{All, Contains}
-use Rattle.ixl_rules.specs.sci_telegram.declared.message.Side.{Side}
-use Rattle.ixl_rules.specs.sci_telegram.declared.message.Side.TheVariants as side
-use Rattle.ixl_rules.specs.layout.declared.ids.PointId.{PointId}
-use Rattle.ixl_rules.specs.layout.declared.ids.RouteId.{RouteId}
-use Rattle.ixl_rules.specs.layout.Entries.{DetectorEntry, Site}
-use Rattle.ixl_rules.specs.layout.Once.{Once}
-use Rattle.ixl_rules.specs.layout.Station.{IsStation}
-use Rattle.ixl_rules.specs.bit_row.Places.{Places}
-use Rattle.ixl_rules.specs.control_table.AwaitedSections.{Awaits}
-use Rattle.ixl_rules.specs.control_table.Table.{Sound}
-use Rattle.ixl_rules.specs.Table.{Need, Row, Table}
+use Rattle.ixl_spec.specs.sci_telegram.declared.message.Side.{Side}
+use Rattle.ixl_spec.specs.sci_telegram.declared.message.Side.TheVariants as side
+use Rattle.ixl_spec.specs.layout.declared.ids.PointId.{PointId}
+use Rattle.ixl_spec.specs.layout.declared.ids.RouteId.{RouteId}
+use Rattle.ixl_spec.specs.layout.Entries.{DetectorEntry, Site}
+use Rattle.ixl_spec.specs.layout.Once.{Once}
+use Rattle.ixl_spec.specs.layout.Station.{IsStation}
+use Rattle.ixl_spec.specs.bit_row.Places.{Places}
+use Rattle.ixl_spec.specs.control_table.AwaitedSections.{Awaits}
+use Rattle.ixl_spec.specs.control_table.Table.{Sound}
+use Rattle.ixl_spec.specs.Table.{Need, Row, Table}
 use Rattle.ixl_table.specs.Table.{AreNeededAt, IsReportedIn, IsRowOf, IsSetOf, IsTableOf, as_route, as_section, required}
 
 -- so many of a list there are up to the last one of which a fact holds

@@ -1,10 +1,10 @@
 -- The nodes of this crate as the engine sees them.
 use Rattle.std.specs.Prelude.{List, []}
-use Rattle.simulator_run.specs.object_host.declared.input.Input.{Input}
-use Rattle.simulator_run.specs.point_ctl.Drive.{PointState}
-use Rattle.simulator_run.specs.sci_telegram.declared.message.Position.{Position}
-use Rattle.simulator_run.specs.signal_ctl.Signal.{SignalState}
-use Rattle.simulator_run.specs.tds_ctl.declared.section.Section.{Section}
+use Rattle.simulator_spec.specs.object_host.declared.input.Input.{Input}
+use Rattle.simulator_spec.specs.point_ctl.Drive.{PointState}
+use Rattle.simulator_spec.specs.sci_telegram.declared.message.Position.{Position}
+use Rattle.simulator_spec.specs.signal_ctl.Signal.{SignalState}
+use Rattle.simulator_spec.specs.tds_ctl.declared.section.Section.{Section}
 use Rattle.node_drive.specs.Kinds.{NodeState}
 use Rattle.node_kinds.specs.Controllers.{Controller, OwnSections}
 use Rattle.node_kinds.specs.Openings.{Opening, Opens}

@@ -1,14 +1,14 @@
 -- What contracts inside the crate say of a controller's host and of lines. No promise names any of it.
 use Rattle.std.specs.Prelude.{ℕ, List, [], ◌∷◌, Option, Some, None, slice_set}
-use Rattle.simulator_run.specs.object_host.Behaviour.{Behaviour}
-use Rattle.simulator_run.specs.object_host.Host.{HostState}
-use Rattle.simulator_run.specs.object_host.Step.{host_step}
-use Rattle.simulator_run.specs.object_host.declared.input.Input.{Input}
-use Rattle.simulator_run.specs.object_host.declared.input.Input.TheVariants as inputs
-use Rattle.simulator_run.specs.object_host.declared.sense.Sense.{Sense}
-use Rattle.simulator_run.specs.rasta_core.Outbox.{spellings}
-use Rattle.simulator_run.specs.sci_telegram.declared.message.Occupancy.{Occupancy}
-use Rattle.simulator_run.specs.sci_telegram.declared.message.Position.{Position}
+use Rattle.simulator_spec.specs.object_host.Behaviour.{Behaviour}
+use Rattle.simulator_spec.specs.object_host.Host.{HostState}
+use Rattle.simulator_spec.specs.object_host.Step.{host_step}
+use Rattle.simulator_spec.specs.object_host.declared.input.Input.{Input}
+use Rattle.simulator_spec.specs.object_host.declared.input.Input.TheVariants as inputs
+use Rattle.simulator_spec.specs.object_host.declared.sense.Sense.{Sense}
+use Rattle.simulator_spec.specs.rasta_core.Outbox.{spellings}
+use Rattle.simulator_spec.specs.sci_telegram.declared.message.Occupancy.{Occupancy}
+use Rattle.simulator_spec.specs.sci_telegram.declared.message.Position.{Position}
 use Rattle.node_drive.specs.Kinds.{Meaning, InForce, Comes, Faulty}
 use Rattle.node_drive.specs.Waiting.{Addressed}
 use Rattle.node_drive.specs.declared.node.LineMeaning.{LineMeaning}

@@ -1,13 +1,13 @@
--- What contracts inside the crate say. No promise names any of it, but `Node` of this crate.
+-- What contracts inside the crate say. No promise names any of it, but `NodeMachine` of this crate.
 use Rattle.std.specs.Prelude.{ℕ, List, map, string_bytes}
 use Rattle.std.specs.declared.alloc.Global.{Global}
 use Rattle.std.specs.declared.collections.VecDeque.{VecDeque}
 use Rattle.std.specs.declared.string.String.{String}
-use Rattle.simulator_run.specs.Nodes.{key_of}
-use Rattle.simulator_run.specs.ixl_rules.State.{IxlState}
-use Rattle.simulator_run.specs.ixl_rules.Step as ixl
-use Rattle.simulator_run.specs.ixl_rules.StepSoFar.{StepSoFar, begun_with, empty_outbox}
-use Rattle.simulator_run.specs.ixl_rules.Table.{SitedTable}
+use Rattle.simulator_spec.specs.Nodes.{key_of}
+use Rattle.simulator_spec.specs.ixl_spec.State.{IxlState}
+use Rattle.simulator_spec.specs.ixl_spec.Step as ixl
+use Rattle.simulator_spec.specs.ixl_spec.StepSoFar.{StepSoFar, begun_with, empty_outbox}
+use Rattle.simulator_spec.specs.ixl_spec.Table.{SitedTable}
 
 -- an interlocking with its table, the reading of its last step, and the datagrams of that which weren't taken yet
 pub record SteppedState : Type 0 where

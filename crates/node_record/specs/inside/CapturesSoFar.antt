@@ -4,12 +4,12 @@ use Rattle.capture_file.specs.Blocks.{packet_block}
 use Rattle.capture_file.specs.Captures.{IsCapture}
 use Rattle.capture_file.specs.Journeys.{Sent as Captured}
 use Rattle.capture_file.specs.declared.fault.CaptureFault.TheVariants.{TooLong}
+use Rattle.capture_file.specs.declared.journey.TheConstants.{MOST_BYTES}
 use Rattle.capture_file.specs.declared.journey.Endpoint.{Endpoint}
-use Rattle.station_check.specs.declared.failure.Failure.TheVariants.{OutOfMemory}
+use Rattle.station_check.specs.declared.failure.Failure.{Failure}
+use Rattle.station_check.specs.declared.failure.Failure.TheVariants.{Capture, OutOfMemory}
 use Rattle.node_record.specs.CapturedRecord.{HasTooLong, captured}
 use Rattle.node_record.specs.NodeTraffic.{Passed}
-use Rattle.node_record.specs.declared.capture_failure.CaptureFailure.{CaptureFailure}
-use Rattle.node_record.specs.declared.capture_failure.CaptureFailure.TheVariants.{Station, Capture}
 
 -- a datagram was added to a capture
 pub record Adds (given : List Endpoint) (node : ℕ) (one : Passed) (old new : List ℕ) : Type 0 where
@@ -17,13 +17,13 @@ pub record Adds (given : List Endpoint) (node : ℕ) (one : Passed) (old new : L
   pub is : (all : List Captured) → IsCapture all old → IsCapture (all ++ captured given node one ∷ []) new
 
 -- why a datagram can't be added
-abbrev pub HasTooLongOf : Passed → CaptureFailure → Type 0
-HasTooLongOf one (Station OutOfMemory) = Unit {0}
-HasTooLongOf one (Capture TooLong) = 512 < length one.bytes
+abbrev pub HasTooLongOf : Passed → Failure → Type 0
+HasTooLongOf one OutOfMemory = Unit {0}
+HasTooLongOf one (Capture TooLong) = MOST_BYTES < length one.bytes
 HasTooLongOf one why = ⊥
 
 -- why some have no capture
-abbrev pub IsNoCapture : List Passed → CaptureFailure → Type 0
-IsNoCapture all (Station OutOfMemory) = Unit {0}
+abbrev pub IsNoCapture : List Passed → Failure → Type 0
+IsNoCapture all OutOfMemory = Unit {0}
 IsNoCapture all (Capture TooLong) = HasTooLong all
 IsNoCapture all why = ⊥

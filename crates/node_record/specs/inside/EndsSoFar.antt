@@ -3,12 +3,11 @@ use Rattle.std.specs.Prelude.{◌≡◌, ℕ, List, map, slice_get, Some, None}
 use Rattle.std.specs.declared.net.socket_addr.SocketAddr.{SocketAddr}
 use Rattle.capture_file.specs.declared.journey.Endpoint.{Endpoint}
 use Rattle.control_table.specs.layout.Entries.{Site}
-use Rattle.node_addresses.specs.Addresses.{IsFault, IsSound as AreAddresses, UnlessMemory}
+use Rattle.station_check.specs.node_addresses.Addresses.{IsFault, IsSound as AreAddresses, UnlessMemory}
 use Rattle.replay_lines.specs.Names.{node_names}
-use Rattle.station_check.specs.declared.failure.Failure.TheVariants.{OutOfMemory}
+use Rattle.station_check.specs.declared.failure.Failure.{Failure}
+use Rattle.station_check.specs.declared.failure.Failure.TheVariants.{Addresses, NoIpv4, OutOfMemory}
 use Rattle.node_record.specs.GivenEnds.{end_at}
-use Rattle.node_record.specs.declared.ends_failure.EndsFailure.{EndsFailure}
-use Rattle.node_record.specs.declared.ends_failure.EndsFailure.TheVariants.{Station, Addresses, NoIpv4}
 
 -- the address of the node of this name is none of IPv4
 pub record HasNoEnd (site : Site) (addresses : List SocketAddr) (name : List ℕ) : Type 0 where
@@ -19,14 +18,14 @@ pub record HasNoEnd (site : Site) (addresses : List SocketAddr) (name : List ℕ
   pub none : end_at address ≡ None
 
 -- so it is of the node at a place
-abbrev pub IsNoEndOf : Site → SocketAddr → ℕ → EndsFailure → Type 0
-IsNoEndOf site address place (Station OutOfMemory) = Unit {0}
+abbrev pub IsNoEndOf : Site → SocketAddr → ℕ → Failure → Type 0
+IsNoEndOf site address place OutOfMemory = Unit {0}
 IsNoEndOf site address place (NoIpv4 name) = (slice_get (node_names site) place ≡ Some name) × (end_at address ≡ None)
 IsNoEndOf site address place why = ⊥
 
 -- so it is of one of these addresses
-abbrev pub IsNoEnd : Site → List SocketAddr → EndsFailure → Type 0
-IsNoEnd site addresses (Station OutOfMemory) = Unit {0}
+abbrev pub IsNoEnd : Site → List SocketAddr → Failure → Type 0
+IsNoEnd site addresses OutOfMemory = Unit {0}
 IsNoEnd site addresses (NoIpv4 name) = HasNoEnd site addresses name
 IsNoEnd site addresses why = ⊥
 
@@ -43,8 +42,8 @@ pub record LacksEnd (site : Site) (text name : List ℕ) : Type 0 where
   pub lacks : HasNoEnd site addresses name
 
 -- why there are no ends of a layout
-abbrev pub ExplainsOf : Site → List ℕ → EndsFailure → Type 0
-ExplainsOf site text (Station OutOfMemory) = Unit {0}
+abbrev pub ExplainsOf : Site → List ℕ → Failure → Type 0
+ExplainsOf site text OutOfMemory = Unit {0}
 ExplainsOf site text (Addresses fault) = UnlessMemory fault (IsFault site text fault)
 ExplainsOf site text (NoIpv4 name) = LacksEnd site text name
 ExplainsOf site text why = ⊥

@@ -2,8 +2,6 @@
 use Rattle.std.specs.Prelude.{◌≡◌, ℕ, List, Ok}
 use Rattle.control_table.specs.layout.Entries.{Site}
 use Rattle.station_check.specs.Report.{IsSound}
-use Rattle.station_check.specs.declared.failure.Failure.{Failure}
-use Rattle.station_check.specs.declared.failure.Failure.TheVariants.{OutOfMemory, NotWritten}
 use Rattle.node_record.specs.Records.{record_said}
 use Rattle.node_record.specs.declared.record.Record.{Record}
 use Rattle.node_record.specs.inside.RecordsRead.{said}
@@ -12,9 +10,3 @@ use Rattle.node_record.specs.inside.RecordsRead.{said}
 pub record AreTexts (layout name text : List ℕ) (site : Site) (read : Record) : Type 0 where
   pub sound : IsSound layout site
   pub says : record_said site name text ≡ Ok (said read)
-
--- memory is lacking, or something can't be written
-abbrev pub IsLate : Failure → Type 0
-IsLate OutOfMemory = Unit {0}
-IsLate NotWritten = Unit {0}
-IsLate failure = ⊥

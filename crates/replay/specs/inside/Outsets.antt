@@ -1,5 +1,5 @@
 -- How a station lies when it is started, as it is kept.
-use Rattle.simulator.specs.simulator_run.First.{Outset}
+use Rattle.simulator.specs.simulator_spec.First.{Outset}
 use Rattle.replay.specs.declared.outset.Outset.{Outset as Kept}
 
 abbrev pub outset_in : Kept → Outset

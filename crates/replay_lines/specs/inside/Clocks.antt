@@ -2,7 +2,7 @@
 use Rattle.std.specs.Prelude.{ℕ, suc, ◌==◌, if◌then◌else◌, Option, Some, None, List, [], ◌∷◌, ◌++◌, slice_get}
 use Rattle.std.specs.Fmt.{decimal}
 
--- the word of a clock that goes on otherwise than true time, behind a space
+-- the word of a clock that goes on otherwise than true time, after a space
 abbrev pub clock_text : Option (List ℕ) → ℕ → ℕ → List ℕ
 clock_text (Some name) elapsed step = if step == elapsed then [] else 32 ∷ (name ++ 61 ∷ decimal step)
 clock_text None elapsed step = []

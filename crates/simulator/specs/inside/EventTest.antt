@@ -1,13 +1,13 @@
 -- What the test of an event finds.
 use Rattle.std.specs.Prelude.{◌≡◌, Some, None, Result, Ok, Err}
-use Rattle.simulator_ixl.specs.layout.Entries.{Site}
-use Rattle.simulator_ixl.specs.simulator_event.declared.event.Event.{Event}
-use Rattle.simulator_ixl.specs.simulator_event.declared.event.Event.TheVariants as event
-use Rattle.simulator_ixl.specs.simulator_event.refused.Refused.{Refused}
-use Rattle.simulator_ixl.specs.simulator_field.Network.{IsOldestCopy}
-use Rattle.simulator_ixl.specs.simulator_run.Network.{connection_of, copy_of}
-use Rattle.simulator_ixl.specs.simulator_run.Refusals.{refusal}
-use Rattle.simulator_ixl.specs.simulator_run.State.{WorldState}
+use Rattle.ixl_state.specs.layout.Entries.{Site}
+use Rattle.simulator_spec.specs.simulator_event.declared.event.Event.{Event}
+use Rattle.simulator_spec.specs.simulator_event.declared.event.Event.TheVariants as event
+use Rattle.simulator_spec.specs.simulator_event.refused.Refused.{Refused}
+use Rattle.simulator_field.specs.Network.{IsOldestCopy}
+use Rattle.simulator_spec.specs.Network.{connection_of, copy_of}
+use Rattle.simulator_spec.specs.Refusals.{refusal}
+use Rattle.simulator_spec.specs.State.{WorldState}
 use Rattle.simulator.specs.declared.found.Found.{Found}
 use Rattle.simulator.specs.declared.found.Found.TheVariants as found
 

@@ -1,8 +1,8 @@
 -- How a network keeps its datagrams: entries, and the bytes of all in one row.
 use Rattle.std.specs.Prelude.{ℕ, ◌+◌, ◌≤◌, List, [], ◌∷◌, length, map, take, drop}
 use Rattle.std.specs.List.{All}
-use Rattle.simulator_run.specs.rasta_core.Ends.{Sent}
-use Rattle.simulator_run.specs.rasta_core.Links.{OnLink}
+use Rattle.simulator_spec.specs.rasta_core.Ends.{Sent}
+use Rattle.simulator_spec.specs.rasta_core.Links.{OnLink}
 use Rattle.simulator_field.specs.Network.{datagrams}
 use Rattle.simulator_field.specs.declared.entry.Entry.{Entry}
 

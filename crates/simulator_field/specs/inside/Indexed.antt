@@ -1,7 +1,7 @@
 -- The keys by which the datagrams of a network are found.
 use Rattle.std.specs.Prelude.{ℕ, List, map, if◌then◌else◌}
 use Rattle.place_index.specs.Places.{key_of, no_key}
-use Rattle.simulator_run.specs.rasta_core.Ends.{Sent}
+use Rattle.simulator_spec.specs.rasta_core.Ends.{Sent}
 use Rattle.simulator_field.specs.Network.{datagrams}
 use Rattle.simulator_field.specs.declared.entry.Entry.{Entry}
 use Rattle.simulator_field.specs.inside.Entries.{on_links}

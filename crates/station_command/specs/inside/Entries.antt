@@ -1,27 +1,25 @@
--- What the rows of the table of commands are on the command line.
+-- The rows of the table of commands in the code, as those of the definition.
 use Rattle.std.specs.Prelude.{List, fold}
-use Rattle.clap.specs.Words.{App, Rule, Text, new_app, new_rule, with_rule, with_subcommand}
-use Rattle.station_command.specs.declared.command_table.Argument.{Argument}
+use Rattle.clap.specs.Words.{App, new_app, with_rule, with_subcommand}
+use Rattle.station_command.specs.declared.command_table.Argument.{Argument as ArgumentRow}
 use Rattle.station_command.specs.declared.command_table.Entry.{Entry}
-use Rattle.station_command.specs.declared.command_table.Kind.{Kind}
+use Rattle.station_command.specs.declared.command_table.Kind.{Kind as KindRow}
 use Rattle.station_command.specs.declared.command_table.Kind.TheVariants as kind
-use Rattle.station_command.specs.Line.{option_rule, optional_rule, ranged_rule, switch_rule}
+use Rattle.station_command.specs.Commands.{Argument, File, Kind, Number, Switch, Word}
+use Rattle.station_command.specs.Line.{rule_of}
 
--- an argument that may be left out, by how it is given
-abbrev pub rule_of_kind : Text → Kind → Rule
-rule_of_kind name kind.File = new_rule name
-rule_of_kind name (kind.NamedFile value) = optional_rule name
-rule_of_kind name (kind.Option value) = option_rule name
-rule_of_kind name (kind.Number value low high) = ranged_rule name low high
-rule_of_kind name kind.Switch = switch_rule name
+abbrev pub kind_of_row : KindRow → Kind
+kind_of_row (kind.File value) = File
+kind_of_row (kind.Word value) = Word
+kind_of_row (kind.Number value low high) = Number low high
+kind_of_row kind.Switch = Switch
 
--- an argument: its word, how it is given, and whether it is needed
-abbrev pub rule_of_argument : Argument → Rule
-rule_of_argument argument = record (rule_of_kind argument.0.now argument.1) { required = argument.2 }
+abbrev pub argument_of_row : ArgumentRow → Argument
+argument_of_row row = record { name = row.0.now; kind = kind_of_row row.1; is_needed = row.2 }
 
 -- a command with more arguments, in their order
-abbrev pub with_arguments : App → List Argument → App
-with_arguments line arguments = fold (λ line argument. with_rule line (rule_of_argument argument)) line arguments
+abbrev pub with_arguments : App → List ArgumentRow → App
+with_arguments line rows = fold (λ line row. with_rule line (rule_of (argument_of_row row))) line rows
 
 -- a command with its arguments
 abbrev pub line_of_entry : Entry → App

@@ -1,6 +1,6 @@
 -- The words for a datagram that is given in digits.
 use Rattle.std.specs.Prelude.{◌≡◌, ℕ, List, Option, Ok}
-use Rattle.ixl_rules.specs.layout.Entries.{Site}
+use Rattle.ixl_spec.specs.layout.Entries.{Site}
 use Rattle.replay_words.specs.Read.{hexadecimal_or_none}
 use Rattle.station_decode.specs.Datagrams.{datagram_text}
 use Rattle.station_decode.specs.DecodedLine.{IsLayout}

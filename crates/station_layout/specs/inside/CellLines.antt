@@ -1,11 +1,11 @@
--- The line of some cells.
-use Rattle.std.specs.Prelude.{ℕ, List, ◌++◌, codes}
-use Rattle.std.specs.List.{flat_map}
-use Rattle.csv.specs.Writing.{default_writer, row_text}
-use Rattle.station_layout.specs.Lines.{barred}
-use Rattle.station_layout.specs.declared.form.Form.{Form}
-use Rattle.station_layout.specs.declared.form.Form.TheVariants.{Markdown, Csv}
+-- Lines of cells as texts.
+use Rattle.std.specs.Global.{Global}
+use Rattle.std.specs.Prelude.{ℕ, List, String, Vec, map, string_bytes}
+use Rattle.station_layout.specs.Lines.{Cells}
 
-abbrev pub line_of : Form → List (List ℕ) → List ℕ
-line_of Markdown cells = flat_map barred cells ++ codes "|\n"
-line_of Csv cells = row_text default_writer cells
+-- the cells of a line, and of lines
+abbrev pub line_cells : Vec (String Global) Global → List (List ℕ)
+line_cells line = map string_bytes line.items
+
+abbrev pub cells_in : List (Vec (String Global) Global) → Cells
+cells_in lines = map line_cells lines

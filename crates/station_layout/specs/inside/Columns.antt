@@ -3,7 +3,8 @@ use Rattle.std.specs.Prelude.{◌≡◌, ℕ, List, [], ◌∷◌}
 use Rattle.control_table.specs.layout.Entries.{RouteEntry, Site}
 use Rattle.control_table.specs.layout.declared.ids.RouteId.{RouteId}
 use Rattle.control_table.specs.sci_telegram.declared.message.Side.TheVariants as side
-use Rattle.station_layout.specs.Names.{aspect_word, exit_name, parted, signal_name, spaced}
+use Rattle.control_table.specs.sci_telegram.Words.{aspect_word}
+use Rattle.station_layout.specs.Names.{exit_name, parted, signal_name, spaced}
 use Rattle.station_layout.specs.Row.{IsConflictsCell, IsLetGoCell, IsSectionsCell, flank_texts, names_of_points, points_at, section_names}
 use Rattle.station_layout.specs.declared.row.Column.{Column}
 use Rattle.station_layout.specs.declared.row.Column.TheVariants as column

@@ -8,7 +8,7 @@ abbrev pub joined : List ℕ → List ℕ → List (List ℕ) → List ℕ
 joined before between [] = []
 joined before between (text ∷ texts) = before ++ (text ++ joined between between texts)
 
--- what stands before the next one behind these
+-- what stands before the next one after these
 abbrev pub next_before : List ℕ → List ℕ → List (List ℕ) → List ℕ
 next_before before between [] = before
 next_before before between (text ∷ texts) = between

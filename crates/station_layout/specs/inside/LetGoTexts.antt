@@ -10,7 +10,7 @@ use Rattle.station_layout.specs.inside.Joined.{joined}
 abbrev pub TellsPoints : Site → RouteId → List SectionId → ℕ → List ℕ → Type 0
 TellsPoints l a sections place text = (names : List (List ℕ)) × NamesLetGo l a sections place names × (text ≡ joined (codes ": ") (codes " ") names)
 
--- behind other texts stands that of a section, if points are let go there
+-- after other texts stands that of a section, if points are let go there
 abbrev pub AddsLetGo : Site → RouteId → List SectionId → ℕ → List ℕ → Bool → List ℕ → List ℕ → Type 0
 AddsLetGo l a sections place before true old new =
     LetsOneGo l a sections place × ((text : List ℕ) × IsLetGoText l a sections place text × (new ≡ old ++ (before ++ text)))

@@ -6,7 +6,8 @@ use Rattle.control_table.specs.Messages.{route_text}
 use Rattle.layout_text.specs.Messages.{table_text}
 use Rattle.station_layout.specs.EntryWords.{place_words, spot_words}
 use Rattle.station_layout.specs.FieldKeys.{key_text}
-use Rattle.station_layout.specs.PortWords.{port_words, side_word}
+use Rattle.control_table.specs.sci_telegram.Words.{side_word}
+use Rattle.station_layout.specs.PortWords.{port_words}
 use Rattle.station_layout.specs.declared.sentence.Part.{Part}
 use Rattle.station_layout.specs.declared.sentence.Part.TheVariants.{Nothing, Words, Key, Name, Port, Side, Id, Number, Integer, Table, Place, Spot, Route}
 use Rattle.station_layout.specs.declared.sentence.Sentence.{Sentence}

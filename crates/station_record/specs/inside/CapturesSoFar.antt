@@ -8,10 +8,9 @@ use Rattle.capture_file.specs.declared.journey.Endpoint.{Endpoint}
 use Rattle.replay.specs.replay_lines.declared.session.Entry.{Entry}
 use Rattle.replay.specs.layout.Entries.{Site}
 use Rattle.replay.specs.rasta_core.Links.{OnLink}
-use Rattle.replay.specs.station_check.declared.failure.Failure.TheVariants.{OutOfMemory}
+use Rattle.replay.specs.station_check.declared.failure.Failure.{Failure}
+use Rattle.replay.specs.station_check.declared.failure.Failure.TheVariants.{Capture, OutOfMemory}
 use Rattle.station_record.specs.CapturedSession.{HasTooLong, SendsTooLong, captured}
-use Rattle.station_record.specs.declared.capture_failure.CaptureFailure.{CaptureFailure}
-use Rattle.station_record.specs.declared.capture_failure.CaptureFailure.TheVariants.{Station, Capture}
 
 -- a datagram was added to a capture
 pub record Adds (given : List Endpoint) (one : OnLink) (old new : List ℕ) : Type 0 where
@@ -23,13 +22,13 @@ abbrev pub Captures : List Endpoint → Option OnLink → List ℕ → List ℕ 
 Captures given None old new = new ≡ old
 Captures given (Some one) old new = Adds given one old new
 
-abbrev pub IsNoCapture : List OnLink → CaptureFailure → Type 0
-IsNoCapture sent (Station OutOfMemory) = Unit {0}
+abbrev pub IsNoCapture : List OnLink → Failure → Type 0
+IsNoCapture sent OutOfMemory = Unit {0}
 IsNoCapture sent (Capture TooLong) = HasTooLong sent
 IsNoCapture sent why = ⊥
 
 -- why a session has none
-abbrev pub IsNoFile : Site → List Entry → CaptureFailure → Type 0
-IsNoFile site entries (Station OutOfMemory) = Unit {0}
+abbrev pub IsNoFile : Site → List Entry → Failure → Type 0
+IsNoFile site entries OutOfMemory = Unit {0}
 IsNoFile site entries (Capture TooLong) = SendsTooLong site entries
 IsNoFile site entries why = ⊥

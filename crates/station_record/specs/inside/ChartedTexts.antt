@@ -2,7 +2,7 @@
 use Rattle.std.specs.Prelude.{ℕ, List}
 use Rattle.replay.specs.World.{AnswersSame, IsFirst}
 use Rattle.replay.specs.layout.Entries.{Site}
-use Rattle.replay.specs.simulator_run.Tried.{Played}
+use Rattle.replay.specs.simulator_spec.Tried.{Played}
 use Rattle.replay.specs.replay_lines.declared.session.Entry.{Entry}
 use Rattle.station_record.specs.ChartedSession.{IsTextOf}
 use Rattle.station_record.specs.Story.{IsStoryOf}

@@ -4,7 +4,7 @@ use crate::node_stories::desk::Wire;
 use crate::node_stories::driven::Driven;
 use crate::node_stories::gear::Gear;
 use crate::node_stories::station::{D1, INTERLOCKING, P1, S1, Station};
-use control_table::sci_telegram::Occupancy;
+use control_table::{DetectorId, Occupancy, PointId, SignalId};
 use node_kinds::node_drive::{Course, NodeFault};
 use node_kinds::{DetectorNode, InterlockingNode, PointNode, SignalNode};
 use node_network::MemoryOutside;
@@ -81,7 +81,7 @@ fn signal<'a>(station: Station<'a>, begins: Beginning) -> Option<AnyNode<'a>> {
     if place >= station.table.layout().signals().len() {
         return None;
     }
-    let node = SignalNode::new(alloc, station.table, place, now, begins.first).ok()?;
+    let node = SignalNode::new(alloc, station.table, SignalId(place), now, begins.first).ok()?;
     Some(AnyNode::Signal(Driven::begun(node, now)))
 }
 
@@ -91,7 +91,7 @@ fn point<'a>(station: Station<'a>, begins: Beginning) -> Option<AnyNode<'a>> {
         return None;
     }
     let lies = begins.gear.lies;
-    let node = PointNode::new(alloc, station.table, 0, lies, now, begins.first).ok()?;
+    let node = PointNode::new(alloc, station.table, PointId(0), lies, now, begins.first).ok()?;
     Some(AnyNode::Point(Driven::begun(node, now)))
 }
 
@@ -101,6 +101,14 @@ fn detector<'a>(station: Station<'a>, begins: Beginning) -> Option<AnyNode<'a>> 
         return None;
     }
     let clear = [Occupancy::Clear; 4];
-    let node = DetectorNode::new(alloc, station.table, 0, &clear, now, begins.first).ok()?;
+    let node = DetectorNode::new(
+        alloc,
+        station.table,
+        DetectorId(0),
+        &clear,
+        now,
+        begins.first,
+    )
+    .ok()?;
     Some(AnyNode::Detector(Driven::begun(node, now)))
 }

@@ -3,9 +3,8 @@
 ghost use Rattle.std.specs.Prelude.{◌≡◌};
 
 use crate::node_stories::station::Station;
-use node_kinds::node_drive::node_lines::replay_words::Fault;
-use node_kinds::node_drive::node_lines::simulator_event::NodeId;
-use node_kinds::node_drive::{BrokenOff, NextDatagram, NextLine, Outside, ThrownAway};
+use node_kinds::Fault;
+use node_kinds::node_drive::{BrokenOff, NextDatagram, NextLine, NodeId, Outside, ThrownAway};
 use node_network::{Lines, Machine, MemoryOutside, NodeClock, NodeSocket};
 use std::alloc::{AllocError, Global};
 

@@ -3,21 +3,21 @@
 ghost use Rattle.std.specs.Prelude.{◌≡◌, ◌≤◌};
 
 use crate::node_stories::desk::{Desk, Nobody, Wire};
-use node_kinds::node_drive::{Course, Node, NodeFault, drive};
+use node_kinds::node_drive::{Course, NodeFault, NodeMachine, drive};
 use node_network::MemoryOutside;
 use std::alloc::Global;
 use std::marker::Model;
 
 /// A node that was never stepped at a later reading than its clock was read at. Where its process has ended, there is none any more.
 #[derive(Drop)]
-pub(crate) struct Driven<N: Node> {
+pub(crate) struct Driven<N: NodeMachine> {
     node: Option<N>,
     latest: u64,
     /// The reading of its last tick.
     ticked: u64,
 }
 
-impl<N: Node> Model for Driven<N> {
+impl<N: NodeMachine> Model for Driven<N> {
     ghost use Rattle.std.specs.Prelude.{◌≡◌, ◌≤◌, Some};
 
     ghost Value = { Unit {0} };
@@ -27,7 +27,7 @@ impl<N: Node> Model for Driven<N> {
     ghost invariant = { λ d. (node : N) → d.node ≡ Some node → (N.node node).reached ≤ d.latest };
 }
 
-impl<N: Node + Drop> Driven<N> {
+impl<N: NodeMachine + Drop> Driven<N> {
     /// A node that was made at this reading.
     pub(crate) fn begun(node: N, now: u64) -> Driven<N>
         requires { (N.node node).reached ≤ now }

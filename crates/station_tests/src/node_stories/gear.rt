@@ -1,7 +1,7 @@
 //! The field equipment of a node: a lamp, or a motor with the contacts of its point.
 
-use control_table::sci_telegram::{Position, Side};
-use node_kinds::node_drive::node_lines::Order;
+use control_table::{Position, Side};
+use node_kinds::Order;
 
 /// For how many rounds a point moves.
 const ROUNDS: u32 = 12;

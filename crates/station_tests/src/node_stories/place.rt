@@ -6,10 +6,9 @@ use crate::node_stories::desk::{Wire, opened};
 use crate::node_stories::driven::put;
 use crate::node_stories::gear::Gear;
 use crate::node_stories::station::{D1, INTERLOCKING, P1, Station, name};
-use control_table::sci_telegram::Position;
-use node_kinds::node_drive::Course;
-use node_kinds::node_drive::node_lines::read_order;
-use node_kinds::node_drive::node_lines::simulator_event::NodeId;
+use control_table::Position;
+use node_kinds::node_drive::{Course, NodeId};
+use node_kinds::read_order;
 use node_network::MemoryOutside;
 use std::alloc::Global;
 
@@ -88,7 +87,7 @@ impl<'a> Place<'a> {
     }
 
     /// Lets the node run for a round. Of the next calls of its network the one of the number `failing` fails; it answers the number
-    /// behind the round.
+    /// after the round.
     pub(crate) fn run(&mut self, alloc: Global, failing: u64, seen: &mut Seen) -> u64 {
         self.flood(seen);
         if self.stopped > 0 {

@@ -7,7 +7,7 @@ use crate::node_stories::gear::{RESTING, is_safe};
 use crate::node_stories::place::Place;
 use crate::node_stories::script::{Act, Row};
 use crate::node_stories::station::{NAMES, Station};
-use node_kinds::simulator_run::simulator_event::NodeId;
+use node_kinds::simulator_spec::NodeId;
 use node_network::MemoryOutside;
 use std::alloc::AllocError;
 use std::mem;
@@ -233,7 +233,7 @@ impl<'a> Others for Plant<'a> {
     }
 }
 
-/// Adds a value behind others, if there is one.
+/// Adds a value after others, if there is one.
 fn push<T: Drop>(all: &mut Vec<T>, one: Option<T>) -> Result<(), AllocError> {
     let Some(one) = one else {
         return Err(AllocError);

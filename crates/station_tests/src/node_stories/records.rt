@@ -7,7 +7,7 @@ use crate::node_stories::script::{LATE, LATE_ROUNDS};
 use crate::node_stories::station::{NAMES, Station, name};
 use crate::run_bench::SMALL;
 use node_kinds::node_drive::Outside;
-use node_kinds::simulator_run::simulator_event::NodeId;
+use node_kinds::simulator_spec::NodeId;
 use node_network::Recorded;
 use station_node::{replay_node_text, run_node};
 
@@ -56,7 +56,7 @@ fn replayed(station: Station<'_>, number: usize, first: u32, lines: &[u8]) -> u8
     if is_same == (status == 0) { status } else { 1 }
 }
 
-/// Runs the process of a node while the others are played, and records it: the lines of its record behind the first one. It tells
+/// Runs the process of a node while the others are played, and records it: the lines of its record after the first one. It tells
 /// whether all went well, and the process ran to its end.
 fn record_node(station: Station<'_>, number: usize, record: &mut Vec<u8>) -> bool {
     // The process of this node is played elsewhere.

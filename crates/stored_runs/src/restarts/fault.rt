@@ -1,6 +1,6 @@
 //! Why a node isn't made anew in all runs of a list.
 
-use station_record::replay::simulator::Refused;
+use station_record::Refused;
 
 /// Why a node isn't made anew in all runs of a list.
 #[derive(Clone, Copy)]

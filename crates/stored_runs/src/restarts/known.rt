@@ -1,9 +1,6 @@
 //! What events say of a node.
 
-use station_record::replay::simulator::{Event, NodeId};
-
-/// How many microseconds a millisecond has.
-const MICROS: u64 = 1000;
+use station_record::{Event, MICROS, NodeId};
 
 /// With which clock and which number a node is made anew.
 #[derive(Clone, Copy)]

@@ -8,7 +8,7 @@ use replay_words::{Words, decimal};
 use station_record::replay::{SimLine, node_named, read_lines};
 use std::io::Write;
 
-/// A line: a list has a name, a layout, lines, what follows behind them, a number, and nodes.
+/// A line: a list has a name, a layout, lines, what follows after them, a number, and nodes.
 #[derive(Clone, Copy)]
 struct RestartsLine<'a> {
     name: &'a str,

@@ -2,9 +2,8 @@
 //! lie.
 
 use crate::restarts::worlds::driven;
-use control_table::layout::PointId;
-use control_table::sci_telegram::{Position, Side};
-use station_record::replay::simulator::{ClockSteps, Event, World};
+use control_table::{PointId, Position, Side};
+use station_record::{ClockSteps, Event, World};
 use std::alloc::{AllocError, Global};
 
 /// How many milliseconds a round has.
@@ -63,7 +62,7 @@ impl Rounds {
     }
 }
 
-/// At the ends of how many rounds a point was found driven to a side, behind one more.
+/// At the ends of how many rounds a point was found driven to a side, after one more.
 fn next(rounds: u8, is_driven: bool) -> u8 {
     if is_driven {
         rounds.saturating_add(1)

@@ -8,7 +8,7 @@ use crate::restarts::watch::Watch;
 use crate::restarts::worlds::{answer, delivery, is_open, new_world, nodes, sent};
 use control_table::Checked;
 use station_record::replay::SimLine;
-use station_record::replay::simulator::{Event, NodeId, World};
+use station_record::{Event, NodeId, World};
 use std::alloc::{AllocError, Global};
 
 /// After how many microseconds a node is made anew again.
@@ -28,7 +28,7 @@ pub(crate) struct Run {
 }
 
 impl Run {
-    /// A new station, behind what happened on others. Its node is made anew in a way.
+    /// A new station, after what happened on others. Its node is made anew in a way.
     pub(crate) fn new(
         alloc: Global,
         table: &Checked,

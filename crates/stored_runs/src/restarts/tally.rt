@@ -6,7 +6,7 @@ use std::fmt;
 #[derive(Clone, Copy)]
 pub(crate) struct Tally {
     pub(crate) runs: u64,
-    /// Events behind which the station was looked at.
+    /// Events after which the station was looked at.
     pub(crate) events: u64,
     /// Restarts at which a signal was open.
     pub(crate) open: u64,

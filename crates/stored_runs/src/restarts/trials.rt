@@ -7,8 +7,7 @@ use crate::restarts::tally::Tally;
 use crate::restarts::watch::STATION;
 use control_table::Checked;
 use station_record::replay::SimLine;
-use station_record::replay::simulator::simulator_run::ixl_rules::Command;
-use station_record::replay::simulator::{Event, NodeId};
+use station_record::{Command, Event, NodeId};
 use std::alloc::Global;
 use std::mem;
 
@@ -21,13 +20,13 @@ pub(crate) struct List<'a> {
     pub(crate) name: &'a str,
     pub(crate) table: &'a Checked,
     pub(crate) events: &'a [Event],
-    /// What follows behind the events.
+    /// What follows after the events.
     pub(crate) rounds: &'a [SimLine],
     /// A node is made anew at the first of so many places at which another station comes of it.
     pub(crate) step: usize,
 }
 
-/// What is tried in a run: a node is made anew in a way behind so many events, and so many times later.
+/// What is tried in a run: a node is made anew in a way after so many events, and so many times later.
 #[derive(Clone, Copy)]
 struct Trial {
     node: NodeId,
@@ -100,7 +99,7 @@ impl List<'_> {
     }
 
     /// Whether the event before a place is one of another node. Then the station of the run that makes the node anew before
-    /// this event is the same behind it.
+    /// this event is the same after it.
     fn is_tried_before(&self, node: NodeId, place: usize) -> bool {
         match self.events.get(place.saturating_sub(1)) {
             Some(event) => is_of_another(event, node),
@@ -108,7 +107,7 @@ impl List<'_> {
         }
     }
 
-    /// Makes a node anew behind so many events, the interlocking also more often.
+    /// Makes a node anew after so many events, the interlocking also more often.
     fn try_place(
         &self,
         rt: &HostRuntime,
@@ -132,7 +131,7 @@ impl List<'_> {
         Ok(())
     }
 
-    /// Makes a run, and tells which one it was where it fails, and behind how many events.
+    /// Makes a run, and tells which one it was where it fails, and after how many events.
     fn carry_out(&self, rt: &HostRuntime, trial: Trial, tally: &mut Tally) -> Result<(), Fault> {
         let begun = tally.events;
         let tried = self.run(rt.alloc(), trial, tally);

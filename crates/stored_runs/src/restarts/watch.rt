@@ -3,8 +3,7 @@
 use crate::restarts::fault::Fault;
 use crate::restarts::known::Known;
 use crate::restarts::tally::{Tally, count};
-use station_record::replay::simulator::simulator_run::ixl_rules::Refusal;
-use station_record::replay::simulator::{Answer, Event, NodeId, Refused};
+use station_record::{Answer, Event, NodeId, Refusal, Refused};
 
 /// For how many microseconds an interlocking that was made holds.
 const HOLD: u64 = 6_000_000;
@@ -22,7 +21,7 @@ pub(crate) struct Watch {
 }
 
 impl Watch {
-    /// Over a node of a new station, behind what happened before.
+    /// Over a node of a new station, after what happened before.
     pub(crate) fn new(node: NodeId, tally: Tally) -> Watch {
         Watch {
             station: Known::new(STATION),

@@ -1,11 +1,8 @@
 //! What is asked of a world. None of these says what it answers.
 
 use crate::restarts::fault::Fault;
-use control_table::Checked;
-use control_table::layout::{PointId, SignalId};
-use control_table::sci_telegram::{Aspect, Side};
-use station_record::replay::simulator::{Answer, Event, RawDatagram, Refused, World};
-use station_record::replay::{node_count, receiver};
+use control_table::{Aspect, Checked, PointId, Side, SignalId};
+use station_record::{Answer, Event, RawDatagram, Refused, World, receiver};
 use std::alloc::{AllocError, Global};
 
 /// A new world.
@@ -13,7 +10,7 @@ pub(crate) fn new_world(alloc: Global, table: &Checked) -> Result<World, AllocEr
     World::new(alloc, table.copy(alloc)?)
 }
 
-/// Applies an event, and looks whether the station is safe behind it.
+/// Applies an event, and looks whether the station is safe after it.
 pub(crate) fn answer(world: &mut World, event: &Event) -> Result<Result<Answer, Refused>, Fault> {
     let reply = world.apply(event);
     if !world.safe() {
@@ -27,7 +24,7 @@ pub(crate) fn answer(world: &mut World, event: &Event) -> Result<Result<Answer, 
 
 /// How many nodes it has.
 pub(crate) fn nodes(world: &World) -> usize {
-    node_count(world.table().layout())
+    world.table().layout().nodes()
 }
 
 /// How many datagrams were sent.

@@ -1,5 +1,5 @@
-use Rattle.ixl_state.specs.ixl_rules.StepSoFar.{over}
-use Rattle.ixl_state.specs.ixl_rules.Step.{watching}
+use Rattle.ixl_state.specs.ixl_spec.StepSoFar.{over}
+use Rattle.ixl_state.specs.ixl_spec.Step.{watching}
 use Rattle.ixl.specs.inside.Parts.{Passes}
 use Rattle.ixl.proofs.approaches_seen.watch.Given as goal
 

@@ -1,6 +1,6 @@
 use Rattle.std.proofs.Common.{◌∙◌, ap, sym}
-use Rattle.ixl_state.specs.ixl_rules.State.{RouteState}
-use Rattle.ixl_state.specs.ixl_rules.View.{has_authority}
+use Rattle.ixl_state.specs.ixl_spec.State.{RouteState}
+use Rattle.ixl_state.specs.ixl_spec.View.{has_authority}
 use Rattle.ixl.proofs.Looks.{route_not_watched, route_watched, route_watched_clear}
 use Rattle.ixl.proofs.approaches_seen.watch_by.Goals.{else-has_authority-via-then-has_authority+else-not-is_approach_clear, else-has_authority-via-else-has_authority}
 use Rattle.ixl.proofs.approaches_seen.watch_by.Goals as goal

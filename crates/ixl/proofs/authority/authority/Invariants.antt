@@ -1,5 +1,5 @@
 use Rattle.std.proofs.Common.{◌≡◌, drop}
-use Rattle.ixl_state.specs.ixl_rules.View.{authority_from}
+use Rattle.ixl_state.specs.ixl_spec.View.{authority_from}
 use Rattle.ixl.proofs.authority.authority.Given as goal
 
 abbrev pub invariant-loop-number : goal.invariant-loop-number

@@ -1,6 +1,6 @@
 use Rattle.std.proofs.Common.{◌≡◌, ◌∙◌, ap}
 use Rattle.std.specs.Prelude.{◌==◌}
-use Rattle.ixl_state.specs.ixl_rules.Table.{Row}
+use Rattle.ixl_state.specs.ixl_spec.Table.{Row}
 use Rattle.ixl.proofs.Views.{row_read}
 use Rattle.ixl.proofs.authority.begins_at.Goals as goal
 

@@ -1,6 +1,6 @@
 use Rattle.std.proofs.Common.{◌∙◌, ap}
-use Rattle.ixl_state.specs.ixl_rules.State.{RouteState}
-use Rattle.ixl_state.specs.ixl_rules.View.{has_authority}
+use Rattle.ixl_state.specs.ixl_spec.State.{RouteState}
+use Rattle.ixl_state.specs.ixl_spec.View.{has_authority}
 use Rattle.ixl.proofs.Views.{both_first, both_then}
 use Rattle.ixl.proofs.authority.has_authority_from.Goals as goal
 

@@ -1,5 +1,5 @@
 use Rattle.std.proofs.Common.{refl}
-use Rattle.ixl_state.specs.ixl_rules.Rules.{ending_authority}
+use Rattle.ixl_state.specs.ixl_spec.Rules.{ending_authority}
 use Rattle.ixl.proofs.PartsFollow.{changes_nowhere, one_changes}
 use Rattle.ixl.proofs.authority_end.end_authorities.Goals as goal
 

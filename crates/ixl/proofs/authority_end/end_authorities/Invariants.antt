@@ -1,5 +1,5 @@
-use Rattle.ixl_state.specs.ixl_rules.StepSoFar.{over}
-use Rattle.ixl_state.specs.ixl_rules.Rules.{ending_authority}
+use Rattle.ixl_state.specs.ixl_spec.StepSoFar.{over}
+use Rattle.ixl_state.specs.ixl_spec.Rules.{ending_authority}
 use Rattle.ixl.specs.inside.Changes.{Changes}
 use Rattle.ixl.proofs.authority_end.end_authorities.Given as goal
 

@@ -2,7 +2,7 @@ use Rattle.std.proofs.Common.{◌≡◌, ap, length, ◌∙◌, subst}
 use Rattle.std.specs.Prelude.{◌↔◌, ℕ, IsTrue}
 use Rattle.ixl_state.specs.bit_row.Places.{Has}
 use Rattle.ixl_state.specs.release.Passage.{PassageState}
-use Rattle.ixl_state.specs.ixl_rules.State.{RouteState}
+use Rattle.ixl_state.specs.ixl_spec.State.{RouteState}
 use Rattle.ixl.proofs.RowLaws.{none_reached}
 use Rattle.ixl.proofs.cancel_rule.was_none_seen.Goals as goal
 

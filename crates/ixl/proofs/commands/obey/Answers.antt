@@ -1,6 +1,6 @@
 use Rattle.std.proofs.Common.{◌∙◌, ap, sym, arith}
-use Rattle.ixl_state.specs.ixl_rules.Commands.{obeyed}
-use Rattle.ixl_state.specs.ixl_rules.declared.command.Command.{Command}
+use Rattle.ixl_state.specs.ixl_spec.Commands.{obeyed}
+use Rattle.ixl_state.specs.ixl_spec.declared.command.Command.{Command}
 use Rattle.ixl.proofs.Causes.{get_inside}
 use Rattle.ixl.proofs.CommandEffects.{cancelled_there, is_free, is_unblocked, obeying, set_there}
 use Rattle.ixl.proofs.commands.obey.Goals as goal

@@ -1,8 +1,10 @@
-use Rattle.ixl.proofs.InputEffects.{fault_given, pdu_given}
+use Rattle.ixl.proofs.Judged.{judged_goes, judged_told}
 use Rattle.ixl.proofs.datagrams_heard.hear.Goals as goal
 
-pub returns-in-Ok-clause-goes : goal.returns-in-Ok-clause-goes
-returns-in-Ok-clause-goes c = pdu_given c.args.now c.args.state.now.sited.table c.args.key.now c.args.datagram.now c.in-Ok.pdu c.args.state.now c.args.outbox.now c.hear_from.new.self c.hear_from.new.outbox c.in-Ok.ensures.value c.hear_from.ensures.goes
+pub returns-in-Some-clause-goes : goal.returns-in-Some-clause-goes
+returns-in-Some-clause-goes c = judged_goes c.args.now c.args.key.now c.args.datagram.now c.in-Some.node c.args.state.now c.the_sender_is_told.ensures c.requires.clocked c.requires.under c.keeps_its_key.ensures c.in-Some.ensures
+    c.args.outbox.now c.hear_at.new.self c.hear_at.new.outbox c.hear_at.ensures.goes
 
-pub returns-in-Err-clause-goes : goal.returns-in-Err-clause-goes
-returns-in-Err-clause-goes c = fault_given c.args.now c.args.state.now.sited.table c.args.key.now c.args.datagram.now c.in-Err.fault c.args.state.now c.args.outbox.now c.requires.clock c.in-Err.ensures.value
+pub returns-in-Some-clause-verdict : goal.returns-in-Some-clause-verdict
+returns-in-Some-clause-verdict c = judged_told c.args.now c.args.key.now c.args.datagram.now c.in-Some.node c.args.state.now c.the_sender_is_told.ensures c.requires.clocked c.requires.under c.keeps_its_key.ensures c.in-Some.ensures
+    c.hear_at.result c.hear_at.ensures.verdict

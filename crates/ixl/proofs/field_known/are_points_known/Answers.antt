@@ -2,8 +2,8 @@ use Rattle.std.proofs.Common.{ap, sym, ◌∙◌}
 use Rattle.std.specs.Prelude.{◌&&◌}
 use Rattle.std.specs.FinSet.{contains}
 use Rattle.ixl_state.specs.sci_telegram.declared.message.Side.TheVariants as sides
-use Rattle.ixl_state.specs.ixl_rules.Table.{Row}
-use Rattle.ixl_state.specs.ixl_rules.View.{all_known, is_known}
+use Rattle.ixl_state.specs.ixl_spec.Table.{Row}
+use Rattle.ixl_state.specs.ixl_spec.View.{all_known, is_known}
 use Rattle.ixl.proofs.RowLaws.{of_field, points_known, points_unknown, same_row}
 use Rattle.ixl.proofs.field_known.are_points_known.Goals as goal
 

@@ -1,7 +1,7 @@
 use Rattle.std.proofs.Common.{ap, ◌∙◌}
 use Rattle.std.specs.FinSet.{contains}
-use Rattle.ixl_state.specs.ixl_rules.Table.{Row}
-use Rattle.ixl_state.specs.ixl_rules.View.{all_clear, is_clear}
+use Rattle.ixl_state.specs.ixl_spec.Table.{Row}
+use Rattle.ixl_state.specs.ixl_spec.View.{all_clear, is_clear}
 use Rattle.ixl.proofs.RowLaws.{clear_of, same_row, set_passes}
 use Rattle.ixl.proofs.field_known.are_sections_clear.Goals as goal
 

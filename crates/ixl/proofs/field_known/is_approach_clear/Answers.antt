@@ -1,8 +1,8 @@
 use Rattle.std.proofs.Common.{ap, not, refl, ◌∙◌}
 use Rattle.std.specs.Prelude.{◌==◌, length}
 use Rattle.std.specs.FinSet.{contains}
-use Rattle.ixl_state.specs.ixl_rules.Table.{Row}
-use Rattle.ixl_state.specs.ixl_rules.View.{is_approach_clear, is_clear}
+use Rattle.ixl_state.specs.ixl_spec.Table.{Row}
+use Rattle.ixl_state.specs.ixl_spec.View.{is_approach_clear, is_clear}
 use Rattle.ixl.proofs.RowLaws.{and_then, clear_of, same_row, set_passes}
 use Rattle.ixl.proofs.field_known.is_approach_clear.Goals as goal
 

@@ -1,5 +1,5 @@
 use Rattle.std.proofs.Common.{ap, ◌∙◌}
-use Rattle.ixl_state.specs.ixl_rules.View.{is_at_known_stop}
+use Rattle.ixl_state.specs.ixl_spec.View.{is_at_known_stop}
 use Rattle.ixl.proofs.RowLaws.{of_field}
 use Rattle.ixl.proofs.field_known.is_at_known_stop.Goals as goal
 

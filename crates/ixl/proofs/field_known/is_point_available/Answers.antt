@@ -1,4 +1,4 @@
-use Rattle.ixl_state.specs.ixl_rules.View.{is_point_available}
+use Rattle.ixl_state.specs.ixl_spec.View.{is_point_available}
 use Rattle.ixl.proofs.RowLaws.{of_field}
 use Rattle.ixl.proofs.field_known.is_point_available.Goals as goal
 

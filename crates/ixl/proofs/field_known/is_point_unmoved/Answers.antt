@@ -1,4 +1,4 @@
-use Rattle.ixl_state.specs.ixl_rules.Rules.{is_unmoved}
+use Rattle.ixl_state.specs.ixl_spec.Rules.{is_unmoved}
 use Rattle.ixl.proofs.RowLaws.{of_field}
 use Rattle.ixl.proofs.field_known.is_point_unmoved.Goals as goal
 

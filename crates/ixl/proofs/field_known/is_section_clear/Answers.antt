@@ -1,4 +1,4 @@
-use Rattle.ixl_state.specs.ixl_rules.View.{is_clear}
+use Rattle.ixl_state.specs.ixl_spec.View.{is_clear}
 use Rattle.ixl.proofs.RowLaws.{clear_of}
 use Rattle.ixl.proofs.field_known.is_section_clear.Goals as goal
 

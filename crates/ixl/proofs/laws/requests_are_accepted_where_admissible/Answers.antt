@@ -1,6 +1,6 @@
-use Rattle.ixl_state.specs.ixl_rules.Step.{all_clocked}
+use Rattle.ixl_state.specs.ixl_spec.Step.{all_clocked}
 use Rattle.ixl_state.specs.First.{key_of}
-use Rattle.ixl_state.specs.ixl_rules.declared.command.Command.TheVariants as commands
+use Rattle.ixl_state.specs.ixl_spec.declared.command.Command.TheVariants as commands
 use Rattle.ixl.proofs.StepAnswers.{accepted_is, accepted_so, refused_is}
 use Rattle.ixl.proofs.laws.requests_are_accepted_where_admissible.Goals as goal
 

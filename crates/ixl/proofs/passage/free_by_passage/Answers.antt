@@ -1,5 +1,5 @@
 use Rattle.std.proofs.Common.{◌≡◌, ◌-◌, ap, arith, length, sym, ◌∙◌}
-use Rattle.ixl_state.specs.ixl_rules.Table.{Row}
+use Rattle.ixl_state.specs.ixl_spec.Table.{Row}
 use Rattle.ixl.proofs.RowLaws.{same_row}
 use Rattle.ixl.proofs.Rules.{all_freed, no_more_freed, one_freed_more, phase_ended}
 use Rattle.ixl.proofs.passage.free_by_passage.Goals as goal

@@ -1,5 +1,5 @@
 use Rattle.std.proofs.Common.{refl}
-use Rattle.ixl_state.specs.ixl_rules.Rules.{freeing_by_passage}
+use Rattle.ixl_state.specs.ixl_spec.Rules.{freeing_by_passage}
 use Rattle.ixl.proofs.PartsFollow.{changes_nowhere, one_changes}
 use Rattle.ixl.proofs.passage.free_routes_by_passage.Goals as goal
 

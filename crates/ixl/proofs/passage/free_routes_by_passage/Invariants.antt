@@ -1,5 +1,5 @@
-use Rattle.ixl_state.specs.ixl_rules.StepSoFar.{over}
-use Rattle.ixl_state.specs.ixl_rules.Rules.{freeing_by_passage}
+use Rattle.ixl_state.specs.ixl_spec.StepSoFar.{over}
+use Rattle.ixl_state.specs.ixl_spec.Rules.{freeing_by_passage}
 use Rattle.ixl.specs.inside.Changes.{Changes}
 use Rattle.ixl.proofs.passage.free_routes_by_passage.Given as goal
 

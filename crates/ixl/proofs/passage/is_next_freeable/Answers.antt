@@ -2,8 +2,8 @@ use Rattle.std.proofs.Common.{◌≡◌, ◌<◌, ap, arith, get_or, length, rul
 use Rattle.std.specs.Prelude.{◌&&◌, slice_get}
 use Rattle.std.proofs.lemmas.Option.{slice_get-get_or}
 use Rattle.ixl_state.specs.release.Passage.{PassageState, is_freeable}
-use Rattle.ixl_state.specs.ixl_rules.State.{RouteState}
-use Rattle.ixl_state.specs.ixl_rules.Table.{Row}
+use Rattle.ixl_state.specs.ixl_spec.State.{RouteState}
+use Rattle.ixl_state.specs.ixl_spec.Table.{Row}
 use Rattle.ixl.proofs.RowLaws.{next_frees, next_stands, same_row}
 use Rattle.ixl.proofs.passage.is_next_freeable.Goals as goal
 

@@ -1,6 +1,6 @@
 use Rattle.std.proofs.Common.{◌≡◌, length, get_or, arith, ap, sym, ◌∙◌, subst}
 use Rattle.std.specs.Prelude.{Some, slice_get}
-use Rattle.ixl_state.specs.ixl_rules.Table.{Row}
+use Rattle.ixl_state.specs.ixl_spec.Table.{Row}
 use Rattle.ixl_state.specs.ixl_table.Table.{SitedTable}
 use Rattle.ixl.proofs.Rules.{all_moved, no_point_moved, no_route_moved, one_moved}
 use Rattle.ixl.proofs.RowLaws.{same_row}

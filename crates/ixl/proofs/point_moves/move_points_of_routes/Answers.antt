@@ -1,5 +1,5 @@
 use Rattle.std.proofs.Common.{refl}
-use Rattle.ixl_state.specs.ixl_rules.Rules.{moving}
+use Rattle.ixl_state.specs.ixl_spec.Rules.{moving}
 use Rattle.ixl.proofs.PartsFollow.{goes_nowhere, one_goes}
 use Rattle.ixl.proofs.point_moves.move_points_of_routes.Goals as goal
 

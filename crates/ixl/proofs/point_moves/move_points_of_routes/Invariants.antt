@@ -1,6 +1,6 @@
 use Rattle.std.specs.Prelude.{◌*◌}
-use Rattle.ixl_state.specs.ixl_rules.StepSoFar.{over}
-use Rattle.ixl_state.specs.ixl_rules.Rules.{moving}
+use Rattle.ixl_state.specs.ixl_spec.StepSoFar.{over}
+use Rattle.ixl_state.specs.ixl_spec.Rules.{moving}
 use Rattle.ixl_state.specs.State.{Goes}
 use Rattle.ixl.proofs.point_moves.move_points_of_routes.Given as goal
 

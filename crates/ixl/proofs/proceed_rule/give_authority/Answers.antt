@@ -1,5 +1,5 @@
 use Rattle.std.proofs.Common.{refl}
-use Rattle.ixl_state.specs.ixl_rules.Rules.{proceeding}
+use Rattle.ixl_state.specs.ixl_spec.Rules.{proceeding}
 use Rattle.ixl.proofs.PartsFollow.{goes_nowhere, one_goes}
 use Rattle.ixl.proofs.proceed_rule.give_authority.Goals as goal
 

@@ -1,18 +1,25 @@
 use Rattle.std.proofs.Common.{◌∙◌, ap, sym, false, true, arith, length}
-use Rattle.ixl_state.specs.ixl_rules.State.{RouteState}
+use Rattle.ixl_state.specs.ixl_spec.State.{RouteState}
 use Rattle.ixl_state.specs.ixl_table.Table.{SitedTable}
-use Rattle.ixl_state.specs.ixl_rules.View.{is_set}
-use Rattle.ixl.proofs.Causes.{cancel_told}
+use Rattle.ixl_state.specs.ixl_spec.View.{is_holding, is_set}
+use Rattle.ixl.proofs.Causes.{any_allows, any_cancel_refused, cancel_told}
 use Rattle.ixl.proofs.refusals.cancel_refusal.Goals as goal
+
+pub returns-in-Some : goal.returns-in-Some
+returns-in-Some c =
+    let there = c.table.ensures.there c.args.number (omega (arith, c.if-number-rows.false, ap length (c.rows.ensures ∙ ap (λ (p : SitedTable). p.table.rows) c.table.ensures.sited)))
+    in any_cancel_refused c.args.now c.args.state.now.ixl _ there.1 c.in-Some.cause there.2.1 (sym c.in-Some.is ∙ c.refusal_of_any.ensures)
 
 pub returns-then-not-is_set : goal.returns-then-not-is_set
 returns-then-not-is_set c =
     let there = c.table.ensures.there c.args.number (omega (arith, c.if-number-rows.false, ap length (c.rows.ensures ∙ ap (λ (p : SitedTable). p.table.rows) c.table.ensures.sited)))
-    in cancel_told c.args.now c.args.state.now.ixl _ there.1 false there.2.1 (sym c.is_holding.ensures ∙ c.if-is_holding.false) (sym c.is_resumed.ensures ∙ c.if-not-is_resumed.false)
+    in let passed = any_allows (is_holding c.args.now c.args.state.now.ixl) c.args.state.now.ixl.resumed (sym c.in_default.is ∙ c.refusal_of_any.ensures)
+    in cancel_told c.args.now c.args.state.now.ixl _ there.1 false there.2.1 passed.0 passed.1
     (ap (λ (r : RouteState). is_set r.phase) (sym (c.route.ensures there.0 there.1 there.2)) ∙ sym c.is_set.ensures ∙ c.if-not-is_set.true)
 
 pub returns : goal.returns
 returns c =
     let there = c.table.ensures.there c.args.number (omega (arith, c.if-number-rows.false, ap length (c.rows.ensures ∙ ap (λ (p : SitedTable). p.table.rows) c.table.ensures.sited)))
-    in cancel_told c.args.now c.args.state.now.ixl _ there.1 true there.2.1 (sym c.is_holding.ensures ∙ c.if-is_holding.false) (sym c.is_resumed.ensures ∙ c.if-not-is_resumed.false)
+    in let passed = any_allows (is_holding c.args.now c.args.state.now.ixl) c.args.state.now.ixl.resumed (sym c.in_default.is ∙ c.refusal_of_any.ensures)
+    in cancel_told c.args.now c.args.state.now.ixl _ there.1 true there.2.1 passed.0 passed.1
     (ap (λ (r : RouteState). is_set r.phase) (sym (c.route.ensures there.0 there.1 there.2)) ∙ sym c.is_set.ensures ∙ c.if-not-is_set.false)

@@ -1,5 +1,5 @@
 use Rattle.std.proofs.Common.{◌∙◌, sym, refl, arith}
-use Rattle.ixl_state.specs.ixl_rules.View.{is_occupied}
+use Rattle.ixl_state.specs.ixl_spec.View.{is_occupied}
 use Rattle.ixl.proofs.Causes.{is_next}
 use Rattle.ixl.proofs.refusals.first_occupied.Goals as goal
 

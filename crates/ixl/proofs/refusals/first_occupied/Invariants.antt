@@ -1,5 +1,5 @@
 use Rattle.std.proofs.Common.{◌≡◌, drop}
-use Rattle.ixl_state.specs.ixl_rules.View.{is_occupied}
+use Rattle.ixl_state.specs.ixl_spec.View.{is_occupied}
 use Rattle.ixl.specs.inside.Parts.{first_where}
 use Rattle.ixl.proofs.refusals.first_occupied.Given as goal
 

@@ -1,5 +1,5 @@
 use Rattle.std.proofs.Common.{◌≡◌, drop}
-use Rattle.ixl_state.specs.ixl_rules.View.{is_unknown}
+use Rattle.ixl_state.specs.ixl_spec.View.{is_unknown}
 use Rattle.ixl.specs.inside.Parts.{first_where}
 use Rattle.ixl.proofs.refusals.first_unknown.Given as goal
 

@@ -1,5 +1,5 @@
 use Rattle.std.proofs.Common.{◌∙◌, sym, arith}
-use Rattle.ixl_state.specs.ixl_rules.Commands.{is_point_wanting}
+use Rattle.ixl_state.specs.ixl_spec.Commands.{is_point_wanting}
 use Rattle.ixl.proofs.Causes.{is_next}
 use Rattle.ixl.proofs.refusals.first_wanting.Goals as goal
 

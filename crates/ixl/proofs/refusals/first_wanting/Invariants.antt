@@ -1,5 +1,5 @@
 use Rattle.std.proofs.Common.{◌≡◌, drop}
-use Rattle.ixl_state.specs.ixl_rules.Commands.{is_point_wanting}
+use Rattle.ixl_state.specs.ixl_spec.Commands.{is_point_wanting}
 use Rattle.ixl.specs.inside.Parts.{first_where}
 use Rattle.ixl.proofs.refusals.first_wanting.Given as goal
 

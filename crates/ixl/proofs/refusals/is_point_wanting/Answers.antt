@@ -1,5 +1,5 @@
 use Rattle.std.proofs.Common.{◌≡◌, ◌∙◌, ap}
-use Rattle.ixl_state.specs.ixl_rules.View.{is_held_at, is_point_available}
+use Rattle.ixl_state.specs.ixl_spec.View.{is_held_at, is_point_available}
 use Rattle.ixl.proofs.Views.{neither_first, neither_then, of_nodes}
 use Rattle.ixl.proofs.refusals.is_point_wanting.Goals as goal
 

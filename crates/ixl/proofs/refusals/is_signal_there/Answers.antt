@@ -1,5 +1,5 @@
 use Rattle.std.proofs.Common.{◌≡◌}
-use Rattle.ixl_state.specs.ixl_rules.View.{is_at_known_stop, is_signal_ready}
+use Rattle.ixl_state.specs.ixl_spec.View.{is_at_known_stop, is_signal_ready}
 use Rattle.ixl.proofs.Views.{both_first, both_then, of_nodes}
 use Rattle.ixl.proofs.refusals.is_signal_there.Goals as goal
 

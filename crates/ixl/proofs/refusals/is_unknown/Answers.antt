@@ -1,5 +1,5 @@
 use Rattle.std.proofs.Common.{◌≡◌}
-use Rattle.ixl_state.specs.ixl_rules.View.{is_clear, is_occupied}
+use Rattle.ixl_state.specs.ixl_spec.View.{is_clear, is_occupied}
 use Rattle.ixl.proofs.Views.{in_state, neither_first, neither_then}
 use Rattle.ixl.proofs.refusals.is_unknown.Goals as goal
 

@@ -1,9 +1,9 @@
 use Rattle.std.proofs.Common.{◌≡◌, ◌∙◌, ap, refl, sym, true, false}
 use Rattle.std.specs.Prelude.{◌&&◌, Some, None}
-use Rattle.ixl_state.specs.ixl_rules.Commands.{is_point_wanting}
-use Rattle.ixl_state.specs.ixl_rules.Table.{Row}
-use Rattle.ixl_state.specs.ixl_rules.View.{is_at_known_stop, is_occupied, is_signal_ready, is_unknown}
-use Rattle.ixl_state.specs.ixl_rules.declared.command.Refusal.TheVariants as refusals
+use Rattle.ixl_state.specs.ixl_spec.Commands.{is_point_wanting}
+use Rattle.ixl_state.specs.ixl_spec.Table.{Row}
+use Rattle.ixl_state.specs.ixl_spec.View.{is_at_known_stop, is_occupied, is_signal_ready, is_unknown}
+use Rattle.ixl_state.specs.ixl_spec.declared.command.Refusal.TheVariants as refusals
 use Rattle.ixl.specs.inside.Parts.{first_where}
 use Rattle.ixl.proofs.Causes.{locking_told}
 use Rattle.ixl.proofs.Views.{row_read}

@@ -1,6 +1,6 @@
 use Rattle.std.proofs.Common.{◌∙◌, ap, sym}
-use Rattle.ixl_state.specs.ixl_rules.Commands.{refusal}
-use Rattle.ixl_state.specs.ixl_rules.declared.command.Command.{Command}
+use Rattle.ixl_state.specs.ixl_spec.Commands.{refusal}
+use Rattle.ixl_state.specs.ixl_spec.declared.command.Command.{Command}
 use Rattle.ixl.proofs.refusals.refusal.Goals as goal
 
 pub returns-in-Request : goal.returns-in-Request

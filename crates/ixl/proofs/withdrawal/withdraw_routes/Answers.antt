@@ -1,5 +1,5 @@
 use Rattle.std.proofs.Common.{refl}
-use Rattle.ixl_state.specs.ixl_rules.Rules.{withdrawing}
+use Rattle.ixl_state.specs.ixl_spec.Rules.{withdrawing}
 use Rattle.ixl.proofs.PartsFollow.{goes_nowhere, one_goes}
 use Rattle.ixl.proofs.withdrawal.withdraw_routes.Goals as goal
 

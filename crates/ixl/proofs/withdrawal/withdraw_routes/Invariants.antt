@@ -1,6 +1,6 @@
 use Rattle.std.specs.Prelude.{◌*◌}
-use Rattle.ixl_state.specs.ixl_rules.StepSoFar.{over}
-use Rattle.ixl_state.specs.ixl_rules.Rules.{withdrawing}
+use Rattle.ixl_state.specs.ixl_spec.StepSoFar.{over}
+use Rattle.ixl_state.specs.ixl_spec.Rules.{withdrawing}
 use Rattle.ixl_state.specs.State.{Goes}
 use Rattle.ixl.proofs.withdrawal.withdraw_routes.Given as goal
 

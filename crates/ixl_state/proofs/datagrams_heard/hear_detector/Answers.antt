@@ -1,13 +1,13 @@
 use Rattle.std.proofs.Common.{◌≡◌, ◌<◌, List, length, sym, subst, arith}
 use Rattle.std.specs.Prelude.{IfSome, slice_get}
-use Rattle.ixl_rules.specs.ixl_client.Client.{is_ready}
-use Rattle.ixl_rules.specs.ixl_client.declared.indication.Indication.{Indication}
-use Rattle.ixl_rules.specs.StepSoFar.{along}
-use Rattle.ixl_rules.specs.State.{KnownDetectorState}
-use Rattle.ixl_rules.specs.Step.{looking}
+use Rattle.ixl_spec.specs.ixl_client.Client.{is_ready}
+use Rattle.ixl_spec.specs.ixl_client.declared.indication.Indication.{Indication}
+use Rattle.ixl_spec.specs.StepSoFar.{along}
+use Rattle.ixl_spec.specs.State.{KnownDetectorState}
+use Rattle.ixl_spec.specs.Step.{looking}
 use Rattle.ixl_state.specs.inside.DetectorHeard.{Passes, told_since}
 use Rattle.ixl_table.specs.Table.{SitedTable}
-use Rattle.ixl_field.specs.Field.{FieldState}
+use Rattle.ixl_known.specs.Field.{FieldState}
 use Rattle.ixl_state.proofs.Heard.{ready_heard, still_there, unready_heard}
 use Rattle.ixl_state.proofs.datagrams_heard.hear_detector.Goals as goal
 

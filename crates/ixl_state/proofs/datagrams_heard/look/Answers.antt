@@ -1,6 +1,6 @@
 use Rattle.std.proofs.Common.{ℕ, ◌<◌, ◌∙◌, length, ap, sym, subst, arith}
-use Rattle.ixl_rules.specs.StepSoFar.{over}
-use Rattle.ixl_rules.specs.Step.{looking_by}
+use Rattle.ixl_spec.specs.StepSoFar.{over}
+use Rattle.ixl_spec.specs.Step.{looking_by}
 use Rattle.ixl_table.specs.Table.{SitedTable}
 use Rattle.ixl_state.specs.inside.DetectorHeard.{Passes}
 use Rattle.ixl_state.proofs.StepParts.{one_over, passed_clock, passed_site}

@@ -1,5 +1,5 @@
-use Rattle.ixl_rules.specs.StepSoFar.{over}
-use Rattle.ixl_rules.specs.Step.{looking_by}
+use Rattle.ixl_spec.specs.StepSoFar.{over}
+use Rattle.ixl_spec.specs.Step.{looking_by}
 use Rattle.ixl_state.specs.inside.DetectorHeard.{Passes}
 use Rattle.ixl_state.proofs.datagrams_heard.look.Given as goal
 

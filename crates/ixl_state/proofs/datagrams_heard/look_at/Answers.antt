@@ -1,8 +1,8 @@
 use Rattle.std.proofs.Common.{◌≡◌, List, ℕ, [], ◌∷◌, Some, length, ap, subst, arith}
 use Rattle.std.specs.Prelude.{slice_get, slice_index_or}
 use Rattle.std.proofs.lemmas.Option.{slice_get_past}
-use Rattle.ixl_rules.specs.StepSoFar.{along}
-use Rattle.ixl_rules.specs.Step.{looking, told_now}
+use Rattle.ixl_spec.specs.StepSoFar.{along}
+use Rattle.ixl_spec.specs.Step.{looking, told_now}
 use Rattle.ixl_table.specs.Table.{SitedTable}
 use Rattle.ixl_state.specs.inside.DetectorHeard.{Passes}
 use Rattle.ixl_state.proofs.Looks.{for_some, none_looked, one_looked, same_list}

@@ -1,7 +1,7 @@
 use Rattle.std.proofs.Common.{◌≡◌, Some, length, ap, refl, subst, arith}
 use Rattle.std.specs.Prelude.{slice_get}
-use Rattle.ixl_rules.specs.StepSoFar.{along}
-use Rattle.ixl_rules.specs.Step.{looking, told_before}
+use Rattle.ixl_spec.specs.StepSoFar.{along}
+use Rattle.ixl_spec.specs.Step.{looking, told_before}
 use Rattle.ixl_table.specs.Table.{SitedTable}
 use Rattle.ixl_state.specs.inside.DetectorHeard.{Passes}
 use Rattle.ixl_state.proofs.Looks.{all_before, for_some, looked_before, none_before, same_list}

@@ -1,6 +1,6 @@
 use Rattle.std.proofs.Common.{◌∙◌, ap, sym}
-use Rattle.ixl_rules.specs.State.{RouteState}
-use Rattle.ixl_rules.specs.View.{was_authorised}
+use Rattle.ixl_spec.specs.State.{RouteState}
+use Rattle.ixl_spec.specs.View.{was_authorised}
 use Rattle.ixl_state.proofs.Looks.{route_looked, route_not_looked}
 use Rattle.ixl_state.proofs.datagrams_heard.look_by.Goals as goal
 

@@ -1,11 +1,11 @@
 use Rattle.std.proofs.Common.{◌<◌, List, [], ◌∷◌, ℕ, length, get_or, refl, sym, subst, arith}
 use Rattle.std.specs.Prelude.{slice_get}
-use Rattle.ixl_rules.specs.sci_telegram.declared.message.Aspect.TheVariants as aspects
-use Rattle.ixl_rules.specs.ixl_client.declared.indication.Indication.{Indication}
-use Rattle.ixl_rules.specs.ixl_client.declared.indication.ObjectState.TheVariants as states
+use Rattle.ixl_spec.specs.sci_telegram.declared.message.Aspect.TheVariants as aspects
+use Rattle.ixl_spec.specs.ixl_client.declared.indication.Indication.{Indication}
+use Rattle.ixl_spec.specs.ixl_client.declared.indication.ObjectState.TheVariants as states
 use Rattle.ixl_table.specs.Table.{SitedTable}
-use Rattle.ixl_rules.specs.StepSoFar.{along}
-use Rattle.ixl_rules.specs.Step.{looking, told_now}
+use Rattle.ixl_spec.specs.StepSoFar.{along}
+use Rattle.ixl_spec.specs.Step.{looking, told_now}
 use Rattle.ixl_state.specs.inside.DetectorHeard.{Passes}
 use Rattle.ixl_state.proofs.Looks.{all_now, at_list, for_some, looked_now, none_now, told_site}
 use Rattle.ixl_state.proofs.datagrams_heard.look_now.Goals as goal

@@ -1,7 +1,7 @@
 use Rattle.std.proofs.Common.{◌<◌, ◌∙◌, Bool, length, ap, sym, subst}
 use Rattle.std.specs.Prelude.{IfSome, slice_get}
-use Rattle.ixl_rules.specs.StepSoFar.{along}
-use Rattle.ixl_rules.specs.Step.{looking, told_before, told_now}
+use Rattle.ixl_spec.specs.StepSoFar.{along}
+use Rattle.ixl_spec.specs.Step.{looking, told_before, told_now}
 use Rattle.ixl_table.specs.Table.{SitedTable}
 use Rattle.ixl_state.specs.inside.DetectorHeard.{Passes, told_since}
 use Rattle.ixl_state.proofs.Looks.{at_list, both_looked, for_some, told_site}

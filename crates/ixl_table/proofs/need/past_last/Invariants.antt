@@ -1,5 +1,5 @@
 use Rattle.std.proofs.Common.{take}
-use Rattle.ixl_rules.specs.bit_row.Places.{Has}
+use Rattle.ixl_spec.specs.bit_row.Places.{Has}
 use Rattle.ixl_table.specs.inside.Made.{IsPastLast}
 use Rattle.ixl_table.proofs.need.past_last.Given as goal
 

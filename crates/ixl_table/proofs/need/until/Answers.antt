@@ -1,5 +1,5 @@
-use Rattle.ixl_rules.specs.bit_row.Places.{Has}
-use Rattle.ixl_rules.specs.control_table.AwaitedSections.{Awaits}
+use Rattle.ixl_spec.specs.bit_row.Places.{Has}
+use Rattle.ixl_spec.specs.control_table.AwaitedSections.{Awaits}
 use Rattle.ixl_table.specs.Table.{as_section}
 use Rattle.ixl_table.proofs.Made.{past-as}
 use Rattle.ixl_table.proofs.need.until.Goals as goal

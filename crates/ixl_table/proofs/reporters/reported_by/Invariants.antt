@@ -1,5 +1,5 @@
 use Rattle.std.proofs.Common.{◌≡◌, map, take}
-use Rattle.ixl_rules.specs.layout.Entries.{DetectorEntry}
+use Rattle.ixl_spec.specs.layout.Entries.{DetectorEntry}
 use Rattle.ixl_table.specs.Table.{as_section}
 use Rattle.ixl_table.proofs.reporters.reported_by.Given as goal
 

@@ -1,5 +1,5 @@
 use Rattle.std.proofs.Common.{◌∙◌, ◌<◌, List, ap, length, subst}
-use Rattle.ixl_rules.specs.layout.Entries.{DetectorEntry, Site}
+use Rattle.ixl_spec.specs.layout.Entries.{DetectorEntry, Site}
 use Rattle.ixl_table.specs.Table.{IsReportedIn}
 use Rattle.ixl_table.specs.inside.Made.{NoneReports}
 use Rattle.ixl_table.proofs.Made.{if-some, report-is-some, reporters-grow, some-reports}

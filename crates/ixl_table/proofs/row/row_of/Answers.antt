@@ -1,9 +1,9 @@
 use Rattle.std.proofs.Common.{◌∙◌, List, ap, get_or, map, subst, sym, ℕ}
-use Rattle.ixl_rules.specs.sci_telegram.declared.message.Side.TheVariants as side
-use Rattle.ixl_rules.specs.layout.declared.ids.SignalId.{SignalId}
-use Rattle.ixl_rules.specs.layout.Entries.{Site}
-use Rattle.ixl_rules.specs.control_table.Topology.{IsRoute}
-use Rattle.ixl_rules.specs.control_table.Table.{AreSections}
+use Rattle.ixl_spec.specs.sci_telegram.declared.message.Side.TheVariants as side
+use Rattle.ixl_spec.specs.layout.declared.ids.SignalId.{SignalId}
+use Rattle.ixl_spec.specs.layout.Entries.{Site}
+use Rattle.ixl_spec.specs.control_table.Topology.{IsRoute}
+use Rattle.ixl_spec.specs.control_table.Table.{AreSections}
 use Rattle.ixl_table.specs.Table.{IsSetOf, as_section, required}
 use Rattle.ixl_table.specs.inside.Made.{AreNeedsOf}
 use Rattle.ixl_table.proofs.Lists.{get-at}

@@ -1,5 +1,5 @@
 use Rattle.std.proofs.Common.{[], subst, sym}
-use Rattle.ixl_rules.specs.bit_row.Places.{Places}
+use Rattle.ixl_spec.specs.bit_row.Places.{Places}
 use Rattle.ixl_table.specs.Table.{IsSetOf}
 use Rattle.ixl_table.proofs.Made.{set-grows, set-none}
 use Rattle.ixl_table.proofs.row.set_of.Goals as goal

@@ -9,15 +9,15 @@ use Rattle.node_drive.proofs.datagrams_heard.hear_datagram.Goals as goal
 -- it is dropped
 pub returns-then-not-is_taken-clause-done : goal.returns-then-not-is_taken-clause-done
 returns-then-not-is_taken-clause-done g c =
-    let does = g.N.Node.does in
-    let here = standing_of (g.N.Node.node c.args.node.now) c.args.course.now in
+    let does = g.N.NodeMachine.does in
+    let here = standing_of (g.N.NodeMachine.node c.args.node.now) c.args.course.now in
     let strange = sym c.is_taken.ensures ∙ c.if-not-is_taken.true in
     calls_same (ap (λ d. d.0) (dropped_is does c.args.reading c.args.arrived.now.from c.args.arrived.now.bytes.items here strange)) (calls_none _)
 
 pub returns-then-not-is_taken-clause-standing : goal.returns-then-not-is_taken-clause-standing
 returns-then-not-is_taken-clause-standing g c =
-    let does = g.N.Node.does in
-    let node = g.N.Node.node c.args.node.now in
+    let does = g.N.NodeMachine.does in
+    let node = g.N.NodeMachine.node c.args.node.now in
     let strange = sym c.is_taken.ensures ∙ c.if-not-is_taken.true in
     ap (standing_of node) c.note_stranger.ensures
     ∙ ap (λ d. d.1) (dropped_is does c.args.reading c.args.arrived.now.from c.args.arrived.now.bytes.items (standing_of node c.args.course.now) strange)
@@ -28,8 +28,8 @@ returns-in_err-hear-clause-stopped g c = stopped c.from_residual.result (cuts_no
 
 pub returns-clause-done : goal.returns-clause-done
 returns-clause-done g c =
-    let does = g.N.Node.does in
-    let n = g.N.Node.node in
+    let does = g.N.NodeMachine.does in
+    let n = g.N.NodeMachine.node in
     let old = n c.args.node.now in
     let new = n c.hear.new.self in
     let bytes : List ℕ = c.args.arrived.now.bytes.items in
@@ -41,8 +41,8 @@ returns-clause-done g c =
 
 pub returns-clause-standing : goal.returns-clause-standing
 returns-clause-standing g c =
-    let does = g.N.Node.does in
-    let n = g.N.Node.node in
+    let does = g.N.NodeMachine.does in
+    let n = g.N.NodeMachine.node in
     let old = n c.args.node.now in
     let new = n c.hear.new.self in
     let bytes : List ℕ = c.args.arrived.now.bytes.items in
@@ -56,8 +56,8 @@ returns-clause-standing g c =
 
 pub returns-clause-reached : goal.returns-clause-reached
 returns-clause-reached g c =
-    let does = g.N.Node.does in
-    let n = g.N.Node.node in
+    let does = g.N.NodeMachine.does in
+    let n = g.N.NodeMachine.node in
     let old = n c.args.node.now in
     let new = n c.hear.new.self in
     let bytes : List ℕ = c.args.arrived.now.bytes.items in
@@ -68,8 +68,8 @@ returns-clause-reached g c =
 
 pub returns-clause-stopped : goal.returns-clause-stopped
 returns-clause-stopped g c =
-    let does = g.N.Node.does in
-    let n = g.N.Node.node in
+    let does = g.N.NodeMachine.does in
+    let n = g.N.NodeMachine.node in
     let old = n c.args.node.now in
     let new = n c.hear.new.self in
     let bytes : List ℕ = c.args.arrived.now.bytes.items in

@@ -13,7 +13,7 @@ pub returns-then-not-is_heard-clause-done : goal.returns-then-not-is_heard-claus
 returns-then-not-is_heard-clause-done g c =
     let reading = c.read_clock-reading.result in
     let arrived = c.in-Came.arrived in
-    let here = standing_of (g.N.Node.node c.args.node.now) in
+    let here = standing_of (g.N.NodeMachine.node c.args.node.now) in
     let noted = ap here c.note_reading.ensures in
     let late = heard_before (here c.args.course.now) _ reading false noted (sym c.is_heard.ensures ∙ c.if-not-is_heard.true) in
     let asked = asked_as (ap datagram_heard c.in-Came.is) c.next_datagram.ensures in (
@@ -41,7 +41,7 @@ pub returns-in_err-hear_datagram-in-Came-clause-stopped : goal.returns-in_err-he
 returns-in_err-hear_datagram-in-Came-clause-stopped g c =
     let reading = c.read_clock-reading.result in
     let arrived = c.in-Came.arrived in
-    let here = standing_of (g.N.Node.node c.args.node.now) in
+    let here = standing_of (g.N.NodeMachine.node c.args.node.now) in
     let noted = ap here c.note_reading.ensures in
     let heard = heard_before (here c.args.course.now) _ reading true noted (sym c.is_heard.ensures ∙ c.if-not-is_heard.false) in
     let asked = asked_as (ap datagram_heard c.in-Came.is) c.next_datagram.ensures in
@@ -50,8 +50,8 @@ returns-in_err-hear_datagram-in-Came-clause-stopped g c =
 
 pub returns-in_ok-hear_datagram-in-Came-clause-done : goal.returns-in_ok-hear_datagram-in-Came-clause-done
 returns-in_ok-hear_datagram-in-Came-clause-done g c =
-    let n = g.N.Node.node in
-    let does = g.N.Node.does in
+    let n = g.N.NodeMachine.node in
+    let does = g.N.NodeMachine.does in
     let reading = c.read_clock-reading.result in
     let arrived = c.in-Came.arrived in
     let here = standing_of (n c.args.node.now) in

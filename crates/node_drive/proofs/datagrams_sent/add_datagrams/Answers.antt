@@ -7,7 +7,7 @@ use Rattle.node_drive.proofs.datagrams_sent.add_datagrams.Goals as goal
 
 pub loop-one-preserved : goal.loop-one-preserved
 loop-one-preserved g c =
-    let n = g.N.Node.node in
+    let n = g.N.NodeMachine.node in
     let before = c.loop-one.invariant in
     let one : Addressed = (c.in-Some.one.to, c.in-Some.one.datagram.items) in
     let rest = c.in-Some.ensures.rest in

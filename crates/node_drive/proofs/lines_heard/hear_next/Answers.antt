@@ -23,13 +23,13 @@ returns-in_err-hear_line-in-Text-clause-stopped g c =
     let text : List ℕ = c.as_str.result.now in
     let one : Timed (List ℕ) = record { now = c.read_clock-reading.result; input = text; leaves = 0 } in
     let asked = asked_as (ap line_heard c.in-Text.is ∙ ap Text (sym c.as_str.ensures.value)) c.in_ok-line.ensures.heard in
-    let noted = ap (standing_of (g.N.Node.node c.args.node.now)) c.note_reading.ensures in
+    let noted = ap (standing_of (g.N.NodeMachine.node c.args.node.now)) c.note_reading.ensures in
     stopped c.from_residual-in_err-hear_line-in-Text.result (one ∷ [], false, omega arith, one_cut one noted asked c.read_clock-reading.ensures c.in_err-hear_line-in-Text.ensures.stopped)
 
 pub returns-in_ok-hear_line-in-Text-clause-done : goal.returns-in_ok-hear_line-in-Text-clause-done
 returns-in_ok-hear_line-in-Text-clause-done g c =
-    let n = g.N.Node.node in
-    let does = g.N.Node.does in
+    let n = g.N.NodeMachine.node in
+    let does = g.N.NodeMachine.does in
     let text : List ℕ = c.as_str.result.now in
     let leaves = c.release.result in
     let one : Timed (List ℕ) = record { now = c.read_clock-reading.result; input = text; leaves = leaves } in

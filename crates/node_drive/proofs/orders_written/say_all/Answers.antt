@@ -7,7 +7,7 @@ use Rattle.node_drive.proofs.orders_written.say_all.Goals as goal
 
 pub loop-line-preserved : goal.loop-line-preserved
 loop-line-preserved g c =
-    let n = g.N.Node.node in
+    let n = g.N.NodeMachine.node in
     let before = c.loop-line.invariant in
     let one : List ℕ = string_bytes c.in-Some.line in
     let rest = c.in-Some.ensures.rest in (
@@ -19,7 +19,7 @@ loop-line-preserved g c =
 
 pub returns-in_err-write_line-clause-stopped : goal.returns-in_err-write_line-clause-stopped
 returns-in_err-write_line-clause-stopped g c =
-    let n = g.N.Node.node in
+    let n = g.N.NodeMachine.node in
     let before = c.loop-line.invariant in
     let one : List ℕ = string_bytes c.in-Some.line in
     stopped c.from_residual.result

@@ -18,7 +18,7 @@ returns-in_err-ticks-clause-stopped g c =
       broken = Some last.0;
       are = before.1;
       goes_on = before.2;
-      is_round = subst (λ s. IsRound g.N.Node.does s last.0) before.3.standing_is last.1;
+      is_round = subst (λ s. IsRound g.N.NodeMachine.does s last.0) before.3.standing_is last.1;
       stops = stops_then before.3 last.2;
     })
 
@@ -41,13 +41,13 @@ pub loop-preserved : goal.loop-preserved
 loop-preserved g c =
     let before = c.loop.invariant in
     let done = c.in_ok-ticks.ensures.done in
-    let does = g.N.Node.does in
-    let start = standing_of (g.N.Node.node c.args.node.now) c.args.course.now in
+    let does = g.N.NodeMachine.does in
+    let start = standing_of (g.N.NodeMachine.node c.args.node.now) c.args.course.now in
     let over = c.is_over.ensures c.args.first _ c.saturating_sub.ensures in
     let all = performs_round before.0 done.0 before.3 done.4 in (
       before.0 ++ done.0 ∷ [],
       are_more before.0 done.0 before.1 before.3 done.1 done.2,
-      goes_on does c.args.for_ms c.args.first before.0 done.0 start (standing_of (g.N.Node.node c.round.new.node) c.round.new.course) _ before.2 done.3 all.standing_is (sym over ∙ c.if-is_over.false),
+      goes_on does c.args.for_ms c.args.first before.0 done.0 start (standing_of (g.N.NodeMachine.node c.round.new.node) c.round.new.course) _ before.2 done.3 all.standing_is (sym over ∙ c.if-is_over.false),
       all,
       c.in_ok-ticks.ensures.reached,
     )

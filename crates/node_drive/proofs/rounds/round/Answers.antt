@@ -10,7 +10,7 @@ returns-in_err-begin_round-clause-stopped g c =
     let cut = c.in_err-begin_round.ensures.stopped in
     stopped c.from_residual.result (
       cut_in_lines cut.0 cut.1 [] false,
-      cut_is_round g.N.Node.does _ cut.0 cut.1 [] false (omega arith),
+      cut_is_round g.N.NodeMachine.does _ cut.0 cut.1 [] false (omega arith),
       stops_opening cut.0 cut.1 (cut_in_lines cut.0 cut.1 [] false) refl refl cut.2,
     )
 
@@ -20,7 +20,7 @@ returns-in_err-hear_lines-clause-stopped g c =
     let cut = c.in_err-hear_lines.ensures.stopped in
     stopped c.from_residual-in_err-hear_lines.result (
       cut_in_lines begun.0 begun.1 cut.0 cut.1,
-      cut_is_round g.N.Node.does _ begun.0 begun.1 cut.0 cut.1 cut.2,
+      cut_is_round g.N.NodeMachine.does _ begun.0 begun.1 cut.0 cut.1 cut.2,
       stops_lines begun.0 begun.1 cut.0 cut.1 begun.2 cut.3,
     )
 
@@ -31,7 +31,7 @@ returns-in_err-hear_datagrams-clause-stopped g c =
     let cut = c.in_err-hear_datagrams.ensures.stopped in
     stopped c.from_residual-in_err-hear_datagrams.result (
       whole_round begun.0 begun.1 lines.0 cut.0 cut.1 0 0,
-      whole_is_round g.N.Node.does begun.0 begun.1 lines.0 cut.0 cut.1 0 0 (performs_then begun.2 lines.2) lines.1 cut.2 cut.3 cut.4,
+      whole_is_round g.N.NodeMachine.does begun.0 begun.1 lines.0 cut.0 cut.1 0 0 (performs_then begun.2 lines.2) lines.1 cut.2 cut.3 cut.4,
       stops_datagrams begun.0 begun.1 lines.0 cut.0 cut.1 0 0 begun.2 lines.2 cut.5,
     )
 
@@ -43,7 +43,7 @@ returns-clause-done g c =
     IfOk-weaker c.tick.result _ _
     (λ ticks ticked. (
       whole_round begun.0 begun.1 lines.0 datagrams.0 datagrams.1 ticks ticked.0,
-      whole_is_round g.N.Node.does begun.0 begun.1 lines.0 datagrams.0 datagrams.1 ticks ticked.0 (performs_then begun.2 lines.2) lines.1 datagrams.2 datagrams.3 datagrams.4,
+      whole_is_round g.N.NodeMachine.does begun.0 begun.1 lines.0 datagrams.0 datagrams.1 ticks ticked.0 (performs_then begun.2 lines.2) lines.1 datagrams.2 datagrams.3 datagrams.4,
       refl,
       refl,
       performs_all begun.0 begun.1 lines.0 datagrams.0 datagrams.1 ticks ticked.0 begun.2 lines.2 datagrams.5 ticked.1,
@@ -58,7 +58,7 @@ returns-clause-stopped g c =
     on_err_weaker c.tick.result
     (λ cut. (
       whole_round begun.0 begun.1 lines.0 datagrams.0 datagrams.1 cut.0 0,
-      whole_is_round g.N.Node.does begun.0 begun.1 lines.0 datagrams.0 datagrams.1 cut.0 0 (performs_then begun.2 lines.2) lines.1 datagrams.2 datagrams.3 datagrams.4,
+      whole_is_round g.N.NodeMachine.does begun.0 begun.1 lines.0 datagrams.0 datagrams.1 cut.0 0 (performs_then begun.2 lines.2) lines.1 datagrams.2 datagrams.3 datagrams.4,
       stops_tick begun.0 begun.1 lines.0 datagrams.0 datagrams.1 cut.0 0 begun.2 lines.2 datagrams.5 cut.1,
     ))
     c.tick.ensures.stopped

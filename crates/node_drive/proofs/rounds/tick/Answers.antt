@@ -12,8 +12,8 @@ returns-in_err-tick-clause-stopped g c =
 
 pub returns-in_err-perform-clause-stopped : goal.returns-in_err-perform-clause-stopped
 returns-in_err-perform-clause-stopped g c =
-    let does = g.N.Node.does in
-    let n = g.N.Node.node in
+    let does = g.N.NodeMachine.does in
+    let n = g.N.NodeMachine.node in
     let ticks = c.read_clock-ticks.result in
     let old = n c.args.node.now in
     let course = c.note_reading.new.self in
@@ -25,8 +25,8 @@ returns-in_err-perform-clause-stopped g c =
 
 pub returns-clause-done : goal.returns-clause-done
 returns-clause-done g c =
-    let does = g.N.Node.does in
-    let n = g.N.Node.node in
+    let does = g.N.NodeMachine.does in
+    let n = g.N.NodeMachine.node in
     let ticks = c.read_clock-ticks.result in
     let leaves = c.release.result in
     let old = n c.args.node.now in
@@ -46,8 +46,8 @@ returns-clause-done g c =
 
 pub returns-clause-reached : goal.returns-clause-reached
 returns-clause-reached g c =
-    let does = g.N.Node.does in
-    let n = g.N.Node.node in
+    let does = g.N.NodeMachine.does in
+    let n = g.N.NodeMachine.node in
     let performed = c.in_ok-perform.ensures in
     let same = step_reached does c.read_clock-ticks.result does.tick (n c.args.node.now) (n c.tick.new.self) (n c.perform.new.node) c.in_ok-tick.ensures performed.node in
     let read = (read_is c.read_clock-ticks.ensures).1 in

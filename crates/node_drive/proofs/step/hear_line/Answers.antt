@@ -14,8 +14,8 @@ returns-in_err-told-clause-stopped g c = stopped c.from_residual.result (cuts_no
 -- an order is in force
 pub returns-in-InForce-clause-done : goal.returns-in-InForce-clause-done
 returns-in-InForce-clause-done g c =
-    let n = g.N.Node.node in
-    let does = g.N.Node.does in
+    let n = g.N.NodeMachine.node in
+    let does = g.N.NodeMachine.does in
     let old = n c.args.node.now in
     let mid = n c.take_line.new.self in
     let rest = c.in_ok-told.ensures.rest in
@@ -24,8 +24,8 @@ returns-in-InForce-clause-done g c =
 
 pub returns-in-InForce-clause-standing : goal.returns-in-InForce-clause-standing
 returns-in-InForce-clause-standing g c =
-    let n = g.N.Node.node in
-    let does = g.N.Node.does in
+    let n = g.N.NodeMachine.node in
+    let does = g.N.NodeMachine.does in
     let old = n c.args.node.now in
     let mid = n c.take_line.new.self in
     let rest = c.in_ok-told.ensures.rest in
@@ -34,8 +34,8 @@ returns-in-InForce-clause-standing g c =
 
 pub returns-in-InForce-clause-reached : goal.returns-in-InForce-clause-reached
 returns-in-InForce-clause-reached g c =
-    let n = g.N.Node.node in
-    let does = g.N.Node.does in
+    let n = g.N.NodeMachine.node in
+    let does = g.N.NodeMachine.does in
     let old = n c.args.node.now in
     let mid = n c.take_line.new.self in
     let rest = c.in_ok-told.ensures.rest in
@@ -46,8 +46,8 @@ returns-in-InForce-clause-reached g c =
 -- the inputs come
 pub returns-in_err-say_all-in-Comes-clause-stopped : goal.returns-in_err-say_all-in-Comes-clause-stopped
 returns-in_err-say_all-in-Comes-clause-stopped g c =
-    let n = g.N.Node.node in
-    let does = g.N.Node.does in
+    let n = g.N.NodeMachine.node in
+    let does = g.N.NodeMachine.does in
     let old = n c.args.node.now in
     let mid = n c.take_line.new.self in
     let rest = c.in_ok-told.ensures.rest in
@@ -56,8 +56,8 @@ returns-in_err-say_all-in-Comes-clause-stopped g c =
 
 pub step_through-requires : goal.step_through-requires
 step_through-requires g c =
-    let n = g.N.Node.node in
-    let does = g.N.Node.does in
+    let n = g.N.NodeMachine.node in
+    let does = g.N.NodeMachine.does in
     let old = n c.args.node.now in
     let mid = n c.take_line.new.self in
     let rest = c.in_ok-told.ensures.rest in
@@ -67,8 +67,8 @@ step_through-requires g c =
 
 pub returns-in_ok-say_all-in-Comes-clause-done : goal.returns-in_ok-say_all-in-Comes-clause-done
 returns-in_ok-say_all-in-Comes-clause-done g c =
-    let n = g.N.Node.node in
-    let does = g.N.Node.does in
+    let n = g.N.NodeMachine.node in
+    let does = g.N.NodeMachine.does in
     let old = n c.args.node.now in
     let mid = n c.take_line.new.self in
     let rest = c.in_ok-told.ensures.rest in
@@ -78,8 +78,8 @@ returns-in_ok-say_all-in-Comes-clause-done g c =
 
 pub returns-in_ok-say_all-in-Comes-clause-standing : goal.returns-in_ok-say_all-in-Comes-clause-standing
 returns-in_ok-say_all-in-Comes-clause-standing g c =
-    let n = g.N.Node.node in
-    let does = g.N.Node.does in
+    let n = g.N.NodeMachine.node in
+    let does = g.N.NodeMachine.does in
     let old = n c.args.node.now in
     let mid = n c.take_line.new.self in
     let rest = c.in_ok-told.ensures.rest in
@@ -89,8 +89,8 @@ returns-in_ok-say_all-in-Comes-clause-standing g c =
 
 pub returns-in_ok-say_all-in-Comes-clause-stopped : goal.returns-in_ok-say_all-in-Comes-clause-stopped
 returns-in_ok-say_all-in-Comes-clause-stopped g c =
-    let n = g.N.Node.node in
-    let does = g.N.Node.does in
+    let n = g.N.NodeMachine.node in
+    let does = g.N.NodeMachine.does in
     let old = n c.args.node.now in
     let mid = n c.take_line.new.self in
     let rest = c.in_ok-told.ensures.rest in
@@ -101,8 +101,8 @@ returns-in_ok-say_all-in-Comes-clause-stopped g c =
 -- the line is faulty
 pub returns-in-Faulty-clause-done : goal.returns-in-Faulty-clause-done
 returns-in-Faulty-clause-done g c =
-    let n = g.N.Node.node in
-    let does = g.N.Node.does in
+    let n = g.N.NodeMachine.node in
+    let does = g.N.NodeMachine.does in
     let old = n c.args.node.now in
     let mid = n c.take_line.new.self in
     let rest = c.in_ok-told.ensures.rest in
@@ -111,8 +111,8 @@ returns-in-Faulty-clause-done g c =
 
 pub returns-in-Faulty-clause-standing : goal.returns-in-Faulty-clause-standing
 returns-in-Faulty-clause-standing g c =
-    let n = g.N.Node.node in
-    let does = g.N.Node.does in
+    let n = g.N.NodeMachine.node in
+    let does = g.N.NodeMachine.does in
     let old = n c.args.node.now in
     let mid = n c.take_line.new.self in
     let rest = c.in_ok-told.ensures.rest in
@@ -121,8 +121,8 @@ returns-in-Faulty-clause-standing g c =
 
 pub returns-in-Faulty-clause-reached : goal.returns-in-Faulty-clause-reached
 returns-in-Faulty-clause-reached g c =
-    let n = g.N.Node.node in
-    let does = g.N.Node.does in
+    let n = g.N.NodeMachine.node in
+    let does = g.N.NodeMachine.does in
     let old = n c.args.node.now in
     let mid = n c.take_line.new.self in
     let rest = c.in_ok-told.ensures.rest in

@@ -1,8 +1,8 @@
 use Rattle.std.proofs.Common.{◌∙◌, ◌++◌, ◌∷◌, [], if◌then◌else◌, sym, ap, subst, length, List, arith}
 use Rattle.std.proofs.lemmas.List.{append-nil}
-use Rattle.simulator_run.specs.ixl_rules.Table.{SitedTable}
-use Rattle.simulator_run.specs.ixl_rules.declared.command.Command.{Command}
-use Rattle.simulator_run.specs.ixl_rules.declared.command.Command.TheVariants as command
+use Rattle.simulator_spec.specs.ixl_spec.Table.{SitedTable}
+use Rattle.simulator_spec.specs.ixl_spec.declared.command.Command.{Command}
+use Rattle.simulator_spec.specs.ixl_spec.declared.command.Command.TheVariants as command
 use Rattle.ixl_state.specs.State.{HasRoute, StateView}
 use Rattle.node_kinds.specs.Interlockings.{cancel_where_set, cancels}
 use Rattle.node_kinds.proofs.Lists.{all_over, got_below, got_here, one_over}

@@ -2,7 +2,7 @@ use Rattle.std.proofs.Common.{◌≡◌, ◌-◌, ◌++◌}
 use Rattle.node_kinds.specs.Interlockings.{all_of, count, each, known_at}
 use Rattle.node_kinds.proofs.knowledge.add_each.Given as goal
 
--- those so far, and behind them those that are left
+-- those so far, and after them those that are left
 abbrev pub invariant-loop-place : goal.invariant-loop-place
 invariant-loop-place l =
     let state = l.ixl.state in

@@ -1,6 +1,6 @@
 use Rattle.std.proofs.Common.{◌∙◌, [], ◌∷◌, ◌++◌, None, ap, map, sym}
 use Rattle.std.proofs.lemmas.List.{map_more, take_all}
-use Rattle.simulator_run.specs.layout.declared.ids.SectionId.{SectionId}
+use Rattle.simulator_spec.specs.layout.declared.ids.SectionId.{SectionId}
 use Rattle.node_kinds.proofs.opening_node.untold.Goals as goal
 
 pub loop-section-preserved : goal.loop-section-preserved

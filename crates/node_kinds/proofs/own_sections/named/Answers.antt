@@ -1,8 +1,8 @@
 use Rattle.std.proofs.Common.{◌∙◌, ◌<◌, length, get_or, arith}
 use Rattle.std.proofs.lemmas.List.{get_or_default}
-use Rattle.simulator_run.specs.layout.declared.ids.SectionId.{SectionId}
-use Rattle.simulator_run.specs.sci_telegram.declared.message.Occupancy.{Occupancy}
-use Rattle.simulator_run.specs.sci_telegram.declared.message.Occupancy.TheVariants.{Clear}
+use Rattle.simulator_spec.specs.layout.declared.ids.SectionId.{SectionId}
+use Rattle.simulator_spec.specs.sci_telegram.declared.message.Occupancy.{Occupancy}
+use Rattle.simulator_spec.specs.sci_telegram.declared.message.Occupancy.TheVariants.{Clear}
 use Rattle.node_kinds.proofs.OwnSectionsTold.{all_named, named_on}
 use Rattle.node_kinds.proofs.own_sections.named.Goals as goal
 

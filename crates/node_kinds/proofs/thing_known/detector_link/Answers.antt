@@ -1,8 +1,8 @@
 use Rattle.std.proofs.Common.{◌≡◌, ◌∙◌, ◌+◌, ap, subst, length}
 use Rattle.std.specs.Prelude.{slice_get, IfSome}
-use Rattle.simulator_run.specs.ixl_client.Client.{is_ready}
-use Rattle.simulator_run.specs.ixl_rules.State.{KnownDetectorState}
-use Rattle.ixl_state.specs.ixl_field.Field.{FieldState}
+use Rattle.simulator_spec.specs.ixl_client.Client.{is_ready}
+use Rattle.simulator_spec.specs.ixl_spec.State.{KnownDetectorState}
+use Rattle.ixl_state.specs.ixl_known.Field.{FieldState}
 use Rattle.node_kinds.specs.Interlockings.{link_known}
 use Rattle.node_kinds.proofs.Views.{at_read}
 use Rattle.node_kinds.proofs.thing_known.detector_link.Goals as goal

@@ -1,6 +1,6 @@
 use Rattle.std.proofs.Common.{◌∙◌, ap, arith}
-use Rattle.simulator_run.specs.ixl_rules.State.{RouteState}
-use Rattle.simulator_run.specs.ixl_rules.View.{is_set}
+use Rattle.simulator_spec.specs.ixl_spec.State.{RouteState}
+use Rattle.simulator_spec.specs.ixl_spec.View.{is_set}
 use Rattle.node_kinds.proofs.Views.{at_there}
 use Rattle.node_kinds.proofs.thing_known.is_route_set.Goals as goal
 

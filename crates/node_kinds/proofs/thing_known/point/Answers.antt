@@ -1,6 +1,6 @@
 use Rattle.std.proofs.Common.{◌≡◌, ◌∙◌, sym, ap, false}
-use Rattle.simulator_run.specs.ixl_rules.View.{is_known}
-use Rattle.simulator_run.specs.sci_telegram.declared.message.Side.TheVariants as sides
+use Rattle.simulator_spec.specs.ixl_spec.View.{is_known}
+use Rattle.simulator_spec.specs.sci_telegram.declared.message.Side.TheVariants as sides
 use Rattle.node_kinds.specs.Interlockings.{side_known}
 use Rattle.node_kinds.proofs.Views.{of_nodes}
 use Rattle.node_kinds.proofs.thing_known.point.Goals as goal

@@ -1,6 +1,6 @@
 use Rattle.std.proofs.Common.{◌≡◌, ◌∙◌, ◌+◌, ap, length}
-use Rattle.simulator_run.specs.ixl_rules.View.{is_point_ready}
-use Rattle.ixl_state.specs.ixl_field.Field.{FieldState}
+use Rattle.simulator_spec.specs.ixl_spec.View.{is_point_ready}
+use Rattle.ixl_state.specs.ixl_known.Field.{FieldState}
 use Rattle.node_kinds.specs.Interlockings.{link_known}
 use Rattle.node_kinds.proofs.Views.{of_nodes}
 use Rattle.node_kinds.proofs.thing_known.point_link.Goals as goal

@@ -1,5 +1,5 @@
 use Rattle.std.proofs.Common.{◌≡◌, ◌∙◌, sym, ap, false}
-use Rattle.simulator_run.specs.ixl_rules.View.{is_clear, is_occupied}
+use Rattle.simulator_spec.specs.ixl_spec.View.{is_clear, is_occupied}
 use Rattle.node_kinds.specs.Interlockings.{occupancy_known}
 use Rattle.node_kinds.proofs.Views.{in_state}
 use Rattle.node_kinds.proofs.thing_known.section.Goals as goal

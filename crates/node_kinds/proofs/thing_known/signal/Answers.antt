@@ -1,7 +1,7 @@
 use Rattle.std.proofs.Common.{◌∙◌, ap}
 use Rattle.std.specs.Option.{option_map}
-use Rattle.simulator_run.specs.layout.declared.ids.RouteId.{RouteId}
-use Rattle.simulator_run.specs.ixl_rules.Table.{SitedTable}
+use Rattle.simulator_spec.specs.layout.declared.ids.RouteId.{RouteId}
+use Rattle.simulator_spec.specs.ixl_spec.Table.{SitedTable}
 use Rattle.node_kinds.specs.Interlockings.{authority_of}
 use Rattle.node_kinds.proofs.thing_known.signal.Goals as goal
 

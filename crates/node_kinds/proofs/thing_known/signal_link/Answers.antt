@@ -1,5 +1,5 @@
 use Rattle.std.proofs.Common.{◌≡◌, ◌∙◌, ap}
-use Rattle.simulator_run.specs.ixl_rules.View.{is_signal_ready}
+use Rattle.simulator_spec.specs.ixl_spec.View.{is_signal_ready}
 use Rattle.node_kinds.specs.Interlockings.{link_known}
 use Rattle.node_kinds.proofs.Views.{of_nodes}
 use Rattle.node_kinds.proofs.thing_known.signal_link.Goals as goal

@@ -8,4 +8,4 @@ abbrev pub invariant-loop : goal.invariant-loop
 invariant-loop g l =
     (calls : List Call)
     × Calls (g.O.Outside.told l.fn.outside) (g.O.Outside.told l.outside) calls
-    × Turns l.layout (record { heard = l.fn.heard; desk = l.fn.desk }) calls (record { heard = l.heard; desk = l.desk })
+    × Turns l.layout (record { heard = l.fn.room.heard; desk = l.fn.room.desk }) calls (record { heard = l.room.heard; desk = l.room.desk })

@@ -2,7 +2,7 @@ use Rattle.std.proofs.Common.{◌≡◌, ◌∙◌, ◌∷◌, ◌++◌, List, m
 use Rattle.std.specs.List.{flat_map}
 use Rattle.panel_desk.specs.Answers.{DeskView}
 use Rattle.panel_desk.specs.Boards.{Notes, both}
-use Rattle.panel_desk.specs.panel_board.Lines.{numbered}
+use Rattle.panel_desk.specs.Lines.{numbered}
 use Rattle.panel_desk.specs.declared.panel_command.PanelCommand.{PanelCommand}
 use Rattle.node_drive.specs.Calls.{AsksLine, AsksListener}
 use Rattle.node_panel.specs.Heard.{HeardView, heard_all}

@@ -11,7 +11,7 @@ returns g c =
     let ended = c.in_ok-attend_node.ensures in
     let desk = c.in_ok-room.room.desk in
     let heard = c.in_ok-room.room.heard in
-    let last : Moment = record { heard = c.attend_node.new.heard; desk = c.attend_node.new.desk } in
+    let last : Moment = record { heard = c.attend_node.new.room.heard; desk = c.attend_node.new.room.desk } in
     record {
       opened = desk;
       desk = room.desk;
@@ -22,6 +22,6 @@ returns g c =
       called = ended.turns.1;
       last = last;
       turns = subst (λ (h : HeardView). Turns c.args.table.now (record { heard = h; desk = desk }) ended.turns.0 last) room.heard
-          (subst (λ (p : Site). Turns p (record { heard = heard; desk = desk }) ended.turns.0 last) c.layout.ensures.entries ended.turns.2);
+          (subst (λ (p : Site). Turns p (record { heard = heard; desk = desk }) ended.turns.0 last) room.layout ended.turns.2);
       over = subst (λ (n : ℕ). n ≤ c.attend_node.new.outside.clock.latest) c.unwrap_or.ensures ended.over;
     }

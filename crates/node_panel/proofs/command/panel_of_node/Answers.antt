@@ -3,7 +3,7 @@ use Rattle.node_panel.specs.Panels.{no_panel, no_table}
 use Rattle.node_panel.proofs.command.panel_of_node.Goals as goal
 
 pub returns-in-Err-clause-explains : goal.returns-in-Err-clause-explains
-returns-in-Err-clause-explains g c = λ one. no_table c.in-Err.failure c.in-Err.ensures.explains refl c.tell.ensures
+returns-in-Err-clause-explains g c = λ one. no_table c.in-Err.failure c.in-Err.ensures.explains refl c.tell.ensures.told
 
 pub returns-in-Ok-open-clause-done : goal.returns-in-Ok-open-clause-done
 returns-in-Ok-open-clause-done g c = λ zero. (c.in-Ok.table, c.in-Ok.ensures.sound, c.in-Ok-open.ensures)

@@ -2,6 +2,6 @@ use Rattle.std.proofs.Common.{◌≡◌, ◌+◌, ◌++◌, drop}
 use Rattle.node_panel.specs.Heard.{each, link_line}
 use Rattle.node_panel.proofs.pictured.add_links.Given as goal
 
--- those so far, and behind them those that are left
+-- those so far, and after them those that are left
 abbrev pub invariant-loop-place : goal.invariant-loop-place
 invariant-loop-place l = l.lines.items ++ each link_line (l.place + 1) (drop l.place l.links) ≡ l.initial.lines.items ++ each link_line 1 l.links

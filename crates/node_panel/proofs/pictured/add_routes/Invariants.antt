@@ -2,6 +2,6 @@ use Rattle.std.proofs.Common.{◌≡◌, ◌++◌, drop}
 use Rattle.node_panel.specs.Heard.{each, route_line}
 use Rattle.node_panel.proofs.pictured.add_routes.Given as goal
 
--- those so far, and behind them those that are left
+-- those so far, and after them those that are left
 abbrev pub invariant-loop-place : goal.invariant-loop-place
 invariant-loop-place l = l.lines.items ++ each route_line l.place (drop l.place l.routes) ≡ l.initial.lines.items ++ each route_line 0 l.routes

@@ -1,15 +1,5 @@
-use Rattle.node_record.proofs.Explained.{decoded, late_told, stays, told_on}
-use Rattle.station_check.specs.Failures.{Leaves}
-use Rattle.station_check.specs.declared.failure.Failure.{Failure}
-use Rattle.node_record.specs.DecodedRecord.{ExplainsRecord}
+use Rattle.node_record.proofs.Explained.{decoded, late_told}
 use Rattle.node_record.proofs.decode.decode.Goals as goal
-
-pub returns-in_err-texts-clause-explains : goal.returns-in_err-texts-clause-explains
-returns-in_err-texts-clause-explains g c =
-    let why = c.in_err-texts.field-0.0
-    in let out = c.args.out.now
-    in told_on (λ (failure : Failure). ExplainsRecord c.args.layout.now c.args.name.now c.args.recording.now failure × Leaves failure out out) c.from_residual.result why
-    c.from_residual.ensures.1 (c.in_err-texts.ensures.explains, stays why out)
 
 pub returns-clause-done : goal.returns-clause-done
 returns-clause-done g c =

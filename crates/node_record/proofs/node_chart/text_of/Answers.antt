@@ -6,6 +6,7 @@ use Rattle.lane_chart.specs.declared.change.Change.{Change}
 use Rattle.lane_chart.specs.declared.change.Happening.{Happening}
 use Rattle.lane_chart.specs.declared.drawn.DrawnRow.{DrawnRow}
 use Rattle.lane_chart.specs.declared.scale.Window.{Window}
+use Rattle.control_table.specs.layout.Nodes.{meant_node}
 use Rattle.node_record.specs.NodeRows.{is_row_of}
 use Rattle.node_record.proofs.Charts.{text_told}
 use Rattle.node_record.proofs.node_chart.text_of.Goals as goal
@@ -13,16 +14,16 @@ use Rattle.node_record.proofs.node_chart.text_of.Goals as goal
 pub returns : goal.returns
 returns c =
     let site = c.args.layout.now
-    in let role = c.args.role
+    in let whose = meant_node c.args.whose
     in let story = c.args.story.now
     in let rows = c.in_ok-rows.rows.items
     in let picture = c.in_ok-picture.picture
     in let drawn = c.in_ok-picture.ensures
-    in text_told (λ text. text.items) site role c.args.cut story picture c.svg.result (λ text text_is. record {
+    in text_told (λ text. text.items) site whose c.args.cut story picture c.svg.result (λ text text_is. record {
       rows = rows;
       drawn = c.in_ok-rows.ensures
-          ∙ ap (λ (changes : List Change). filter (λ (drawn : Drawn). is_row_of site.detectors role drawn.row) (drawn_rows site c.window_of-window.result changes)) c.deref.ensures.value
-          ∙ ap (λ (part : Window). filter (λ (drawn : Drawn). is_row_of site.detectors role drawn.row) (drawn_rows site part story.changes.items)) c.window_of-window.ensures;
+          ∙ ap (λ (changes : List Change). filter (λ (drawn : Drawn). is_row_of site.detectors whose drawn.row) (drawn_rows site c.window_of-window.result changes)) c.deref.ensures.value
+          ∙ ap (λ (part : Window). filter (λ (drawn : Drawn). is_row_of site.detectors whose drawn.row) (drawn_rows site part story.changes.items)) c.window_of-window.ensures;
       picture = picture;
       is = subst (λ (part : Window). IsChartOf site part rows story.happenings.items picture) c.window_of-window.ensures
           (subst (λ (happenings : List Happening). IsChartOf site c.window_of-window.result rows happenings picture) c.deref-3.ensures.value

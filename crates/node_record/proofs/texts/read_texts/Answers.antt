@@ -1,16 +1,9 @@
 use Rattle.std.proofs.Common.{subst}
 use Rattle.control_table.specs.layout.Entries.{Site}
 use Rattle.replay_lines.specs.Text.{FailsAt}
-use Rattle.node_record.proofs.Explained.{are_texts, can_read, told_on, without_table}
-use Rattle.node_record.specs.DecodedRecord.{ExplainsRecord}
+use Rattle.node_record.proofs.Explained.{are_texts, can_read}
 use Rattle.node_record.specs.Records.{record_said}
 use Rattle.node_record.proofs.texts.read_texts.Goals as goal
-
-pub returns-in_err-table-clause-explains : goal.returns-in_err-table-clause-explains
-returns-in_err-table-clause-explains c =
-    let why = c.in_err-table.field-0.0 in
-    told_on (ExplainsRecord c.args.layout.now c.args.name.now c.args.recording.now) c.from_residual.result why c.from_residual.ensures.1
-    (without_table c.args.layout.now c.args.name.now c.args.recording.now why c.in_err-table.ensures.explains)
 
 pub returns-in-Err-clause-explains : goal.returns-in-Err-clause-explains
 returns-in-Err-clause-explains c =

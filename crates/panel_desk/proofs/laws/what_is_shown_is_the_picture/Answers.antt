@@ -1,5 +1,5 @@
 use Rattle.std.proofs.Common.{◌≡◌, ◌+◌, length, arith}
-use Rattle.panel_board.specs.Lines.{numbered}
+use Rattle.panel_desk.specs.Lines.{numbered}
 use Rattle.panel_desk.proofs.Pictures.{shown_texts}
 use Rattle.panel_desk.proofs.laws.what_is_shown_is_the_picture.Goals as goal
 

@@ -1,5 +1,5 @@
 use Rattle.std.proofs.Common.{sym, subst}
-use Rattle.rasta_core_run.specs.Safe.{AreSafe}
+use Rattle.rasta_core_spec.specs.Safe.{AreSafe}
 use Rattle.rasta_core.specs.Links.{begun, run_on, start_of}
 use Rattle.rasta_core.proofs.many_links.each_link_is_a_run.Goals as goal
 

@@ -1,7 +1,7 @@
 use Rattle.std.proofs.Common.{sym, subst}
-use Rattle.rasta_core_run.specs.Given.{IsGiven}
-use Rattle.rasta_core_run.specs.Newest.{IsNewest, IsUnused}
-use Rattle.rasta_core_run.specs.Run.{Ends}
+use Rattle.rasta_core_spec.specs.Given.{IsGiven}
+use Rattle.rasta_core_spec.specs.Newest.{IsNewest, IsUnused}
+use Rattle.rasta_core_spec.specs.Run.{Ends}
 use Rattle.rasta_core.specs.Links.{events_on, run_on, seen, start_of}
 use Rattle.rasta_core.proofs.many_links.links_can_be_read_off.Goals as goal
 

@@ -1,5 +1,5 @@
-use Rattle.rasta_core_run.specs.identity.Role.TheVariants as role
-use Rattle.rasta_core_run.specs.Events.{run, started}
+use Rattle.rasta_core_spec.specs.identity.Role.TheVariants as role
+use Rattle.rasta_core_spec.specs.Events.{run, started}
 use Rattle.rasta_core.proofs.OrderLaws.{CarryingLaws, Laws}
 use Rattle.rasta_core.proofs.GivenKept.{run_gives, starts_given, given_of}
 use Rattle.rasta_core.proofs.one_link.given_was_sent.Goals as goal

@@ -1,4 +1,4 @@
-use Rattle.rasta_core_run.specs.Events.{run, started}
+use Rattle.rasta_core_spec.specs.Events.{run, started}
 use Rattle.rasta_core.proofs.Events.{run_kept}
 use Rattle.rasta_core.proofs.one_link.link_is_safe.Goals as goal
 

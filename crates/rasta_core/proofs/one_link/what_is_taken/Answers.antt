@@ -1,4 +1,4 @@
-use Rattle.rasta_core_run.specs.Events.{run, started}
+use Rattle.rasta_core_spec.specs.Events.{run, started}
 use Rattle.rasta_core.proofs.Others.{others_idle}
 use Rattle.rasta_core.proofs.one_link.what_is_taken.Goals as goal
 

@@ -1,5 +1,5 @@
 use Rattle.std.proofs.Common.{refl}
-use Rattle.rasta_core_run.specs.Events.{started}
+use Rattle.rasta_core_spec.specs.Events.{started}
 use Rattle.rasta_core.specs.Worked.{fast_from}
 use Rattle.rasta_core.proofs.FastClock.{anew, fast_come, fast_keeps, refused, runs_away}
 use Rattle.rasta_core.proofs.true_clocks.a_fast_clock_keeps_time.Goals as goal

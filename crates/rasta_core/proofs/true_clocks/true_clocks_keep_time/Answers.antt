@@ -1,4 +1,4 @@
-use Rattle.rasta_core_run.specs.Events.{run, started}
+use Rattle.rasta_core_spec.specs.Events.{run, started}
 use Rattle.rasta_core.proofs.TrueClocks.{ClockLaws, run_ordered, run_timely}
 use Rattle.rasta_core.proofs.true_clocks.true_clocks_keep_time.Goals as goal
 

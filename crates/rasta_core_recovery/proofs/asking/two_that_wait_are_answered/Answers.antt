@@ -1,24 +1,5 @@
-use Rattle.rasta_core_recovery.proofs.AsksRound.{answer_comes_behind}
+use Rattle.rasta_core_recovery.proofs.Lemmas.Asking.AsksRound.{answer_comes_behind}
 use Rattle.rasta_core_recovery.proofs.asking.two_that_wait_are_answered.Goals as goal
 
 pub returns : goal.returns
-returns c = λ names start events more are may come. answer_comes_behind (record {
-  time = c.every_event_keeps_time.ensures;
-  order = c.every_event_keeps_order.ensures.kept;
-  written = c.written_is_read.ensures.read;
-  intact = c.read_was_written.ensures.intact;
-  hands = c.calls_hand_out_pdus.ensures;
-  settled = c.links_are_settled.ensures;
-  one = c.one_connection.ensures.inside;
-  counted = c.one_connection.ensures.counted;
-  inside = c.own_connection.ensures.inside;
-  taken = c.own_connection.ensures.taken;
-  opening = c.opening_is_new.ensures;
-  idle = c.what_is_taken.ensures.nothing;
-  stays = c.outside_until_it_enters.ensures.stays;
-  enters = c.outside_until_it_enters.ensures.server;
-  nothing = c.outside_until_it_enters.ensures.nothing;
-  entering = c.connection_begins.ensures.entering;
-  hearing = c.connection_begins.ensures.hearing;
-}) names are start events more
-    (c.starts_in_time.ensures names start are) (c.every_event_keeps_order.ensures.starts names start) may come
+returns c = answer_comes_behind c.laws_below.ensures

@@ -1,4 +1,4 @@
-use Rattle.simulator.specs.simulator_run.First.{at_rest}
+use Rattle.simulator.specs.simulator_spec.First.{at_rest}
 use Rattle.replay.proofs.Outsets.{all_lie, none_begun}
 use Rattle.replay.proofs.laws.stations_lie_as_lines_say.Goals as goal
 

@@ -2,7 +2,7 @@ use Rattle.std.proofs.Common.{List, subst}
 use Rattle.replay_lines.specs.Replay.{Judges}
 use Rattle.replay_lines.specs.declared.session.Entry.{Entry}
 use Rattle.replay.proofs.Verdicts.{judged}
-use Rattle.replay.specs.World.{after, answer}
+use Rattle.replay.specs.World.{worlds}
 use Rattle.replay.proofs.session.verdict.Goals as goal
 
 pub returns-clause-done : goal.returns-clause-done
@@ -17,7 +17,7 @@ returns-clause-done g c =
       says = c.in_ok-entries.ensures;
       first = found.0;
       begins = found.1;
-      judged = subst (λ (entries : List Entry). Judges answer after found.0 entries verdict) c.deref.ensures.value found.2;
+      judged = subst (λ (entries : List Entry). Judges worlds found.0 entries verdict) c.deref.ensures.value found.2;
       appended = c.in_ok-write_verdict.ensures;
       safe = c.played_worlds_are_safe.ensures.first site found.0 found.1;
     }

@@ -1,9 +1,9 @@
 use Rattle.replay.specs.Outset.{outset_of}
 use Rattle.replay.proofs.sim.sim_text.Goals as goal
 
-pub returns-clause-done : goal.returns-clause-done
-returns-clause-done g c = λ e.
-    let played = c.play_text.ensures.done e
+pub returns-in-Ok-clause-done : goal.returns-in-Ok-clause-done
+returns-in-Ok-clause-done g c = λ e.
+    let played = c.in-Ok.ensures.done
     in record {
       played = played;
       lies = c.stations_lie_as_lines_say.ensures.said played.site c.args.events.now played.lines played.says;

@@ -1,6 +1,6 @@
 use Rattle.std.proofs.Common.{◌≡◌, ◌∙◌, ◌<◌, ◌≤◌, ◌++◌, ap, sym, subst, List, get_or, length, string_bytes}
-use Rattle.simulator_ixl.specs.layout.Entries.{Site}
-use Rattle.simulator_ixl.specs.layout.declared.entries.Point.{Point}
+use Rattle.ixl_state.specs.layout.Entries.{Site}
+use Rattle.ixl_state.specs.layout.declared.entries.Point.{Point}
 use Rattle.simulator.specs.inside.Lines.{point_line}
 use Rattle.simulator.proofs.Lines.{points-add, points-all}
 use Rattle.simulator.proofs.picture.push_points.Goals as goal

@@ -1,5 +1,5 @@
 use Rattle.std.proofs.Common.{◌≡◌, ◌∙◌, ◌<◌, ◌≤◌, ap, subst, List, ℕ, get_or, length, string_bytes}
-use Rattle.simulator_ixl.specs.layout.Entries.{Site}
+use Rattle.ixl_state.specs.layout.Entries.{Site}
 use Rattle.simulator.proofs.Lines.{sections-add, sections-all}
 use Rattle.simulator.proofs.picture.push_sections.Goals as goal
 

@@ -1,9 +1,9 @@
 use Rattle.std.proofs.Common.{◌≡◌, ◌∙◌, ◌++◌, ◌<◌, ◌≤◌, ap, sym, subst, List, ℕ, get_or, length, string_bytes}
-use Rattle.simulator_ixl.specs.layout.Entries.{Site}
-use Rattle.simulator_ixl.specs.layout.declared.entries.Signal.{Signal}
-use Rattle.simulator_ixl.specs.simulator_snapshot.declared.snapshot.Held.{Held}
-use Rattle.simulator_ixl.specs.simulator_run.Picture.{authority_text}
-use Rattle.simulator_ixl.specs.simulator_run.Interlocking.{held_of}
+use Rattle.ixl_state.specs.layout.Entries.{Site}
+use Rattle.ixl_state.specs.layout.declared.entries.Signal.{Signal}
+use Rattle.simulator_spec.specs.simulator_event.declared.snapshot.Held.{Held}
+use Rattle.simulator_spec.specs.Picture.{authority_text}
+use Rattle.simulator_spec.specs.Interlocking.{held_of}
 use Rattle.simulator.specs.inside.Lines.{signal_line}
 use Rattle.simulator.proofs.Lines.{signals-add, signals-all}
 use Rattle.simulator.proofs.picture.push_signals.Goals as goal
@@ -12,7 +12,7 @@ pub loop-place-preserved : goal.loop-place-preserved
 loop-place-preserved c =
     let world = c.args.world.now
     in let site = world.sited.site
-    in let held = held_of world.sited.table world.run.station world.run.frozen
+    in let held = held_of world.sited.table world.run.interlocking world.run.frozen
     in let place = c.loop-place.place
     in let signal = c.index-signals-place.result
     in let old = string_bytes c.loop-place.text
@@ -32,4 +32,4 @@ returns c =
     in let layout_is : c.layout-layout.result.now ≡ site = c.layout-layout.ensures.entries ∙ c.table.ensures
     in let all : c.signals-signals.result.now ≡ site.signals = c.signals-signals.ensures ∙ ap (λ (p : Site). p.signals) layout_is
     in let past : length site.signals ≤ c.loop-place.place = subst (λ (l : List Signal). length l ≤ c.loop-place.place) all c.loop-place-test.false
-    in signals-all site (held_of world.sited.table world.run.station world.run.frozen) c.loop-place.place site.signals world.run.signals (string_bytes c.loop-place.text) _ past c.loop-place.invariant
+    in signals-all site (held_of world.sited.table world.run.interlocking world.run.frozen) c.loop-place.place site.signals world.run.signals (string_bytes c.loop-place.text) _ past c.loop-place.invariant

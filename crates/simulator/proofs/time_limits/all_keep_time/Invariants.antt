@@ -1,6 +1,6 @@
 use Rattle.std.proofs.Common.{◌≡◌, drop}
 use Rattle.std.specs.List.{list_all}
-use Rattle.simulator_ixl.specs.simulator_run.Refusals.{keeps_time}
+use Rattle.simulator_spec.specs.Refusals.{keeps_time}
 use Rattle.simulator.proofs.time_limits.all_keep_time.Given as goal
 
 abbrev pub invariant-loop-step : goal.invariant-loop-step

@@ -1,5 +1,5 @@
 use Rattle.std.proofs.Common.{◌≡◌, true}
-use Rattle.simulator_ixl.specs.simulator_run.Refusals.{are_within}
+use Rattle.simulator_spec.specs.Refusals.{are_within}
 use Rattle.simulator.proofs.Within.{within_from}
 use Rattle.simulator.proofs.time_limits.are_within.Given as goal
 

@@ -1,5 +1,5 @@
 use Rattle.std.proofs.Common.{◌≡◌, drop}
-use Rattle.simulator_ixl.specs.simulator_run.Picture.{authority_text}
+use Rattle.simulator_spec.specs.Picture.{authority_text}
 use Rattle.simulator.proofs.words.authority.Given as goal
 
 -- the first pair of the signal is among those that are left

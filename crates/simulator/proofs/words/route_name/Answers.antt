@@ -1,6 +1,6 @@
 use Rattle.std.proofs.Common.{◌≡◌, ◌∙◌, refl, sym, subst, length, List, Some, None, slice_get}
 use Rattle.std.proofs.lemmas.Option.{slice_get_past, slice_get_read}
-use Rattle.simulator_ixl.specs.layout.Entries.{RouteEntry}
+use Rattle.ixl_state.specs.layout.Entries.{RouteEntry}
 use Rattle.simulator.proofs.Lines.{named, unnamed}
 use Rattle.simulator.proofs.words.route_name.Goals as goal
 

@@ -1,5 +1,5 @@
 use Rattle.std.proofs.Common.{◌≡◌, sym, ap, ◌∙◌, ◌∷◌, ◌++◌, [], length, drop, arith, rules, Some, None}
-use Rattle.simulator_run.specs.rasta_core.Outbox.{OutboxState}
+use Rattle.simulator_spec.specs.rasta_core.Outbox.{OutboxState}
 use Rattle.simulator_field.specs.Network.{NetworkState}
 use Rattle.simulator_field.proofs.OutboxTaken.{by_server, first_taken, none_taken, one_sent}
 use Rattle.simulator_field.proofs.datagrams_sent.send_all.Goals as goal

@@ -1,7 +1,7 @@
 use Rattle.std.proofs.Common.{◌∙◌, ap, map}
-use Rattle.simulator_run.specs.layout.Entries.{Site}
-use Rattle.simulator_run.specs.tds_ctl.Sections.{made}
-use Rattle.simulator_run.specs.First.{named_section}
+use Rattle.simulator_spec.specs.layout.Entries.{Site}
+use Rattle.simulator_spec.specs.tds_ctl.Sections.{made}
+use Rattle.simulator_spec.specs.First.{named_section}
 use Rattle.simulator_field.proofs.Lists.{map_map}
 use Rattle.simulator_field.proofs.new_controller.detection.Goals as goal
 

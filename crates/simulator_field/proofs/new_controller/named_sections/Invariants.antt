@@ -1,5 +1,5 @@
 use Rattle.std.proofs.Common.{◌≡◌, map, take}
-use Rattle.simulator_run.specs.First.{named_section}
+use Rattle.simulator_spec.specs.First.{named_section}
 use Rattle.simulator_field.proofs.new_controller.named_sections.Given as goal
 
 abbrev pub invariant-loop-section : goal.invariant-loop-section

@@ -1,4 +1,4 @@
-use Rattle.simulator_recovery.proofs.GivenNoMore.{round_gives_no_more, round_stays}
+use Rattle.simulator_recovery.proofs.Lemmas.Lamps.GivenNoMore.{round_gives_no_more, round_stays}
 use Rattle.simulator_recovery.proofs.lamps.rounds_give_no_aspect.Goals as goal
 
 pub returns-clause-given : goal.returns-clause-given

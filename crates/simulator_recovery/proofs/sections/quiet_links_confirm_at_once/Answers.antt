@@ -1,33 +1,5 @@
-use Rattle.simulator_recovery.proofs.WindowsConfirmed.{confirms_at_once}
+use Rattle.simulator_recovery.proofs.Lemmas.Windows.WindowsConfirmed.{confirms_at_once}
 use Rattle.simulator_recovery.proofs.sections.quiet_links_confirm_at_once.Goals as goal
 
 pub returns : goal.returns
-returns c = λ between later one two three flowing link flow. confirms_at_once (record {
-  ready = record {
-    up = record {
-      link = record {
-        times = record { reach = record { on = c.reached_worlds_are_safe.ensures.on }; standing = c.stations_have_links.ensures.run };
-        named = c.layouts_name_their_links.ensures;
-        exactly = c.events_are_those_of_the_links.ensures.exactly;
-        whole = c.events_are_those_of_the_links.ensures.whole;
-        time = c.links_keep_time.ensures.run;
-        sees = c.each_link_sees_its_events.ensures.run;
-        may = c.each_link_sees_its_events.ensures.may_run;
-      };
-      stays = record { reach = record { on = c.reached_worlds_are_safe.ensures.on }; closes = c.events_close_no_link.ensures };
-      arriving = record {
-        standing = c.stations_have_links.ensures.run;
-        are_links = c.layouts_name_their_links.ensures;
-        begins = c.links_keep_time.ensures.starts;
-        time = c.links_keep_time.ensures.run;
-      };
-      sees_one = c.each_link_sees_its_events.ensures.event;
-      runs = c.each_link_is_a_run.ensures.runs;
-      up = c.two_ends_at_work_come_up.ensures;
-    };
-    over = c.two_ends_at_work_hand_over.ensures;
-    stand = c.stations_stand_by_their_counts.ensures;
-  };
-  alone = c.quiet_clients_confirm_at_once.ensures.still;
-  at_once = c.quiet_clients_confirm_at_once.ensures.all;
-}) between later one two three flowing link flow.once flow.station flow.table flow.reached
+returns c = λ between later one two three flowing link good. confirms_at_once c.laws_below.ensures between later one two three flowing link good.flow.once good.flow.station good.flow.table good.flow.reached good.work good.works good.time

@@ -2,7 +2,7 @@ use Rattle.std.proofs.Common.{◌≡◌, ◌++◌, drop, string_bytes}
 use Rattle.station_decode.specs.Datagrams.{others_text}
 use Rattle.station_decode.proofs.item.push_others.Given as goal
 
--- what was added so far, and behind it the items that are left
+-- what was added so far, and after it the items that are left
 abbrev pub invariant-loop-item : goal.invariant-loop-item
 invariant-loop-item l =
     string_bytes l.text ++ others_text l.ends.sender.now l.ends.receiver.now (drop l.item-index l.others)

@@ -1,5 +1,5 @@
 use Rattle.std.proofs.Common.{ℕ, List, [], ◌∷◌, ◌++◌, sym}
-use Rattle.simulator_event.specs.declared.event.NodeId.{NodeId}
+use Rattle.simulator_event.specs.layout.declared.ids.NodeId.{NodeId}
 use Rattle.station_drive.proofs.Composed.{sent_more}
 use Rattle.station_drive.proofs.Rows.{drop_at, moved}
 use Rattle.station_drive.proofs.events_performed.send_from.Goals as goal

@@ -1,9 +1,9 @@
 use Rattle.std.proofs.Common.{◌≡◌, ◌++◌, ℕ, List, map, drop}
-use Rattle.simulator_event.specs.declared.event.NodeId.{NodeId}
+use Rattle.simulator_event.specs.layout.declared.ids.NodeId.{NodeId}
 use Rattle.station_drive.specs.Told.{Carried, Sends}
 use Rattle.station_drive.proofs.events_performed.send_from.Given as goal
 
--- what was sent so far, and behind it what is left
+-- what was sent so far, and after it what is left
 abbrev pub invariant-loop-place : goal.invariant-loop-place
 invariant-loop-place g l =
     let all : List (NodeId × List ℕ) = g.S.Station.does.sent (g.S.Station.state l.station) in

@@ -23,9 +23,9 @@ loop-point-preserved c =
     let before = c.loop-point.before.now in
     let left = ap (flank_texts l) (drop_more c.args.flank.now at _ c.loop-point-test.true) in
     let name = c.written.ensures ∙ c.point_name.ensures.text in
-    let worded = c.in_ok-add-2.ensures ∙ ap (λ text. text ++ (codes ": " ++ c.side_word.result.now)) c.in_ok-add.ensures
-    ∙ added cell before c.written.result.now (codes ": " ++ c.side_word.result.now) in
-    let grown = worded ∙ (λ i. cell ++ (before ++ (name i ++ (codes ": " ++ c.side_word.ensures i)))) in (
+    let worded = c.in_ok-add-2.ensures ∙ ap (λ text. text ++ (codes ": " ++ c.word.result.now)) c.in_ok-add.ensures
+    ∙ added cell before c.written.result.now (codes ": " ++ c.word.result.now) in
+    let grown = worded ∙ (λ i. cell ++ (before ++ (name i ++ (codes ": " ++ c.word.ensures.spelled i)))) in (
       semicolon_valid,
       joined_step (codes "; ") before cell _ (string_bytes c.add-in-loop-point.new.cell) (parted (flank_texts l c.args.flank.now)) _ (flank_texts l (drop (at + 1) c.args.flank.now))
           c.loop-point.invariant.1 left grown,

@@ -4,7 +4,7 @@ use Rattle.station_layout.specs.Row.{names_of_points, points_at, points_on}
 use Rattle.station_layout.specs.inside.Joined.{joined}
 use Rattle.station_layout.proofs.cells.points_cell.Given as goal
 
--- the names that were found, and behind them those on what is left of the path
+-- the names that were found, and after them those on what is left of the path
 abbrev pub invariant-loop-port : goal.invariant-loop-port
 invariant-loop-port l =
     IsUtf8 l.before

@@ -14,7 +14,7 @@ returns-then-is_empty c =
     let l = c.args.table.now in
     let told = c.in_ok-points.ensures in
     let empty = ap (λ n. n == 0) (sym c.in_ok-points.points.bytes.ok.0) ∙ sym c.is_empty.ensures ∙ c.if-is_empty.true in (
-      none_told (λ k. IsLetGoAt l c.args.route c.args.sections.now c.args.place (point_at k)) (λ k text. text ≡ point_name l (point_at k)) (length l.points) told.0 told.1
+      none_told (λ k. IsLetGoAt l c.args.path.route c.args.path.sections.now c.args.place (point_at k)) (λ k text. text ≡ point_name l (point_at k)) (length l.points) told.0 told.1
           (none_joined (codes " ") (string_bytes c.in_ok-points.points) told.0 told.2 empty),
       refl,
     )
@@ -22,11 +22,11 @@ returns-then-is_empty c =
 pub returns : goal.returns
 returns c =
     let l = c.args.table.now in
-    let sections = c.args.sections.now in
+    let sections = c.args.path.sections.now in
     let told = c.in_ok-points.ensures in
     let filled = ap (λ n. n == 0) (sym c.in_ok-points.points.bytes.ok.0) ∙ sym c.is_empty.ensures ∙ c.if-is_empty.false in
     let some = some_joined (codes " ") (string_bytes c.in_ok-points.points) told.0 told.2 filled in
-    let one = one_told (λ k. IsLetGoAt l c.args.route sections c.args.place (point_at k)) (λ k text. text ≡ point_name l (point_at k)) (length l.points) told.0 told.1 some in
+    let one = one_told (λ k. IsLetGoAt l c.args.path.route sections c.args.place (point_at k)) (λ k text. text ≡ point_name l (point_at k)) (length l.points) told.0 told.1 some in
     let named = c.written.ensures ∙ c.section_name-section.ensures ∙ ap (λ (l : Site). section_name l c.section_at.result) c.layout.ensures.entries
     ∙ ap (λ (found : Option SectionId). unwrap_or (option_map (section_name l) found) []) (sym c.section_at.ensures) in
     let name = name_there l sections c.args.place in

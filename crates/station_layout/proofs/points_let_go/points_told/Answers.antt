@@ -12,7 +12,7 @@ use Rattle.station_layout.proofs.points_let_go.points_told.Goals.{then-is_let_go
 
 pub loop-point-init : goal.loop-point-init
 loop-point-init c =
-    listed_none (λ k. IsLetGoAt c.args.table.now c.args.route c.args.sections.now c.args.place (point_at k)) (λ k text. text ≡ point_name c.args.table.now (point_at k))
+    listed_none (λ k. IsLetGoAt c.args.table.now c.args.path.route c.args.path.sections.now c.args.place (point_at k)) (λ k text. text ≡ point_name c.args.table.now (point_at k))
     (codes ": ") (codes " ") _ c.new-text.ensures.bytes colon_valid
 
 pub add-requires-text-before : goal.add-requires-text-before
@@ -20,7 +20,7 @@ add-requires-text-before c lifetimes = c.loop-point.invariant.valid
 
 pub loop-point-preserved : goal.loop-point-preserved
 loop-point-preserved c =
-    let Belongs : ℕ → Type 0 = λ k. IsLetGoAt c.args.table.now c.args.route c.args.sections.now c.args.place (point_at k) in
+    let Belongs : ℕ → Type 0 = λ k. IsLetGoAt c.args.table.now c.args.path.route c.args.path.sections.now c.args.place (point_at k) in
     let IsText : ℕ → List ℕ → Type 0 = λ k text. text ≡ point_name c.args.table.now (point_at k) in
     elim c.if-is_let_go.branch [
       | then-is_let_go+in_ok-add w ↦

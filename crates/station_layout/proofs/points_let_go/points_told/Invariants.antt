@@ -6,4 +6,4 @@ use Rattle.station_layout.proofs.points_let_go.points_told.Given as goal
 
 abbrev pub invariant-loop-point : goal.invariant-loop-point
 invariant-loop-point l =
-    IsListed (λ k. IsLetGoAt l.table l.route l.sections l.place (point_at k)) (λ k text. text ≡ point_name l.table (point_at k)) (codes ": ") (codes " ") l.point (string_bytes l.text) l.before
+    IsListed (λ k. IsLetGoAt l.table l.path.route l.path.sections.now l.place (point_at k)) (λ k text. text ≡ point_name l.table (point_at k)) (codes ": ") (codes " ") l.point (string_bytes l.text) l.before

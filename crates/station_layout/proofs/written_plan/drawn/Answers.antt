@@ -1,10 +1,9 @@
 use Rattle.std.proofs.Common.{ℕ, List, Option, Result, Ok, Err, IfErr, IfOk, option_copied}
 use Rattle.control_table.specs.layout.Entries.{Site}
 use Rattle.station_check.specs.Report.{IsSound}
-use Rattle.station_check.specs.declared.failure.Failure.TheVariants as station
+use Rattle.station_check.specs.declared.failure.Failure.{Failure}
+use Rattle.station_check.specs.declared.failure.Failure.TheVariants.{Picture, Route, OutOfMemory}
 use Rattle.station_layout.specs.PlanText.{CanPlan, ExplainsDrawn, IsDrawn}
-use Rattle.station_layout.specs.declared.failure.Failure.{Failure}
-use Rattle.station_layout.specs.declared.failure.Failure.TheVariants.{Station, Route, Picture}
 use Rattle.station_layout.specs.inside.Drawn.{ExplainsDrawnOf, IsAnswered, IsDrawnOf}
 use Rattle.station_layout.proofs.written_plan.drawn.Goals as goal
 
@@ -18,13 +17,10 @@ module _ (layout : List ℕ) (name picture : Option (List ℕ)) (site : Site) (s
   is_drawn view (Err why) drawn = drawn
 
   why_none : (why : Failure) → ExplainsDrawnOf site name picture why → ExplainsDrawn layout name picture why
-  why_none (Station station.OutOfMemory) answered = can answered
-  why_none (Station (station.Layout fault)) never = absurd never
-  why_none (Station (station.Table fault)) never = absurd never
-  why_none (Station (station.Line fault)) never = absurd never
-  why_none (Station station.NotWritten) never = absurd never
   why_none Route unknown = (site, sound, unknown)
   why_none (Picture fault) faulty = (site, sound, faulty.0, faulty.1, faulty.2)
+  why_none OutOfMemory answered = can answered
+  why_none other never = absurd never
 
   explained : {X : Type 0} (result : Result X Failure) → IfErr result (ExplainsDrawnOf site name picture) → IfErr result (ExplainsDrawn layout name picture)
   explained (Ok text) why = why

@@ -7,4 +7,4 @@ use Rattle.station_node.proofs.lives.open.Goals as goal
 
 pub returns-in_err-opening-clause-stopped : goal.returns-in_err-opening-clause-stopped
 returns-in_err-opening-clause-stopped g c = any_err c.from_residual.result
-    (cut_at_once opening_kind c.args.told.for_ms c.args.told.begins (standing (untold c.args.told.table.now (equipment_of c.args.equipment)) first_course) (g.O.Outside.told c.args.outside.now))
+    (cut_at_once opening_kind c.args.told.life.for_ms c.args.told.life.begins (standing (untold c.args.told.table.now (equipment_of c.args.equipment)) first_course) (g.O.Outside.told c.args.outside.now))

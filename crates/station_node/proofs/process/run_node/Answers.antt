@@ -1,6 +1,6 @@
 use Rattle.std.proofs.Common.{ap, ◌∙◌}
-use Rattle.node_kinds.specs.simulator_run.Nodes.{node_at}
-use Rattle.node_kinds.specs.simulator_run.layout.Entries.{Site}
+use Rattle.node_kinds.specs.simulator_spec.Nodes.{node_at}
+use Rattle.node_kinds.specs.simulator_spec.layout.Entries.{Site}
 use Rattle.station_node.specs.Processes.{rest_of}
 use Rattle.station_node.proofs.Lived.{any_err, ends_at_once, ends_rested, ends_resting, map_err}
 use Rattle.station_node.proofs.process.run_node.Goals as goal

@@ -1,7 +1,7 @@
 use Rattle.std.proofs.Common.{List, subst}
 use Rattle.replay.specs.replay_lines.declared.session.Entry.{Entry}
 use Rattle.station_record.specs.CapturedSession.{Explains}
-use Rattle.station_record.specs.declared.capture_failure.CaptureFailure.{CaptureFailure}
+use Rattle.replay.specs.station_check.declared.failure.Failure.{Failure}
 use Rattle.station_record.specs.inside.CapturesSoFar.{IsNoFile}
 use Rattle.station_record.proofs.Ended.{told_on}
 use Rattle.station_record.proofs.NoCapture.{no_file}
@@ -14,5 +14,5 @@ returns-in_err-file-clause-explains c =
     in let texts = c.in_ok-texts.texts
     in let why = c.in_err-file.field-0.0
     in let none = subst (λ (entries : List Entry). IsNoFile texts.table entries why) c.deref.ensures.value c.in_err-file.ensures.failed
-    in told_on (λ (failure : CaptureFailure). Explains layout recording failure) c.from_residual-in_err-file.result why c.from_residual-in_err-file.ensures.1
+    in told_on (λ (failure : Failure). Explains layout recording failure) c.from_residual-in_err-file.result why c.from_residual-in_err-file.ensures.1
     (no_file layout recording texts.table texts.entries.items why c.in_ok-texts.ensures.read none)

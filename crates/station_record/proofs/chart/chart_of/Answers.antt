@@ -1,7 +1,7 @@
 use Rattle.std.proofs.Common.{◌∙◌, List, subst}
 use Rattle.replay.specs.layout.Entries.{Site}
 use Rattle.replay.specs.World.{AnswersSame, IsFirst}
-use Rattle.replay.specs.simulator_run.Tried.{Played}
+use Rattle.replay.specs.simulator_spec.Tried.{Played}
 use Rattle.replay.specs.replay_lines.declared.session.Entry.{Entry}
 use Rattle.station_record.specs.ChartedSession.{IsTextOf}
 use Rattle.station_record.specs.Differences.{DiffersIn}

@@ -1,12 +1,5 @@
-use Rattle.station_record.specs.ChartedSession.{Explains}
-use Rattle.station_record.specs.declared.chart_failure.ChartFailure.TheVariants.{Station}
-use Rattle.station_record.proofs.Ended.{told_on}
 use Rattle.station_record.proofs.NoChart.{differences_explain, session_drawn}
 use Rattle.station_record.proofs.chart.session_chart.Goals as goal
-
-pub returns-in_err-texts-clause-explains : goal.returns-in_err-texts-clause-explains
-returns-in_err-texts-clause-explains c =
-    told_on (Explains c.args.layout.now c.args.recording.now) c.from_residual.result (Station c.in_err-texts.field-0.0) c.from_residual.ensures.1 c.in_err-texts.ensures.explains
 
 pub returns-clause-explains : goal.returns-clause-explains
 returns-clause-explains c =

@@ -1,8 +1,8 @@
 use Rattle.std.proofs.Common.{◌≡◌, ◌<◌, ◌∙◌, List, length, ap, subst}
 use Rattle.std.specs.Prelude.{slice_get}
 use Rattle.std.specs.Option.{option_map}
-use Rattle.replay.specs.ixl_rules.State.{RouteState}
-use Rattle.replay.specs.ixl_rules.Table.{Row}
+use Rattle.replay.specs.ixl_spec.State.{RouteState}
+use Rattle.replay.specs.ixl_spec.Table.{Row}
 use Rattle.replay.specs.ixl_table.Table.{SitedTable}
 use Rattle.replay.specs.simulator.ixl_state.State.{StateView}
 use Rattle.station_record.specs.Seen.{progress_of}

@@ -1,7 +1,7 @@
 use Rattle.std.proofs.Common.{◌≡◌, ◌≢◌, ◌+◌, ◌∷◌, ◌++◌, ◌∙◌, List, drop, map, sym, ap, refl, subst}
 use Rattle.std.proofs.lemmas.List.{drop_more}
 use Rattle.replay.specs.World.{answer, played}
-use Rattle.replay.specs.simulator_run.Tried.{Played}
+use Rattle.replay.specs.simulator_spec.Tried.{Played}
 use Rattle.replay.specs.replay_lines.declared.session.Entry.{Entry}
 use Rattle.lane_chart.specs.declared.change.Change.{Change}
 use Rattle.lane_chart.specs.declared.change.Happening.{Happening}
@@ -51,7 +51,7 @@ loop-place-preserved c =
     in let place = c.loop-place.place
     in let entry = c.index-entries-place.result
     in let now = played c.loop-place.world
-    in let then = played c.agrees.new.world
+    in let then = played c.agrees.new.station
     in let moved = c.in_ok-agrees.ensures.happens
     in let left = drop_more entries place entry c.loop-place-test.true ∙ ap (λ (e : Entry). e ∷ drop (place + 1) entries) (sym c.index-entries-place.is)
     in let watched = c.deref-in-loop-place.ensures.value ∙ c.loop-place.invariant.watches

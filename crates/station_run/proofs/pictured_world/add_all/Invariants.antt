@@ -1,7 +1,7 @@
 use Rattle.std.proofs.Common.{◌≡◌, ◌++◌, take}
 use Rattle.std.specs.List.{flat_map}
 use Rattle.station_run.specs.Panel.{all_of}
-use Rattle.station_run.specs.Worlds.{played}
+use Rattle.station_record.specs.replay.World.{played}
 use Rattle.station_run.proofs.pictured_world.add_all.Given as goal
 
 abbrev pub invariant-loop-thing : goal.invariant-loop-thing

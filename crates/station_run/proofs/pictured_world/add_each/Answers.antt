@@ -1,6 +1,6 @@
 use Rattle.std.proofs.Common.{◌++◌, arith}
 use Rattle.station_run.specs.Panel.{all_of, count, line_at}
-use Rattle.station_run.specs.Worlds.{played}
+use Rattle.station_record.specs.replay.World.{played}
 use Rattle.station_run.proofs.Seen.{one_added}
 use Rattle.station_run.proofs.pictured_world.add_each.Goals as goal
 

@@ -6,5 +6,5 @@ use Rattle.station_run.proofs.pictured_world.locking.Given as goal
 abbrev pub invariant-loop-number : goal.invariant-loop-number
 invariant-loop-number l =
     let rows = l.world.sited.table.rows in
-    let routes = l.world.run.station.ixl.routes in
+    let routes = l.world.run.interlocking.ixl.routes in
     locking rows routes l.section 0 (length rows) ≡ locking rows routes l.section l.number (length rows - l.number)

@@ -1,5 +1,5 @@
 use Rattle.std.proofs.Common.{◌≡◌, subst}
-use Rattle.ixl_state.specs.ixl_rules.View.{indicated}
+use Rattle.ixl_state.specs.ixl_spec.View.{indicated}
 use Rattle.ixl.specs.Interlocking.{InterlockingState}
 use Rattle.ixl.proofs.Views.{of_nodes}
 use Rattle.ixl.proofs.interlocking.Interlocking.indicated.Goals as goal

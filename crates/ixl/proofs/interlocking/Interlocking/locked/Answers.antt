@@ -1,7 +1,7 @@
 use Rattle.std.proofs.Common.{ℕ, subst}
 use Rattle.std.specs.Prelude.{◌↔◌}
 use Rattle.ixl_state.specs.bit_row.Places.{Has}
-use Rattle.ixl_state.specs.ixl_rules.Due.{HoldsSection}
+use Rattle.ixl_state.specs.ixl_spec.Due.{HoldsSection}
 use Rattle.ixl.specs.Interlocking.{InterlockingState}
 use Rattle.ixl_state.specs.State.{AtRoute}
 use Rattle.ixl.proofs.interlocking.Interlocking.locked.Goals as goal

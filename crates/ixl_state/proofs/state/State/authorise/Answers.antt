@@ -4,9 +4,9 @@ use Rattle.std.specs.Ordering.{nat_cmp}
 use Rattle.std.proofs.lemmas.Bool.{false≢true}
 use Rattle.std.proofs.lemmas.Option.{same_Some}
 use Rattle.release.specs.Passage.{passage_after}
-use Rattle.ixl_rules.specs.State.{RouteState}
-use Rattle.ixl_rules.specs.Table.{Row}
-use Rattle.ixl_rules.specs.declared.phase.Phase.TheVariants as phase
+use Rattle.ixl_spec.specs.State.{RouteState}
+use Rattle.ixl_spec.specs.Table.{Row}
+use Rattle.ixl_spec.specs.declared.phase.Phase.TheVariants as phase
 use Rattle.ixl_state.specs.inside.Kept.{IsPassageOf}
 use Rattle.ixl_state.proofs.RouteChange.{alike-by, alike-from, passage-by}
 use Rattle.ixl_state.proofs.state.State.authorise.Goals as goal

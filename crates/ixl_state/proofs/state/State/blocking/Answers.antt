@@ -1,7 +1,7 @@
 use Rattle.std.proofs.Common.{◌≡◌, ◌∙◌, false, None, Some, subst, sym}
 use Rattle.std.proofs.lemmas.Bool.{false≢true}
 use Rattle.route_lock.specs.Locks.{IsFault}
-use Rattle.ixl_rules.specs.View.{first_blocking, is_set}
+use Rattle.ixl_spec.specs.View.{first_blocking, is_set}
 use Rattle.ixl_table.specs.Table.{as_route}
 use Rattle.ixl_state.specs.State.{AtRoute, StateView}
 use Rattle.ixl_state.proofs.RouteChange.{at-inside, kept-at, place-below}

@@ -1,7 +1,7 @@
 use Rattle.std.proofs.Common.{◌∙◌, ap, refl}
-use Rattle.ixl_rules.specs.Rules.{come_to}
-use Rattle.ixl_rules.specs.State.{RouteState}
-use Rattle.ixl_rules.specs.declared.phase.Phase.TheVariants as phase
+use Rattle.ixl_spec.specs.Rules.{come_to}
+use Rattle.ixl_spec.specs.State.{RouteState}
+use Rattle.ixl_spec.specs.declared.phase.Phase.TheVariants as phase
 use Rattle.ixl_state.proofs.RouteChange.{alike-by, alike-from, passage-by}
 use Rattle.ixl_state.proofs.state.State.end_authority.Goals as goal
 

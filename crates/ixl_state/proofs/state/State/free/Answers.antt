@@ -2,8 +2,8 @@ use Rattle.std.proofs.Common.{◌∙◌, ap, refl, subst, sym}
 use Rattle.std.specs.FinSet.{empty}
 use Rattle.std.proofs.Common.{slice_set}
 use Rattle.std.proofs.lemmas.Bool.{false≢true}
-use Rattle.ixl_rules.specs.Rules.{freed}
-use Rattle.ixl_rules.specs.State.{RouteState}
+use Rattle.ixl_spec.specs.Rules.{freed}
+use Rattle.ixl_spec.specs.State.{RouteState}
 use Rattle.ixl_state.specs.inside.Kept.{IsState}
 use Rattle.ixl_state.proofs.LocksFreed.{none-held}
 use Rattle.ixl_state.proofs.RouteChange.{kept-at, lock-within, place-below, put-state, read-is, view-changed}

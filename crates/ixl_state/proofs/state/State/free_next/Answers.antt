@@ -1,9 +1,9 @@
 use Rattle.std.proofs.Common.{◌≡◌, ◌≢◌, ◌∙◌, ◌+◌, ◌<◌, ℕ, List, ap, arith, length, refl, subst, sym}
 use Rattle.std.specs.Prelude.{IsTrue}
-use Rattle.ixl_rules.specs.State.{RouteState}
-use Rattle.ixl_rules.specs.Table.{Row}
-use Rattle.ixl_rules.specs.View.{freed_sections, is_set}
-use Rattle.ixl_rules.specs.declared.phase.Phase.{Phase}
+use Rattle.ixl_spec.specs.State.{RouteState}
+use Rattle.ixl_spec.specs.Table.{Row}
+use Rattle.ixl_spec.specs.View.{freed_sections, is_set}
+use Rattle.ixl_spec.specs.declared.phase.Phase.{Phase}
 use Rattle.ixl_table.specs.Table.{IsTableThere, SitedTable}
 use Rattle.ixl_state.specs.State.{route_changed}
 use Rattle.ixl_state.proofs.LocksFreed.{last-freed, more-freed}

@@ -1,9 +1,9 @@
 use Rattle.std.proofs.Common.{◌≡◌, ◌∙◌, ◌+◌, ◌<◌, ap, arith, length, refl, slice_set, subst, sym}
 use Rattle.std.specs.FinSet.{remove}
 use Rattle.route_lock.specs.Locks.{locked_by}
-use Rattle.ixl_rules.specs.Rules.{come_to}
-use Rattle.ixl_rules.specs.State.{RouteState}
-use Rattle.ixl_rules.specs.declared.phase.Phase.TheVariants as phase
+use Rattle.ixl_spec.specs.Rules.{come_to}
+use Rattle.ixl_spec.specs.State.{RouteState}
+use Rattle.ixl_spec.specs.declared.phase.Phase.TheVariants as phase
 use Rattle.ixl_table.specs.Table.{as_route}
 use Rattle.ixl_state.specs.inside.Kept.{IsState}
 use Rattle.ixl_state.proofs.LocksFreed.{locks-next, one-freed}

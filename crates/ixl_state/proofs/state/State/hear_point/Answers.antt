@@ -1,4 +1,4 @@
-use Rattle.ixl_field.specs.Field.{Rest}
+use Rattle.ixl_known.specs.Field.{Rest}
 use Rattle.ixl_state.proofs.Turns.{goes-of, state-kept}
 use Rattle.ixl_state.proofs.state.State.hear_point.Goals as goal
 

@@ -1,6 +1,6 @@
 use Rattle.std.proofs.Common.{◌≡◌, subst}
-use Rattle.ixl_rules.specs.View.{is_held_at}
-use Rattle.ixl_field.specs.Field.{kept}
+use Rattle.ixl_spec.specs.View.{is_held_at}
+use Rattle.ixl_known.specs.Field.{kept}
 use Rattle.ixl_state.specs.State.{StateView}
 use Rattle.ixl_state.proofs.RouteFound.{same-truth}
 use Rattle.ixl_state.proofs.state.State.is_held_at.Goals as goal

@@ -1,7 +1,7 @@
 use Rattle.std.proofs.Common.{◌≡◌, ◌↔◌, List, subst}
 use Rattle.std.specs.Prelude.{IsTrue}
-use Rattle.ixl_rules.specs.State.{RouteState}
-use Rattle.ixl_rules.specs.View.{is_held_with_authority}
+use Rattle.ixl_spec.specs.State.{RouteState}
+use Rattle.ixl_spec.specs.View.{is_held_with_authority}
 use Rattle.ixl_state.specs.State.{StateView}
 use Rattle.ixl_state.specs.inside.Kept.{SomeHoldsWithAuthority}
 use Rattle.ixl_state.proofs.RouteFound.{held-with-authority}

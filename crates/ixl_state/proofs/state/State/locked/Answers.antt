@@ -1,6 +1,6 @@
 use Rattle.std.proofs.Common.{ℕ, ◌↔◌, subst, sym}
-use Rattle.ixl_rules.specs.bit_row.Places.{Has, Places}
-use Rattle.ixl_rules.specs.Due.{HoldsSection}
+use Rattle.ixl_spec.specs.bit_row.Places.{Has, Places}
+use Rattle.ixl_spec.specs.Due.{HoldsSection}
 use Rattle.ixl_state.specs.State.{AtRoute, StateView}
 use Rattle.ixl_state.proofs.state.State.locked.Goals as goal
 

@@ -1,8 +1,8 @@
 use Rattle.std.proofs.Common.{◌∙◌, ap}
-use Rattle.ixl_rules.specs.State.{RouteState}
-use Rattle.ixl_rules.specs.Step.{route_looks}
-use Rattle.ixl_rules.specs.Table.{Row}
-use Rattle.ixl_rules.specs.View.{place_in}
+use Rattle.ixl_spec.specs.State.{RouteState}
+use Rattle.ixl_spec.specs.Step.{route_looks}
+use Rattle.ixl_spec.specs.Table.{Row}
+use Rattle.ixl_spec.specs.View.{place_in}
 use Rattle.ixl_table.specs.Table.{SitedTable}
 use Rattle.ixl_state.proofs.SectionLook.{looks-alike, looks-passage, place-within}
 use Rattle.ixl_state.proofs.RouteChange.{alike-by, passage-by, row-read}

@@ -1,10 +1,10 @@
 use Rattle.std.proofs.Common.{◌≡◌, ◌∙◌, false, None, ap, arith, refl, slice_set, subst, sym}
 use Rattle.std.proofs.lemmas.Bool.{false≢true}
-use Rattle.ixl_rules.specs.bit_row.Places.{Places}
+use Rattle.ixl_spec.specs.bit_row.Places.{Places}
 use Rattle.route_lock.specs.Locks.{AreAllSections, locking}
-use Rattle.ixl_rules.specs.Commands.{route_set, set_anew}
-use Rattle.ixl_rules.specs.State.{RouteState}
-use Rattle.ixl_rules.specs.View.{first_blocking, is_set}
+use Rattle.ixl_spec.specs.Commands.{route_set, set_anew}
+use Rattle.ixl_spec.specs.State.{RouteState}
+use Rattle.ixl_spec.specs.View.{first_blocking, is_set}
 use Rattle.ixl_table.specs.Table.{as_route}
 use Rattle.ixl_state.specs.State.{AtRoute, StateView}
 use Rattle.ixl_state.specs.inside.Kept.{IsState}

@@ -1,4 +1,4 @@
-use Rattle.ixl_field.specs.Field.{Rest}
+use Rattle.ixl_known.specs.Field.{Rest}
 use Rattle.ixl_state.proofs.Turns.{clocked-kept, clocked-view}
 use Rattle.ixl_state.proofs.state.State.settle.Goals as goal
 

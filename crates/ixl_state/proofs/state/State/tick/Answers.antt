@@ -1,5 +1,5 @@
 use Rattle.std.proofs.Common.{arith}
-use Rattle.ixl_field.specs.Field.{Rest}
+use Rattle.ixl_known.specs.Field.{Rest}
 use Rattle.ixl_state.proofs.Turns.{few-controllers, goes-at-most, state-kept}
 use Rattle.ixl_state.proofs.state.State.tick.Goals as goal
 

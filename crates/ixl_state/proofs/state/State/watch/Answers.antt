@@ -1,5 +1,5 @@
 use Rattle.std.proofs.Common.{◌∙◌, ◌||◌, not, ap, refl}
-use Rattle.ixl_rules.specs.State.{RouteState}
+use Rattle.ixl_spec.specs.State.{RouteState}
 use Rattle.ixl_state.proofs.RouteChange.{alike-by, passage-by}
 use Rattle.ixl_state.proofs.state.State.watch.Goals as goal
 

@@ -1,6 +1,6 @@
 use Rattle.std.proofs.Common.{subst}
-use Rattle.ixl_rules.specs.sci_telegram.declared.message.Side.TheVariants as side
-use Rattle.ixl_rules.specs.Table.{Row}
+use Rattle.ixl_spec.specs.sci_telegram.declared.message.Side.TheVariants as side
+use Rattle.ixl_spec.specs.Table.{Row}
 use Rattle.ixl_table.specs.Table.{AreNeededAt}
 use Rattle.ixl_table.proofs.row.Row.right_row.Goals as goal
 

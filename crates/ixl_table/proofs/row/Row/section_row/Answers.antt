@@ -1,5 +1,5 @@
 use Rattle.std.proofs.Common.{subst}
-use Rattle.ixl_rules.specs.Table.{Row}
+use Rattle.ixl_spec.specs.Table.{Row}
 use Rattle.ixl_table.specs.Table.{IsSetOf}
 use Rattle.ixl_table.proofs.row.Row.section_row.Goals as goal
 

@@ -1,6 +1,6 @@
 use Rattle.std.proofs.Common.{◌∙◌, ap, map}
-use Rattle.ixl_rules.specs.layout.declared.entries.Point.{Point}
-use Rattle.ixl_rules.specs.layout.Entries.{DetectorEntry, Site}
+use Rattle.ixl_spec.specs.layout.declared.entries.Point.{Point}
+use Rattle.ixl_spec.specs.layout.Entries.{DetectorEntry, Site}
 use Rattle.ixl_table.specs.Table.{as_section}
 use Rattle.ixl_table.proofs.Made.{lists-mapped}
 use Rattle.ixl_table.proofs.table.Table.new.Goals as goal

@@ -1,5 +1,5 @@
 use Rattle.std.proofs.Common.{◌∙◌, ap, subst, sym}
-use Rattle.simulator.specs.simulator_run.First.{IsOutsetOf, Outset}
+use Rattle.simulator.specs.simulator_spec.First.{IsOutsetOf, Outset}
 use Rattle.replay.specs.Outset.{lines_in}
 use Rattle.replay.specs.inside.Outsets.{outset_in}
 use Rattle.replay.proofs.Outsets.{line_fits, no_line, one_line, rest_fits}

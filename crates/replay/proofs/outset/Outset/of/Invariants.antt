@@ -1,5 +1,5 @@
 use Rattle.std.proofs.Common.{◌≡◌, drop}
-use Rattle.simulator.specs.simulator_run.First.{IsOutsetOf}
+use Rattle.simulator.specs.simulator_spec.First.{IsOutsetOf}
 use Rattle.replay.specs.Outset.{lines_in, outset_of}
 use Rattle.replay.specs.inside.Outsets.{outset_in}
 use Rattle.replay.proofs.outset.Outset.of.Given as goal

@@ -4,4 +4,4 @@ use Rattle.replay.proofs.Rounds.{none_did}
 use Rattle.replay.proofs.run.Run.round.Goals as goal
 
 pub returns-in_err-due-clause-err : goal.returns-in_err-due-clause-err
-returns-in_err-due-clause-err g c = on_err c.from_residual.result (0, none_did g.S.Playable.sight.station (flowing_of g.S.Playable.state c.args.self.now))
+returns-in_err-due-clause-err c = on_err c.from_residual.result (0, none_did (flowing_of c.args.self.now))

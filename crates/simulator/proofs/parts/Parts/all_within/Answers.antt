@@ -1,5 +1,5 @@
 use Rattle.std.proofs.Common.{◌≡◌, false, drop, length, slice_index_or, sym, ap, ◌∙◌, arith, rules}
-use Rattle.simulator_ixl.specs.simulator_field.Controllers.{world_of}
+use Rattle.simulator_field.specs.Field.{world_of}
 use Rattle.simulator.specs.inside.Parts.{seen}
 use Rattle.simulator.proofs.Within.{all_so, fails_told, first_then, last_told, second_fails, third_fails}
 use Rattle.simulator.proofs.parts.Parts.all_within.Goals as goal

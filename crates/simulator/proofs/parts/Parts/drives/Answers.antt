@@ -1,11 +1,11 @@
 use Rattle.std.proofs.Common.{◌<◌, length, ap, ◌∙◌, arith}
-use Rattle.simulator_ixl.specs.layout.Entries.{Site}
+use Rattle.ixl_state.specs.layout.Entries.{Site}
 use Rattle.simulator.proofs.Few.{driven_next}
 use Rattle.simulator.proofs.parts.Parts.drives.Goals as goal
 
 pub loop-place-preserved : goal.loop-place-preserved
 loop-place-preserved c =
-    let servers = c.args.self.now.controllers.points.items
+    let servers = c.args.self.now.field.points.items
     in let place = c.loop-place.place
     in let points = ap length (c.points-place-end.ensures ∙ ap (λ (p : Site). p.points) c.layout.ensures.entries)
     in let below : place < length servers = omega (arith, c.loop-place-test.true, points, c.requires.points)

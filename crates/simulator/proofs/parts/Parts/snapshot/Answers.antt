@@ -1,4 +1,4 @@
-use Rattle.simulator_ixl.specs.simulator_field.Controllers.{world_of}
+use Rattle.simulator_field.specs.Field.{world_of}
 use Rattle.simulator.proofs.parts.Parts.snapshot.Goals as goal
 
 pub returns : goal.returns

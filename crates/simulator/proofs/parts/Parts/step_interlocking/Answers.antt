@@ -1,4 +1,4 @@
-use Rattle.simulator_ixl.specs.ixl.Interlocking.{meant, told}
+use Rattle.ixl.specs.Interlocking.{meant, told}
 use Rattle.simulator.proofs.PartsOfWorld.{station_goes}
 use Rattle.simulator.proofs.parts.Parts.step_interlocking.Goals as goal
 

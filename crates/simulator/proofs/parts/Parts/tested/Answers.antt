@@ -1,5 +1,5 @@
 use Rattle.std.proofs.Common.{sym, subst}
-use Rattle.simulator_ixl.specs.simulator_event.declared.event.Event.{Event}
+use Rattle.simulator_spec.specs.simulator_event.declared.event.Event.{Event}
 use Rattle.simulator.specs.inside.EventTest.{Tells}
 use Rattle.simulator.specs.inside.Parts.{site_of, seen}
 use Rattle.simulator.proofs.parts.Parts.tested.Goals as goal

@@ -1,7 +1,7 @@
 use Rattle.std.proofs.Common.{sym, subst}
-use Rattle.simulator_ixl.specs.layout.Once.{Once}
-use Rattle.simulator_ixl.specs.layout.Station.{IsStation}
-use Rattle.simulator_ixl.specs.ixl_table.Table.{IsTableOf, SitedTable}
+use Rattle.ixl_state.specs.layout.Once.{Once}
+use Rattle.ixl_state.specs.layout.Station.{IsStation}
+use Rattle.ixl_state.specs.ixl_table.Table.{IsTableOf, SitedTable}
 use Rattle.simulator.proofs.Promise.{goes_on}
 use Rattle.simulator.proofs.world.World.apply.Goals as goal
 

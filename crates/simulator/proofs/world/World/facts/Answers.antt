@@ -1,6 +1,6 @@
 use Rattle.std.proofs.Common.{subst}
-use Rattle.simulator_ixl.specs.ixl_table.Table.{IsTableOf}
-use Rattle.simulator_headline.specs.Reached.{HasSafeLinks, IsReachedSafely}
+use Rattle.ixl_state.specs.ixl_table.Table.{IsTableOf}
+use Rattle.simulator_safety.specs.Reached.{HasSafeLinks, IsReachedSafely}
 use Rattle.simulator.specs.World.{IsSafeWorld, View}
 use Rattle.simulator.proofs.world.World.facts.Goals as goal
 

@@ -1,6 +1,6 @@
 use Rattle.std.proofs.Common.{◌≡◌, sym, ap, ◌∙◌, length, rules}
-use Rattle.simulator_ixl.specs.layout.Entries.{Site}
-use Rattle.simulator_ixl.specs.simulator_run.First.{world_at}
+use Rattle.ixl_state.specs.layout.Entries.{Site}
+use Rattle.simulator_spec.specs.First.{world_at}
 use Rattle.simulator.proofs.AtRest.{lies_at_rest}
 use Rattle.simulator.proofs.Below.{first_world}
 use Rattle.simulator.proofs.world.World.new.Goals as goal

@@ -1,6 +1,6 @@
 use Rattle.std.proofs.Common.{◌∙◌, ◌++◌, ◌/◌, ap, List, ℕ, Bool, codes, string_bytes}
 use Rattle.std.specs.Fmt.{decimal}
-use Rattle.simulator_ixl.specs.simulator_run.Picture.{safe_text}
+use Rattle.simulator_spec.specs.Picture.{safe_text}
 use Rattle.simulator.proofs.Whole.{all_points, whole}
 use Rattle.simulator.proofs.world.World.picture.Goals as goal
 

@@ -1,7 +1,7 @@
 use Rattle.std.proofs.Common.{◌≡◌, refl, ◌+◌, ◌++◌, [], ◌∷◌, ap, sym, ◌∙◌, subst, take, arith, List}
 use Rattle.std.specs.Prelude.{is_ok, if◌then◌else◌, ℕ}
 use Rattle.std.proofs.lemmas.List.{take_more}
-use Rattle.simulator_ixl.specs.simulator_event.declared.event.Event.{Event}
+use Rattle.simulator_spec.specs.simulator_event.declared.event.Event.{Event}
 use Rattle.simulator.specs.Runs.{Runs, stops}
 use Rattle.simulator.proofs.Runs.{run_step}
 use Rattle.simulator.proofs.world.World.run.Goals as goal

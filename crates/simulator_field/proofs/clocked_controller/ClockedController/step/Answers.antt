@@ -1,6 +1,6 @@
 use Rattle.std.proofs.Common.{◌∙◌, ap, sym, length, ◌++◌, arith, rules}
-use Rattle.simulator_run.specs.rasta_core.Outbox.{OutboxState}
-use Rattle.simulator_run.specs.Controllers.{controller_after, step_of}
+use Rattle.simulator_spec.specs.rasta_core.Outbox.{OutboxState}
+use Rattle.simulator_spec.specs.Controllers.{controller_after, step_of}
 use Rattle.simulator_field.proofs.Inside.{capacity_posted, step_handed_out, step_performed}
 use Rattle.simulator_field.proofs.clocked_controller.ClockedController.step.Goals as goal
 

@@ -2,7 +2,7 @@ use Rattle.std.proofs.Common.{◌∙◌, ◌++◌, ap, refl}
 use Rattle.std.specs.Prelude.{codes}
 use Rattle.control_table.specs.Messages.{route_text}
 use Rattle.station_layout.specs.DetailWords.{point_words}
-use Rattle.station_layout.specs.PortWords.{side_word}
+use Rattle.control_table.specs.sci_telegram.Words.{side_word}
 use Rattle.station_layout.specs.inside.Sentences.{part_words}
 use Rattle.station_layout.proofs.SentenceEnds.{without_end}
 use Rattle.station_layout.proofs.detail.PointDetail.sentence.Goals as goal

@@ -1,5 +1,5 @@
 use Rattle.std.proofs.Common.{◌∙◌, ℕ, List, refl, subst, sym}
-use Rattle.station_network.specs.station_drive.Told.{Sends}
+use Rattle.station_drive.specs.Told.{Sends}
 use Rattle.station_panel.proofs.DisturbedCalls.{none_goes, one_goes}
 use Rattle.station_panel.proofs.disturbed.Disturbed.send_first.Goals as goal
 

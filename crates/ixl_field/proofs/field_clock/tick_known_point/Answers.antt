@@ -1,7 +1,0 @@
-use Rattle.std.proofs.Common.{sym, ◌∙◌}
-use Rattle.ixl_field.proofs.Alike.{same_tests_answer, known_point_ticked_alike}
-use Rattle.ixl_field.proofs.field_clock.tick_known_point.Goals as goal
-
-pub returns-clause-alike : goal.returns-clause-alike
-returns-clause-alike c alike = known_point_ticked_alike c.args.now c.args.known_point.now c.tick.new.self c.args.outbox.now c.tick.ensures.node
-    (sym c.is_available.ensures ∙ same_tests_answer _ _ alike ∙ c.is_available-was_available.ensures)

@@ -1,6 +1,0 @@
-use Rattle.std.proofs.Common.{◌≡◌}
-use Rattle.ixl_rules.specs.StepSoFar.{all_below}
-use Rattle.ixl_field.proofs.known_point.all_below.Given as goal
-
-abbrev pub invariant-loop-place : goal.invariant-loop-place
-invariant-loop-place l = l.row ≡ all_below l.place

@@ -1,5 +1,0 @@
-use Rattle.ixl_field.proofs.RowLaws.{HavePoints}
-use Rattle.ixl_field.proofs.rows.PointRows.of.Given as goal
-
-abbrev pub invariant-loop-point : goal.invariant-loop-point
-invariant-loop-point l = HavePoints l.known_points l.point l.available l.right l.left

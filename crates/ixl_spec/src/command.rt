@@ -1,0 +1,77 @@
+//! What an interlocking is told to do, and why it refuses.
+
+use control_table::{PointId, RouteId, SectionId};
+use rasta_core::Millis;
+use thiserror::Error;
+
+/// How long an interlocking holds after its creation, in ms of its clock: it takes no request.
+pub const HOLD_TIME: Millis = 6000;
+
+/// What an interlocking is told to do.
+#[derive(Clone, Copy, Debug)]
+pub enum Command {
+    /// To set a route.
+    Request(RouteId),
+    /// To cancel a route that is set.
+    Cancel(RouteId),
+    /// To take requests and cancels.
+    Resume,
+}
+
+/// Why a command is refused. The first test in this order that fails is told.
+#[derive(Clone, Copy, Debug, PartialEq, Eq, Error)]
+pub enum Refusal {
+    /// The table has no such route.
+    #[error("no such route")]
+    UnknownRoute,
+    /// Less than `HOLD_TIME` has passed since the interlocking was made.
+    #[error("the interlocking holds")]
+    Holding,
+    /// It wasn't told to resume yet.
+    #[error("the interlocking was not told to resume")]
+    NotResumed,
+    /// The route is set.
+    #[error("the route is set")]
+    AlreadySet,
+    /// The first route of the table that blocks it.
+    #[error("a set route blocks it")]
+    Conflict(RouteId),
+    /// The first section with a ready link whose last report is occupied.
+    #[error("a section is occupied")]
+    NotClear(SectionId),
+    /// The first required point that isn't available and isn't held at its side.
+    #[error("a point isn't available")]
+    PointUnavailable(PointId),
+    /// The entry signal's link isn't ready, or it isn't at known stop.
+    #[error("the signal isn't ready at known stop")]
+    SignalUnavailable,
+    /// A route that isn't set can't be cancelled.
+    #[error("the route isn't set")]
+    NotSet,
+    /// A section of the route is unknown.
+    #[error("a section is unknown")]
+    DetectionDown,
+}
+
+impl Refusal {
+    ghost use Rattle.std.specs.Prelude.{◌≡◌};
+    ghost use Rattle.ixl_spec.specs.Commands.{refusal_number};
+
+    /// Its number, 1 to 10.
+    pub fn number(self) -> u8
+        ensures { result ≡ refusal_number self }
+    {
+        match self {
+            Refusal::UnknownRoute => 1,
+            Refusal::Holding => 2,
+            Refusal::NotResumed => 3,
+            Refusal::AlreadySet => 4,
+            Refusal::Conflict(_) => 5,
+            Refusal::NotClear(_) => 6,
+            Refusal::PointUnavailable(_) => 7,
+            Refusal::SignalUnavailable => 8,
+            Refusal::NotSet => 9,
+            Refusal::DetectionDown => 10,
+        }
+    }
+}

@@ -1,9 +1,0 @@
--- What an aspect rests on behind the input of a step.
-use Rattle.std.specs.Prelude.{◌⊎◌}
-use Rattle.ixl_state.specs.ixl_rules.Due.{AllClear, AllKnown, IsSignalReady}
-use Rattle.ixl_state.specs.ixl_rules.State.{IxlState}
-use Rattle.ixl_state.specs.ixl_rules.Table.{Row, Table}
-
--- A point that the route requires isn't known at its side, a section isn't clear, or the signal's link isn't ready.
-abbrev pub IsUnsound : Table → IxlState → Row → Type 0
-IsUnsound table ixl row = ((AllKnown ixl row.needs → ⊥) ⊎ (AllClear table ixl row.sections → ⊥)) ⊎ (IsSignalReady ixl row.entry → ⊥)

@@ -1,3 +1,0 @@
-pub mod Following
-pub mod Shallow
-pub mod Told

@@ -1,6 +1,0 @@
-use Rattle.std.proofs.Common.{arith}
-use Rattle.panel_board.proofs.Shallow.{read_shallow}
-use Rattle.panel_board.proofs.about.about_text.Goals as goal
-
-pub returns : goal.returns
-returns c = read_shallow _ _ _ c.in_ok-text.ensures.reads_back c.in_ok-value.ensures (omega arith)

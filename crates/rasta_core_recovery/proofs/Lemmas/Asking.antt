@@ -1,0 +1,10 @@
+pub mod Asks
+pub mod AsksSeen
+pub mod AsksBlocks
+pub mod AsksCalls
+pub mod AsksSaid
+pub mod AsksGoes
+pub mod AsksEnters
+pub mod AsksEvents
+pub mod AsksFresh
+pub mod AsksRound

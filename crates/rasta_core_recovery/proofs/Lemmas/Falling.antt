@@ -1,0 +1,5 @@
+pub mod FallsLists
+pub mod FallsCalls
+pub mod FallsGoes
+pub mod FallsEnters
+pub mod FallsEvents

@@ -1,0 +1,10 @@
+pub mod InTurn
+pub mod HaleRounds
+pub mod AllConfirmed
+pub mod Replies
+pub mod Confirms
+pub mod Heartbeats
+pub mod HeartbeatsAlone
+pub mod ConfirmsAtOnce
+pub mod TakingsConfirm
+pub mod ServersConfirm

@@ -1,7 +1,0 @@
-use Rattle.std.proofs.Common.{◌≡◌, map, take}
-use Rattle.simulator_run.specs.sci_telegram.declared.message.Position.TheVariants as positions
-use Rattle.simulator_run.specs.First.{at_zero, first_controller, new_detector}
-use Rattle.simulator_field.proofs.first_controllers.first_detectors.Given as goal
-
-abbrev pub invariant-loop-entry : goal.invariant-loop-entry
-invariant-loop-entry l = l.detectors.items ≡ map (λ entry. first_controller (new_detector l.table at_zero l.occupied entry)) (take l.entry-index l.table.detectors)

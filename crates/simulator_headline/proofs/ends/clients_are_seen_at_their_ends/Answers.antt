@@ -1,5 +1,0 @@
-use Rattle.simulator_headline.proofs.Quiet.{client_is}
-use Rattle.simulator_headline.proofs.ends.clients_are_seen_at_their_ends.Goals as goal
-
-pub returns : goal.returns
-returns c = client_is

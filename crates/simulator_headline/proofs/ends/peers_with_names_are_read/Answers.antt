@@ -1,5 +1,0 @@
-use Rattle.simulator_headline.proofs.Readable.{readable}
-use Rattle.simulator_headline.proofs.ends.peers_with_names_are_read.Goals as goal
-
-pub returns : goal.returns
-returns c = λ peer named version. readable c.written_is_read.ensures.read peer named version

@@ -1,5 +1,0 @@
-use Rattle.simulator_headline.proofs.AllEvents.{can_go_on, goes_on}
-use Rattle.simulator_headline.proofs.headline.lists_of_events_go_on.Goals as goal
-
-pub returns : goal.returns
-returns c = record { can = can_go_on; after = goes_on }

@@ -1,5 +1,0 @@
--- Definitions of the layers below that proofs here unfold.
-unfoldable pub use Rattle.ixl_state.specs.rasta_core.Calls.{created}
-unfoldable pub use Rattle.ixl_state.specs.ixl_client.Client.{new_client}
-unfoldable pub use Rattle.simulator_run.specs.First.{new_ixl}
-unfoldable pub use Rattle.simulator_run.specs.Interlocking.{held_of, sending_all, sending_one}

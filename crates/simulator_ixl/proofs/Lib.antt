@@ -1,6 +1,0 @@
-mod Below
-mod Clocks
-mod Made
-mod Pairs
-mod Places
-mod DatagramsSent

@@ -1,2 +1,0 @@
--- How the connections are kept. No promise of `ClockedInterlocking` names any of it.
-pub mod Connections

@@ -1,5 +1,0 @@
-use Rattle.simulator_machine_controllers.proofs.Turns.{seen_driven}
-use Rattle.simulator_machine_controllers.proofs.points.driven_points_are_seen_driven.Goals as goal
-
-pub returns : goal.returns
-returns c = seen_driven c.point_reports_its_moves.ensures.driven

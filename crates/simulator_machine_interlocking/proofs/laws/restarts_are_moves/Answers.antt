@@ -1,5 +1,0 @@
-use Rattle.simulator_machine_interlocking.proofs.Anew.{is_made_anew}
-use Rattle.simulator_machine_interlocking.proofs.laws.restarts_are_moves.Goals as goal
-
-pub returns : goal.returns
-returns c now later table old anew given anew_given machine sees made created clock same = is_made_anew now later table old anew given anew_given machine sees made created clock same

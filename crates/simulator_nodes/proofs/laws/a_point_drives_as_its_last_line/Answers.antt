@@ -1,6 +1,0 @@
-use Rattle.simulator_nodes.proofs.Lines.{drives_by_line}
-use Rattle.simulator_nodes.proofs.Said.{driven_by_lines}
-use Rattle.simulator_nodes.proofs.laws.a_point_drives_as_its_last_line.Goals as goal
-
-pub returns : goal.returns
-returns c = driven_by_lines drives_by_line

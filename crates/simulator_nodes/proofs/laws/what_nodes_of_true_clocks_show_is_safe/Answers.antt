@@ -1,5 +1,0 @@
-use Rattle.simulator_nodes.proofs.laws.what_nodes_of_true_clocks_show_is_safe.Goals as goal
-
-pub returns : goal.returns
-returns c = λ site table outset lies events seen once station is may time of_nodes.
-    c.every_world_of_true_clocks_is_safe.ensures.safe site table outset events seen once station is lies may time (c.what_the_nodes_show_is_seen.ensures.seen site table outset lies events seen of_nodes)

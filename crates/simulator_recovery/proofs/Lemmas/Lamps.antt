@@ -1,0 +1,11 @@
+pub mod SeenSignals
+pub mod GivenNoMore
+pub mod StopsGiven
+pub mod StopComes
+pub mod Cancelled
+pub mod ConfirmedStops
+pub mod ShowsGiven
+pub mod ProceedsHearing
+pub mod ProceedsGiven
+pub mod ProceedsRounds
+pub mod ProceedsStays

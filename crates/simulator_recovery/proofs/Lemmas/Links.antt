@@ -1,0 +1,16 @@
+pub mod ComeUp
+pub mod InOne
+pub mod Moments
+pub mod Ready
+pub mod NextItems
+pub mod HandedOver
+pub mod SignalReplies
+pub mod ConfirmedLinks
+pub mod ConfirmedSince
+pub mod RoutesConnection
+pub mod RoutesLinks
+pub mod RoutesRounds
+pub mod MovesInOne
+pub mod FirstRoundArrives
+pub mod FirstRoundUp
+pub mod UnderHosts

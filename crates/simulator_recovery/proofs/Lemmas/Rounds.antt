@@ -1,0 +1,7 @@
+pub mod Clocks
+pub mod Rounds
+pub mod Sends
+pub mod Arrives
+pub mod LinkRounds
+pub mod AtWork
+pub mod FlowsStay

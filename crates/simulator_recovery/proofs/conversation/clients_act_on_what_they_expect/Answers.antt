@@ -1,5 +1,0 @@
-use Rattle.simulator_recovery.proofs.ClientConversation.{client_acts}
-use Rattle.simulator_recovery.proofs.conversation.clients_act_on_what_they_expect.Goals as goal
-
-pub returns : goal.returns
-returns c = client_acts

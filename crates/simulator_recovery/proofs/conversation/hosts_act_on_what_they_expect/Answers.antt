@@ -1,6 +1,0 @@
-use Rattle.simulator_recovery.proofs.HostConversation.{host_acts}
-use Rattle.simulator_run.specs.sci_telegram.TelegramRead.{reading}
-use Rattle.simulator_recovery.proofs.conversation.hosts_act_on_what_they_expect.Goals as goal
-
-pub returns : goal.returns
-returns g c = λ now item host. host_acts _ now item (reading item) host

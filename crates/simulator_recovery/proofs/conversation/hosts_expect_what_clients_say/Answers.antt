@@ -1,8 +1,0 @@
-use Rattle.simulator_recovery.proofs.ConversationFits.{check_expected, request_expected}
-use Rattle.simulator_recovery.proofs.conversation.hosts_expect_what_clients_say.Goals as goal
-
-pub returns-clause-check : goal.returns-clause-check
-returns-clause-check g c = λ now peer host is matched at. check_expected c.written_is_read.ensures.read _ now peer is host matched at
-
-pub returns-clause-request : goal.returns-clause-request
-returns-clause-request g c = λ now peer host is matched at. request_expected c.written_is_read.ensures.read _ now peer is host matched at

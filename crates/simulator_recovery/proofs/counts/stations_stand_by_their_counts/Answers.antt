@@ -1,5 +1,0 @@
-use Rattle.simulator_recovery.proofs.Standing.{all_stand}
-use Rattle.simulator_recovery.proofs.counts.stations_stand_by_their_counts.Goals as goal
-
-pub returns : goal.returns
-returns c = λ site table world station reached. all_stand site table station world reached

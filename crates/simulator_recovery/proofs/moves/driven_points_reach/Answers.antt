@@ -1,6 +1,0 @@
-use Rattle.simulator_recovery.proofs.DrivenPoints.{drives_end}
-use Rattle.simulator_recovery.proofs.FlowsStay.{noted}
-use Rattle.simulator_recovery.proofs.moves.driven_points_reach.Goals as goal
-
-pub returns : goal.returns
-returns c = λ rounds flowing place side flow works. drives_end rounds flowing place side works (noted flow)

@@ -1,5 +1,0 @@
-use Rattle.simulator_recovery.proofs.WithdrawnEnded.{ended_free_at_once}
-use Rattle.simulator_recovery.proofs.withdrawn.ended_routes_are_free_at_once.Goals as goal
-
-pub returns : goal.returns
-returns c = ended_free_at_once c.route_is_freed_where_cancel_lets_it_go.ensures

@@ -1,5 +1,0 @@
-use Rattle.simulator_run_links.proofs.Named.{are_links}
-use Rattle.simulator_run_links.proofs.stations.layouts_name_their_links.Goals as goal
-
-pub returns : goal.returns
-returns c = are_links

@@ -1,6 +1,0 @@
-use Rattle.simulator_snapshot.specs.inside.Tests.{IsApart}
-use Rattle.simulator_snapshot.proofs.Loops.{AllBelow}
-use Rattle.simulator_snapshot.proofs.snapshot.Snapshot.are_apart.Given as goal
-
-abbrev pub invariant-loop-held : goal.invariant-loop-held
-invariant-loop-held l = AllBelow (IsApart l.table l.self) l.held-items l.held-index

@@ -1,5 +1,0 @@
-use Rattle.simulator_snapshot.specs.inside.Tests.{AreShownRightly}
-use Rattle.simulator_snapshot.proofs.snapshot.Snapshot.are_protected.Given as goal
-
-abbrev pub invariant-loop-place : goal.invariant-loop-place
-invariant-loop-place l = AreShownRightly l.table l.self l.place

@@ -1,6 +1,0 @@
-use Rattle.simulator_snapshot.specs.Safe.{IsThere}
-use Rattle.simulator_snapshot.proofs.Loops.{AllBelow}
-use Rattle.simulator_snapshot.proofs.snapshot.Snapshot.are_there.Given as goal
-
-abbrev pub invariant-loop-held : goal.invariant-loop-held
-invariant-loop-held l = AllBelow (IsThere l.table) l.held-items l.held-index

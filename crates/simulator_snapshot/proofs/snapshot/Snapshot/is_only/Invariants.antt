@@ -1,6 +1,0 @@
-use Rattle.simulator_snapshot.specs.inside.Tests.{IsAllowed}
-use Rattle.simulator_snapshot.proofs.Loops.{AllBelow}
-use Rattle.simulator_snapshot.proofs.snapshot.Snapshot.is_only.Given as goal
-
-abbrev pub invariant-loop-held : goal.invariant-loop-held
-invariant-loop-held l = AllBelow (IsAllowed l.signal l.route) l.held-items l.held-index

@@ -1,7 +1,0 @@
-use Rattle.std.proofs.Common.{◌≡◌}
-use Rattle.simulator_snapshot.specs.declared.snapshot.Held.{Held}
-use Rattle.simulator_snapshot.proofs.Loops.{AllBelow}
-use Rattle.simulator_snapshot.proofs.snapshot.Snapshot.route_for.Given as goal
-
-abbrev pub invariant-loop-held : goal.invariant-loop-held
-invariant-loop-held l = AllBelow (λ (h : Held). h.signal ≡ l.signal → ⊥) l.held-items l.held-index

@@ -1,0 +1,2 @@
+pub mod FirstLinks
+pub mod LinksWith

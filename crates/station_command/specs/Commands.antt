@@ -1,0 +1,82 @@
+-- The commands of `station`: the word of each, and what it takes.
+use Rattle.std.specs.Prelude.{ℕ, Bool, true, false, List, [], ◌∷◌, Option, Some, None, codes}
+
+-- How an argument is given: a file, by its place; an option, with a word, or with a number from a lowest to a highest one;
+-- a switch.
+pub data Kind : Type 0 where
+  File : Kind
+  Word : Kind
+  Number : ℕ → ℕ → Kind
+  Switch : Kind
+
+pub record Argument : Type 0 where
+  pub name : List ℕ
+  pub kind : Kind
+  pub is_needed : Bool
+
+-- an argument that has to be given, and one that may be
+abbrev pub must : Kind → List ℕ → Argument
+must kind name = record { name = name; kind = kind; is_needed = true }
+
+abbrev pub may : Kind → List ℕ → Argument
+may kind name = record { name = name; kind = kind; is_needed = false }
+
+-- What is said of an argument: the word or the number that is given, if one is, or whether the switch is on.
+pub data Value : Type 0 where
+  Worded : Option (List ℕ) → Value
+  Counted : Option ℕ → Value
+  Switched : Bool → Value
+
+-- What is said on a command line: the word of a command, with what is said of each of its arguments, in their order.
+abbrev pub Said : Type 0
+Said = List ℕ × List Value
+
+-- A command, with its arguments in their order. Where all that it needs is given, it asks for something, if its values pass `asks`.
+pub record Command : Type 0 where
+  pub word : List ℕ
+  pub arguments : List Argument
+  pub asks : List Value → Bool
+
+-- a command that asks for something where all that it needs is given
+abbrev pub command : List ℕ → List Argument → Command
+command word arguments = record { word = word; arguments = arguments; asks = λ values. true }
+
+-- `decode` takes either a datagram, with a layout or without one, or a layout and a record, with the name of a node or without one
+abbrev pub asks_to_decode : List Value → Bool
+asks_to_decode (Worded (Some hex) ∷ Worded layout ∷ Worded None ∷ Worded None ∷ Worded None ∷ []) = true
+asks_to_decode (Worded None ∷ Worded None ∷ Worded (Some file) ∷ Worded (Some recording) ∷ Worded name ∷ []) = true
+asks_to_decode _ = false
+
+-- the file of a layout, a second file, and the name or the address of a node
+abbrev pub layout : Argument
+layout = must File (codes "FILE")
+
+abbrev pub second : Argument
+second = must File (codes "SECOND")
+
+abbrev pub node : Argument
+node = may Word (codes "node")
+
+-- how long something runs, and the moments of a chart, in milliseconds
+abbrev pub time : Kind
+time = Number 1000 600000
+
+abbrev pub moment : Kind
+moment = Number 0 18446744073709551
+
+-- the commands, in the order in which the help has them
+abbrev pub commands : List Command
+commands =
+    command (codes "check") (layout ∷ may Switch (codes "explain") ∷ may Switch (codes "digest") ∷ [])
+    ∷ command (codes "plan") (layout ∷ may Word (codes "route") ∷ may Word (codes "picture") ∷ [])
+    ∷ command (codes "table") (layout ∷ may Switch (codes "csv") ∷ [])
+    ∷ command (codes "sim") (layout ∷ second ∷ [])
+    ∷ command (codes "run") (layout ∷ must Word (codes "script") ∷ must Word (codes "record") ∷ must time (codes "for") ∷ [])
+    ∷ command (codes "panel") (layout ∷ may (Number 1 65535) (codes "port") ∷ may Word (codes "record") ∷ may time (codes "for") ∷ node ∷ [])
+    ∷ command (codes "replay") (layout ∷ second ∷ node ∷ [])
+    ∷ command (codes "chart") (layout ∷ second ∷ node ∷ may moment (codes "from") ∷ may moment (codes "to") ∷ [])
+    ∷ record (command (codes "decode") (may Word (codes "hex") ∷ may Word (codes "layout") ∷ may File (codes "FILE") ∷ may File (codes "SECOND") ∷ node ∷ [])) { asks = asks_to_decode }
+    ∷ command (codes "capture") (layout ∷ second ∷ must File (codes "OUT") ∷ may Word (codes "addresses") ∷ node ∷ may Switch (codes "force") ∷ [])
+    ∷ command (codes "node") (layout ∷ must File (codes "NAME") ∷ must Word (codes "addresses") ∷ may Word (codes "operator") ∷ may Word (codes "record")
+    ∷ may (Number 0 9000000000000) (codes "clock") ∷ may time (codes "for") ∷ [])
+    ∷ []

@@ -1,0 +1,144 @@
+//! What a command line of `station` asks for, with the options of each command.
+
+ghost use Rattle.std.specs.Prelude.{◌≡◌};
+ghost use Rattle.std.specs.Option.{unwrap_or};
+
+/// What a command line asks for.
+#[derive(Clone, Copy)]
+pub enum Request<'a> {
+    /// `check FILE [--explain] [--digest]`: whether the layout in a file is sound.
+    Check(CheckArguments<'a>),
+    /// `plan FILE [--route R] [--picture PICTURE]`: the track plan of the layout in a file.
+    Plan(PlanArguments<'a>),
+    /// `table FILE [--csv]`: the control table of the layout in a file.
+    Table(TableArguments<'a>),
+    /// `sim FILE EVENTS`: what the lines of a file of events do to a station of the layout in another.
+    Sim(SimArguments<'a>),
+    /// `run FILE --script S --record R --for MS`: a station of the layout in a file over sockets.
+    Run(RunArguments<'a>),
+    /// `panel FILE [--port P] [--record R] [--for MS] [--node ADDRESS]`: a panel of a station of the layout in a file.
+    Panel(PanelArguments<'a>),
+    /// `replay FILE RECORD [--node NAME]`: whether a recorded session answers the same again.
+    Replay(SessionArguments<'a>),
+    /// `chart FILE RECORD [--node NAME] [--from MS] [--to MS]`: a recorded session as a chart.
+    Chart(ChartArguments<'a>),
+    /// `decode --hex HEX [--layout FILE]`: a datagram in words.
+    Decode(DatagramArguments<'a>),
+    /// `decode FILE RECORD [--node NAME]`: the datagrams of a recorded session, in words.
+    DecodeSession(SessionArguments<'a>),
+    /// `capture FILE RECORD OUT [--addresses ADDRESSES] [--node NAME] [--force]`: the same datagrams as a capture in a third file.
+    Capture(CaptureArguments<'a>),
+    /// `node FILE NAME --addresses ADDRESSES [--operator ADDRESS] [--record R] [--clock MS] [--for MS]`: one node of a station
+    /// of the layout in a file, as a process of its own.
+    Node(NodeArguments<'a>),
+}
+
+/// The file of a layout, whether what is wrong is told in words, and whether a digest of its text is told.
+#[derive(Clone, Copy)]
+pub struct CheckArguments<'a> {
+    pub layout: &'a str,
+    pub explained: bool,
+    pub digest: bool,
+}
+
+/// The file of a layout, the route that is drawn thick, and the file with what is seen.
+#[derive(Clone, Copy)]
+pub struct PlanArguments<'a> {
+    pub layout: &'a str,
+    pub route: Option<&'a str>,
+    pub picture: Option<&'a str>,
+}
+
+/// The file of a layout, and whether its table is printed as CSV, or as Markdown.
+#[derive(Clone, Copy)]
+pub struct TableArguments<'a> {
+    pub layout: &'a str,
+    pub csv: bool,
+}
+
+/// The files of a layout and of lines of events.
+#[derive(Clone, Copy)]
+pub struct SimArguments<'a> {
+    pub layout: &'a str,
+    pub events: &'a str,
+}
+
+/// The files of a layout, of a script and of the record, and how many milliseconds the station runs.
+#[derive(Clone, Copy)]
+pub struct RunArguments<'a> {
+    pub layout: &'a str,
+    pub script: &'a str,
+    pub record: &'a str,
+    pub for_ms: u64,
+}
+
+/// The file of a layout, the port of the page, the file of the record, for how many milliseconds the panel stands, and the
+/// address of the node of an interlocking to which it is joined, if it is.
+#[derive(Clone, Copy)]
+pub struct PanelArguments<'a> {
+    pub layout: &'a str,
+    pub port: Option<u64>,
+    pub record: Option<&'a str>,
+    pub for_ms: Option<u64>,
+    pub node: Option<&'a str>,
+}
+
+/// The files of a layout and of a recorded session, or of the record of the node of a name.
+#[derive(Clone, Copy)]
+pub struct SessionArguments<'a> {
+    pub layout: &'a str,
+    pub recording: &'a str,
+    pub node: Option<&'a str>,
+}
+
+/// The same, with the moments at which the chart begins and ends, in milliseconds.
+#[derive(Clone, Copy)]
+pub struct ChartArguments<'a> {
+    pub layout: &'a str,
+    pub recording: &'a str,
+    pub node: Option<&'a str>,
+    pub from: Option<u64>,
+    pub to: Option<u64>,
+}
+
+/// The bytes of a datagram in hexadecimal digits, and the file of the layout whose words are used, if there is one.
+#[derive(Clone, Copy)]
+pub struct DatagramArguments<'a> {
+    pub hex: &'a str,
+    pub layout: Option<&'a str>,
+}
+
+/// The files of a session, as above, the file of the capture, the file with the addresses of the nodes, where these aren't made
+/// of the nodes' places, and whether a file that is there is written over.
+#[derive(Clone, Copy)]
+pub struct CaptureArguments<'a> {
+    pub layout: &'a str,
+    pub recording: &'a str,
+    pub out: &'a str,
+    pub addresses: Option<&'a str>,
+    pub node: Option<&'a str>,
+    pub force: bool,
+}
+
+/// The file of a layout, the name of the node, the file with the addresses of the nodes, the address for the operator, where it
+/// isn't standard input and output, the file to which what came and what was done is written, where the clock begins, and for
+/// how many milliseconds the node runs, where it isn't until it is ended.
+#[derive(Clone, Copy)]
+pub struct NodeArguments<'a> {
+    pub layout: &'a str,
+    pub name: &'a str,
+    pub addresses: &'a str,
+    pub operator: Option<&'a str>,
+    pub record: Option<&'a str>,
+    pub clock: Option<u64>,
+    pub for_ms: Option<u64>,
+}
+
+impl NodeArguments<'_> {
+    /// The first reading of the node's clock, in milliseconds: 0 where the words say none.
+    pub fn first_reading(&self) -> u64
+        ensures { result ≡ unwrap_or self.now.clock 0 }
+    {
+        self.clock.unwrap_or(0)
+    }
+}

@@ -1,5 +1,0 @@
-use Rattle.station_drive.proofs.Composed.{stops_none, stopped}
-use Rattle.station_drive.proofs.events.pass.Goals as goal
-
-pub returns-in_err-vec-clause-stopped : goal.returns-in_err-vec-clause-stopped
-returns-in_err-vec-clause-stopped g c = stopped c.from_residual.result (stops_none _ _ _ _)

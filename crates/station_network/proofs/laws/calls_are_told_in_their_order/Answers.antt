@@ -1,5 +1,0 @@
-use Rattle.station_network.proofs.InOrder.{in_order}
-use Rattle.station_network.proofs.laws.calls_are_told_in_their_order.Goals as goal
-
-pub returns : goal.returns
-returns c = in_order

@@ -1,6 +1,0 @@
-use Rattle.panel_desk.specs.Boards.{both}
-use Rattle.station_panel.proofs.Turn.{ok_met}
-use Rattle.station_panel.proofs.seat.Seat.note.Goals as goal
-
-pub returns : goal.returns
-returns g c = ok_met c.note_answers.result (λ more. both c.in_ok-note_commands.ensures more) c.note_answers.ensures
