@@ -46,13 +46,18 @@ def load_rt():
     return module
 
 
+def is_refused(rt, came_to):
+    """Whether the prover refused an edit, by what rt says that its try came to: a word, or with older kits whether it was refused."""
+    return came_to in ((rt.REFUSED, rt.AT_LIMIT) if hasattr(rt, "REFUSED") else (True,))
+
+
 def tell_each_edit(rt):
     """Has rt print the verdict of an edit as soon as it is known."""
     silent = rt.must_fail
 
     def told(*given):
         verdict = silent(*given)
-        print(verdict[1].split(": ", 2)[0], "refused" if verdict[0] else "NOT REFUSED", flush=True)
+        print(verdict[1].split(": ", 2)[0], "refused" if is_refused(rt, verdict[0]) else "NOT REFUSED", flush=True)
         return verdict
 
     rt.must_fail = told

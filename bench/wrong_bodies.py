@@ -28,9 +28,9 @@ import sys
 import tempfile
 import threading
 
-from gate_times import load_rt, used
+from gate_times import is_refused, load_rt, used
 
-REFUSED, NOT_REFUSED, BAD_EDIT = "refused", "NOT REFUSED", "BAD EDIT"
+REFUSED, NOT_REFUSED, BAD_EDIT, NOT_TRIED = "refused", "NOT REFUSED", "BAD EDIT", "NOT TRIED"
 # how many wrong bodies are tried in one run: each has the proof of a function in memory
 TOGETHER = 16
 
@@ -228,8 +228,7 @@ class Trial:
         return True
 
     def try_whole(self, body, why_whole):
-        refused, text = rt.must_fail(self.crate, body.file, ["--jobs", "1"], self.kept)
-        verdict, why = verdict_of_rt(refused, text)
+        verdict, why = verdict_of_rt(*rt.must_fail(self.crate, body.file, ["--jobs", "1"], self.kept))
         self.tell(body, verdict, f"on the whole crate ({why_whole}): {why}")
 
 
@@ -248,9 +247,11 @@ def different(bodies):
     return chosen
 
 
-def verdict_of_rt(refused, text):
+def verdict_of_rt(came_to, text):
     why = text.split(": ", 1)[1]
-    return REFUSED if refused else BAD_EDIT if why.startswith(BAD_EDIT) else NOT_REFUSED, why
+    if is_refused(rt, came_to):
+        return REFUSED, why
+    return next((it for it in (BAD_EDIT, NOT_TRIED) if why.startswith(it)), NOT_REFUSED), why
 
 
 class Log:
@@ -306,9 +307,8 @@ def is_proved(crate):
 
 
 def try_whole_crate(crate, bodies, tell):
-    edits = [it.file for it in bodies]
-    for body, tried in zip(bodies, rt.must_fail_all(crate, edits, ["--jobs", "1"])):
-        tell(body, *verdict_of_rt(*tried))
+    for body in bodies:
+        tell(body, *verdict_of_rt(*rt.must_fail(crate, body.file, ["--jobs", "1"])))
 
 
 def try_crate(crate, bodies, log, whole):
@@ -353,9 +353,9 @@ def main():
         if not try_crates(untried, log, given, os.path.realpath(given.libraries or top)):
             return 1
         counts = collections.Counter(log.verdict_of(body) for some in bodies.values() for body in some)
-    print(", ".join(f"{counts[it]} {it}" for it in (REFUSED, NOT_REFUSED, BAD_EDIT)))
+    print(", ".join(f"{counts[it]} {it}" for it in (REFUSED, NOT_REFUSED, BAD_EDIT, NOT_TRIED)))
     print(f"{sum(map(len, untried.values()))} tried now, in {used():.0f} s of processor time")
-    return 1 if counts[NOT_REFUSED] or counts[BAD_EDIT] else 0
+    return 1 if set(counts) - {REFUSED} else 0
 
 
 if __name__ == "__main__":
