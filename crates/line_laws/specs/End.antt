@@ -1,5 +1,5 @@
 -- An end of a line: what it keeps, and what it sees.
-use Rattle.std.specs.Prelude.{Bool, true, false, Option}
+use Rattle.std.specs.Prelude.{Bool, false, Option}
 use Rattle.line_laws.specs.declared.words.Position.{Position}
 use Rattle.line_laws.specs.declared.words.QueryOut.{QueryOut}
 use Rattle.line_laws.specs.declared.words.QueryOut.TheVariants.{No}

@@ -6,3 +6,4 @@ pub mod Run
 pub mod Promise
 pub mod Runs
 pub mod Wrong
+pub mod Invariant

@@ -1,5 +1,5 @@
 -- A line: its two ends with their files, contacts and links, and what can happen to it.
-use Rattle.std.specs.Prelude.{Bool, true, false, not, ◌&&◌, if◌then◌else◌, ℕ, List, [], ◌∷◌, ◌++◌, map, take}
+use Rattle.std.specs.Prelude.{Bool, not, ◌&&◌, if◌then◌else◌, ℕ, List, [], ◌∷◌, map, take}
 use Rattle.line_laws.specs.declared.words.Side.{Side}
 use Rattle.line_laws.specs.declared.words.Side.TheVariants.{First, Second}
 use Rattle.line_laws.specs.declared.words.Item.{Item}

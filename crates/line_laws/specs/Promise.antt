@@ -2,7 +2,6 @@
 use Rattle.std.specs.Prelude.{◌≡◌, true, false, List, [], ◌∷◌, ◌++◌}
 use Rattle.line_laws.specs.declared.words.Side.{Side}
 use Rattle.line_laws.specs.declared.words.Position.TheVariants.{Right}
-use Rattle.line_laws.specs.End.{File, file_of}
 use Rattle.line_laws.specs.Line.{Node, Line, Move, Rules, node, after}
 use Rattle.line_laws.specs.Run.{run}
 

@@ -6,7 +6,7 @@ use Rattle.line_laws.specs.declared.words.Position.TheVariants.{Left, Right}
 use Rattle.line_laws.specs.End.{Seen}
 use Rattle.line_laws.specs.Line.{Line, Move, Opens, Enters, ComesUp, Leaves, Looks, Whole, Refused, Cut, right_rules}
 use Rattle.line_laws.specs.Run.{run, begins}
-use Rattle.line_laws.specs.Promise.{HasToken, IsLocked, TellsClear}
+use Rattle.line_laws.specs.Promise.{HasToken}
 
 -- ---- what an end sees
 

@@ -1,17 +1,16 @@
 -- Rules with one of them changed, each with a run that breaks a promise: every rule is needed.
-use Rattle.std.specs.Prelude.{◌≡◌, Bool, true, false, not, ◌&&◌, if◌then◌else◌, Option, Some, None, List, [], ◌∷◌, ◌++◌, map}
+use Rattle.std.specs.Prelude.{Bool, true, false, not, ◌&&◌, if◌then◌else◌, Option, Some, None, List, [], ◌∷◌, ◌++◌, map}
 use Rattle.line_laws.specs.declared.words.Side.{Side}
 use Rattle.line_laws.specs.declared.words.Side.TheVariants.{First, Second}
 use Rattle.line_laws.specs.declared.words.Position.{Position}
-use Rattle.line_laws.specs.declared.words.Position.TheVariants.{Left, Right}
 use Rattle.line_laws.specs.declared.words.Item.{Item}
 use Rattle.line_laws.specs.declared.words.Item.TheVariants.{Ask, Give, Query, Clear, NoToken}
-use Rattle.line_laws.specs.End.{File, End, Seen, made_anew, unlinked}
-use Rattle.line_laws.specs.Step.{StepSoFar, begun, is_first, is_right, is_driven_right, spoiled, lock_moved, noticed, taken, made_again, introduced, may_give, without_token, token_given, token_asked, partner_queried, query_answered}
-use Rattle.line_laws.specs.Line.{Line, Move, Opens, Enters, ComesUp, Leaves, Looks, Whole, Cut, Rules, right_rules, Effect, Writes, Gives, node}
+use Rattle.line_laws.specs.End.{End, Seen, made_anew, unlinked}
+use Rattle.line_laws.specs.Step.{StepSoFar, begun, is_first, is_driven_right, spoiled, lock_moved, noticed, taken, made_again, introduced, may_give, without_token, token_given, token_asked, partner_queried, query_answered}
+use Rattle.line_laws.specs.Line.{Line, Move, Leaves, Looks, Whole, Cut, Rules, right_rules, Writes, Gives, node}
 use Rattle.line_laws.specs.Run.{run, begins}
 use Rattle.line_laws.specs.Promise.{HasToken, IsLocked, TellsClear, WasClear}
-use Rattle.line_laws.specs.Runs.{free, occupied, wishing, locking, looks, connects, disconnects, asked_for, told_clear}
+use Rattle.line_laws.specs.Runs.{free, occupied, wishing, locking, looks, connects, asked_for, told_clear}
 
 -- ---- what is broken
 

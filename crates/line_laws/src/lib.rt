@@ -4,9 +4,14 @@
 //! step stands here; the laws are of two ends over links of which nothing is known but their order and connections.
 #![tactic(auto)]
 
+mod laws;
 mod runs;
 mod words;
 
+pub use laws::{
+    at_most_one_token, both_locks_are_never_right, clear_was_clear, files_are_kept,
+    invariant_is_kept, locked_end_has_the_token,
+};
 pub use runs::{
     both_may_ask, clear_is_told_when_both_are, each_rule_of_clear_is_needed,
     each_rule_of_the_token_is_needed, lost_token_is_made_again, right_parts_make_the_step,

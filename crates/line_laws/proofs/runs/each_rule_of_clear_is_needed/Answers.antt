@@ -1,4 +1,4 @@
-use Rattle.std.proofs.Common.{refl, true, false}
+use Rattle.std.proofs.Common.{refl, false}
 use Rattle.line_laws.specs.declared.words.Side.TheVariants.{First, Second}
 use Rattle.line_laws.specs.Run.{begins}
 use Rattle.line_laws.specs.Wrong.{answers_busy, queried_busy, unspoiled_by_contacts, passed_between, unspoiled_by_give, given_between, keeps_empty_busy, known_busy, keeps_empty_given, known_given, takes_empty_with_give, known_by_give, keeps_empty_restarted, known_restarted}
