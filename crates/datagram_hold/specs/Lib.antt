@@ -1,0 +1,3 @@
+pub mod Came
+pub mod Sequence
+pub mod Hold

@@ -1,0 +1,1 @@
+//! What a hold comes to.

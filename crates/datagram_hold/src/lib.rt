@@ -1,0 +1,12 @@
+//! The hold: what came ahead of its turn waits for those before it, so that networks of unequal delay don't make a link ask for what
+//! is on its way.
+#![tactic(auto)]
+
+mod incoming;
+mod laws;
+mod sender_hold;
+mod sequence;
+
+pub use incoming::Incoming;
+pub use sender_hold::{MOST_HELD, SenderHold};
+pub use sequence::number_of;
