@@ -1,3 +1,4 @@
 pub mod Came
 pub mod Sequence
 pub mod Hold
+pub mod Runs

@@ -8,5 +8,6 @@ mod sender_hold;
 mod sequence;
 
 pub use incoming::Incoming;
+pub use laws::nothing_is_lost;
 pub use sender_hold::{MOST_HELD, SenderHold};
 pub use sequence::number_of;
