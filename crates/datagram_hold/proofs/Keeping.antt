@@ -22,20 +22,20 @@ full_keeps : (waiting : List Came) (hold : HoldState) → Keeps waiting (unless_
 full_keeps [] hold = IsPermutation-refl []
 full_keeps (one ∷ others) hold =
     by_test (Keeps (one ∷ others)) (nat_lt 8 (length (one ∷ others))) (handing one others hold) (None, record hold { held = one ∷ others })
-      (IsPermutation-refl (one ∷ others)) (IsPermutation-refl (one ∷ others))
+    (IsPermutation-refl (one ∷ others)) (IsPermutation-refl (one ∷ others))
 
 put_keeps : (expected : ℕ) (one : Came) (hold : HoldState) → Keeps (hold.held ++ one ∷ []) (put_at expected one hold)
 put_keeps expected one hold =
     let place = place_in expected (number_of one.bytes) hold.held in
     let waiting = insert hold.held place one in
     IsPermutation-trans (hold.held ++ one ∷ []) (one ∷ hold.held) _ (IsPermutation-to_front hold.held one)
-      (IsPermutation-trans (one ∷ hold.held) waiting _ (IsPermutation-insert hold.held place one) (full_keeps waiting hold))
+    (IsPermutation-trans (one ∷ hold.held) waiting _ (IsPermutation-insert hold.held place one) (full_keeps waiting hold))
 
 taken_keeps : (expected : Option ℕ) (one : Came) (hold : HoldState) → Keeps (hold.held ++ one ∷ []) (taken_by expected one hold)
 taken_keeps None one hold = IsPermutation-to_front hold.held one
 taken_keeps (Some expected) one hold =
     by_test (Keeps (hold.held ++ one ∷ [])) (nat_lt 0 hold.millis && is_ahead expected (number_of one.bytes)) (put_at expected one hold) (handing one hold.held hold)
-      (put_keeps expected one hold) (IsPermutation-to_front hold.held one)
+    (put_keeps expected one hold) (IsPermutation-to_front hold.held one)
 
 asked_keeps : (now : ℕ) (millis : ℕ) (expected : Option ℕ) (held : List Came) → Keeps held (asked now (record { millis = millis; expected = expected; held = held }))
 asked_keeps now millis expected [] = IsPermutation-refl []
@@ -61,7 +61,7 @@ all_keep (call ∷ calls) hold =
     let one : IsPermutation ((hold.held ++ here) ++ came calls) ((out ++ first.1.held) ++ came calls) = IsPermutation-append_left (came calls) _ _ (call_keeps call hold) in
     let others : IsPermutation (out ++ (first.1.held ++ came calls)) (out ++ (more.0 ++ more.1.held)) = IsPermutation-append_right out _ _ (all_keep calls first.1) in
     let joined = IsPermutation-trans ((hold.held ++ here) ++ came calls) (out ++ (first.1.held ++ came calls)) (out ++ (more.0 ++ more.1.held))
-          (subst (IsPermutation ((hold.held ++ here) ++ came calls)) (append_assoc out first.1.held (came calls)) one) others in
+    (subst (IsPermutation ((hold.held ++ here) ++ came calls)) (append_assoc out first.1.held (came calls)) one) others in
     let there = append_assoc hold.held here (came calls) ∙ ap (λ all. hold.held ++ all) (sym (came-cons call calls)) in
     subst (λ xs. IsPermutation xs ((out ++ more.0) ++ more.1.held)) there
-      (subst (IsPermutation ((hold.held ++ here) ++ came calls)) (sym (append_assoc out more.0 more.1.held)) joined)
+    (subst (IsPermutation ((hold.held ++ here) ++ came calls)) (sym (append_assoc out more.0 more.1.held)) joined)

@@ -1,2 +1,4 @@
 pub mod SequenceLaws
 pub mod Keeping
+pub mod Time
+pub mod Rounds

@@ -1,12 +1,35 @@
 //! What a hold comes to.
 
-ghost use Rattle.std.specs.Prelude.{◌≡◌, ◌++◌, List, IsPermutation};
-ghost use Rattle.datagram_hold.specs.Hold.{HoldState};
-ghost use Rattle.datagram_hold.specs.Runs.{Call, came, run};
+ghost use Rattle.std.specs.Prelude.{◌≡◌, ◌≤◌, ◌<◌, ◌++◌, [], ℕ, false, List, Option, Some, All, IsPermutation};
+ghost use Rattle.datagram_hold.specs.Came.{Came};
+ghost use Rattle.datagram_hold.specs.Hold.{HoldState, handing, is_early, taken};
+ghost use Rattle.datagram_hold.specs.Runs.{Call, IsAskedOut, IsYoung, came, run};
 
 /// What is handed out came, each datagram at most once for each time that it came; and what came was handed out or waits: nothing is
 /// lost, and nothing is made.
 #[tactic(auto, using(crate::proofs::Keeping::all_keep))]
 pub fn nothing_is_lost()
     ensures { (calls : List Call) (hold : HoldState) → IsPermutation (hold.held ++ came calls) ((run calls hold).0 ++ (run calls hold).1.held) }
+{}
+
+/// Who asked at a reading until there was none gets from then on only what came less than the hold's time before that reading, or
+/// after it. So whoever asks at readings that are at most so far apart gets nothing that waited for longer than both together.
+#[tactic(auto, using(crate::proofs::Time::young_left, crate::proofs::Time::young_handed))]
+pub fn nothing_waits_for_long()
+    ensures waits { (now : ℕ) (hold : HoldState) → IsAskedOut now hold → All (IsYoung hold.millis now) hold.held }
+    ensures handed { (now : ℕ) (hold : HoldState) (calls : List Call) → IsAskedOut now hold → 0 < hold.millis → All (λ (one : Came). now ≤ one.at) (came calls)
+        → All (IsYoung hold.millis now) (run calls hold).0 }
+{}
+
+/// What isn't 1 to 8 ahead of the number that is expected is handed out by the call by which it comes.
+#[tactic(auto, using(crate::proofs::Time::at_once))]
+pub fn what_isnt_ahead_is_handed_out_at_once()
+    ensures { (one : Came) (hold : HoldState) → is_early hold.expected one ≡ false → taken one hold ≡ handing one hold.held hold }
+{}
+
+/// A hold of 0 hands out all that comes, in the order in which it comes, and nothing waits.
+#[tactic(auto, using(crate::proofs::Time::none_waits))]
+pub fn a_hold_of_0_holds_nothing()
+    ensures handed { (calls : List Call) (expected : Option ℕ) → (run calls (record { millis = 0; expected = expected; held = [] })).0 ≡ came calls }
+    ensures waits { (calls : List Call) (expected : Option ℕ) → (run calls (record { millis = 0; expected = expected; held = [] })).1.held ≡ [] }
 {}
