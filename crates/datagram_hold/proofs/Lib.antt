@@ -2,3 +2,4 @@ pub mod SequenceLaws
 pub mod Keeping
 pub mod Time
 pub mod Rounds
+pub mod Ordered

@@ -2,3 +2,4 @@ pub mod Came
 pub mod Sequence
 pub mod Hold
 pub mod Runs
+pub mod Order

@@ -1,8 +1,10 @@
 //! What a hold comes to.
 
-ghost use Rattle.std.specs.Prelude.{◌≡◌, ◌≤◌, ◌<◌, ◌++◌, [], ℕ, false, List, Option, Some, All, IsPermutation};
+ghost use Rattle.std.specs.Prelude.{◌≡◌, ◌≤◌, ◌<◌, ◌^◌, ◌++◌, [], ℕ, false, List, Option, Some, length, All, IsPermutation};
 ghost use Rattle.datagram_hold.specs.Came.{Came};
 ghost use Rattle.datagram_hold.specs.Hold.{HoldState, handing, is_early, taken};
+ghost use Rattle.datagram_hold.specs.Order.{IsNear, IsSettled, LeavesNoGap, round};
+ghost use Rattle.datagram_hold.specs.Sequence.{number_of};
 ghost use Rattle.datagram_hold.specs.Runs.{Call, IsAskedOut, IsYoung, came, run};
 
 /// What is handed out came, each datagram at most once for each time that it came; and what came was handed out or waits: nothing is
@@ -32,4 +34,14 @@ pub fn what_isnt_ahead_is_handed_out_at_once()
 pub fn a_hold_of_0_holds_nothing()
     ensures handed { (calls : List Call) (expected : Option ℕ) → (run calls (record { millis = 0; expected = expected; held = [] })).0 ≡ came calls }
     ensures waits { (calls : List Call) (expected : Option ℕ) → (run calls (record { millis = 0; expected = expected; held = [] })).1.held ≡ [] }
+{}
+
+/// Where each datagram that comes is at most 8 ahead of the number that is expected, or behind it, and none waits for too long, what
+/// is handed out leaves no gap: each has the number after the one before it, or comes again or late.
+#[tactic(auto, using(crate::proofs::Ordered::no_gap, crate::proofs::Ordered::stays_settled))]
+pub fn what_is_handed_out_leaves_no_gap()
+    ensures gap { (one : Came) (hold : HoldState) → IsSettled hold → 0 < hold.millis → length hold.held < 8 → number_of one.bytes < 2 ^ 32 → IsNear hold.expected one → All (IsYoung hold.millis one.at) hold.held
+        → LeavesNoGap hold.expected (run (round one) hold).0 }
+    ensures settled { (one : Came) (hold : HoldState) → IsSettled hold → 0 < hold.millis → length hold.held < 8 → number_of one.bytes < 2 ^ 32 → IsNear hold.expected one → All (IsYoung hold.millis one.at) hold.held
+        → IsSettled (run (round one) hold).1 }
 {}

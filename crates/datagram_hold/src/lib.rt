@@ -10,7 +10,7 @@ mod sequence;
 pub use incoming::Incoming;
 pub use laws::{
     a_hold_of_0_holds_nothing, nothing_is_lost, nothing_waits_for_long,
-    what_isnt_ahead_is_handed_out_at_once,
+    what_is_handed_out_leaves_no_gap, what_isnt_ahead_is_handed_out_at_once,
 };
 pub use sender_hold::{MOST_HELD, SenderHold};
 pub use sequence::number_of;
