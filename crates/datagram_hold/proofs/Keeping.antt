@@ -6,7 +6,7 @@ use Rattle.std.specs.Option.{option_to_list}
 use Rattle.std.proofs.lemmas.List.Sorted.{IsPermutation-refl, IsPermutation-trans, IsPermutation-to_front, IsPermutation-insert, IsPermutation-append_left, IsPermutation-append_right}
 use Rattle.datagram_hold.specs.Came.{Came}
 use Rattle.datagram_hold.specs.Sequence.{is_ahead, number_of}
-use Rattle.datagram_hold.specs.Hold.{Handed, HoldState, asked, asked_of, first_out, handing, leaves, place_in, put_at, taken, taken_by, unless_full}
+use Rattle.datagram_hold.specs.Hold.{Handed, HoldState, asked, handing, leaves, place_in, put_at, taken_by, unless_full}
 use Rattle.datagram_hold.specs.Runs.{Call, Takes, Asks, called, came, run}
 
 -- what is so of both answers is so of the one that a test chooses

@@ -3,3 +3,5 @@ pub mod Keeping
 pub mod Time
 pub mod Rounds
 pub mod Ordered
+pub mod Deadline
+pub mod WorkedHolds

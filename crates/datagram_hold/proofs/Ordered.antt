@@ -1,5 +1,5 @@
 -- What is handed out in a round leaves no gap.
-use Rattle.std.proofs.Common.{◌≡◌, ◌∙◌, ◌≤◌, ◌<◌, ◌+◌, ◌-◌, ◌⊎◌, inl, inr, ℕ, zero, suc, nat_le, nat_lt, not, ◌&&◌, ◌||◌, Bool, true, false, cond, List, [], ◌∷◌, ◌++◌, length, Option, Some, None, refl, sym, ap, subst, arith}
+use Rattle.std.proofs.Common.{◌≡◌, ◌∙◌, ◌≤◌, ◌<◌, inl, inr, ℕ, zero, suc, nat_lt, not, ◌&&◌, ◌||◌, Bool, true, false, cond, List, [], ◌∷◌, ◌++◌, length, Option, Some, None, refl, sym, ap, subst, arith}
 use Rattle.std.specs.Prelude.{insert}
 use Rattle.std.specs.List.{All, list_any}
 use Rattle.std.specs.Option.{option_to_list}
@@ -10,9 +10,9 @@ use Rattle.std.proofs.lemmas.List.Folds.{list_any_none}
 use Rattle.std.proofs.lemmas.List.Sorted.{IsPermutation-insert, length_permutation, list_any-IsPermutation}
 use Rattle.datagram_hold.specs.Came.{Came}
 use Rattle.datagram_hold.specs.Sequence.{distance, is_ahead, is_behind, next_to, number_of}
-use Rattle.datagram_hold.specs.Hold.{Handed, HoldState, asked, asked_of, expected_after, handing, has_waited, is_early, leaves, place_in, put_at, taken, taken_by, unless_full}
-use Rattle.datagram_hold.specs.Runs.{Call, Takes, Asks, IsYoung, asks, called, run}
-use Rattle.datagram_hold.specs.Order.{Follows, IsNear, IsSettled, LeavesNoGap, Rises, round}
+use Rattle.datagram_hold.specs.Hold.{Handed, HoldState, asked, expected_after, handing, has_waited, is_early, leaves, place_in, put_at, taken, unless_full}
+use Rattle.datagram_hold.specs.Runs.{IsYoung, asks, run}
+use Rattle.datagram_hold.specs.Order.{IsNear, IsSettled, LeavesNoGap, Rises, round}
 use Rattle.datagram_hold.proofs.Rounds.{again, before, before_small, behind_not_early, early, next_one, next_small, next_to_before, not_ahead_of_itself, not_behind_itself, not_early_again, one_farther, one_nearer, same}
 use Rattle.datagram_hold.proofs.Time.{at_once, or_second}
 

@@ -1,5 +1,5 @@
 -- How far one number is after another.
-use Rattle.std.proofs.Common.{◌≡◌, ◌&&◌, refl, ◌≤◌, ◌<◌, ◌+◌, ◌-◌, ◌^◌, ◌%◌, ℕ, suc, nat_le, Bool, true, false, arith}
+use Rattle.std.proofs.Common.{◌≡◌, ◌&&◌, refl, ◌≤◌, ◌<◌, ◌+◌, ◌-◌, ◌%◌, ℕ, suc, nat_le, Bool, true, false, arith}
 use Rattle.std.proofs.lemmas.Bool.{leb-true}
 use Rattle.std.proofs.lemmas.Bool.Decides.{nat_tests}
 use Rattle.datagram_hold.specs.Sequence.{distance, is_ahead, is_behind, next_to}

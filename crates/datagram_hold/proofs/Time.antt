@@ -1,13 +1,12 @@
 -- How long what is handed out has waited.
-use Rattle.std.proofs.Common.{◌≡◌, ◌∙◌, ◌≤◌, ◌<◌, ◌+◌, ◌-◌, ℕ, zero, suc, nat_le, nat_lt, not, ◌&&◌, ◌||◌, Bool, true, false, cond, List, [], ◌∷◌, ◌++◌, length, Option, Some, None, refl, sym, ap, subst, arith}
+use Rattle.std.proofs.Common.{◌≡◌, ◌≤◌, ◌<◌, ◌-◌, ℕ, nat_lt, not, ◌&&◌, ◌||◌, Bool, true, false, cond, List, [], ◌∷◌, ◌++◌, Option, Some, None, refl, ap, arith}
 use Rattle.std.specs.List.{All, list_any}
-use Rattle.std.specs.List.Sorted.{IsPermutation}
 use Rattle.std.proofs.lemmas.Bool.{leb-false}
 use Rattle.std.proofs.lemmas.List.Elements.{All-append, All-cons, All-head, All-nil, All-tail, All-weaker}
 use Rattle.std.proofs.lemmas.List.Sorted.{All-permutation}
 use Rattle.datagram_hold.specs.Came.{Came}
-use Rattle.datagram_hold.specs.Hold.{Handed, HoldState, asked, asked_of, handing, has_waited, is_early, leaves, taken, taken_by}
-use Rattle.datagram_hold.specs.Runs.{Call, Takes, Asks, IsAskedOut, IsYoung, came, called, run}
+use Rattle.datagram_hold.specs.Hold.{Handed, HoldState, handing, has_waited, is_early, leaves, taken_by}
+use Rattle.datagram_hold.specs.Runs.{Call, Takes, Asks, IsAskedOut, IsYoung, came, run}
 use Rattle.datagram_hold.proofs.Keeping.{all_keep}
 
 or_first : (one other : Bool) → (one || other) ≡ false → one ≡ false

@@ -3,3 +3,4 @@ pub mod Sequence
 pub mod Hold
 pub mod Runs
 pub mod Order
+pub mod Worked

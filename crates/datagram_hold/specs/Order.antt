@@ -1,5 +1,5 @@
 -- In which order datagrams are handed out.
-use Rattle.std.specs.Prelude.{◌≡◌, ◌≤◌, ◌<◌, ◌^◌, ◌⊎◌, ℕ, nat_lt, not, ◌&&◌, Bool, true, List, [], ◌∷◌, length, Option, Some, None}
+use Rattle.std.specs.Prelude.{◌≡◌, ◌≤◌, ◌<◌, ◌^◌, ◌⊎◌, ℕ, true, List, [], ◌∷◌, Option, Some, None}
 use Rattle.datagram_hold.specs.Came.{Came}
 use Rattle.datagram_hold.specs.Sequence.{distance, is_behind, number_of}
 use Rattle.datagram_hold.specs.Hold.{HoldState, expected_after}

@@ -1,5 +1,5 @@
 -- Calls of a hold, one after another.
-use Rattle.std.specs.Prelude.{◌≡◌, ◌≤◌, ◌<◌, ◌+◌, ℕ, zero, suc, List, [], ◌∷◌, ◌++◌, None}
+use Rattle.std.specs.Prelude.{◌≡◌, ◌<◌, ◌+◌, ℕ, zero, suc, List, [], ◌∷◌, ◌++◌, None}
 use Rattle.std.specs.Option.{option_to_list}
 use Rattle.datagram_hold.specs.Came.{Came}
 use Rattle.datagram_hold.specs.Hold.{Handed, HoldState, asked, taken}

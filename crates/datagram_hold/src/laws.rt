@@ -1,11 +1,12 @@
 //! What a hold comes to.
 
-ghost use Rattle.std.specs.Prelude.{◌≡◌, ◌≤◌, ◌<◌, ◌^◌, ◌++◌, [], ℕ, false, List, Option, Some, length, All, IsPermutation};
+ghost use Rattle.std.specs.Prelude.{◌≡◌, ◌≤◌, ◌<◌, ◌^◌, ◌++◌, [], ℕ, false, List, Option, Some, IsSome, length, All, IsPermutation};
 ghost use Rattle.datagram_hold.specs.Came.{Came};
-ghost use Rattle.datagram_hold.specs.Hold.{HoldState, handing, is_early, taken};
+ghost use Rattle.datagram_hold.specs.Hold.{HoldState, asked, deadline, handing, is_early, taken};
 ghost use Rattle.datagram_hold.specs.Order.{IsNear, IsSettled, LeavesNoGap, round};
 ghost use Rattle.datagram_hold.specs.Sequence.{number_of};
 ghost use Rattle.datagram_hold.specs.Runs.{Call, IsAskedOut, IsYoung, came, run};
+ghost use Rattle.datagram_hold.specs.Worked.{Worked};
 
 /// What is handed out came, each datagram at most once for each time that it came; and what came was handed out or waits: nothing is
 /// lost, and nothing is made.
@@ -44,4 +45,18 @@ pub fn what_is_handed_out_leaves_no_gap()
         → LeavesNoGap hold.expected (run (round one) hold).0 }
     ensures settled { (one : Came) (hold : HoldState) → IsSettled hold → 0 < hold.millis → length hold.held < 8 → number_of one.bytes < 2 ^ 32 → IsNear hold.expected one → All (IsYoung hold.millis one.at) hold.held
         → IsSettled (run (round one) hold).1 }
+{}
+
+/// Before its deadline nothing that waits has waited for long enough, and at it something is handed out.
+#[tactic(auto, using(crate::proofs::Deadline::one_is_due_then))]
+pub fn the_deadline_is_the_first()
+    ensures before { (hold : HoldState) (due now : ℕ) → deadline hold ≡ Some due → now < due → All (IsYoung hold.millis now) hold.held }
+    ensures then { (hold : HoldState) (due : ℕ) → deadline hold ≡ Some due → due < 18446744073709551615 → IsSome (asked due hold).0 }
+{}
+
+/// Small runs, worked by hand: what was overtaken, what comes again or late, numbers that go round, partners that begin anew, damaged
+/// numbers, and more than 8 that wait.
+#[tactic(auto, using(crate::proofs::WorkedHolds::worked))]
+pub fn holds_are_as_worked_by_hand()
+    ensures { Worked }
 {}

@@ -9,8 +9,9 @@ mod sequence;
 
 pub use incoming::Incoming;
 pub use laws::{
-    a_hold_of_0_holds_nothing, nothing_is_lost, nothing_waits_for_long,
-    what_is_handed_out_leaves_no_gap, what_isnt_ahead_is_handed_out_at_once,
+    a_hold_of_0_holds_nothing, holds_are_as_worked_by_hand, nothing_is_lost,
+    nothing_waits_for_long, the_deadline_is_the_first, what_is_handed_out_leaves_no_gap,
+    what_isnt_ahead_is_handed_out_at_once,
 };
 pub use sender_hold::{MOST_HELD, SenderHold};
 pub use sequence::number_of;
