@@ -1,0 +1,4 @@
+pub mod Calls
+pub mod Embedded
+pub mod Inputs
+pub mod Leaving

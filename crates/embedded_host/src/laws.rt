@@ -1,0 +1,1 @@
+//! What the calls of a loop come to: laws, as functions that do nothing.
