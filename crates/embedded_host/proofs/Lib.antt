@@ -1,2 +1,10 @@
+pub mod Answered
 pub mod Below
+pub mod Causes
+pub mod Followed
+pub mod Heard
+pub mod Left
 pub mod Lent
+pub mod Runs
+pub mod Started
+pub mod WorkedLoops

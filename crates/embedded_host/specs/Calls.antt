@@ -1,5 +1,5 @@
 -- The calls of a program's loop, one after another.
-use Rattle.std.specs.Prelude.{ℕ, List, [], ◌∷◌, Bool, Option, None, Result, Ok, is_ok, if◌then◌else◌}
+use Rattle.std.specs.Prelude.{ℕ, List, [], ◌∷◌, Option, None, Result, Ok, is_ok, if◌then◌else◌}
 use Rattle.object_host.specs.Behaviour.{Behaviour}
 use Rattle.object_host.specs.declared.input.Input.{Input}
 use Rattle.object_host.specs.declared.input.Input.TheVariants as inputs

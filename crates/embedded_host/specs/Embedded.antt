@@ -1,5 +1,5 @@
 -- A controller inside a program's own loop, and what each call does to it.
-use Rattle.std.specs.Prelude.{ℕ, ◌+◌, nat_le, nat_lt, Bool, true, false, List, [], drop, Option, Some, None, Result, Ok, Err, if◌then◌else◌, slice_get}
+use Rattle.std.specs.Prelude.{ℕ, ◌+◌, nat_le, nat_lt, Bool, true, false, List, drop, Option, Some, None, Result, Ok, Err, if◌then◌else◌, slice_get}
 use Rattle.rasta_core.specs.Outbox.{OutboxState, posted}
 use Rattle.object_host.specs.Behaviour.{Behaviour}
 use Rattle.object_host.specs.Host.{HostState}

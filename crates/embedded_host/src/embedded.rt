@@ -7,7 +7,7 @@ ghost use Rattle.rasta_core.specs.identity.Role.TheVariants.{Server};
 ghost use Rattle.object_host.specs.Host.{is_completed};
 ghost use Rattle.object_host.specs.Hosted.{new_host};
 ghost use Rattle.embedded_host.specs.Calls.{AsksOrder, Done, FindsEmpty, Hears, Senses, Takes, Ticks, after_call, answer_to, coming};
-ghost use Rattle.embedded_host.specs.Embedded.{answer_to_bytes, answer_to_next, answer_to_reading, is_recent, leaving, started, stepped};
+ghost use Rattle.embedded_host.specs.Embedded.{answer_to_bytes, answer_to_next, answer_to_reading, has_fallen, is_fresh, is_quiet, is_recent, leaving, started, stepped};
 
 use crate::budget::{LONGEST_IN_SOCKET, LONGEST_WAIT, QUIET_AT_FIRST};
 use crate::refusal::Refusal;
@@ -77,11 +77,32 @@ impl<C: Controller> Embedded<C> {
         })
     }
 
+    /// Whether the clock has fallen since the last reading.
+    fn has_fallen(&self, now: Millis) -> bool
+        ensures { result ≡ has_fallen now self.now }
+    {
+        now < self.latest
+    }
+
+    /// Whether an earlier life of it may not be over for everyone.
+    fn is_quiet(&self, now: Millis) -> bool
+        ensures { result ≡ is_quiet now self.now }
+    {
+        now.saturating_sub(self.begun) < QUIET_AT_FIRST
+    }
+
+    /// Whether the datagrams of the last step may still leave.
+    fn is_fresh(&self, now: Millis) -> bool
+        ensures { result ≡ is_fresh now self.now }
+    {
+        now.saturating_sub(self.since) < LONGEST_WAIT
+    }
+
     /// What is answered to a call that only brings a reading.
     fn answer_to_reading(&self, now: Millis) -> Result<(), Refusal>
         ensures { result ≡ answer_to_reading now self.now }
     {
-        if now < self.latest {
+        if self.has_fallen(now) {
             return Err(Refusal::ClockFell);
         }
         Ok(())
@@ -91,10 +112,10 @@ impl<C: Controller> Embedded<C> {
     fn answer_to_bytes(&self, now: Millis) -> Result<(), Refusal>
         ensures { result ≡ answer_to_bytes now self.now }
     {
-        if now < self.latest {
+        if self.has_fallen(now) {
             return Err(Refusal::ClockFell);
         }
-        if now.saturating_sub(self.begun) < QUIET_AT_FIRST {
+        if self.is_quiet(now) {
             return Err(Refusal::TooSoon);
         }
         if !is_recent(now, self.empty) {
@@ -107,10 +128,10 @@ impl<C: Controller> Embedded<C> {
     fn answer_to_next(&self, now: Millis) -> Result<(), Refusal>
         ensures { result ≡ answer_to_next now self.now }
     {
-        if now < self.latest {
+        if self.has_fallen(now) {
             return Err(Refusal::ClockFell);
         }
-        if now.saturating_sub(self.begun) < QUIET_AT_FIRST {
+        if self.is_quiet(now) {
             return Err(Refusal::TooSoon);
         }
         if !self.in_force {
@@ -204,7 +225,7 @@ impl<C: Controller> Embedded<C> {
     {
         self.answer_to_next(now)?;
         self.latest = now;
-        if now.saturating_sub(self.since) >= LONGEST_WAIT {
+        if !self.is_fresh(now) {
             return Ok(None);
         }
         Ok(self.hosted.take_first())

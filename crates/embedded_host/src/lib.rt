@@ -8,4 +8,9 @@ mod laws;
 mod refusal;
 
 pub use embedded::Embedded;
+pub use laws::{
+    a_refusal_has_its_cause, calls_are_inputs, loops_are_as_worked_by_hand,
+    the_equipment_follows_a_beginning, what_is_heard_waited_briefly,
+    what_leaves_is_in_force_and_fresh,
+};
 pub use refusal::Refusal;
