@@ -30,6 +30,13 @@ pub enum Item {
     NoToken,
 }
 
+impl Default for Item {
+    /// For places that hold no item.
+    fn default() -> Item {
+        Item::Ask
+    }
+}
+
 /// What an end knows of its own query.
 #[derive(Clone, Copy, PartialEq, Eq, Debug)]
 pub enum QueryOut {

@@ -1,0 +1,15 @@
+//! An end of a line: who has the line's token, where the lock lies, and what is known of the partner's part. A step
+//! tells what is to be written to the end's file before anything of it is given to the link or told to the station.
+#![tactic(auto)]
+
+mod kept;
+mod line_end;
+mod output;
+mod rules;
+mod seen;
+
+pub use kept::Kept;
+pub use line_end::LineEnd;
+pub use line_laws::{Item, Position, Side};
+pub use output::Output;
+pub use seen::Seen;
