@@ -3,12 +3,17 @@
 #![tactic(auto)]
 
 mod kept;
+mod laws;
 mod line_end;
 mod output;
 mod rules;
 mod seen;
 
 pub use kept::Kept;
+pub use laws::{
+    empty_comes_by_clear, lock_comes_by_drive_and_token, token_comes_by_give_or_none,
+    unlinked_end_is_silent, what_has_changed_is_written, what_is_said_is_true,
+};
 pub use line_end::LineEnd;
 pub use line_laws::{Item, Position, Side};
 pub use output::Output;
