@@ -1,6 +1,7 @@
 -- Where the token, the lock's place and what is known come from, part by part of a step.
 use Rattle.std.proofs.Common.{◌≡◌, ◌+◌, ◌≤◌, ℕ, Bool, true, false, not, List, [], ◌∷◌, ◌++◌, refl, sym, ap, ◌∙◌, ◌⊎◌, inl, inr, arith}
 use Rattle.std.specs.Prelude.{◌&&◌, ◌||◌, if◌then◌else◌, Option, Some, None}
+use Rattle.std.specs.Option.{unwrap_or}
 use Rattle.line_laws.specs.declared.words.Side.{Side}
 use Rattle.line_laws.specs.declared.words.Side.TheVariants.{First, Second}
 use Rattle.line_laws.specs.declared.words.Position.{Position}
@@ -306,3 +307,13 @@ pub written_new : (old new written : File) → changed_file old new ≡ Some wri
 written_new old new written =
     by_test (λ (file : Option File). file ≡ Some written → written ≡ new) (is_same_flag old.token new.token && is_same_position old.lock new.lock) None (Some new)
     (λ same is. absurd (cc (is))) (λ same is. cc (is))
+
+pub written_has : (old new : File) → unwrap_or (changed_file old new) old ≡ new
+written_has old new =
+    by_test (λ (file : Option File). unwrap_or file old ≡ new) (is_same_flag old.token new.token && is_same_position old.lock new.lock) None (Some new)
+    (λ same.
+    let parts = both (is_same_flag old.token new.token) (is_same_position old.lock new.lock) same
+    in sym
+    (ap (λ (token : Bool). record { token = token; lock = new.lock }) (same_flag old.token new.token parts.0)
+    ∙ ap (λ (lock : Position). record { token = old.token; lock = lock }) (same_position old.lock new.lock parts.1)))
+    (λ same. refl)

@@ -1,6 +1,7 @@
 //! What a step says and does, in the words of its rules.
 
-ghost use Rattle.std.specs.Prelude.{◌≡◌, Bool, List, [], Option, None, Some, false, true};
+ghost use Rattle.std.specs.Prelude.{◌≡◌, Bool, List, [], None, Some, false, true};
+ghost use Rattle.std.specs.Option.{unwrap_or};
 ghost use Rattle.line_laws.specs.declared.words.Side.{Side};
 ghost use Rattle.line_laws.specs.declared.words.Position.TheVariants.{Right};
 ghost use Rattle.line_laws.specs.declared.words.Item.{Item};
@@ -36,8 +37,9 @@ pub fn empty_comes_by_clear()
     ensures { (side : Side) (up : Bool) (seen : Seen) (items : List Item) (end : End) → (step side up seen items end).end.empty ≡ true → EmptyComes seen items end }
 {}
 
-/// A step writes what the file is to have wherever the file has something else.
+/// A step writes what the file is to have wherever the file has something else, so that it has it then.
 pub fn what_has_changed_is_written()
     ensures none { (old new : File) → changed_file old new ≡ None → new ≡ old }
+    ensures after { (old new : File) → unwrap_or (changed_file old new) old ≡ new }
     ensures some { (old new written : File) → changed_file old new ≡ Some written → written ≡ new }
 {}
