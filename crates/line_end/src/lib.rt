@@ -18,6 +18,3 @@ pub use line_end::LineEnd;
 pub use line_laws::{Item, Position, Side};
 pub use output::Output;
 pub use seen::Seen;
-
-#[cfg(test)]
-mod tests;
