@@ -1,6 +1,6 @@
 -- Where the token, the lock's place and what is known come from, part by part of a step.
-use Rattle.std.proofs.Common.{◌≡◌, ◌+◌, ◌≤◌, ℕ, Bool, true, false, not, List, [], ◌∷◌, ◌++◌, refl, sym, ap, ◌∙◌, ◌⊎◌, inl, inr, arith}
-use Rattle.std.specs.Prelude.{◌&&◌, ◌||◌, if◌then◌else◌, Option, Some, None}
+use Rattle.std.proofs.Common.{◌≡◌, Bool, true, false, not, List, [], ◌∷◌, ◌++◌, refl, sym, ap, ◌∙◌, ◌⊎◌, inl, inr, arith}
+use Rattle.std.specs.Prelude.{◌&&◌, if◌then◌else◌, Option, Some, None}
 use Rattle.std.specs.Option.{unwrap_or}
 use Rattle.line_laws.specs.declared.words.Side.{Side}
 use Rattle.line_laws.specs.declared.words.Side.TheVariants.{First, Second}
@@ -9,9 +9,9 @@ use Rattle.line_laws.specs.declared.words.Position.TheVariants.{Left, Right}
 use Rattle.line_laws.specs.declared.words.Item.{Item}
 use Rattle.line_laws.specs.declared.words.Item.TheVariants.{Ask, Give, Query, Clear, NoToken}
 use Rattle.line_laws.specs.declared.words.QueryOut.TheVariants.{Sound}
-use Rattle.line_laws.specs.End.{File, End, Seen, unlinked}
-use Rattle.line_laws.specs.Step.{StepSoFar, begun, is_first, is_right, is_driven_right, is_sound, spoiled, lock_after, lock_moved, noticed, taken, all_taken, made_again, introduced, may_give, without_token, token_given, may_ask, token_asked, may_query, partner_queried, may_answer, query_answered, linked_step, step_between, step}
-use Rattle.line_laws.specs.Invariant.{how_many, is_give, is_clear, is_none}
+use Rattle.line_laws.specs.End.{File, End, Seen}
+use Rattle.line_laws.specs.Step.{StepSoFar, begun, is_right, is_driven_right, is_sound, spoiled, lock_after, lock_moved, noticed, taken, all_taken, made_again, introduced, may_give, without_token, token_given, may_ask, token_asked, may_query, partner_queried, may_answer, query_answered, linked_step, step_between, step}
+use Rattle.line_laws.specs.Invariant.{is_give, is_clear, is_none}
 use Rattle.line_end.specs.State.{is_same_flag, is_same_position, changed_file}
 use Rattle.line_end.specs.Told.{HasSome, IsDrivenRight, TokenComes, LockComes, EmptyComes}
 use Rattle.line_end.proofs.Said.{both, not_true, by_test}

@@ -1,5 +1,5 @@
 -- What a step says is so, part by part.
-use Rattle.std.proofs.Common.{◌≡◌, ◌+◌, ◌≤◌, ℕ, Bool, true, false, not, List, [], ◌∷◌, ◌++◌, refl, sym, ap, ◌∙◌, ◌⊎◌, inl, inr, arith}
+use Rattle.std.proofs.Common.{◌≡◌, ◌+◌, Bool, true, false, not, List, [], ◌∷◌, ◌++◌, refl, ap, ◌⊎◌, inl, inr, arith}
 use Rattle.std.specs.Prelude.{◌&&◌, ◌||◌, if◌then◌else◌, Option, Some, None}
 use Rattle.line_laws.specs.declared.words.Side.{Side}
 use Rattle.line_laws.specs.declared.words.Side.TheVariants.{First, Second}
@@ -9,9 +9,9 @@ use Rattle.line_laws.specs.declared.words.Item.{Item}
 use Rattle.line_laws.specs.declared.words.Item.TheVariants.{Ask, Give, Query, Clear, NoToken}
 use Rattle.line_laws.specs.declared.words.QueryOut.TheVariants.{Sound}
 use Rattle.line_laws.specs.End.{End, Seen, unlinked}
-use Rattle.line_laws.specs.Step.{StepSoFar, begun, is_first, is_right, is_driven_right, is_no, lock_after, lock_moved, noticed, all_taken, made_again, introduced, may_give, without_token, token_given, may_ask, token_asked, may_query, partner_queried, may_answer, query_answered, linked_step, step_between, step}
+use Rattle.line_laws.specs.Step.{StepSoFar, begun, is_right, is_driven_right, is_no, lock_after, lock_moved, noticed, all_taken, made_again, introduced, may_give, without_token, token_given, may_ask, token_asked, may_query, partner_queried, may_answer, query_answered, linked_step, step_between, step}
 use Rattle.line_laws.specs.Invariant.{number, how_many, is_give, is_query, is_clear, is_none}
-use Rattle.line_end.specs.Told.{is_ask, HasSome, GivesUnlocked, AsksForNeed, QueriesSound, SaysTrue, IsTrueSaid}
+use Rattle.line_end.specs.Told.{is_ask, HasSome, IsTrueSaid}
 
 pub both : (a b : Bool) → a && b ≡ true → (a ≡ true) × (b ≡ true)
 both true b e = (refl, e)

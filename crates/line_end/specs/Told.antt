@@ -1,13 +1,12 @@
 -- What a step says and does, in the words of its rules.
-use Rattle.std.specs.Prelude.{◌≡◌, ◌≤◌, ◌⊎◌, ℕ, Bool, true, false, ◌||◌, List, [], ◌∷◌, Option, Some, None}
+use Rattle.std.specs.Prelude.{◌≡◌, ◌≤◌, ◌⊎◌, Bool, true, false, List}
 use Rattle.line_laws.specs.declared.words.Side.{Side}
 use Rattle.line_laws.specs.declared.words.Side.TheVariants.{First, Second}
-use Rattle.line_laws.specs.declared.words.Position.{Position}
-use Rattle.line_laws.specs.declared.words.Position.TheVariants.{Left, Right}
+use Rattle.line_laws.specs.declared.words.Position.TheVariants.{Right}
 use Rattle.line_laws.specs.declared.words.Item.{Item}
 use Rattle.line_laws.specs.declared.words.Item.TheVariants.{Ask, Give, Query, Clear, NoToken}
 use Rattle.line_laws.specs.declared.words.QueryOut.TheVariants.{Sound}
-use Rattle.line_laws.specs.End.{File, End, Seen}
+use Rattle.line_laws.specs.End.{End, Seen}
 use Rattle.line_laws.specs.Step.{StepSoFar, is_right, is_driven_right}
 use Rattle.line_laws.specs.Invariant.{how_many, is_give, is_query, is_clear, is_none}
 

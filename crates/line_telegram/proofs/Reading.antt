@@ -1,19 +1,18 @@
 -- What is read is spelled so, and what is spelled so is read.
-use Rattle.std.proofs.Common.{◌≡◌, ℕ, ◌+◌, ◌<◌, ◌≤◌, Bool, true, false, cond, List, [], ◌∷◌, ◌++◌, length, ltb, drop, slice_index, Option, Some, None, refl, sym, ap, subst, ◌∙◌, arith}
+use Rattle.std.proofs.Common.{◌≡◌, ℕ, ◌+◌, ◌≤◌, Bool, true, false, cond, List, [], ◌∷◌, ◌++◌, length, ltb, drop, slice_index, Option, Some, None, refl, sym, ap, ◌∙◌, arith}
 use Rattle.std.specs.Option.{option_map, IfSome}
 use Rattle.std.proofs.lemmas.Bool.{cond-false, le-ltb}
 use Rattle.std.specs.Str.{bytes_eq}
 use Rattle.std.proofs.lemmas.List.{length-append, drop_at}
 use Rattle.std.proofs.lemmas.Slice.Eq.{bytes_eq-Decides}
 use Rattle.rasta_pdu.specs.Items.{IsItem}
-use Rattle.line_laws.specs.declared.words.Item.{Item}
 use Rattle.line_laws.specs.declared.words.Item.TheVariants.{Ask, Give, Query, Clear, NoToken}
 use Rattle.sci_telegram.specs.declared.message.Agreement.TheVariants.{NoMatch, Match}
 use Rattle.sci_telegram.specs.TelegramRead.{agreement_at}
 use Rattle.sci_telegram.specs.Names.{IsName, name_field}
 use Rattle.line_telegram.specs.declared.message.LineMessage.{LineMessage}
 use Rattle.line_telegram.specs.declared.message.LineMessage.TheVariants.{VersionCheck, VersionAnswer, Line}
-use Rattle.line_telegram.specs.LineMessages.{IsLineMessage, payload, type_number, writing, message_in, if_spelled, reading}
+use Rattle.line_telegram.specs.LineMessages.{payload, writing, message_in, if_spelled, reading}
 use Rattle.line_telegram.proofs.Fields.{field_has_20}
 
 -- the payload stands after the names

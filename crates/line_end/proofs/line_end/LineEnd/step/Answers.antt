@@ -1,8 +1,8 @@
 use Rattle.std.proofs.Common.{◌≡◌, List, ap, ◌∙◌}
 use Rattle.line_laws.specs.declared.words.Item.{Item}
-use Rattle.line_laws.specs.End.{End, Seen, File, file_of}
-use Rattle.line_laws.specs.Step.{StepSoFar, lock_moved, noticed, step_between}
-use Rattle.line_end.specs.State.{EndState, StepOutput, changed_file, stepped, output}
+use Rattle.line_laws.specs.End.{File, file_of}
+use Rattle.line_laws.specs.Step.{lock_moved, noticed, step_between}
+use Rattle.line_end.specs.State.{EndState, changed_file, stepped}
 use Rattle.line_end.proofs.Whole.{parts_follow}
 use Rattle.line_end.proofs.line_end.LineEnd.step.Goals as goal
 
