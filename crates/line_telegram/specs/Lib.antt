@@ -1,1 +1,2 @@
 pub mod LineMessages
+pub mod Greetings
