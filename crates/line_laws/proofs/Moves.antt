@@ -202,7 +202,7 @@ begins_sound first_busy second_busy = record {
   second_file = refl;
 }
 
-run-append : (rules : Rules) (moves more : List Move) (line : Line) → run rules (moves ++ more) line ≡ run rules more (run rules moves line)
+pub run-append : (rules : Rules) (moves more : List Move) (line : Line) → run rules (moves ++ more) line ≡ run rules more (run rules moves line)
 run-append rules [] more line = refl
 run-append rules (move ∷ moves) more line = run-append rules moves more (after rules move line)
 
@@ -287,3 +287,25 @@ pub told_clear_known : (side : Side) (start : Line) (moves : List Move) → IsSo
     → WasClear right_rules side start moves
 told_clear_known First start moves sound tells = sound.ends.near_end.empty_known tells.empty
 told_clear_known Second start moves sound tells = sound.ends.far_end.empty_known tells.empty
+
+-- ---- more moves
+
+throughout_both : (rules : Rules) (Fact : Line → Type 0) (moves more : List Move) (line : Line) → Throughout rules Fact moves line
+    → Throughout rules Fact more (run rules moves line) → Throughout rules Fact (moves ++ more) line
+throughout_both rules Fact [] more line now next = next
+throughout_both rules Fact (move ∷ moves) more line now next = (now.0, throughout_both rules Fact moves more (after rules move line) now.1 next)
+
+pub known_through : (rules : Rules) (side : Side) (start : Line) (moves more : List Move) → WasClear rules side start moves
+    → Throughout rules (Holds side) more (run rules moves start)
+    → WasClear rules side start (moves ++ more)
+known_through rules side start moves more was holds = record {
+  earlier = was.earlier;
+  later = was.later ++ more;
+  whole = sym (append_assoc was.earlier was.later more) ∙ ap (λ (list : List Move). list ++ more) was.whole;
+  clear = was.clear;
+  since = throughout_both rules (Holds side) was.later more (run rules was.earlier start) was.since
+      (subst (λ (line : Line). Throughout rules (Holds side) more line) (sym same) holds);
+}
+  where
+    same : run rules was.later (run rules was.earlier start) ≡ run rules moves start
+    same = sym (run-append rules was.earlier was.later start) ∙ ap (λ (list : List Move). run rules list start) was.whole

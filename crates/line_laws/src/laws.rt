@@ -1,11 +1,11 @@
 //! What is promised of a line, after any list of moves of its two ends.
 
-ghost use Rattle.std.specs.Prelude.{◌≡◌, ◌⊎◌, Bool, IsTrue, List};
+ghost use Rattle.std.specs.Prelude.{◌≡◌, ◌⊎◌, ◌++◌, Bool, IsTrue, List};
 ghost use Rattle.line_laws.specs.declared.words.Side.{Side};
 ghost use Rattle.line_laws.specs.End.{file_of};
-ghost use Rattle.line_laws.specs.Line.{Line, Move, after, node, right_rules};
+ghost use Rattle.line_laws.specs.Line.{Line, Move, Rules, after, node, right_rules};
 ghost use Rattle.line_laws.specs.Run.{begins, run};
-ghost use Rattle.line_laws.specs.Promise.{HasToken, IsClear, IsLocked, TellsClear, WasClear};
+ghost use Rattle.line_laws.specs.Promise.{HasToken, Holds, IsClear, IsLocked, TellsClear, Throughout, WasClear};
 ghost use Rattle.line_laws.specs.Invariant.{IsLineSound, OneToken};
 
 /// At most one end has the token, counting one on the way that may still be taken.
@@ -49,4 +49,12 @@ pub fn invariant_is_kept()
         in IsLineSound (IsTrue first) (IsTrue second) line → IsLineSound (IsTrue first ⊎ IsClear next) (IsTrue second ⊎ IsClear next) next }
     ensures run { (first_busy second_busy : Bool) (moves : List Move) → let start = begins first_busy second_busy
         in IsLineSound (WasClear right_rules Side.First start moves) (WasClear right_rules Side.Second start moves) (run right_rules moves start) }
+{}
+
+/// Lists of moves follow one another, and what an end knew it goes on to know through moves throughout which it holds the
+/// token with its own part free.
+pub fn moves_follow_one_another()
+    ensures run { (rules : Rules) (moves more : List Move) (line : Line) → run rules (moves ++ more) line ≡ run rules more (run rules moves line) }
+    ensures known { (rules : Rules) (side : Side) (start : Line) (moves more : List Move) → WasClear rules side start moves
+        → Throughout rules (Holds side) more (run rules moves start) → WasClear rules side start (moves ++ more) }
 {}

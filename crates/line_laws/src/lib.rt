@@ -10,7 +10,7 @@ mod words;
 
 pub use laws::{
     at_most_one_token, both_locks_are_never_right, clear_was_clear, files_are_kept,
-    invariant_is_kept, locked_end_has_the_token,
+    invariant_is_kept, locked_end_has_the_token, moves_follow_one_another,
 };
 pub use runs::{
     both_may_ask, clear_is_told_when_both_are, each_rule_of_clear_is_needed,

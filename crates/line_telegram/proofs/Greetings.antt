@@ -1,5 +1,5 @@
 -- The version check.
-use Rattle.std.proofs.Common.{◌≡◌, ℕ, Bool, true, false, cond, eqb, refl, sym, ap, ◌∙◌, ◌⊎◌, inl, inr, eq-eqb, Some, None}
+use Rattle.std.proofs.Common.{◌≡◌, ℕ, Bool, true, false, refl, sym, ap, ◌∙◌, ◌⊎◌, inl, inr, eq-eqb}
 use Rattle.std.specs.Prelude.{◌≢◌, ◌&&◌, ◌==◌, if◌then◌else◌}
 use Rattle.std.proofs.lemmas.Bool.{and_parts, eqb-true}
 use Rattle.line_laws.specs.declared.words.Side.{Side}
@@ -12,7 +12,7 @@ use Rattle.line_telegram.specs.declared.message.LineMessage.TheVariants.{Version
 use Rattle.line_telegram.specs.declared.greeting.Stage.{Stage}
 use Rattle.line_telegram.specs.declared.greeting.Stage.TheVariants.{Outside, AwaitsCheck, AwaitsAnswer, Agreed, Differs}
 use Rattle.line_telegram.specs.declared.greeting.Heard.TheVariants.{Taken, Answered, Matched, Differed}
-use Rattle.line_telegram.specs.Greetings.{GreetingState, Greeted, Hearing, greeted, greeted_at, come_up, checked, is_match, told, hearing_at, hearing, TellsVersion}
+use Rattle.line_telegram.specs.Greetings.{GreetingState, Hearing, greeted, greeted_at, come_up, checked, is_match, told, hearing_at, hearing, TellsVersion}
 
 by_test : {A : Type 0} (Fact : A → Type 0) (test : Bool) (new old : A) → (test ≡ true → Fact new) → (test ≡ false → Fact old) → Fact (if test then new else old)
 by_test Fact true new old holds fails = holds refl

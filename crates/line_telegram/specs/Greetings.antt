@@ -2,7 +2,6 @@
 use Rattle.std.specs.Prelude.{◌≡◌, ℕ, Bool, true, false, ◌&&◌, ◌==◌, if◌then◌else◌, Option, Some, None, ◌⊎◌}
 use Rattle.line_laws.specs.declared.words.Side.{Side}
 use Rattle.line_laws.specs.declared.words.Side.TheVariants.{First, Second}
-use Rattle.line_laws.specs.declared.words.Item.{Item}
 use Rattle.sci_telegram.specs.declared.message.Agreement.{Agreement}
 use Rattle.sci_telegram.specs.declared.message.Agreement.TheVariants.{NoMatch, Match}
 use Rattle.line_telegram.specs.declared.message.LineMessage.{LineMessage}
