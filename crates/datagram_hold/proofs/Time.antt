@@ -1,5 +1,5 @@
 -- How long what is handed out has waited.
-use Rattle.std.proofs.Common.{◌≡◌, ◌≤◌, ◌<◌, ◌-◌, ℕ, nat_lt, not, ◌&&◌, ◌||◌, Bool, true, false, cond, List, [], ◌∷◌, ◌++◌, Option, Some, None, refl, ap, arith}
+use Rattle.std.proofs.Common.{◌≡◌, ◌≤◌, ◌-◌, ℕ, nat_lt, not, ◌&&◌, ◌||◌, Bool, true, false, cond, List, [], ◌∷◌, ◌++◌, Option, Some, None, refl, ap, arith}
 use Rattle.std.specs.List.{All, list_any}
 use Rattle.std.proofs.lemmas.Bool.{leb-false}
 use Rattle.std.proofs.lemmas.List.Elements.{All-append, All-cons, All-head, All-nil, All-tail, All-weaker}
@@ -46,13 +46,19 @@ young_held now millis expected (one ∷ others) out =
 pub young_left : (now : ℕ) (hold : HoldState) → IsAskedOut now hold → All (IsYoung hold.millis now) hold.held
 young_left now hold out = young_held now hold.millis hold.expected hold.held out
 
-pub young_handed : (now : ℕ) (hold : HoldState) (calls : List Call) → IsAskedOut now hold → 0 < hold.millis → All (λ (one : Came). now ≤ one.at) (came calls)
-    → All (IsYoung hold.millis now) (run calls hold).0
-young_handed now hold calls out some later =
-    let come : All (IsYoung hold.millis now) (came calls) = λ k d lt. let l = later k d lt in omega (arith, l, some) in
-    let there = All-append (IsYoung hold.millis now) hold.held (came calls) (young_left now hold out) come in
-    all_front (IsYoung hold.millis now) (run calls hold).0 (run calls hold).1.held
-    (All-permutation (IsYoung hold.millis now) (hold.held ++ came calls) ((run calls hold).0 ++ (run calls hold).1.held) (all_keep calls hold) there)
+within : (millis bound now : ℕ) → millis ≤ bound → (one : Came) → IsYoung millis now one → IsYoung bound now one
+within millis bound now le one young = omega (arith, le, young)
+
+pub young_within : (now bound : ℕ) (hold : HoldState) → hold.millis ≤ bound → IsAskedOut now hold → All (IsYoung bound now) hold.held
+young_within now bound hold le out = All-weaker (IsYoung hold.millis now) (IsYoung bound now) (within hold.millis bound now le) hold.held (young_left now hold out)
+
+-- what is so of all that waits and comes is so of all that is handed out and waits then
+pub so_of_all : (P : Came → Type 0) (hold : HoldState) (calls : List Call) → All P hold.held → All P (came calls) → All P ((run calls hold).0 ++ (run calls hold).1.held)
+so_of_all P hold calls held come = All-permutation P (hold.held ++ came calls) ((run calls hold).0 ++ (run calls hold).1.held) (all_keep calls hold) (All-append P hold.held (came calls) held come)
+
+pub handed_within : (now bound : ℕ) (hold : HoldState) (calls : List Call) → hold.millis ≤ bound → IsAskedOut now hold → All (IsYoung bound now) (came calls) → All (IsYoung bound now) (run calls hold).0
+handed_within now bound hold calls le out come =
+    all_front (IsYoung bound now) (run calls hold).0 (run calls hold).1.held (so_of_all (IsYoung bound now) hold calls (young_within now bound hold le out) come)
 
 -- ---- a hold of 0
 

@@ -15,13 +15,14 @@ pub fn nothing_is_lost()
     ensures { (calls : List Call) (hold : HoldState) → IsPermutation (hold.held ++ came calls) ((run calls hold).0 ++ (run calls hold).1.held) }
 {}
 
-/// Who asked at a reading until there was none gets from then on only what came less than the hold's time before that reading, or
-/// after it. So whoever asks at readings that are at most so far apart gets nothing that waited for longer than both together.
-#[tactic(auto, using(crate::proofs::Time::young_left, crate::proofs::Time::young_handed))]
+/// Who asked at a reading until there was none leaves nothing waiting that came so long before as the hold lasts. From then on it gets
+/// nothing that came longer than that before that reading, where nothing comes that did. So whoever asks at readings that are at most
+/// so far apart gets nothing that waited for longer than both together.
+#[tactic(auto, using(crate::proofs::Time::young_left))]
 pub fn nothing_waits_for_long()
     ensures waits { (now : ℕ) (hold : HoldState) → IsAskedOut now hold → All (IsYoung hold.millis now) hold.held }
-    ensures handed { (now : ℕ) (hold : HoldState) (calls : List Call) → IsAskedOut now hold → 0 < hold.millis → All (λ (one : Came). now ≤ one.at) (came calls)
-        → All (IsYoung hold.millis now) (run calls hold).0 }
+    ensures handed { (now bound : ℕ) (hold : HoldState) (calls : List Call) → hold.millis ≤ bound → IsAskedOut now hold → All (IsYoung bound now) (came calls)
+        → All (IsYoung bound now) (run calls hold).0 }
 {}
 
 /// What isn't 1 to 8 ahead of the number that is expected is handed out by the call by which it comes.
