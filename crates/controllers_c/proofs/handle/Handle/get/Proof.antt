@@ -1,23 +1,20 @@
 -- `get` lends what lies at the handle's memory.
 use Rattle.std.proofs.Common.{◌≡◌, ℕ, List, [], ◌∷◌, refl, sym, ap, ◌∙◌}
 use Rattle.std.proofs.raw_atomic.Walks.{proved}
-use Rattle.std.specs.Prelude.{Some}
 use base.Fraction.{full_share}
-use base.Logic.{SProp, ent, sep, id⊢}
+use base.Logic.{ent, sep, id⊢}
 use base.Fml.{GName, Fml, ftrue, fsep, flft}
 use mir.Syntax.{named}
 use mir.Val.{Val, vptr}
-use prog.Wp.{WpFn}
 use types.Logic.{sem}
-use contract.Monad.{fact}
 use contract.Running.{tables}
-use types.Kit.{‵, raw, ◌⊛◌, some, later, at_ret, ◌$◌, ◌∵◌, !, qed, done, move, keep, drop, use1, split, split3, join, fsplit, fsplit3, fjoin, feq_i, feq_l, fpack, pick, await, rewrite, suffices, frame, group}
+use types.Kit.{‵, raw, ◌⊛◌, some, later, at_ret, ◌$◌, ◌∵◌, !, qed, done, move, keep, use1, split, split3, join, fsplit, fsplit3, fjoin, feq_i, feq_l, fpack, pick, await, rewrite, suffices, frame, group}
 use types.Part.{whole, sub, look_in}
 use types.Run.{enter, of_opd, load, stop, fld, addr, first, blocks, exec, returns}
 use types.ByLocal.{alloc_all, pass_all, free_all, look_at, get, through, sets, sets_last, env}
 use denote.Exit.{no}
 use denote.Laws.{shows}
-use denote.Memory.{cell_at, part_at, part_of, mem}
+use denote.Memory.{cell_at, part_of, mem}
 use denote.RawPtr.{Ptr, block_ptr, lies_at, in_a_block}
 use denote.Ref.{MutRef, mut_vals, mut_Tells}
 use denote.Signature.{plain, mut_ref_to}

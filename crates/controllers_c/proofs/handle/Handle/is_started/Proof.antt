@@ -1,13 +1,12 @@
 -- `is_started` reads a plain field.
-use Rattle.std.proofs.Common.{◌≡◌, ℕ, List, [], ◌∷◌, refl, sym, ap, ◌∙◌, w32, nat_eq, Bool, true, false}
+use Rattle.std.proofs.Common.{◌≡◌, ℕ, List, [], ◌∷◌, refl, sym, ap, nat_eq, true, false}
 use Rattle.std.proofs.raw_atomic.Walks.{proved}
 use Rattle.std.specs.Prelude.{Option, Some, None}
 use base.Fraction.{full_share}
-use base.Logic.{SProp, ent, sep, id⊢}
-use base.Fml.{Fml, ftrue, fsep, feq, flft}
+use base.Logic.{ent, sep}
+use base.Fml.{ftrue, flft}
 use mir.Syntax.{named}
 use mir.Val.{Val, vbool}
-use prog.Wp.{WpFn}
 use seplogic.Ra.Ura.{Ura}
 use types.Logic.{Logic, sem}
 use contract.Monad.{fact, fact_i}

@@ -1,12 +1,12 @@
 -- `put` writes into the room of a handle.
-use Rattle.std.proofs.Common.{◌≡◌, ℕ, List, [], ◌∷◌, ◌++◌, refl, sym, ap, ◌∙◌, subst, lit<}
+use Rattle.std.proofs.Common.{ℕ, List, [], ◌∷◌, ◌++◌, refl, sym, ap, ◌∙◌, subst, lit<}
 use Rattle.std.proofs.raw_atomic.Walks.{proved_at}
-use Rattle.std.specs.Prelude.{Some, None}
+use Rattle.std.specs.Prelude.{Some}
 use Rattle.std.proofs.alloc.Calls.{Al, handle_tells, Goes-blank}
 use base.Fraction.{full_share}
-use base.Logic.{SProp, ent, sep, id⊢}
-use base.Fml.{Fml, ftrue, flft}
-use mir.Syntax.{named, given, w32}
+use base.Logic.{SProp, ent, id⊢}
+use base.Fml.{ftrue, flft}
+use mir.Syntax.{given, w32}
 use mir.Val.{Val, vptr, vunit, vint, vstruct, of_list}
 use prog.Wp.{WpFn}
 use borrow.Table.OneValue.{part_in}
@@ -21,7 +21,7 @@ use lib.Dec.{T}
 use denote.Laws.{shows, Is}
 use denote.Memory.{cell_at, part_at}
 use denote.RattleType.{owns}
-use denote.RawPtr.{Ptr, block_ptr, lies_at, room_at, in_a_block, ptr_val, rawptr_vals}
+use denote.RawPtr.{Ptr, lies_at, room_at, in_a_block, ptr_val, rawptr_vals}
 use denote.Struct.Owning.{shape}
 use denote.Struct.Struct.{Struct, Struct-Makes, Plains}
 use denote.Signature.{plain, types_at}
