@@ -1,1 +1,2 @@
+pub mod SectionsSpelled
 pub mod Startedness

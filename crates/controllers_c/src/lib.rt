@@ -4,6 +4,7 @@
 
 mod answers;
 mod datagram;
+mod detector;
 mod drive;
 mod handle;
 mod held;
@@ -11,9 +12,15 @@ mod lamp;
 mod link;
 mod point;
 mod room;
+mod sections;
 mod setup;
 mod signal;
 
+pub use detector::{
+    zendurai_detector_empty, zendurai_detector_hear, zendurai_detector_link,
+    zendurai_detector_next, zendurai_detector_report, zendurai_detector_start,
+    zendurai_detector_tick,
+};
 pub use drive::DriveOrder;
 pub use handle::Handle;
 pub use lamp::LampOrder;
