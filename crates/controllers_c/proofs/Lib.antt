@@ -1,2 +1,3 @@
+pub mod SectionsLeft
 pub mod SectionsSpelled
 pub mod Startedness

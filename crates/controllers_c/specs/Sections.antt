@@ -1,5 +1,6 @@
 -- The sections of a detector, and what their contacts tell, as C tells it.
 use Rattle.std.specs.Prelude.{ℕ, zero, suc, ◌++◌, List, [], ◌∷◌, length, Option, Some, None}
+use Rattle.sci_telegram.specs.Names.{IsName}
 use Rattle.sci_telegram.specs.declared.message.Occupancy.{Occupancy}
 use Rattle.sci_telegram.specs.declared.message.Occupancy.TheVariants as occupancies
 use Rattle.object_host.specs.declared.sense.Sense.{Sense}
@@ -27,3 +28,8 @@ spelled section = state_number section.1 ∷ length section.0 ∷ section.0
 abbrev pub spelled_all : List (List ℕ × Occupancy) → List ℕ
 spelled_all [] = []
 spelled_all (first ∷ others) = spelled first ++ spelled_all others
+
+-- each has a name
+abbrev pub AreNamed : List (List ℕ × Occupancy) → Type 0
+AreNamed [] = Unit {0}
+AreNamed (first ∷ others) = IsName first.0 × AreNamed others

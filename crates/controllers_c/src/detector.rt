@@ -15,7 +15,7 @@ ghost use Rattle.controllers_c.specs.Kinds.{changed_detector, held_after, held_d
 ghost use Rattle.controllers_c.specs.Links.{link_number};
 ghost use Rattle.controllers_c.specs.Owned.{is_started};
 ghost use Rattle.controllers_c.specs.Setups.{set_up};
-ghost use Rattle.controllers_c.specs.Sections.{spelled_all};
+ghost use Rattle.controllers_c.specs.Sections.{AreNamed, spelled_all};
 ghost use Rattle.controllers_c.specs.declared.held.Kind.TheVariants.{Detector as DetectorKind};
 
 use crate::answers::{MEMORY, NAME, NOT_STARTED, OK, PLACE, ROOM, STARTED, VALUE, number_of};
@@ -154,7 +154,8 @@ pub extern "C" fn zendurai_detector_start(
     ensures started { is_started handle.old.held ≡ true → result ≡ 2 }
     ensures room { is_started handle.old.held ≡ false → room < 1024 → result ≡ 3 }
     ensures name { is_started handle.old.held ≡ false → 1024 ≤ room → ((IsName own_name.now × IsName peer_name.now) → ⊥) → result ≡ 4 }
-    ensures accepted { is_started handle.old.held ≡ false → 1024 ≤ room → IsName own_name.now → IsName peer_name.now → (result ≡ 0) ⊎ ((result ≡ 5) ⊎ (result ≡ 10)) }
+    ensures accepted { is_started handle.old.held ≡ false → 1024 ≤ room → IsName own_name.now → IsName peer_name.now → (told : List (List ℕ × Occupancy)) → AreNamed told → length told ≤ 16 → sections.now ≡ spelled_all told → (result ≡ 0) ⊎ (result ≡ 5) }
+    ensures sections { is_started handle.old.held ≡ false → 1024 ≤ room → IsName own_name.now → IsName peer_name.now → (result ≡ 0) ⊎ ((result ≡ 5) ⊎ (result ≡ 10)) }
     ensures does { result ≡ 0 → (told : List (List ℕ × Occupancy)) × (sections.now ≡ spelled_all told) × (length told ≤ 16) × (handle.new.held ≡ Some (record { kind = DetectorKind (set_up detection_behaviour setup.now own_name.now peer_name.now now (map made told)) })) }
     ensures same { result ≢ 0 → handle.new.held ≡ handle.old.held }
 {

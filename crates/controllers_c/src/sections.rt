@@ -1,9 +1,10 @@
 //! The sections of a detector, as C tells them.
 
-ghost use Rattle.std.specs.Prelude.{◌≡◌, ◌≤◌, ◌+◌, ◌++◌, ℕ, List, IfSome, length, drop, map};
+ghost use Rattle.std.specs.Prelude.{◌≡◌, ◌≤◌, ◌+◌, ◌++◌, ℕ, List, IfSome, IsSome, length, drop, map};
+ghost use Rattle.sci_telegram.specs.Names.{IsName};
 ghost use Rattle.sci_telegram.specs.declared.message.Occupancy.{Occupancy};
 ghost use Rattle.tds_ctl.specs.Sections.{made};
-ghost use Rattle.controllers_c.specs.Sections.{occupancy_of, sensed_by, spelled, spelled_all};
+ghost use Rattle.controllers_c.specs.Sections.{AreNamed, occupancy_of, sensed_by, spelled, spelled_all};
 
 use object_host::Sense;
 use sci_telegram::{Name, Occupancy};
@@ -48,6 +49,7 @@ fn no_section() -> Name {
 fn first_section(bytes: &[u8]) -> Option<(Name, Occupancy)>
     ensures spelled { IfSome result (λ section. bytes.now ≡ spelled section ++ drop (2 + length section.0) bytes.now) }
     ensures within { IfSome result (λ section. 2 + length section.0 ≤ length bytes.now) }
+    ensures only { (section : List ℕ × Occupancy) (more : List ℕ) → IsName section.0 → bytes.now ≡ spelled section ++ more → IsSome result }
 {
     if bytes.len() < HEAD {
         return None;
@@ -65,7 +67,8 @@ fn first_section(bytes: &[u8]) -> Option<(Name, Occupancy)>
 
 /// The detector of these sections, of which there are at most 16.
 pub(crate) fn detection_of(bytes: &[u8]) -> Option<Detection>
-    ensures { IfSome result (λ detection. (sections : List (List ℕ × Occupancy)) × (detection ≡ map made sections) × (bytes.now ≡ spelled_all sections) × (length sections ≤ 16)) }
+    ensures told { IfSome result (λ detection. (sections : List (List ℕ × Occupancy)) × (detection ≡ map made sections) × (bytes.now ≡ spelled_all sections) × (length sections ≤ 16)) }
+    ensures only { (sections : List (List ℕ × Occupancy)) → AreNamed sections → length sections ≤ 16 → bytes.now ≡ spelled_all sections → IsSome result }
 {
     let mut sections = [(no_section(), Occupancy::Clear); MOST];
     let mut count = 0;
