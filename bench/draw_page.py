@@ -1,0 +1,29 @@
+#!/usr/bin/env python3
+"""Writes the page on which a station is drawn to standard output, as `station draw` serves it. A browser opens it by itself:
+
+    python3 bench/draw_page.py > draw.html
+
+With names of its parts, as `grid` or `table`, it writes these alone.
+"""
+import pathlib
+import re
+import sys
+
+PARTS = pathlib.Path(__file__).resolve().parent.parent / "crates" / "draw_page" / "src"
+
+
+def parts():
+    """The names of the page's parts, in their order."""
+    return re.search(r"style!\(\[\]([^)]*)\)", (PARTS / "document.rt").read_text())[1].split()[:-1]
+
+
+def part(name):
+    return re.search(r'r##"(.*)"##', (PARTS / f"{name}.rt").read_text(), re.DOTALL)[1]
+
+
+def page(names=()):
+    return "".join(part(name) for name in names or ["style", *parts()])
+
+
+if __name__ == "__main__":
+    sys.stdout.write(page(sys.argv[1:]))

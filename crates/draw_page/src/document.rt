@@ -1,0 +1,21 @@
+//! The page, as it is served: its parts, one after the other.
+
+use crate::body::body;
+use crate::changes::changes;
+use crate::files::files;
+use crate::grid::grid;
+use crate::hand::hand;
+use crate::lists::lists;
+use crate::names::names;
+use crate::opening::opening;
+use crate::placing::placing;
+use crate::plan::plan;
+use crate::reading::reading;
+use crate::style::style;
+use crate::table::table;
+use crate::toml::toml;
+use crate::whole::whole;
+
+/// The page on which a station is drawn: HTML with its style and its script, and with nothing from elsewhere.
+pub const PAGE: &str =
+    style!([] body toml table grid reading names opening placing changes plan lists hand files whole);
