@@ -130,15 +130,20 @@ function notesOf() {
   if (read.isUnnamed) return notes;
   for (const one of signal.filter(one => !starts.has(one.name))) notes.push({text: `no route begins at ${one.name}` + whyNone(one.name), at: [read.placeOf("signal", one.name)]});
   for (const name of border.filter(name => !ends.has(name))) notes.push({text: `no route leads to border ${name}`, at: [read.placeOf("border", name)]});
-  for (const one of table.kept) approachNotes(notes, one);
+  approachNotes(notes);
   for (const name of drawing.scattered.filter(name => read.where.section.has(name))) notes.push({text: `section ${name} has parts that don't hang together`, at: [read.placeOf("section", name)], fix: {text: "part them", does: "part", name}});
   return notes;
 }
 
-function approachNotes(notes, one) {
-  const at = [read.placeOf("signal", one.entry)], lacks = comingTo(table.site, table.site.portOf.get(one.entry)).filter(name => !one.approach.includes(name));
-  if (one.approach.length === 0) notes.push({text: `${one.name} has no approach sections: once cancelled it is held for 120 s`, at});
-  else if (lacks.length) notes.push({text: `approach of ${one.name} lacks ${lacks.join(", ")}`, at, way: one});
+// A list that was written by hand is told by itself; those of the shorter rule together.
+function approachNotes(notes) {
+  const lacking = table.kept.map(one => ({one, lacks: comingTo(table.site, table.site.portOf.get(one.entry)).filter(name => !one.approach.includes(name))})).filter(({lacks}) => lacks.length);
+  const isOwn = ({one}) => drawing.asides[one.key]?.approach !== undefined, at = one => [read.placeOf("signal", one.entry)], derived = lacking.filter(one => !isOwn(one));
+  for (const one of table.kept.filter(one => one.approach.length === 0)) notes.push({text: `${one.name} has no approach sections: once cancelled it is held for 120 s`, at: at(one), way: one});
+  for (const {one, lacks} of lacking.filter(it => isOwn(it) && it.one.approach.length)) notes.push({text: `approach of ${one.name} lacks ${lacks.join(", ")}`, at: at(one), way: one, fix: {text: "as derived", does: "routeApproach", key: one.key}});
+  if (!derived.length) return;
+  const [{one, lacks}] = derived, text = `approach of ${one.name} lacks ${lacks.join(", ")}` + (derived.length > 1 ? `; so do ${derived.length - 1} more` : "") + ": lists reach to the first point alone";
+  notes.push({text, at: [], way: one, fix: {text: "to the signal before", does: "rule"}});
 }
 
 function whyNone(name) {
@@ -194,6 +199,8 @@ const FIXES = {
   name: fix => change(all => renameOne(all, fix)),
   id: fix => change(all => giveId(all, fix)),
   routeName: fix => change(all => { delete all.asides[fix.key]?.name; }),
+  routeApproach: fix => change(all => { delete all.asides[fix.key]?.approach; }),
+  rule: () => change(all => { all.rule = "signal"; }),
 };
 
 function spread(all, name) {

@@ -232,7 +232,7 @@ function stationFields() {
   for (const one of drawing.detectors.filter(one => read.l.detector.some(it => it.name === one.name))) {
     rows.push(nameField("detector", one, name => change(() => { one.name = name; }), id => change(() => { one.id = id; })));
   }
-  rows.push(choice("approach", [["signal", "back to the signal before"], ["berth", "up to the first point"]], drawing.rule, rule => change(all => { all.rule = rule; })));
+  rows.push(choice("approach", [["signal", "to the signal before"], ["berth", "to the first point"]], drawing.rule, rule => change(all => { all.rule = rule; })));
   rows.push(telling("Draw rails: a point comes where three of them meet. Joints part sections. Tracks, sections, joints and routes follow."));
   return rows;
 }

@@ -18,7 +18,9 @@ function ownNames(drawing) {
 
 function nameAll(read) {
   const {drawing} = read, taken = ownNames(drawing);
-  read.stops.filter(key => read.isPoint(key)).forEach(key => namePoint(drawing, key, taken));
+  const points = read.stops.filter(key => read.isPoint(key));
+  for (const one of points.map(key => drawing.points[key]).filter(Boolean)) keepName(one, taken);
+  for (const key of points) if (!drawing.points[key]?.name) namePoint(drawing, key, taken);
   const tracks = read.runs.filter(run => run.isTrack);
   for (const one of tracks) one.all = one.rails;
   settle(drawing, tracks, "track", taken, () => freeName("T", taken));
@@ -29,9 +31,14 @@ function nameAll(read) {
   settle(drawing, read.groups, "section", taken, one => sectionName(drawing, one, taken));
 }
 
+// A made name stays, unless something else was given it by hand.
+function keepName(point, taken) {
+  if (!point.own && taken.has(point.name)) delete point.name;
+  else taken.add(point.name);
+}
+
 function namePoint(drawing, key, taken) {
-  const old = drawing.points[key];
-  if (!old || (!old.own && taken.has(old.name))) drawing.points[key] = {id: old?.id ?? freeId(201, idsOf(drawing)), name: freeName("W", taken), own: false, gone: false};
+  drawing.points[key] = {id: drawing.points[key]?.id ?? freeId(201, idsOf(drawing)), name: freeName("W", taken), own: false, gone: false};
   taken.add(drawing.points[key].name);
 }
 

@@ -16,6 +16,8 @@ function opened(text) {
   const l = new Toml(text).read(), told = [];
   for (const key of KEYS) if (l[key] === undefined) throw new Error("the key `" + key + "` isn't there");
   l.route ??= [];
+  const twins = l.joint.find(pair => pair.every(port => endOf(port) === "end"));
+  if (twins) throw new Error("the borders " + twins.map(elementOf).join(" and ") + " are joined to one another");
   const drawing = atItsPlaces(l) || placed(l);
   if (!drawing) throw new Error("no place was found for all of its rails on the grid");
   if (l.drawing && drawing.isPlaced) told.push("positions were missing or didn't fit: it was placed anew");

@@ -7,7 +7,7 @@ macro_rules! placing {
 
 // The first of some ways to place a layout that gives this very layout.
 function placed(l) {
-  for (const [gap, room] of [[3, 0], [2, 0], [4, 1], [5, 3], [8, 6]]) {
+  for (const [gap, room] of [[3, 0], [2, 0], [4, 2], [5, 6]]) {
     const lines = new Placing(l, gap, room).lines();
     if (!lines) continue;
     const drawing = drawnBy(l, lines);
@@ -391,13 +391,21 @@ class Placing {
 
   // ---- rails
 
+  // What finds no way is laid first when all is laid again.
   layRails() {
-    this.taken = new Map();
-    this.paths = new Map();
-    for (const strand of this.strands) this.layStrand(strand);
-    for (const one of this.l.point) this.layStubs(one.name);
-    const links = this.linked.map(link => ({link, far: Math.abs(this.origin(link[0])[0] - this.origin(link[1])[0])})).sort((one, other) => one.far - other.far);
-    return links.every(({link}) => this.layLink(...link));
+    const far = ([one, other]) => Math.abs(this.origin(one)[0] - this.origin(other)[0]);
+    let links = [...this.linked].sort((one, other) => far(one) - far(other));
+    for (let attempt = 0; attempt < 4; attempt++) {
+      this.taken = new Map();
+      this.paths = new Map();
+      this.courses = new Map();
+      for (const strand of this.strands) this.layStrand(strand);
+      for (const one of this.l.point) this.layStubs(one.name);
+      const lacks = links.find(link => !this.layLink(...link));
+      if (!lacks) return true;
+      links = [lacks, ...links.filter(link => link !== lacks)];
+    }
+    return false;
   }
 
   // The place of a port: the end of a track, or the middle of a point or a border.
@@ -422,6 +430,7 @@ class Placing {
     for (const name of elements) {
       const [west, east] = [this.at.get(this.node(name, false)), this.at.get(this.node(name, true))];
       for (let x = west; x <= east; x++) this.take(x, y, name);
+      this.courses.set(name, Array.from({length: east - west + 1}, (_, at) => place(west + at, y)));
     }
     for (let at = 1; at < elements.length; at++) {
       const one = this.levelPort(elements[at - 1], true), other = this.levelPort(elements[at], false), [from, to] = [this.origin(one)[0], this.origin(other)[0]];
@@ -447,33 +456,63 @@ class Placing {
   }
 
   layLink(one, other) {
-    const path = this.search(one, other);
-    if (!path) return false;
+    const last = this.search(one, other), path = [];
+    if (!last) return false;
+    for (let state = last; state; state = state.before) {
+      path.unshift(state.key);
+      if (state.over && !this.bendAside(state.over)) return false;
+    }
     this.keepPath(one, other, path);
     for (const key of path) if (!this.taken.has(key)) this.taken.set(key, "link");
     return true;
   }
 
-  // The shortest way over free places from port to port, with few bends.
+  // The shortest way over free places from port to port, with few bends. It may cross a track, which then bends aside.
   search(one, other) {
     const from = place(...this.origin(one)), goal = place(...this.origin(other)), start = this.wayOf(one), end = turned(this.wayOf(other));
-    const isFirst = way => this.kind.get(elementOf(one)) === "point" ? way === start : near(way, start), isLast = way => this.kind.get(elementOf(other)) === "point" ? way === end : near(way, end);
+    const fits = (port, wanted) => way => this.kind.get(elementOf(port)) === "point" ? way === wanted : near(way, wanted), isFirst = fits(one, start), isLast = fits(other, end);
     const [u, v] = spot(goal), far = key => { const [x, y] = spot(key); return Math.max(Math.abs(x - u), Math.abs(y - v)); };
     const queue = new Queue(), costs = new Map(), limits = this.limits();
-    queue.push(far(from), {key: from, way: start, cost: 0, before: null});
-    for (let count = 0; queue.size && count < 60000; count++) {
+    const add = (state, cost) => {
+      const known = state.key + "," + state.way;
+      if ((costs.get(known) ?? Infinity) <= cost) return;
+      costs.set(known, cost);
+      queue.push(cost + far(state.key), {...state, cost});
+    };
+    add({key: from, way: start, before: null}, 0);
+    for (let count = 0; queue.size && count < 30000; count++) {
       const state = queue.pop();
-      if (state.key === goal && state.before) return pathTo(state);
+      if (state.key === goal && state.before) return state;
       for (const way of [0, 1, 2, 3, 4, 5, 6, 7]) {
         if (state.before ? !near(way, state.way) : !isFirst(way)) continue;
-        const key = step(state.key, way), cost = state.cost + (way % 2 ? 1.05 : 1) + (way === state.way ? 0 : 0.4), known = key + "," + way;
-        const isGoal = key === goal && isLast(way);
-        if (!isGoal && (this.taken.has(key) || isOutside(key, limits)) || (costs.get(known) ?? Infinity) <= cost) continue;
-        costs.set(known, cost);
-        queue.push(cost + far(key), {key, way, cost, before: state});
+        const key = step(state.key, way), cost = state.cost + (way % 2 ? 1.05 : 1) + (way === state.way ? 0 : 0.4);
+        if (isOutside(key, limits)) continue;
+        if ((key === goal && isLast(way)) || !this.taken.has(key)) add({key, way, before: state}, cost);
+        else if (way % 2 && this.isCrossable(state.key, way)) add({key: step(key, way), way, before: {key, before: state, over: {key: state.key, way}}}, cost + 8);
       }
     }
     return null;
+  }
+
+  // A slope crosses a level track where four places of it lie in a row, and two beside it are free: the track bends over to them.
+  isCrossable(key, way) {
+    const [x, y] = spot(key), [dx, dy] = STEPS[way], track = this.taken.get(place(x + dx, y + dy));
+    if (this.kind.get(track) !== "track") return false;
+    const isFree = (along, aside) => !this.taken.has(place(x + along * dx, y + aside * dy));
+    return [0, 1, 2, 3].every(along => this.taken.get(place(x + along * dx, y + dy)) === track) && isFree(1, 0) && isFree(2, 0) && isFree(2, 2);
+  }
+
+  bendAside({key, way}) {
+    if (!this.isCrossable(key, way)) return false;
+    const [x, y] = spot(key), [dx, dy] = STEPS[way], at = (along, aside) => place(x + along * dx, y + aside * dy), track = this.taken.get(at(1, 1)), course = this.courses.get(track);
+    for (const along of [1, 2]) {
+      course[course.indexOf(at(along, 1))] = at(along, 0);
+      this.taken.set(at(along, 0), "bend");
+    }
+    this.taken.set(at(1, 1), "link");
+    this.taken.delete(at(2, 1));
+    for (const along of [0, 3]) this.taken.set(at(along, 1), "bend");
+    return true;
   }
 
   limits() {
@@ -500,22 +539,16 @@ class Placing {
     return [...path.slice(0, -1), ...level, place(u, y), ...this.paths.get(exit).slice(1)];
   }
 
-  // Where two tracks lead back to one another, the first one takes the way between.
+  // Where two ends of tracks don't lie at one place, the first one takes the way between.
   lineOfTrack(name) {
-    const middle = [place(...this.origin(name + ".a")), place(...this.origin(name + ".b"))];
-    const more = port => { const far = this.mate.get(port), path = this.paths.get(port); return path && this.kind.get(elementOf(far)) !== "point" && this.paths.get(port).length > 1 && port < far ? path.slice(1) : []; };
+    const course = this.courses.get(name), middle = this.turned.has(name) ? [...course].reverse() : course;
+    const more = port => { const far = this.site.joint.get(port); return far && this.site.kind.get(elementOf(far)) === "track" && port < far ? this.whole(port).slice(1) : []; };
     return [...more(name + ".a").reverse(), ...middle, ...more(name + ".b")].flatMap(spot);
   }
 }
 
 const near = (one, other) => [0, 1, 7].includes((one - other + 8) % 8);
 const isOutside = (key, {west, east, north, south}) => { const [x, y] = spot(key); return x < west || x > east || y < north || y > south; };
-
-function pathTo(state) {
-  const path = [];
-  for (let at = state; at; at = at.before) path.unshift(at.key);
-  return path;
-}
 
 // What has the least cost comes first.
 class Queue {

@@ -11,6 +11,9 @@ function paint() {
   const root = by("d-svg");
   root.setAttribute("viewBox", [view.x, view.y, view.w, view.h].join(" "));
   root.replaceChildren();
+  // letters stay legible where the plan is small
+  letter = Math.min(15, Math.max(9.5, 10.6 / scaleNow().scale));
+  root.style.setProperty("--letter", letter + "px");
   paintGrid(root);
   for (const layer of ["bands", "rails", "ways", "marks", "things", "over"]) svg(root, "g", {id: "d-" + layer});
   paintRails();
@@ -76,11 +79,11 @@ function drawSignal(parent, key, toward, back) {
 
 // ---- words stand at the first of some places where they meet nothing that stands already, or where they meet least
 
-let boxes = [], labels = new Map();
+let boxes = [], labels = new Map(), letter = 9.5;
 const meet = (one, other) => one[0] < other[2] && other[0] < one[2] && one[1] < other[3] && other[1] < one[3];
 
 function words(parent, places, said, className) {
-  const half = said.length * 2.9 + 1, box = ([x, y]) => [x - half, y - 5, x + half, y + 5];
+  const half = halfOf(said) + 1, high = letter * .53, box = ([x, y]) => [x - half, y - high, x + half, y + high];
   const count = spotted => boxes.filter(one => meet(one, box(spotted))).length;
   let best = places[0], least = Infinity;
   for (const one of places) {
@@ -93,7 +96,8 @@ function words(parent, places, said, className) {
   return best;
 }
 
-const writing = (parent, x, y, said, className) => svg(parent, "text", {x, y: y + 3.4, class: className, "text-anchor": "middle"}, said);
+const halfOf = said => said.length * letter * .303;
+const writing = (parent, x, y, said, className) => svg(parent, "text", {x, y: y + letter * .36, class: className, "text-anchor": "middle"}, said);
 
 // What words aren't to meet: rails, joints and signals.
 function takePlaces() {
@@ -133,7 +137,7 @@ function paintSignal(one) {
   of.classList.toggle("chosen", isChosen("signal", one.name));
   of.prepend(svg(of, "circle", {class: "ring", cx: x, cy: y, r: 14}));
   boxes.push([x - Math.abs(dx) * 11 - 4, y - Math.abs(dy) * 11 - 4, x + Math.abs(dx) * 11 + 4, y + Math.abs(dy) * 11 + 4]);
-  const far = 11 + Math.abs(nx) * 5 + Math.abs(nx) * one.name.length * 1.6, put = (along, aside) => [x + dx * along + nx * aside, y + dy * along + ny * aside];
+  const far = 11 + Math.abs(nx) * 5 + Math.abs(nx) * one.name.length * letter * .17, put = (along, aside) => [x + dx * along + nx * aside, y + dy * along + ny * aside];
   return () => labels.set(one.name, words(of, [put(0, far), put(-10, far), put(10, far), put(-24, 0), put(-20, far), put(14, far + 6), put(0, far + 10), put(-30, 4), put(-16, far + 10)], one.name, "name"));
 }
 
@@ -141,7 +145,7 @@ function paintBorder(key, of) {
   const [x, y] = at(key), [dx, dy] = normalOf(of.ways[0] ?? 0), parent = group("border", key), name = drawing.borders[key];
   svg(parent, "circle", {class: "ring", cx: x, cy: y, r: 12});
   svg(parent, "path", {class: "arrow", d: `M${x - dx * 4 - dy * 7} ${y - dy * 4 + dx * 7}L${x + dx * 8} ${y + dy * 8}L${x - dx * 4 + dy * 7} ${y - dy * 4 - dx * 7}Z`});
-  const aside = name.length * 2.9 + 8;
+  const aside = halfOf(name) + 8;
   labels.set(name, words(parent, [[x, y - 15], [x, y + 16], [x - dx * aside, y], [x, y - 25], [x, y + 27]], name, "name"));
 }
 
@@ -154,7 +158,7 @@ function paintPoint(key) {
 // A section's name stands by its first point, or else below its longest level run.
 function paintSection(one) {
   if (one.points.length) {
-    const key = [...one.points].sort((a, b) => drawing.points[a].id - drawing.points[b].id)[0], [x, y] = at(key), label = labels.get(drawing.points[key].name), up = label[1] < y ? -10 : 10;
+    const key = [...one.points].sort((a, b) => drawing.points[a].id - drawing.points[b].id)[0], [x, y] = at(key), label = labels.get(drawing.points[key].name), up = (label[1] < y ? -1.05 : 1.05) * letter;
     labels.set(one.name, words(by("d-things"), [[label[0], label[1] + up], ...aboutPoint(x, y), [x, y - 35], [x, y + 36]], one.name, "label"));
     return;
   }
@@ -181,10 +185,11 @@ function repaintLit() {
 const isLit = one => lit !== null && lit.text !== undefined && lit.text === one.text;
 
 function paintRing(over, key, number, isStrong) {
-  const [x, y] = at(key), parent = svg(over, "g", {class: "number"});
+  const [x, y] = at(key), parent = svg(over, "g", {class: "number"}), free = ([dx, dy]) => !boxes.some(box => meet(box, [x + dx - 6, y + dy - 6, x + dx + 6, y + dy + 6]));
+  const [dx, dy] = [[11, -11], [11, 11], [-11, 11], [-11, -11]].find(free) || [11, -11];
   svg(over, "circle", {class: "faulty" + (isStrong ? " lit" : ""), cx: x, cy: y, r: 12});
-  svg(parent, "circle", {cx: x + 11, cy: y - 11, r: 6.4});
-  writing(parent, x + 11, y - 11.3, String(number), "");
+  svg(parent, "circle", {cx: x + dx, cy: y + dy, r: 6.4});
+  svg(parent, "text", {x: x + dx, y: y + dy + 3, "text-anchor": "middle"}, String(number));
   over.append(parent);
 }
 
@@ -210,9 +215,9 @@ function runsOf(enter, leave) {
 }
 
 function paintFlank(over, name, lies) {
-  const [x, y] = labels.get(name), parent = svg(over, "g", {class: "flank"}), said = name + " " + lies, half = said.length * 2.9 + 5, [cx, cy] = at(read.where.point.get(name));
+  const [x, y] = labels.get(name), parent = svg(over, "g", {class: "flank"}), said = name + " " + lies, half = halfOf(said) + 4, high = letter * .66, [cx, cy] = at(read.where.point.get(name));
   svg(parent, "circle", {cx, cy, r: 8});
-  svg(parent, "rect", {x: x - half, y: y - 6.5, width: half * 2, height: 13, rx: 2.5});
+  svg(parent, "rect", {x: x - half, y: y - high, width: half * 2, height: 2 * high, rx: 2.5});
   writing(parent, x, y, said, "name");
 }
 

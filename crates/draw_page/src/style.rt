@@ -32,7 +32,7 @@ header .d-right{margin-left:auto;display:flex;gap:4px;align-items:center}
 #d-file-name{overflow:hidden;text-overflow:ellipsis;white-space:nowrap;max-width:13em;color:#cdd6dc}
 #d-plan{position:relative;min-height:0;background:#fff;border-bottom:1px solid #b6c1c9;overflow:hidden;touch-action:none}
 #d-plan svg{display:block;width:100%;height:100%;user-select:none}
-#d-plan svg:focus-visible{outline-offset:-3px}
+#d-plan svg:focus-visible{outline-width:2px;outline-offset:-2px}
 #d-plan[data-tool=rail] svg,#d-plan[data-tool=joint] svg,#d-plan[data-tool=signal] svg,#d-plan[data-tool=border] svg,#d-plan[data-tool=erase] svg{cursor:crosshair}
 #d-name{position:absolute;font:700 14px ui-monospace,monospace;width:11em;border:2px solid #0b5fd0;border-radius:3px;padding:1px 4px;background:#fff;z-index:3;box-shadow:0 2px 8px #0004}
 #d-begin{position:absolute;left:50%;top:50%;transform:translate(-50%,-50%);background:#fffffff0;border:1px solid #b6c1c9;border-radius:6px;padding:12px 20px;pointer-events:none;color:#37474f}
@@ -54,11 +54,13 @@ section.d-box{display:flex;flex-direction:column;min-height:0;min-width:0;backgr
 .d-box h2 .d-push{margin-left:auto;font-weight:400}
 .d-box h2 button{padding:0 6px}
 .d-rows{overflow:auto;padding:4px 8px;flex:1;min-height:0}
-.d-field{display:grid;grid-template-columns:78px 1fr;gap:6px;align-items:center;margin-bottom:4px}
+.d-field{display:grid;grid-template-columns:66px 1fr;gap:6px;align-items:center;margin-bottom:4px}
 .d-field.d-wide{grid-template-columns:1fr}
 .d-field input[type=text],.d-field input[type=number],.d-field select{width:100%;min-width:0;padding:1px 4px;border:1px solid #99a;border-radius:3px}
 .d-field .d-tick{display:flex;gap:6px;align-items:center}
-.d-two{display:grid;grid-template-columns:1fr 82px;gap:4px}
+.d-two{display:grid;grid-template-columns:1fr 50px;gap:4px}
+.d-two input[type=number]{appearance:textfield}
+.d-two input::-webkit-inner-spin-button{display:none}
 .d-row{display:flex;flex-wrap:wrap;gap:5px;margin:4px 0}
 .d-none{color:#4a5b68;margin:4px 0}
 ul.d-list{list-style:none;margin:0;padding:0}
@@ -86,7 +88,8 @@ dialog td{padding:2px 10px 2px 0;vertical-align:top}
 dialog td:first-child{white-space:nowrap}
 dialog form{margin-top:10px;display:flex;gap:8px}
 /* the plan */
-#d-svg text{font-family:ui-monospace,"DejaVu Sans Mono",monospace;font-size:9.5px}
+#d-svg text{font-family:ui-monospace,"DejaVu Sans Mono",monospace;font-size:var(--letter,9.5px)}
+#d-svg .name,#d-svg .label{paint-order:stroke;stroke:#fffc;stroke-width:2px}
 .rail{stroke:#111;stroke-width:2.6;stroke-linecap:round;stroke-linejoin:round;fill:none}
 .leg{stroke:#111;stroke-width:4.6;stroke-linecap:round;fill:none}
 .leg.slow{stroke:#b06a00}
@@ -120,9 +123,9 @@ dialog form{margin-top:10px;display:flex;gap:8px}
 .faulty.lit{fill:#b5009b40;stroke-width:3}
 .faulty.of-note{stroke:#0b5fd0;fill:#0b5fd022}
 .number circle{fill:#b5009b}
-.number text{fill:#fff;font-weight:700;font-size:8.5px}
+#d-svg .number text{fill:#fff;font-weight:700;font-size:8.5px}
 .dot{fill:#c3ccd3}
-@media (min-width:1600px){body{font-size:15px}.d-box h2{font-size:14px}#d-toml{font-size:13.5px}#d-said{font-size:16px}main{grid-template-columns:minmax(280px,.8fr) minmax(400px,1.15fr) minmax(500px,1.4fr) minmax(380px,1fr)}.d-field{grid-template-columns:96px 1fr}}
+@media (min-width:1600px){body{font-size:15px}.d-box h2{font-size:14px}#d-toml{font-size:13.5px}#d-said{font-size:16px}main{grid-template-columns:minmax(280px,.8fr) minmax(400px,1.15fr) minmax(500px,1.4fr) minmax(380px,1fr)}.d-field{grid-template-columns:84px 1fr}.d-two{grid-template-columns:1fr 64px}}
 </style>
 </head>
 "##] $($later)*)
