@@ -2,16 +2,19 @@
 """Opens the page on which a station is drawn in Chromium (headless, by its DevTools protocol; the Debian package is `chromium`), draws there
 as a person does, and judges what comes of it. It ends with a table of what was seen, and with status 1 where anything didn't come.
 
-    python3 bench/draw.py [--to FOLDER] [--size 1280x720] [--cases FOLDER] [mouse] [keyboard] [faults] [served] [opened] [random] [routes]
+    python3 bench/draw.py [--to FOLDER] [--size 1280x720] [--cases FOLDER] [mouse] [keyboard] [chosen] [faults] [served] [opened] [random] [routes]
 
 mouse      Halden and Neustadt are drawn by the mouse: their sections, borders, joints, tracks, points, signals, routes and aspects are
            those of examples/. All is undone and redone, and the file that was written opens again as the same
 keyboard   the small station by the keyboard alone, with a note whose button puts the signal that is wanted
+chosen     what is chosen by hand and not derived: names, aspects, approaches, extra conflicts, what is left out, slow legs. A signal is
+           dragged, room is made, rails are erased; a change takes some milliseconds
 faults     each fault that a drawing can have is shown at its place, and its button mends it
 served     the page as a program serves it (played here): who checked, saving, a file that changed meanwhile, running
 opened     the layouts of examples/, which have no positions, are placed; what was chosen by hand is kept when they are opened again
 random     200 random drawings: what has no fault opens again as the same
-routes     layouts with the routes that another program derived (--cases, a folder of NAME.toml with NAME.routes): the page derives the same
+routes     layouts with the routes that another program derived (--cases, a folder of NAME.toml with NAME.routes): the page derives the
+           same, and finds places for them, unless two borders are joined to one another
 """
 import argparse
 import collections
@@ -316,6 +319,53 @@ def keyboard(page, report):
     report.shot(page, "keyboard")
 
 
+# ---- what is chosen by hand
+
+def chosen(page, report):
+    page.tell(f"load({json.dumps(example('halden'))})")
+    page.click("#d-routes li:nth-child(2) b")
+    fill = lambda words, text: (page.tell(f"[...document.querySelectorAll('#d-fields input')].find(of => of.ariaLabel === '{words}').select()"), page.write(text))
+    choose = lambda words, value: page.tell(f"(() => {{ const of = [...document.querySelectorAll('#d-fields select')].find(of => of.ariaLabel === '{words}');"
+                                            f" of.value = [...of.options].find(one => one.textContent === '{value}').value; of.dispatchEvent(new Event('change')); }})()")
+    fill("name", "siding")
+    choose("aspect", "proceed")
+    fill("approach", "GAW")
+    choose("not with", "N1-East")
+    report.shot(page, "chosen-route")
+    page.click("#d-routes li:nth-child(3) input")
+    page.tell("(chosen = {kind: 'point', key: read.where.point.get('W1')}, paint())")
+    page.click("#d-fields .d-tick input")
+    routes = {one["name"]: one for one in tomllib.loads(page.text())["route"]}
+    one = routes.get("siding", {})
+    kept = one.get("approach") == ["GAW"] and one.get("extra") == ["N1-East"] and "aspect" not in one and routes["N1-East"]["extra"] == ["siding"] and "F-P2" not in routes
+    report.say("chosen: it stands in the file", kept and routes["A-N1"]["aspect"] == "slow", one)
+    report.say("chosen: it is kept when the file is opened again", page.again() == "")
+    drag_and_room(page, report)
+
+
+def drag_and_room(page, report):
+    x, y = page.tell("spot(drawing.signals.find(one => one.name === 'N1').at)")
+    changes = page.tell("past.length")
+    page.press("v")
+    page.drag((x - 0.48, y + 0.48), (x - 2.48, y + 0.48), (x - 4.48, y + 0.48))
+    moved = page.tell("spot(drawing.signals.find(one => one.name === 'N1').at)")
+    report.say("a signal is dragged along its rail, in one change", moved == [x - 4, y] and page.tell("past.length") == changes + 1, moved)
+    page.control("z")
+    routes, width = page.tell("[table.kept.map(one => one.name + one.path).join(), Math.max(...[...read.kinds.keys()].map(key => spot(key)[0]))]")
+    page.tell(f"(cursor = '{x - 3},{y}', hover = null, by('d-svg').focus(), paint())")
+    page.press("i", "i")
+    report.say("room is made, and no route changes", page.tell("[table.kept.map(one => one.name + one.path).join(), Math.max(...[...read.kinds.keys()].map(key => spot(key)[0]))]") == [routes, width + 2])
+    page.press("0", "e")
+    changes, rails = page.tell("[past.length, Object.keys(drawing.rails).length]")
+    page.drag((x - 2.5, y), (x - 6.5, y))
+    fewer = page.tell("Object.keys(drawing.rails).length")
+    report.say("rails are erased by a drag, in one change", fewer < rails - 2 and page.tell("past.length") == changes + 1, f"{rails - fewer} rails")
+    report.shot(page, "erased")
+    page.control("z")
+    took = page.tell("(() => { const began = performance.now(); for (let count = 0; count < 10; count++) { refresh(); paint(); } return (performance.now() - began) / 10; })()")
+    report.say("a change is worked out and painted", took < 1000, f"{took:.0f} ms")
+
+
 # ---- faults
 
 # The name of a fault, what draws it, where it is to be shown, and how many faults are left once its button was pressed.
@@ -531,14 +581,19 @@ DERIVED = """(text => {
 
 
 def routes(page, report, cases):
-    same, count, other, placed = 0, 0, [], 0
+    same, count, other, laid, lacking = 0, 0, [], 0, []
     for file in sorted(cases.glob("*.toml")):
         text, wanted = file.read_text(), file.with_suffix(".routes").read_text()
         derived = page.tell(f"{DERIVED}({json.dumps(text)})")
         same, count = same + (derived == wanted), count + wanted.count("\n")
         if derived != wanted:
             other.append(file.stem)
+        fault = page.tell(f"load({json.dumps(text)})")
+        laid += fault == ""
+        if fault and "joined to one another" not in fault:
+            lacking.append(file.stem)
     report.say("routes as another program derived them", not other and same > 0, f"{same} layouts, {count} routes {other}")
+    report.say("layouts without positions are placed", laid > 0.95 * same and len(lacking) <= 1, f"{laid} layouts; no place for {lacking}")
 
 
 def main():
@@ -546,7 +601,7 @@ def main():
     words.add_argument("--to", type=pathlib.Path, help="a folder for pictures of the page")
     words.add_argument("--size", default="1280x720", type=lambda text: tuple(map(int, text.split("x"))))
     words.add_argument("--cases", type=pathlib.Path, help="layouts with derived routes")
-    words.add_argument("kinds", nargs="*", default=["mouse", "keyboard", "faults", "served", "opened", "random", "routes"])
+    words.add_argument("kinds", nargs="*", default=["mouse", "keyboard", "chosen", "faults", "served", "opened", "random", "routes"])
     given = words.parse_intermixed_args()
     if given.to:
         given.to.mkdir(parents=True, exist_ok=True)
@@ -565,7 +620,8 @@ def work(kind, address, given, report):
         return served(given.size, report)
     if kind == "routes" and not given.cases:
         return None
-    does = {"mouse": mouse, "keyboard": keyboard, "faults": faults, "opened": opened, "random": random_drawings, "routes": lambda page, report: routes(page, report, given.cases)}[kind]
+    does = {"mouse": mouse, "keyboard": keyboard, "chosen": chosen, "faults": faults, "opened": opened, "random": random_drawings,
+            "routes": lambda page, report: routes(page, report, given.cases)}[kind]
     page = Page(address, given.size)
     try:
         does(page, report)

@@ -34,7 +34,7 @@ macro_rules! body {
 </table><table>
 <tr><td><kbd>i</kbd></td><td>makes room: what lies right of the pointer goes one to the right</td></tr>
 <tr><td><kbd>Ctrl+Z</kbd> <kbd>Ctrl+Y</kbd></td><td>undo, redo</td></tr>
-<tr><td><kbd>+</kbd> <kbd>-</kbd>, wheel</td><td>zoom; <kbd>0</kbd> has all in sight; <kbd>Space</kbd> and a drag move the paper</td></tr>
+<tr><td><kbd>+</kbd> <kbd>-</kbd>, wheel</td><td>zoom; <kbd>0</kbd> has all in sight; <kbd>Space</kbd> and a drag, or <kbd>Shift</kbd> and the wheel, move the paper</td></tr>
 <tr><td><kbd>f</kbd> <kbd>/</kbd></td><td>to the faults, to the routes: arrows, <kbd>Enter</kbd>; <kbd>Space</kbd> leaves a route out</td></tr>
 <tr><td><kbd>p</kbd></td><td>to the plan</td></tr>
 <tr><td><kbd>Ctrl+S</kbd></td><td>saves</td></tr>

@@ -142,8 +142,8 @@ function approachNotes(notes) {
   for (const one of table.kept.filter(one => one.approach.length === 0)) notes.push({text: `${one.name} has no approach sections: once cancelled it is held for 120 s`, at: at(one), way: one});
   for (const {one, lacks} of lacking.filter(it => isOwn(it) && it.one.approach.length)) notes.push({text: `approach of ${one.name} lacks ${lacks.join(", ")}`, at: at(one), way: one, fix: {text: "as derived", does: "routeApproach", key: one.key}});
   if (!derived.length) return;
-  const [{one, lacks}] = derived, text = `approach of ${one.name} lacks ${lacks.join(", ")}` + (derived.length > 1 ? `; so do ${derived.length - 1} more` : "") + ": lists reach to the first point alone";
-  notes.push({text, at: [], way: one, fix: {text: "to the signal before", does: "rule"}});
+  const [{one, lacks}] = derived, text = `approach of ${one.name} lacks ${lacks.join(", ")}` + (derived.length > 1 ? `; so do ${derived.length - 1} more` : "") + ": their lists end at a point";
+  notes.push({text, at: [], way: one, fix: {text: "to a signal", does: "rule"}});
 }
 
 function whyNone(name) {

@@ -32,6 +32,7 @@ function load(text) {
     const one = opened(text);
     replace(one.drawing, one.told);
     setTool("choose");
+    show();
     return "";
   } catch (fault) {
     say("it can't be opened: " + fault.message);

@@ -216,7 +216,13 @@ function zoom(by, [x, y]) {
 
 function onWheel(event) {
   event.preventDefault();
+  if (event.shiftKey || event.deltaX) return slide(event.deltaX || event.deltaY);
   zoom(Math.exp(event.deltaY * .0012), spotOf(event));
+}
+
+function slide(pixels) {
+  view.x += pixels / scaleNow().scale;
+  paint();
 }
 
 // All in sight, and a little more.
@@ -226,6 +232,17 @@ function fit() {
   const [xs, ys] = [keys.map(one => one[0]), keys.map(one => one[1])], [w, h] = [xs, ys].map(all => Math.max(...all) - Math.min(...all));
   const width = Math.max(w + 3, 22), height = Math.max(h + 3.4, 6);
   view = {x: (Math.min(...xs) + w / 2 - width / 2) * U, y: (Math.min(...ys) + h / 2 - height / 2) * U, w: width * U, h: height * U};
+  paint();
+}
+
+// All of it or, of a long station, its west end as large as it can be read.
+function show() {
+  fit();
+  const {box, scale} = scaleNow();
+  if (scale > .5 || !read.kinds.size) return;
+  const west = view.x, middle = view.y + view.h / 2;
+  view = {x: west, y: middle - box.height / 1.1, w: box.width / .55, h: box.height / .55};
+  say("a part is in sight: Space and a drag move the paper, 0 has all in sight");
   paint();
 }
 

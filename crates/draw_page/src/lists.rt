@@ -216,7 +216,7 @@ function routeFields() {
     tick("it is in the table", !one.isOut, () => change(all => { all.without = one.isOut ? all.without.filter(key => key !== one.key) : [...all.without, one.key]; }))];
   if (one.isOut) return rows;
   for (const name of one.extra) rows.push(html("div", {className: "d-row"}, "never together with " + name, button("✕", "it may be again", () => change(all => { all.extra = all.extra.filter(pair => !(pair.includes(one.key) && pair.includes(table.kept.find(it => it.name === name).key))); }))));
-  rows.push(choice("never with", [["", "…"], ...others.map(it => [it.key, it.name])], "", key => change(all => { if (key) all.extra.push([one.key, key].sort()); })));
+  rows.push(choice("not with", [["", "…"], ...others.map(it => [it.key, it.name])], "", key => change(all => { if (key) all.extra.push([one.key, key].sort()); })));
   if (Object.keys(drawing.asides[one.key] || {}).length) rows.push(html("div", {className: "d-row"}, button("As derived", "name, aspect and approach", () => change(all => { delete all.asides[one.key]; }))));
   return rows;
 }
@@ -232,7 +232,8 @@ function stationFields() {
   for (const one of drawing.detectors.filter(one => read.l.detector.some(it => it.name === one.name))) {
     rows.push(nameField("detector", one, name => change(() => { one.name = name; }), id => change(() => { one.id = id; })));
   }
-  rows.push(choice("approach", [["signal", "to the signal before"], ["berth", "to the first point"]], drawing.rule, rule => change(all => { all.rule = rule; })));
+  // how far before a signal its approach sections reach
+  rows.push(choice("approach", [["signal", "to a signal"], ["berth", "to a point"]], drawing.rule, rule => change(all => { all.rule = rule; })));
   rows.push(telling("Draw rails: a point comes where three of them meet. Joints part sections. Tracks, sections, joints and routes follow."));
   return rows;
 }

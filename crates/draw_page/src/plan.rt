@@ -83,16 +83,21 @@ let boxes = [], labels = new Map(), letter = 9.5;
 const meet = (one, other) => one[0] < other[2] && other[0] < one[2] && one[1] < other[3] && other[1] < one[3];
 
 function words(parent, places, said, className) {
-  const half = halfOf(said) + 1, high = letter * .53, box = ([x, y]) => [x - half, y - high, x + half, y + high];
-  const count = spotted => boxes.filter(one => meet(one, box(spotted))).length;
+  const best = freest(places, halfOf(said) + 1, letter * .53);
+  boxes.push(boxAt(best, halfOf(said) + 1, letter * .53));
+  writing(parent, ...best, said, className);
+  return best;
+}
+
+const boxAt = ([x, y], half, high) => [x - half, y - high, x + half, y + high];
+
+function freest(places, half, high) {
   let best = places[0], least = Infinity;
   for (const one of places) {
-    const number = count(one);
+    const number = boxes.filter(box => meet(box, boxAt(one, half, high))).length;
     if (number < least) { best = one; least = number; }
     if (least === 0) break;
   }
-  boxes.push(box(best));
-  writing(parent, ...best, said, className);
   return best;
 }
 
@@ -158,7 +163,7 @@ function paintPoint(key) {
 // A section's name stands by its first point, or else below its longest level run.
 function paintSection(one) {
   if (one.points.length) {
-    const key = [...one.points].sort((a, b) => drawing.points[a].id - drawing.points[b].id)[0], [x, y] = at(key), label = labels.get(drawing.points[key].name), up = (label[1] < y ? -1.05 : 1.05) * letter;
+    const key = [...one.points].sort((a, b) => drawing.points[a].id - drawing.points[b].id)[0], [x, y] = at(key), label = labels.get(drawing.points[key].name), up = (label[1] < y ? -1.12 : 1.12) * letter;
     labels.set(one.name, words(by("d-things"), [[label[0], label[1] + up], ...aboutPoint(x, y), [x, y - 35], [x, y + 36]], one.name, "label"));
     return;
   }
@@ -214,8 +219,12 @@ function runsOf(enter, leave) {
   return run ? [run] : [enter, leave].map(port => read.runOf.get(railKey(key, read.kinds.get(key)[endOf(port)])));
 }
 
+// A guarding point has a ring, and a tag over its name or beside it.
 function paintFlank(over, name, lies) {
-  const [x, y] = labels.get(name), parent = svg(over, "g", {class: "flank"}), said = name + " " + lies, half = halfOf(said) + 4, high = letter * .66, [cx, cy] = at(read.where.point.get(name));
+  const parent = svg(over, "g", {class: "flank"}), said = name + " " + lies, half = halfOf(said) + 4, high = letter * .66, aside = half - halfOf(name), [cx, cy] = at(read.where.point.get(name)), [u, v] = labels.get(name);
+  const own = boxes.findIndex(box => meet(box, boxAt([u, v], 1, 1))), [kept] = boxes.splice(own, 1);
+  const [x, y] = freest([[u, v], [u - aside, v], [u + aside, v], [u, v - 6], [u, v + 6], [u - aside - 8, v], [u + aside + 8, v], [cx, cy + 26], [cx, cy - 26]], half, high);
+  boxes.push(kept);
   svg(parent, "circle", {cx, cy, r: 8});
   svg(parent, "rect", {x: x - half, y: y - high, width: half * 2, height: 2 * high, rx: 2.5});
   writing(parent, x, y, said, "name");

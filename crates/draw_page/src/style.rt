@@ -118,6 +118,7 @@ dialog form{margin-top:10px;display:flex;gap:8px}
 .way.bad{stroke:#b5009b;stroke-dasharray:7 5;stroke-linecap:butt}
 .coming{stroke:#0b5fd0;stroke-width:4.4;stroke-dasharray:3.5 3.5;fill:none}
 .flank rect{fill:#f7d36b;stroke:#111;stroke-width:.8}
+#d-svg .flank text{stroke:none}
 .flank circle{fill:none;stroke:#d79b00;stroke-width:2.4}
 .faulty{fill:#b5009b14;stroke:#b5009b;stroke-width:2}
 .faulty.lit{fill:#b5009b40;stroke-width:3}
