@@ -161,7 +161,6 @@ async function start() {
   listenToButtons();
   const isServed = location.protocol.startsWith("http");
   if (!isServed) fromStore();
-  by("d-run").hidden = !isServed;
   refresh();
   fit();
   if (isServed) { try { await askLayout(false); } catch { say("the station doesn't answer"); } }

@@ -230,7 +230,7 @@ function fit() {
   const keys = read ? [...read.kinds.keys()].map(spot) : [];
   if (!keys.length) { view = {...NOTHING}; return paint(); }
   const [xs, ys] = [keys.map(one => one[0]), keys.map(one => one[1])], [w, h] = [xs, ys].map(all => Math.max(...all) - Math.min(...all));
-  const width = Math.max(w + 3, 22), height = Math.max(h + 3.4, 6);
+  const width = Math.max(w + 3, 28), height = Math.max(h + 3.4, 9);
   view = {x: (Math.min(...xs) + w / 2 - width / 2) * U, y: (Math.min(...ys) + h / 2 - height / 2) * U, w: width * U, h: height * U};
   paint();
 }

@@ -215,10 +215,15 @@ function routeFields() {
     field("approach", one.approach.join(" "), text => setApproach(one, text)),
     tick("it is in the table", !one.isOut, () => change(all => { all.without = one.isOut ? all.without.filter(key => key !== one.key) : [...all.without, one.key]; }))];
   if (one.isOut) return rows;
-  for (const name of one.extra) rows.push(html("div", {className: "d-row"}, "never together with " + name, button("✕", "it may be again", () => change(all => { all.extra = all.extra.filter(pair => !(pair.includes(one.key) && pair.includes(table.kept.find(it => it.name === name).key))); }))));
+  for (const name of one.extra) rows.push(html("div", {className: "d-row"}, button("✕", "they may be set together again", () => change(all => takeExtra(all, one, name))), "never together with " + name));
   rows.push(choice("not with", [["", "…"], ...others.map(it => [it.key, it.name])], "", key => change(all => { if (key) all.extra.push([one.key, key].sort()); })));
   if (Object.keys(drawing.asides[one.key] || {}).length) rows.push(html("div", {className: "d-row"}, button("As derived", "name, aspect and approach", () => change(all => { delete all.asides[one.key]; }))));
   return rows;
+}
+
+function takeExtra(all, one, name) {
+  const other = table.kept.find(it => it.name === name).key;
+  all.extra = all.extra.filter(pair => !(pair.includes(one.key) && pair.includes(other)));
 }
 
 function setApproach(one, text) {

@@ -93,12 +93,14 @@ function putJoints(drawing, l, ends, sections, lines) {
   for (const name of l.border) if (!joined.has(name + ".end")) drawing.borders[place(...lines[name])] = name;
 }
 
-// Both ends come to the middle of the run between two points.
+// Both ends come to one place of the run between two points: as near to its middle as it goes straight on.
 function moveEnds(one, other) {
-  const at = one.places.length >> 1;
-  if (one.places.length < 3) throw new Error("no room for a joint");
-  Object.assign(other, {key: one.places[at], back: wayFrom(one.places[at], one.places[at + 1])});
-  Object.assign(one, {key: one.places[at], back: wayFrom(one.places[at], one.places[at - 1])});
+  const {places} = one, middle = places.length / 2, isBent = at => wayFrom(places[at - 1], places[at]) !== wayFrom(places[at], places[at + 1]);
+  const inner = places.map((_, at) => at).slice(1, -1).sort((a, b) => isBent(a) - isBent(b) || Math.abs(a - middle) - Math.abs(b - middle));
+  if (!inner.length) throw new Error("no room for a joint");
+  const [at] = inner;
+  Object.assign(other, {key: places[at], back: wayFrom(places[at], places[at + 1])});
+  Object.assign(one, {key: places[at], back: wayFrom(places[at], places[at - 1])});
 }
 
 // Where a signal stands, and the way in which a train passes it that leaves by the port.

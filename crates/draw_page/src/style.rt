@@ -61,7 +61,7 @@ section.d-box{display:flex;flex-direction:column;min-height:0;min-width:0;backgr
 .d-two{display:grid;grid-template-columns:1fr 50px;gap:4px}
 .d-two input[type=number]{appearance:textfield}
 .d-two input::-webkit-inner-spin-button{display:none}
-.d-row{display:flex;flex-wrap:wrap;gap:5px;margin:4px 0}
+.d-row{display:flex;flex-wrap:wrap;align-items:baseline;gap:5px;margin:4px 0}
 .d-none{color:#4a5b68;margin:4px 0}
 ul.d-list{list-style:none;margin:0;padding:0}
 ul.d-list li{display:flex;gap:6px;align-items:baseline;padding:2px 4px;border-radius:3px;border-left:4px solid transparent}
