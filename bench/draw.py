@@ -2,7 +2,7 @@
 """Opens the page on which a station is drawn in Chromium (headless, by its DevTools protocol; the Debian package is `chromium`), draws there
 as a person does, and judges what comes of it. It ends with a table of what was seen, and with status 1 where anything didn't come.
 
-    python3 bench/draw.py [--to FOLDER] [--size 1280x720] [--cases FOLDER] [mouse] [keyboard] [chosen] [faults] [served] [opened] [random] [routes]
+    python3 bench/draw.py [--to FOLDER] [--size 1280x720] [--cases FOLDER] [--station STATION] [mouse] [keyboard] [chosen] [faults] [served] [opened] [random] [routes]
 
 mouse      Halden and Neustadt are drawn by the mouse: their sections, borders, joints, tracks, points, signals, routes and aspects are
            those of examples/. All is undone and redone, and the file that was written opens again as the same
@@ -12,7 +12,8 @@ chosen     what is chosen by hand and not derived: names, aspects, approaches, e
 faults     each fault that a drawing can have is shown at its place, and its button mends it
 served     the page as a program serves it (played here): who checked, saving, a file that changed meanwhile, running
 opened     the layouts of examples/, which have no positions, are placed; what was chosen by hand is kept when they are opened again
-random     200 random drawings: what has no fault opens again as the same
+random     200 random drawings: what has no fault opens again as the same. With --station, the program, `station check` accepts each text, and
+           those that were drawn by mouse
 routes     layouts with the routes that another program derived (--cases, a folder of NAME.toml with NAME.routes): the page derives the
            same, and finds places for them, unless two borders are joined to one another
 """
@@ -21,6 +22,7 @@ import collections
 import http.server
 import json
 import pathlib
+import subprocess
 import sys
 import tempfile
 import threading
@@ -137,8 +139,8 @@ class Page(Browser):
 class Report:
     """What came, row by row."""
 
-    def __init__(self, folder, size):
-        self.folder, self.size, self.rows = folder, size, []
+    def __init__(self, folder, size, station=None):
+        self.folder, self.size, self.station, self.rows = folder, size, station, []
 
     def say(self, step, came, words=""):
         self.rows.append((step, "came" if came else "DIDN'T COME", str(words)[:160]))
@@ -147,6 +149,14 @@ class Report:
         """Whether two layouts say the same, key by key."""
         differ = [f"{key}: {sorted(map(str, one[key] ^ other[key]))}" for key in one if one[key] != other[key]]
         self.say(step, not differ, "; ".join(differ))
+
+    def checked(self, step, texts):
+        """Whether the program accepts texts that the page accepts."""
+        if not self.station:
+            return
+        said = [subprocess.run([self.station, "check", "-"], input=text, capture_output=True, text=True) for text in texts]
+        wrong = [one.stderr for one in said if one.returncode != 0]
+        self.say(step, not wrong, f"{len(texts)} texts {wrong[:1]}")
 
     def shot(self, page, name):
         if self.folder:
@@ -215,6 +225,7 @@ def draw_halden(page, report):
     page.move(5, 8)
     report.say("Halden is sound", page.said() == "ok: 6 signals, 4 points, 8 sections, 8 routes", f"{page.actions} actions, {page.said()}")
     report.same("Halden as in examples/", told(example("halden")), told(page.text()))
+    report.checked("Halden by the program", [page.text()])
     report.shot(page, "halden")
     page.row("#d-routes", "A-N1")
     report.shot(page, "halden-route")
@@ -268,6 +279,7 @@ def draw_neustadt(page, report):
     page.move(2, 13)
     report.say("Neustadt is sound", page.said() == "ok: 22 signals, 13 points, 25 sections, 41 routes", f"{page.actions - began} actions, {page.said()}")
     report.same("Neustadt as in examples/", told(example("neustadt")), told(page.text()))
+    report.checked("Neustadt by the program", [page.text()])
     report.shot(page, "neustadt")
     page.row("#d-routes", "A1-N3")
     report.shot(page, "neustadt-route")
@@ -532,7 +544,7 @@ def opened(page, report):
 RANDOM = """(() => {
   let seed = SEED;
   const below = most => { seed = (seed * 1103515245 + 12345) % 2147483648; return Math.floor(seed / 2147483648 * most); };
-  const tell = {sound: 0, faulty: 0, same: 0, routes: 0, other: []};
+  const tell = {sound: 0, faulty: 0, same: 0, routes: 0, other: [], texts: []};
   for (let round = 0; round < COUNT; round++) {
     const all = newDrawing(), places = [];
     for (let count = 2 + below(6); count > 0; count--) {
@@ -553,6 +565,7 @@ RANDOM = """(() => {
     tell.sound++;
     tell.routes += table.kept.length;
     const text = read.text;
+    tell.texts.push(text);
     replace(newDrawing(), []);
     const fault = load(text);
     if (!fault && read.text === text) tell.same++; else tell.other.push([round, fault || 'another text']);
@@ -562,13 +575,15 @@ RANDOM = """(() => {
 
 
 def random_drawings(page, report, count=200):
-    tell = {"sound": 0, "faulty": 0, "same": 0, "routes": 0, "other": []}
+    tell = {"sound": 0, "faulty": 0, "same": 0, "routes": 0, "other": [], "texts": []}
     for seed in range(1, 100):
         part = page.tell(RANDOM.replace("SEED", str(seed)).replace("COUNT", "50"))
         tell = {key: tell[key] + part[key] for key in tell}
         if tell["sound"] >= count:
             break
+    texts = tell.pop("texts")
     report.say("random drawings open again as the same", tell["same"] == tell["sound"] >= count, tell)
+    report.checked("random drawings by the program", texts)
 
 
 # ---- routes that another program derived
@@ -601,11 +616,12 @@ def main():
     words.add_argument("--to", type=pathlib.Path, help="a folder for pictures of the page")
     words.add_argument("--size", default="1280x720", type=lambda text: tuple(map(int, text.split("x"))))
     words.add_argument("--cases", type=pathlib.Path, help="layouts with derived routes")
+    words.add_argument("--station", help="the program, which is to check what the page accepts")
     words.add_argument("kinds", nargs="*", default=["mouse", "keyboard", "chosen", "faults", "served", "opened", "random", "routes"])
     given = words.parse_intermixed_args()
     if given.to:
         given.to.mkdir(parents=True, exist_ok=True)
-    report = Report(given.to, given.size)
+    report = Report(given.to, given.size, given.station)
     with tempfile.TemporaryDirectory() as folder:
         file = pathlib.Path(folder, "draw.html")
         file.write_text(draw_page.page())

@@ -327,12 +327,12 @@ function removeChosen() {
   change(all => {
     takeAway(all, what);
     for (const run of runs) for (const rail of run.rails) takeRail(all, rail);
-    if (what.kind === "point") for (const way of waysAt(all, what.key)) if (waysAt(all, what.key).length > 2) takeRail(all, railKey(what.key, read.kinds.get(what.key)[minorLeg(what.key)]));
+    if (what.kind === "point") takeRail(all, railKey(what.key, minorLeg(read.kinds.get(what.key))));
   });
 }
 
-// The leg of a point that isn't in line with its tip.
-const minorLeg = key => { const of = read.kinds.get(key); return of.left === turned(of.tip) ? "right" : "left"; };
+// The way of the leg of a point that isn't in line with its tip.
+const minorLeg = of => of.left === turned(of.tip) ? of.right : of.left;
 
 function lay(from, to) {
   const places = bestPath(drawing, from, to, isOther);

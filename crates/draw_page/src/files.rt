@@ -72,9 +72,11 @@ async function saveOver() {
 }
 
 function took(isOk, text) {
-  if (isOk) station.known = text.trim();
+  if (isOk) { station.known = text.trim(); station.text = read.text; }
   say(isOk ? "saved to " + station.file : "it isn't saved: " + text);
 }
+
+const isUnsaved = () => station && station.text !== read.text && read.kinds.size > 0;
 
 async function copy() {
   try {
@@ -123,10 +125,9 @@ async function stop() {
 // What the station serves: the text of the file, what it was known by, and who it is.
 async function askLayout(isAgain) {
   station = await (await fetch("/layout", {cache: "no-store", signal: AbortSignal.timeout(5000)})).json();
-  by("d-file-name").textContent = station.file;
   by("d-file-name").title = station.file;
   if (station.text && load(station.text)) say(station.file + " can't be opened: " + by("d-hint").textContent);
-  if (!isAgain) { past.length = future.length = 0; }
+  if (!isAgain) past.length = future.length = 0;
 }
 
 function fromStore() {
@@ -144,6 +145,7 @@ function listenToPlan() {
   plan.addEventListener("wheel", onWheel, {passive: false});
   document.addEventListener("keydown", onKey);
   document.addEventListener("keyup", key => { if (key.key === " ") isSpace = false; });
+  window.addEventListener("beforeunload", event => { if (isUnsaved()) event.preventDefault(); });
   document.addEventListener("dragover", event => event.preventDefault());
   document.addEventListener("drop", event => { event.preventDefault(); openFile(event.dataTransfer.files[0]); });
 }

@@ -32,6 +32,8 @@ function paintWord() {
   by("d-by").textContent = (faults.length > 1 ? "and " + (faults.length - 1) + " more, " : "") + (isProved ? "checked by station " + station.version : station && !station.isGone && !read.faults.length ? "is being checked" : "by this page, which isn't proved" + (station?.isGone ? ": the station doesn't answer" : ""));
   by("d-by").dataset.proved = isProved ? "yes" : "no";
   by("d-hint").textContent = saying || HINTS[tool];
+  by("d-hint").dataset.said = saying ? "yes" : "no";
+  if (station) by("d-file-name").textContent = station.file + (isUnsaved() ? " \u2022" : "");
 }
 
 // ---- the lists

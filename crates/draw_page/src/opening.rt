@@ -5,6 +5,8 @@ macro_rules! opening {
     ([$($before:literal)*] $next:ident $($later:ident)*) => {
         $next!([$($before)* r##"// ---- from a layout to a drawing
 
+// The places of a drawing lie within so many of its middle.
+const FARTHEST = 4000;
 const KEYS = ["station", "section", "track", "point", "border", "joint", "signal", "detector"];
 
 // A route is told by the signal at which it begins, the sides at its points, and its end: names alone, so that a joint more or a
@@ -14,16 +16,26 @@ const signature = one => one.entry + "|" + Object.entries(one.points).map(([poin
 // The drawing of a layout, and what is to be told about it.
 function opened(text) {
   const l = new Toml(text).read(), told = [];
-  for (const key of KEYS) if (l[key] === undefined) throw new Error("the key `" + key + "` isn't there");
+  judgeKeys(l);
   l.route ??= [];
-  const twins = l.joint.find(pair => pair.every(port => endOf(port) === "end"));
-  if (twins) throw new Error("the borders " + twins.map(elementOf).join(" and ") + " are joined to one another");
   const drawing = atItsPlaces(l) || placed(l);
   if (!drawing) throw new Error("no place was found for all of its rails on the grid");
   if (l.drawing && drawing.isPlaced) told.push("positions were missing or didn't fit: it was placed anew");
   delete drawing.isPlaced;
   keepChoices(drawing, l, told);
   return {drawing, told};
+}
+
+// What `station check` would refuse before it looks at routes isn't opened.
+function judgeKeys(l) {
+  for (const key of KEYS) if (l[key] === undefined) throw new Error("the key `" + key + "` isn't there");
+  const wrong = KEYS.find(key => key !== "station" && !Array.isArray(l[key]));
+  if (wrong) throw new Error("the key `" + wrong + "` has no array");
+  const ports = new Set([...l.track.flatMap(one => [one.name + ".a", one.name + ".b"]), ...l.point.flatMap(one => [one.name + ".tip", one.name + ".left", one.name + ".right"]), ...l.border.map(name => name + ".end")]);
+  const sections = new Set(l.section), unknown = [...l.joint.flat(), ...l.signal.map(one => one.at)].find(port => !ports.has(port)) ?? [...l.track, ...l.point].map(one => one.section).find(name => !sections.has(name));
+  if (unknown !== undefined) throw new Error(unknown + " isn't there");
+  const twins = l.joint.find(pair => pair.every(port => endOf(port) === "end"));
+  if (twins) throw new Error("the borders " + twins.map(elementOf).join(" and ") + " are joined to one another");
 }
 
 // As it was drawn, if its positions are whole and give this very layout.
@@ -67,6 +79,7 @@ function drawnBy(l, lines) {
 
 // The farther half of a line from a point may be another point's.
 function layLine(drawing, numbers, value, isHalf) {
+  if (!numbers.every(one => Number.isInteger(one) && Math.abs(one) <= FARTHEST)) throw new Error("a position isn't on the grid");
   const places = [place(numbers[0], numbers[1])];
   for (let at = 2; at < numbers.length; at += 2) places.push(...pathBetween(places.at(-1), place(numbers[at], numbers[at + 1]), false).slice(1));
   for (let at = 1; at < places.length; at++) {

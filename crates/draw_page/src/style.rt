@@ -41,9 +41,10 @@ header .d-right{margin-left:auto;display:flex;gap:4px;align-items:center}
 #d-word{min-height:30px;padding:4px 12px;background:#fff;border-bottom:1px solid #b6c1c9;display:flex;gap:10px;align-items:baseline}
 #d-said{font-size:14px}
 #d-word .d-hint{margin-left:auto;color:#4a5b68;text-align:right}
+#d-word .d-hint[data-said=yes]{color:#111;font-weight:600}
 #d-word[data-kind=fault]{background:#2b2b2b;color:#fff}
 #d-word[data-kind=fault] #d-said::before{content:"\2716  "}
-#d-word[data-kind=fault] .d-hint,#d-word[data-kind=fault] #d-by{color:#cdd}
+#d-word[data-kind=fault] .d-hint[data-said],#d-word[data-kind=fault] #d-by{color:#cdd}
 #d-word[data-kind=ok] #d-said::before{content:"\2714  ";color:#14682e}
 #d-by{color:#4a5b68;white-space:nowrap}
 #d-by[data-proved=yes]{color:#14682e;font-weight:600}
