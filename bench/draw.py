@@ -464,7 +464,7 @@ class Desk(http.server.BaseHTTPRequestHandler):
 
 
 def sound(text):
-    return {"status": 0, "out": "ok: what the program says\n", "err": ""}
+    return {"status": 0, "out": "ok: what the program says\nno route to border North\n", "err": ""}
 
 
 def unsound(text):
@@ -484,6 +484,7 @@ def served(size, report):
     settle()
     by = lambda: page.tell("by('d-by').textContent")
     report.say("served: it says who checked", by() == "checked by station 1.0.0" and page.said() == "ok: what the program says", by())
+    report.say("served: what the program tells beyond the page stands there", any("station: no route to border North" in row for row in page.rows()), page.rows())
     report.same("served: Halden is opened and placed", told(example("halden")), told(page.text()))
     report.say("served: each request has the token", all(one[2] == "secret" for one in Desk.asked), len(Desk.asked))
     report.shot(page, "served")

@@ -1,6 +1,6 @@
 //! Changes of the drawing, and what follows from them.
 
-/// What the page knows; changes that can be undone; routes, faults and notes; and the station that is asked.
+/// What the page knows, changes that can be undone, and what tools do.
 macro_rules! changes {
     ([$($before:literal)*] $next:ident $($later:ident)*) => {
         $next!([$($before)* r##"// ---- what the page knows
@@ -90,100 +90,6 @@ function refresh() {
   read.notes = notesOf();
   read.text = writeLayout(read.l, table.kept, read.lines);
   askStation();
-}
-
-// What was chosen by hand goes before what is derived.
-function chooseFor(one) {
-  const {name, aspect, approach} = one;
-  one.key = signature(one);
-  one.isOut = drawing.without.includes(one.key);
-  one.derived = {name, aspect, approach};
-  Object.assign(one, drawing.asides[one.key]);
-  one.approach = one.approach.filter(name => table.site.order.has(name));
-}
-
-function conflictsOf(one) {
-  const keys = drawing.extra.filter(pair => pair.includes(one.key)).map(pair => pair.find(key => key !== one.key));
-  return table.kept.filter(it => keys.includes(it.key)).map(it => it.name);
-}
-
-function judgeRoutes() {
-  const names = new Set(namesOf(read.l)), at = one => [read.placeOf("signal", one.entry)];
-  const fault = (one, text, fix) => read.faults.push({text, at: at(one), way: one, fix});
-  for (const one of table.kept) {
-    const fix = {text: "as derived", does: "routeName", key: one.key};
-    if (!isName(one.name)) fault(one, `the name "${one.name}" of a route isn't 1 to 20 of A to Z, a to z, 0 to 9 and -`, fix);
-    else if (names.has(one.name)) fault(one, `the name ${one.name} is used twice: the later one by the route from ${one.entry} to ${one.exit}`, fix);
-    names.add(one.name);
-    const number = judge(table.site, one, table.kept);
-    if (number) fault(one, `table fault ${number} ${TABLE_FAULTS[number]} at route ${one.name}`);
-  }
-  if (table.isCut) read.faults.push({text: "more ways than this page looks through: signals between them would part them", at: []});
-  else if (table.kept.length > LIMITS.route) fault(table.kept[LIMITS.route], `${table.kept.length} routes: at most ${LIMITS.route} are possible. Leave some out`);
-}
-
-// ---- notes: what an engineer wants to know, though it is no fault
-
-function notesOf() {
-  const {signal, border} = read.l, starts = new Set(table.routes.map(one => one.entry)), ends = new Set(table.routes.map(one => one.exit));
-  const notes = [...told.map(text => ({text, at: []})), ...openLegs(), ...contradictions()];
-  if (read.isUnnamed) return notes;
-  for (const one of signal.filter(one => !starts.has(one.name))) notes.push({text: `no route begins at ${one.name}` + whyNone(one.name), at: [read.placeOf("signal", one.name)]});
-  for (const name of border.filter(name => !ends.has(name))) notes.push({text: `no route leads to border ${name}`, at: [read.placeOf("border", name)]});
-  approachNotes(notes);
-  for (const name of drawing.scattered.filter(name => read.where.section.has(name))) notes.push({text: `section ${name} has parts that don't hang together`, at: [read.placeOf("section", name)], fix: {text: "part them", does: "part", name}});
-  return notes;
-}
-
-// A list that was written by hand is told by itself; those of the shorter rule together.
-function approachNotes(notes) {
-  const lacking = table.kept.map(one => ({one, lacks: comingTo(table.site, table.site.portOf.get(one.entry)).filter(name => !one.approach.includes(name))})).filter(({lacks}) => lacks.length);
-  const isOwn = ({one}) => drawing.asides[one.key]?.approach !== undefined, at = one => [read.placeOf("signal", one.entry)], derived = lacking.filter(one => !isOwn(one));
-  for (const one of table.kept.filter(one => one.approach.length === 0)) notes.push({text: `${one.name} has no approach sections: once cancelled it is held for 120 s`, at: at(one), way: one});
-  for (const {one, lacks} of lacking.filter(it => isOwn(it) && it.one.approach.length)) notes.push({text: `approach of ${one.name} lacks ${lacks.join(", ")}`, at: at(one), way: one, fix: {text: "as derived", does: "routeApproach", key: one.key}});
-  if (!derived.length) return;
-  const [{one, lacks}] = derived, text = `approach of ${one.name} lacks ${lacks.join(", ")}` + (derived.length > 1 ? `; so do ${derived.length - 1} more` : "") + ": their lists end at a point";
-  notes.push({text, at: [], way: one, fix: {text: "to a signal", does: "rule"}});
-}
-
-function whyNone(name) {
-  const why = table.stuck.filter(one => one.entry === name).map(one => one.why), isImpossible = table.impossible.some(one => one.entry === name);
-  return why.length || isImpossible ? ": " + [...new Set(isImpossible ? [...why, "what leads on is impossible"] : why)].join("; ") : "";
-}
-
-// An open leg is told once, with all that it prevents.
-function openLegs() {
-  const open = new Map();
-  for (const way of table.impossible) for (const one of way.causes.filter(one => one.kind === "open")) {
-    if (!open.has(one.leg)) open.set(one.leg, {...one, ways: []});
-    open.get(one.leg).ways.push(way);
-  }
-  return [...open.values()].map(one => {
-    const pairs = [...new Set(one.ways.map(way => way.entry + " to " + way.exit))], more = pairs.length - 3;
-    const text = `no route leads over ${elementOf(one.leg)} ${OTHER[endOf(one.leg)]}: ${whyImpossible(one)}. It prevents ${pairs.slice(0, 3).join(", ")}${more > 0 ? " and " + more + " more" : ""}`;
-    return {text, at: [read.where.port.get(one.far)].filter(Boolean), way: one.ways[0], fix: signalFix(one.far)};
-  });
-}
-
-const whyImpossible = one => one.kind === "open"
-  ? `${one.leg} is open, no signal stands at ${one.far}, to which it is joined`
-  : `${one.point} is required ${one.side} by ${one.by} and ${OTHER[one.side]} by ${one.other}`;
-
-function contradictions() {
-  const pairs = new Map(), has = (entry, exit) => table.routes.some(one => one.entry === entry && one.exit === exit);
-  for (const way of table.impossible) {
-    const both = way.causes.find(one => one.kind === "both"), pair = way.entry + " to " + way.exit;
-    if (both && way.causes.every(one => one.kind === "both") && !has(way.entry, way.exit) && !pairs.has(pair)) pairs.set(pair, {way, both});
-  }
-  return [...pairs].map(([pair, {way, both}]) => ({text: `no route from ${pair}: ${whyImpossible(both)}. A signal between would part the ways`, at: [read.where.point.get(both.point)].filter(Boolean), way}));
-}
-
-// A signal at a port: where a joint, an end or a border is drawn there, it can be put by a click.
-function signalFix(port) {
-  const key = read.where.port.get(port), of = read.kinds.get(key);
-  if (!of) return null;
-  for (const toward of [...of.ways, ...of.ways.map(turned)]) if (read.portBefore({at: key, toward}) === port) return {text: "put a signal", does: "signal", key, toward};
-  return null;
 }
 
 // ---- what one change mends
@@ -353,54 +259,6 @@ function flip(one) {
   const toward = ways.find(way => way !== one.toward && read.portBefore({at: one.at, toward: way}) && !drawing.signals.some(it => it.at === one.at && it.toward === way));
   if (toward === undefined) return say("no signal can stand on the other side here");
   change(() => { one.toward = toward; });
-}
-
-// ---- the station after the page, where there is one: its check is the proved one
-
-let station = null, answer = null, asking = null;
-
-// What the station says of the text that is drawn now; nothing as long as it wasn't asked.
-const verdict = () => answer && answer.text === read.text ? answer : null;
-
-function ask(path, body, more = {}) {
-  return fetch(path, {method: "POST", body, headers: {"X-Token": station.token, "Content-Type": "text/plain", ...more}, signal: AbortSignal.timeout(5000)});
-}
-
-function askStation() {
-  clearTimeout(asking);
-  if (station) asking = setTimeout(check, 250);
-}
-
-async function check() {
-  const text = read.text;
-  try {
-    const said = await ask("/check", text);
-    if (!said.ok) throw new Error(said.status);
-    answer = {text, ...await said.json()};
-    station.isGone = false;
-  } catch {
-    station.isGone = true;
-  }
-  paintWord();
-  paintFaults();
-  repaintLit();
-}
-
-// Where a fault lies that the station tells.
-function placeOfFault(line) {
-  const layout = line.match(/^layout fault \d+ \w+ at (\w+) (\d+)/), route = line.match(/^table fault \d+ \w+ at route (\S+)/);
-  const one = route && table.kept.find(it => it.name === route[1]);
-  if (one) return {at: [read.placeOf("signal", one.entry)].filter(Boolean), way: one};
-  const entry = layout && read.l[layout[1]]?.[layout[2] - 1];
-  if (!entry) return {at: []};
-  return {at: [layout[1] === "joint" ? read.where.port.get(entry[0]) : read.placeOf(layout[1], entry.name ?? entry)].filter(Boolean)};
-}
-
-// The faults that the page found, or else that which the station tells.
-function faultsNow() {
-  const said = verdict();
-  if (read.faults.length || !said || said.status === 0) return read.faults;
-  return [{text: said.err.trim().replace(/\n/g, ": "), ...placeOfFault(said.err)}];
 }
 
 "##] $($later)*)

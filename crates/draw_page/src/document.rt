@@ -7,6 +7,7 @@ use crate::grid::grid;
 use crate::hand::hand;
 use crate::lists::lists;
 use crate::names::names;
+use crate::notes::notes;
 use crate::opening::opening;
 use crate::placing::placing;
 use crate::plan::plan;
@@ -18,4 +19,4 @@ use crate::whole::whole;
 
 /// The page on which a station is drawn: HTML with its style and its script, and with nothing from elsewhere.
 pub const PAGE: &str =
-    style!([] body toml table grid reading names opening placing changes plan lists hand files whole);
+    style!([] body toml table grid reading names opening placing changes notes plan lists hand files whole);

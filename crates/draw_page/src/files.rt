@@ -64,7 +64,8 @@ async function save() {
 }
 
 async function saveOver() {
-  const way = await question(station.file + " changed meanwhile", "Something else wrote it after this page read it.", [["no", "Leave it"], ["over", "Write over it"], ["open", "Open what is there"]]);
+  const ways = [["no", "Leave it"], ["over", "Write over it"], ["open", "Open what is there"]];
+  const way = await question(station.file + " changed meanwhile", "Something else wrote it after this page read it.", ways);
   if (way === "open") return askLayout(true);
   if (way !== "over") return;
   const said = await ask("/save", read.text);
@@ -151,14 +152,19 @@ function listenToPlan() {
 }
 
 function listenToButtons() {
-  const does = {"d-undo": () => undo(past, future), "d-redo": () => undo(future, past), "d-room": makeRoom, "d-fit": fit, "d-new": begin, "d-open": () => by("d-file").click(), "d-save": save, "d-run": run, "d-copy": copy, "d-help": () => by("d-keys").showModal()};
-  for (const [id, what] of Object.entries(does)) by(id).onclick = what;
+  const does = {
+    undo: () => undo(past, future), redo: () => undo(future, past), room: makeRoom, fit, new: begin, open: () => by("d-file").click(), save, run, copy,
+    help: () => by("d-keys").showModal(),
+  };
+  for (const [name, what] of Object.entries(does)) by("d-" + name).onclick = what;
   by("d-file").onchange = () => { openFile(by("d-file").files[0]); by("d-file").value = ""; };
   by("d-station").onchange = () => change(all => { all.station.name = by("d-station").value.trim(); });
 }
 
 async function start() {
-  for (const [name, [label, key]] of Object.entries(TOOLS)) by("d-tools").append(html("button", {id: "d-tool-" + name, title: HINTS[name], onclick: () => setTool(name)}, label + " ", html("kbd", {textContent: key})));
+  for (const [name, [label, key]] of Object.entries(TOOLS)) {
+    by("d-tools").append(html("button", {id: "d-tool-" + name, title: HINTS[name], onclick: () => setTool(name)}, label + " ", html("kbd", {textContent: key})));
+  }
   listenToPlan();
   listenToButtons();
   const isServed = location.protocol.startsWith("http");

@@ -9,6 +9,7 @@ mod grid;
 mod hand;
 mod lists;
 mod names;
+mod notes;
 mod opening;
 mod placing;
 mod plan;

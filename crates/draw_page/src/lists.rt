@@ -29,11 +29,17 @@ function paintWord() {
   const isProved = Boolean(said) && read.faults.length === 0;
   by("d-said").textContent = faults.length ? faults[0].text : isProved ? said.out.split("\n")[0] : own;
   by("d-word").dataset.kind = faults.length ? "fault" : "ok";
-  by("d-by").textContent = (faults.length > 1 ? "and " + (faults.length - 1) + " more, " : "") + (isProved ? "checked by station " + station.version : station && !station.isGone && !read.faults.length ? "is being checked" : "by this page, which isn't proved" + (station?.isGone ? ": the station doesn't answer" : ""));
+  by("d-by").textContent = (faults.length > 1 ? "and " + (faults.length - 1) + " more, " : "") + whoChecked(isProved);
   by("d-by").dataset.proved = isProved ? "yes" : "no";
   by("d-hint").textContent = saying || HINTS[tool];
   by("d-hint").dataset.said = saying ? "yes" : "no";
   if (station) by("d-file-name").textContent = station.file + (isUnsaved() ? " \u2022" : "");
+}
+
+function whoChecked(isProved) {
+  if (isProved) return "checked by station " + station.version;
+  if (station?.isGone) return "by this page, which isn't proved: the station doesn't answer";
+  return "by this page, which isn't proved" + (station && !read.faults.length ? ": the station is asked" : "");
 }
 
 // ---- the lists
@@ -75,14 +81,17 @@ function mark(row) {
   repaintLit();
 }
 
-const button = (text, title, does) => html("button", {textContent: text, title, onclick: does, tabIndex: -1});
-const fixButton = fix => fix ? [button(fix.text, "mends it", () => FIXES[fix.does](fix))] : [];
+const button = (text, title, does) => html("button", {textContent: text, title, onclick: does});
+// Of a row only itself is in the tab order; Enter does what its button does.
+const rowButton = (text, title, does) => Object.assign(button(text, title, does), {tabIndex: -1});
+const fixButton = fix => fix ? [rowButton(fix.text, "mends it", () => FIXES[fix.does](fix))] : [];
 
 function paintFaults() {
-  const faults = faultsNow(), growing = text => html("span", {className: "d-grow", textContent: text});
-  const rows = faults.map((one, number) => listen(html("li", {className: "d-fault"}, html("span", {className: "d-ring", textContent: number + 1}), growing(one.text), ...fixButton(one.fix)), one));
-  rows.push(...read.notes.map(one => listen(html("li", {className: "d-note"}, html("span", {className: "d-sign d-i", textContent: "i"}), growing(one.text), ...fixButton(one.fix)), one)));
-  by("d-count").textContent = count(faults, "fault") + ", " + count(read.notes, "note");
+  const faults = faultsNow(), notes = [...read.notes, ...notesBeyond()];
+  const row = (kind, sign, one) => listen(html("li", {className: kind}, sign, html("span", {className: "d-grow", textContent: one.text}), ...fixButton(one.fix)), one);
+  const rows = faults.map((one, number) => row("d-fault", html("span", {className: "d-ring", textContent: number + 1}), one));
+  rows.push(...notes.map(one => row("d-note", html("span", {className: "d-sign d-i", textContent: "i"}), one)));
+  by("d-count").textContent = count(faults, "fault") + ", " + count(notes, "note");
   if (!rows.length) rows.push(html("li", {className: "d-note", textContent: "none"}));
   fill(by("d-faults"), rows);
 }
@@ -97,23 +106,28 @@ function paintRoutes() {
     if (seen.has(pair)) continue;
     if (!seen.size) rows.push(html("li", {className: "d-head", textContent: "impossible"}));
     seen.add(pair);
-    rows.push(listen(html("li", {className: "d-impossible"}, html("span", {className: "d-sign", textContent: "✕"}), html("span", {className: "d-grow"}, html("b", {textContent: pair}), ": " + whyImpossible(way.causes[0]))), {way}));
+    const why = html("span", {className: "d-grow"}, html("b", {textContent: pair}), ": " + whyImpossible(way.causes[0]));
+    rows.push(listen(html("li", {className: "d-impossible"}, html("span", {className: "d-sign", textContent: "✕"}), why), {way}));
   }
   by("d-routes-count").textContent = table.kept.length + " of " + table.routes.length + " derived";
-  if (!rows.length) rows.push(html("li", {className: "d-note", textContent: read.isUnnamed ? "routes follow once all names differ" : "routes follow from signals and borders"}));
+  if (!rows.length) rows.push(html("li", {className: "d-note", textContent: read.isUnnamed ? "routes follow once all names are right" : "routes follow from signals and borders"}));
   fill(by("d-routes"), rows);
 }
 
+const sidesOf = list => Object.entries(list).map(([point, lies]) => point + " " + lies).join(", ");
+const toggleOut = one => change(all => { all.without = one.isOut ? all.without.filter(key => key !== one.key) : [...all.without, one.key]; });
+const isByHand = one => one.key in drawing.asides || one.extra?.length > 0;
+
 function routeRow(one) {
-  const toggle = () => change(all => { all.without = one.isOut ? all.without.filter(key => key !== one.key) : [...all.without, one.key]; });
-  const box = html("input", {type: "checkbox", checked: !one.isOut, title: "whether it is in the table", onchange: toggle, tabIndex: -1, ariaLabel: one.name});
-  const sides = list => Object.entries(list).map(([point, lies]) => point + " " + lies).join(", "), flank = sides(one.flank), isHand = Object.keys(drawing.asides[one.key] || {}).length > 0 || one.extra?.length > 0;
-  const detail = html("span", {className: "d-grow d-ends", title: "points on its way" + (flank ? " | points that guard it" : ""), textContent: sides(one.points) + (flank ? " | " + flank : "")});
-  const aspect = button(one.aspect, "proceed or slow", () => change(all => setAside(all, one, "aspect", one.aspect === "slow" ? "proceed" : "slow")));
-  const row = html("li", {className: "d-route" + (one.isOut ? " d-out" : "")}, box, html("b", {textContent: one.name}), ...(isHand ? [html("span", {className: "d-hand", title: "something of it was chosen by hand", textContent: "✎"})] : []), detail, aspect);
+  const flank = sidesOf(one.flank), said = sidesOf(one.points) + (flank ? " | " + flank : "");
+  const box = html("input", {type: "checkbox", checked: !one.isOut, title: "whether it is in the table", onchange: () => toggleOut(one), tabIndex: -1, ariaLabel: one.name});
+  const pencil = isByHand(one) ? [html("span", {className: "d-hand", title: "something of it was chosen by hand", textContent: "✎"})] : [];
+  const detail = html("span", {className: "d-grow d-ends", title: "points on its way" + (flank ? " | points that guard it" : ""), textContent: said});
+  const aspect = rowButton(one.aspect, "proceed or slow", () => change(all => setAside(all, one, "aspect", one.aspect === "slow" ? "proceed" : "slow")));
+  const row = html("li", {className: "d-route" + (one.isOut ? " d-out" : "")}, box, html("b", {textContent: one.name}), ...pencil, detail, aspect);
   row.onclick = event => { if (!event.target.matches("input,button")) chooseRoute(one); };
-  row.toggle = toggle;
-  row.choose = () => chooseRoute(one);
+  row.toggle = () => toggleOut(one);
+  row.choose = () => { chooseRoute(one); askChosen(); };
   return listen(row, one);
 }
 
@@ -140,13 +154,19 @@ function field(label, value, set, kind = "text") {
 
 // A name and, beside it, an identity.
 function nameField(label, one, name, id) {
-  const input = html("input", {type: "text", value: one.name, spellcheck: false, ariaLabel: label}), number = html("input", {type: "number", value: one.id, ariaLabel: "id of " + one.name, title: "its identity"});
+  const input = html("input", {type: "text", value: one.name, spellcheck: false, ariaLabel: label});
+  const number = html("input", {type: "number", value: one.id, ariaLabel: "id of " + one.name, title: "its identity"});
   input.onchange = () => name(input.value.trim());
   number.onchange = () => id(+number.value);
   return html("div", {className: "d-field"}, html("span", {textContent: label}), html("span", {className: "d-two"}, input, number));
 }
 
-const tick = (label, checked, set) => html("label", {className: "d-field d-wide"}, html("span", {className: "d-tick"}, html("input", {type: "checkbox", checked, onchange: event => set(event.target.checked)}), label));
+function tick(label, checked, set) {
+  const box = html("input", {type: "checkbox", checked, onchange: event => set(event.target.checked)});
+  return html("label", {className: "d-field d-wide"}, html("span", {className: "d-tick"}, box, label));
+}
+
+const row = (...inside) => html("div", {className: "d-row"}, ...inside);
 const telling = text => html("p", {className: "d-none", textContent: text});
 
 function choice(label, options, value, set) {
@@ -171,26 +191,28 @@ function signalFields() {
   if (!one) return null;
   return [nameField("name", one, name => rename(chosen, name), id => change(() => { one.id = id; })),
     telling(port ? "It rules the trains that leave " + elementOf(port) + " by " + port + "." : "It stands at no joint."),
-    html("div", {className: "d-row"}, button("Turn round", "it rules the trains of the other direction", () => flip(one)), button("Take away", "Delete", removeChosen))];
+    row(button("Turn round", "it rules the trains of the other direction", () => flip(one)), button("Take away", "Delete", removeChosen))];
 }
 
 function pointFields() {
   const one = drawing.points[chosen.key], of = read.kinds.get(chosen.key), it = read.l.point.find(it => it.name === one?.name);
   if (!it) return null;
-  const leg = end => tick(end + " leg (" + (of[end] === turned(of.tip) ? "straight" : "curved") + ") is passed slowly", it.slow === end || it.slow === "both", is => change(all => { all.slow[one.name + " " + end] = is; }));
+  const form = end => of[end] === turned(of.tip) ? "straight" : "curved", isSlow = end => it.slow === end || it.slow === "both";
+  const leg = end => tick(`${end} leg (${form(end)}) is passed slowly`, isSlow(end), is => change(all => { all.slow[one.name + " " + end] = is; }));
   return [nameField("name", one, name => rename(chosen, name), id => change(() => { one.id = id; })), leg("left"), leg("right"), telling("It lies in section " + it.section + ".")];
 }
 
 function borderFields() {
   const name = drawing.borders[chosen.key];
-  return name === undefined ? null : [field("name", name, to => rename(chosen, to)), html("div", {className: "d-row"}, button("Take away", "Delete", removeChosen))];
+  return name === undefined ? null : [field("name", name, to => rename(chosen, to)), row(button("Take away", "Delete", removeChosen))];
 }
 
 function markFields() {
   const mark = drawing.marks[chosen.key];
   if (!mark) return null;
   const pair = read.l.joint.find(([one]) => read.where.port.get(one) === chosen.key) || [];
-  return [tick("sections end here", mark.divides, is => change(all => { all.marks[chosen.key].divides = is; })), telling(pair.length ? "It joins " + pair.join(" and ") + "." : ""), html("div", {className: "d-row"}, button("Take away", "Delete", removeChosen))];
+  return [tick("sections end here", mark.divides, is => change(all => { all.marks[chosen.key].divides = is; })),
+    telling(pair.length ? "It joins " + pair.join(" and ") + "." : ""), row(button("Take away", "Delete", removeChosen))];
 }
 
 function sectionFields() {
@@ -215,11 +237,11 @@ function routeFields() {
   const rows = [field("name", one.name, name => set("name", name)),
     choice("aspect", [["proceed", "proceed"], ["slow", "slow"]], one.aspect, value => set("aspect", value)),
     field("approach", one.approach.join(" "), text => setApproach(one, text)),
-    tick("it is in the table", !one.isOut, () => change(all => { all.without = one.isOut ? all.without.filter(key => key !== one.key) : [...all.without, one.key]; }))];
+    tick("it is in the table", !one.isOut, () => toggleOut(one))];
   if (one.isOut) return rows;
-  for (const name of one.extra) rows.push(html("div", {className: "d-row"}, button("✕", "they may be set together again", () => change(all => takeExtra(all, one, name))), "never together with " + name));
+  for (const name of one.extra) rows.push(row(button("✕", "they may be set together again", () => change(all => takeExtra(all, one, name))), "never together with " + name));
   rows.push(choice("not with", [["", "…"], ...others.map(it => [it.key, it.name])], "", key => change(all => { if (key) all.extra.push([one.key, key].sort()); })));
-  if (Object.keys(drawing.asides[one.key] || {}).length) rows.push(html("div", {className: "d-row"}, button("As derived", "name, aspect and approach", () => change(all => { delete all.asides[one.key]; }))));
+  if (one.key in drawing.asides) rows.push(row(button("As derived", "name, aspect and approach", () => change(all => { delete all.asides[one.key]; }))));
   return rows;
 }
 

@@ -7,12 +7,13 @@ macro_rules! names {
 
 const freeName = (head, taken) => { let number = 1; while (taken.has(head + number)) number++; return head + number; };
 const freeId = (from, taken) => { let id = from; while (taken.has(id)) id++; return id; };
-const idsOf = drawing => new Set([drawing.station.id, ...drawing.signals.map(one => one.id), ...Object.values(drawing.points).filter(one => !one.gone).map(one => one.id), ...drawing.detectors.map(one => one.id)]);
+const pointsOf = drawing => Object.values(drawing.points).filter(one => !one.gone);
+const idsOf = drawing => new Set([drawing.station, ...drawing.signals, ...pointsOf(drawing), ...drawing.detectors].map(one => one.id));
 
 // The names that were given by hand: a made one gives way to them.
 function ownNames(drawing) {
   const rails = Object.values(drawing.rails).flatMap(one => [one.track, one.section]).filter(one => one?.own).map(one => one.name);
-  const points = Object.values(drawing.points).filter(one => one.own && !one.gone).map(one => one.name);
+  const points = pointsOf(drawing).filter(one => one.own).map(one => one.name);
   return new Set([drawing.station.name, ...Object.values(drawing.borders), ...drawing.signals.map(one => one.name), ...drawing.detectors.map(one => one.name), ...points, ...rails]);
 }
 
@@ -117,8 +118,9 @@ function judgeNames(read) {
   const ids = new Map();
   for (const [kind, one] of [["station", l.station], ...["point", "signal", "detector"].flatMap(kind => l[kind].map(one => [kind, one]))]) judgeId(read, ids, kind, one);
   for (const [kind, most] of Object.entries(LIMITS)) if (l[kind]?.length > most) tooMany(read, kind, most);
-  for (const one of l.detector) {
-    if (one.sections.length > LONGEST_DETECTOR) read.fault(`detector ${one.name} has ${one.sections.length} sections: at most ${LONGEST_DETECTOR} are possible`, [read.placeOf("section", one.sections[LONGEST_DETECTOR])], {text: "put the rest elsewhere", does: "spread", name: one.name});
+  for (const {name, sections} of l.detector.filter(one => one.sections.length > LONGEST_DETECTOR)) {
+    const text = `detector ${name} has ${sections.length} sections: at most ${LONGEST_DETECTOR} are possible`;
+    read.fault(text, [read.placeOf("section", sections[LONGEST_DETECTOR])], {text: "put the rest elsewhere", does: "spread", name});
   }
 }
 

@@ -31,8 +31,9 @@ function judgeKeys(l) {
   for (const key of KEYS) if (l[key] === undefined) throw new Error("the key `" + key + "` isn't there");
   const wrong = KEYS.find(key => key !== "station" && !Array.isArray(l[key]));
   if (wrong) throw new Error("the key `" + wrong + "` has no array");
-  const ports = new Set([...l.track.flatMap(one => [one.name + ".a", one.name + ".b"]), ...l.point.flatMap(one => [one.name + ".tip", one.name + ".left", one.name + ".right"]), ...l.border.map(name => name + ".end")]);
-  const sections = new Set(l.section), unknown = [...l.joint.flat(), ...l.signal.map(one => one.at)].find(port => !ports.has(port)) ?? [...l.track, ...l.point].map(one => one.section).find(name => !sections.has(name));
+  const portsOf = (list, ends) => list.flatMap(name => ends.map(end => name + "." + end)), names = list => list.map(one => one.name);
+  const ports = new Set([...portsOf(names(l.track), ["a", "b"]), ...portsOf(names(l.point), ["tip", "left", "right"]), ...portsOf(l.border, ["end"])]), sections = new Set(l.section);
+  const port = [...l.joint.flat(), ...l.signal.map(one => one.at)].find(port => !ports.has(port)), unknown = port ?? [...l.track, ...l.point].map(one => one.section).find(name => !sections.has(name));
   if (unknown !== undefined) throw new Error(unknown + " isn't there");
   const twins = l.joint.find(pair => pair.every(port => endOf(port) === "end"));
   if (twins) throw new Error("the borders " + twins.map(elementOf).join(" and ") + " are joined to one another");
@@ -49,7 +50,12 @@ function atItsPlaces(l) {
   }
 }
 
-const canonical = l => JSON.stringify([l.joint.map(pair => [...pair].sort().join()).sort(), l.track.map(one => one.name + " " + one.section).sort(), l.point.map(one => one.name + " " + one.section).sort(), l.signal.map(one => one.name + " " + one.at).sort(), [...l.border].sort()]);
+// What two layouts have in common that have the same topology.
+function canonical(l) {
+  const joints = l.joint.map(pair => [...pair].sort().join()), elements = [...l.track, ...l.point].map(one => one.name + " " + one.section), signals = l.signal.map(one => one.name + " " + one.at);
+  return JSON.stringify([joints, elements, signals, [...l.border]].map(list => list.sort()));
+}
+
 const isSame = (one, other) => canonical(one) === canonical(other);
 
 // Lays rails along lines: of each track, and of each port of a point from the point outward.

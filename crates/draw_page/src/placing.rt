@@ -150,7 +150,7 @@ class Placing {
   links() {
     const links = [];
     for (const [one, other] of this.mate) {
-      const isAlong = this.isLevel(one) && this.isLevel(other) && !this.odd.has(one) && this.strandOf.get(elementOf(one)) === this.strandOf.get(elementOf(other)) && this.areNeighbours(elementOf(one), elementOf(other));
+      const isAlong = this.isLevel(one) && this.isLevel(other) && !this.odd.has(one) && this.areNeighbours(elementOf(one), elementOf(other));
       if (one < other && !isAlong) links.push(this.looksEast(one) ? [one, other] : [other, one]);
     }
     return links;
@@ -158,7 +158,7 @@ class Placing {
 
   areNeighbours(one, other) {
     const list = this.strandOf.get(one).elements;
-    return Math.abs(list.indexOf(one) - list.indexOf(other)) === 1;
+    return list.includes(other) && Math.abs(list.indexOf(one) - list.indexOf(other)) === 1;
   }
 
   // A link within one strand, or whose ends look to the same side, goes by a row of its own.

@@ -116,7 +116,10 @@ function takePlaces() {
 }
 
 const group = (kind, name) => svg(by("d-things"), "g", {class: kind + (isChosen(kind, name) ? " chosen" : "")});
-const aboutPoint = (x, y) => [[x, y - 14], [x, y + 15], [x - 12, y - 14], [x + 12, y - 14], [x - 12, y + 15], [x + 12, y + 15], [x, y - 24], [x, y + 26], [x - 22, y + 12], [x + 22, y + 12], [x + 22, y - 12], [x - 22, y - 12]];
+// Places for words, of which the first ones are the best.
+const ABOUT_POINT = [[0, -14], [0, 15], [-12, -14], [12, -14], [-12, 15], [12, 15], [0, -24], [0, 26], [-22, 12], [22, 12], [22, -12], [-22, -12]];
+const BELOW_TRACK = [[-18, 14], [18, 14], [-36, 14], [36, 14], [0, 25], [0, -24]];
+const about = (x, y, places) => places.map(([dx, dy]) => [x + dx, y + dy]);
 
 function paintThings() {
   takePlaces();
@@ -143,7 +146,8 @@ function paintSignal(one) {
   of.prepend(svg(of, "circle", {class: "ring", cx: x, cy: y, r: 14}));
   boxes.push([x - Math.abs(dx) * 11 - 4, y - Math.abs(dy) * 11 - 4, x + Math.abs(dx) * 11 + 4, y + Math.abs(dy) * 11 + 4]);
   const far = 11 + Math.abs(nx) * 5 + Math.abs(nx) * one.name.length * letter * .17, put = (along, aside) => [x + dx * along + nx * aside, y + dy * along + ny * aside];
-  return () => labels.set(one.name, words(of, [put(0, far), put(-10, far), put(10, far), put(-24, 0), put(-20, far), put(14, far + 6), put(0, far + 10), put(-30, 4), put(-16, far + 10)], one.name, "name"));
+  const places = [[0, far], [-10, far], [10, far], [-24, 0], [-20, far], [14, far + 6], [0, far + 10], [-30, 4], [-16, far + 10]];
+  return () => labels.set(one.name, words(of, places.map(place => put(...place)), one.name, "name"));
 }
 
 function paintBorder(key, of) {
@@ -157,20 +161,22 @@ function paintBorder(key, of) {
 function paintPoint(key) {
   const [x, y] = at(key), {name} = drawing.points[key], parent = group("point", key);
   svg(parent, "circle", {class: "ring", cx: x, cy: y, r: 11});
-  labels.set(name, words(parent, aboutPoint(x, y), name, "name"));
+  labels.set(name, words(parent, about(x, y, ABOUT_POINT), name, "name"));
 }
 
 // A section's name stands by its first point, or else below its longest level run.
 function paintSection(one) {
   if (one.points.length) {
-    const key = [...one.points].sort((a, b) => drawing.points[a].id - drawing.points[b].id)[0], [x, y] = at(key), label = labels.get(drawing.points[key].name), up = (label[1] < y ? -1.12 : 1.12) * letter;
-    labels.set(one.name, words(by("d-things"), [[label[0], label[1] + up], ...aboutPoint(x, y), [x, y - 35], [x, y + 36]], one.name, "label"));
+    const [key] = [...one.points].sort((a, b) => drawing.points[a].id - drawing.points[b].id), [x, y] = at(key), [u, v] = labels.get(drawing.points[key].name);
+    const beside = [u, v + (v < y ? -1.12 : 1.12) * letter];
+    labels.set(one.name, words(by("d-things"), [beside, ...about(x, y, ABOUT_POINT), [x, y - 35], [x, y + 36]], one.name, "label"));
     return;
   }
   const isLevel = run => run.places.every(key => spot(key)[1] === spot(run.places[0])[1]);
   const best = [...one.runs].sort((a, b) => isLevel(b) - isLevel(a) || b.rails.length - a.rails.length)[0];
-  const [[a, b], [c, e]] = [at(best.places[0]), at(best.places.at(-1))], [x, y] = isLevel(best) ? [(a + c) / 2, (b + e) / 2] : at(best.places[best.places.length >> 1]), far = isLevel(best) ? 0 : 14;
-  labels.set(one.name, words(by("d-things"), [[x + far, y + 14], [x - far, y - 13], [x - 18, y + 14], [x + 18, y + 14], [x - 36, y + 14], [x + 36, y + 14], [x, y + 25], [x, y - 24]], one.name, "label"));
+  const [[a, b], [c, e]] = [at(best.places[0]), at(best.places.at(-1))], far = isLevel(best) ? 0 : 14;
+  const [x, y] = isLevel(best) ? [(a + c) / 2, (b + e) / 2] : at(best.places[best.places.length >> 1]);
+  labels.set(one.name, words(by("d-things"), [[x + far, y + 14], [x - far, y - 13], ...about(x, y, BELOW_TRACK)], one.name, "label"));
 }
 
 // ---- what is pointed at: faults at their places, a way with what guards it
@@ -221,7 +227,8 @@ function runsOf(enter, leave) {
 
 // A guarding point has a ring, and a tag over its name or beside it.
 function paintFlank(over, name, lies) {
-  const parent = svg(over, "g", {class: "flank"}), said = name + " " + lies, half = halfOf(said) + 4, high = letter * .66, aside = half - halfOf(name), [cx, cy] = at(read.where.point.get(name)), [u, v] = labels.get(name);
+  const parent = svg(over, "g", {class: "flank"}), [cx, cy] = at(read.where.point.get(name)), [u, v] = labels.get(name);
+  const said = name + " " + lies, half = halfOf(said) + 4, high = letter * .66, aside = half - halfOf(name);
   const own = boxes.findIndex(box => meet(box, boxAt([u, v], 1, 1))), [kept] = boxes.splice(own, 1);
   const [x, y] = freest([[u, v], [u - aside, v], [u + aside, v], [u, v - 6], [u, v + 6], [u - aside - 8, v], [u + aside + 8, v], [cx, cy + 26], [cx, cy - 26]], half, high);
   boxes.push(kept);

@@ -70,7 +70,8 @@ class Reading {
   lookAtMark(key) {
     const kind = this.kinds.get(key)?.kind;
     if (kind === undefined) delete this.drawing.marks[key];
-    if (kind === "point" || kind === "end" || kind === "border") this.fault("a joint stands at " + (kind === "point" ? "a point" : "an end") + ": move it along the rail", [key], {text: "take it away", does: "unmark", key});
+    const where = {point: "a point", end: "an end", border: "an end"}[kind];
+    if (where) this.fault("a joint stands at " + where + ": move it along the rail", [key], {text: "take it away", does: "unmark", key});
   }
 
   // Runs of rail, each from one stop to the next, and from west to east.
@@ -201,8 +202,8 @@ class Reading {
         this.where.signal.set(one.name, one);
         continue;
       }
-      const isOnRail = this.kinds.get(one.at)?.kind === "rail";
-      this.fault("signal " + one.name + " stands at no joint", [one.at], isOnRail ? {text: "put a joint", does: "mark", key: one.at} : {text: "take it away", does: "unsignal", name: one.name});
+      const isOnRail = this.kinds.get(one.at)?.kind === "rail", joint = {text: "put a joint", does: "mark", key: one.at}, away = {text: "take it away", does: "unsignal", name: one.name};
+      this.fault("signal " + one.name + " stands at no joint", [one.at], isOnRail ? joint : away);
     }
   }
 
