@@ -609,7 +609,7 @@ def routes(page, report, cases):
         if fault and "joined to one another" not in fault:
             lacking.append(file.stem)
     report.say("routes as another program derived them", not other and same > 0, f"{same} layouts, {count} routes {other}")
-    report.say("layouts without positions are placed", laid > 0.95 * same and len(lacking) <= 1, f"{laid} layouts; no place for {lacking}")
+    report.say("layouts without positions are placed", laid > 0.95 * same and not lacking, f"{laid} layouts; no place for {lacking}")
 
 
 def main():

@@ -430,13 +430,14 @@ class Placing {
     for (const name of elements) {
       const [west, east] = [this.at.get(this.node(name, false)), this.at.get(this.node(name, true))];
       for (let x = west; x <= east; x++) this.take(x, y, name);
-      this.courses.set(name, Array.from({length: east - west + 1}, (_, at) => place(west + at, y)));
+      if (this.kind.get(name) === "track") this.courses.set(name, [Array.from({length: east - west + 1}, (_, at) => place(west + at, y))]);
     }
     for (let at = 1; at < elements.length; at++) {
       const one = this.levelPort(elements[at - 1], true), other = this.levelPort(elements[at], false), [from, to] = [this.origin(one)[0], this.origin(other)[0]];
       const path = [];
-      for (let x = from; x <= to; x++) { path.push(place(x, y)); if (x > from && x < to) this.take(x, y, "joint"); }
+      for (let x = from; x <= to; x++) { path.push(place(x, y)); if (x > from && x < to) this.take(x, y, one); }
       this.keepPath(one, other, path);
+      this.courses.set(one, [this.paths.get(one), this.paths.get(other)]);
     }
   }
 
@@ -467,7 +468,7 @@ class Placing {
     return true;
   }
 
-  // The shortest way over free places from port to port, with few bends. It may cross a track, which then bends aside.
+  // The shortest way over free places from port to port, with few bends. It may cross level rail, which then bends aside.
   search(one, other) {
     const from = place(...this.origin(one)), goal = place(...this.origin(other)), start = this.wayOf(one), end = turned(this.wayOf(other));
     const fits = (port, wanted) => way => this.kind.get(elementOf(port)) === "point" ? way === wanted : near(way, wanted), isFirst = fits(one, start), isLast = fits(other, end);
@@ -494,19 +495,19 @@ class Placing {
     return null;
   }
 
-  // A slope crosses a level track where four places of it lie in a row, and two beside it are free: the track bends over to them.
+  // A slope crosses level rail where four places of it lie in a row, and two beside it are free: the rail bends over to them.
   isCrossable(key, way) {
-    const [x, y] = spot(key), [dx, dy] = STEPS[way], track = this.taken.get(place(x + dx, y + dy));
-    if (this.kind.get(track) !== "track") return false;
+    const [x, y] = spot(key), [dx, dy] = STEPS[way], level = this.taken.get(place(x + dx, y + dy));
+    if (!this.courses.has(level)) return false;
     const isFree = (along, aside) => !this.taken.has(place(x + along * dx, y + aside * dy));
-    return [0, 1, 2, 3].every(along => this.taken.get(place(x + along * dx, y + dy)) === track) && isFree(1, 0) && isFree(2, 0) && isFree(2, 2);
+    return [0, 1, 2, 3].every(along => this.taken.get(place(x + along * dx, y + dy)) === level) && isFree(1, 0) && isFree(2, 0) && isFree(2, 2);
   }
 
   bendAside({key, way}) {
     if (!this.isCrossable(key, way)) return false;
-    const [x, y] = spot(key), [dx, dy] = STEPS[way], at = (along, aside) => place(x + along * dx, y + aside * dy), track = this.taken.get(at(1, 1)), course = this.courses.get(track);
+    const [x, y] = spot(key), [dx, dy] = STEPS[way], at = (along, aside) => place(x + along * dx, y + aside * dy), courses = this.courses.get(this.taken.get(at(1, 1)));
     for (const along of [1, 2]) {
-      course[course.indexOf(at(along, 1))] = at(along, 0);
+      for (const course of courses) course[course.indexOf(at(along, 1))] = at(along, 0);
       this.taken.set(at(along, 0), "bend");
     }
     this.taken.set(at(1, 1), "link");
@@ -541,7 +542,7 @@ class Placing {
 
   // Where two ends of tracks don't lie at one place, the first one takes the way between.
   lineOfTrack(name) {
-    const course = this.courses.get(name), middle = this.turned.has(name) ? [...course].reverse() : course;
+    const [course] = this.courses.get(name), middle = this.turned.has(name) ? [...course].reverse() : course;
     const more = port => { const far = this.site.joint.get(port); return far && this.site.kind.get(elementOf(far)) === "track" && port < far ? this.whole(port).slice(1) : []; };
     return [...more(name + ".a").reverse(), ...middle, ...more(name + ".b")].flatMap(spot);
   }
