@@ -1,0 +1,10 @@
+-- The machine of a station with trains.
+pub mod Lists
+pub mod Track
+pub mod Train
+pub mod Section
+pub mod Route
+pub mod Machine
+pub mod Moves
+pub mod Run
+pub mod Promise

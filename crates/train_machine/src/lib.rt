@@ -1,0 +1,7 @@
+//! The machine of a station with trains: routes, sections, points, trains and deadlines as numbers, with no link, node or
+//! telegram. After every list of its moves no two trains are in one section, and no point moves under a train.
+#![tactic(auto)]
+
+mod laws;
+
+pub use laws::apart_holds_at_first;
