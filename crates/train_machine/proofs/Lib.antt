@@ -1,0 +1,4 @@
+pub mod Lists
+pub mod Frames
+pub mod Routes
+pub mod Freed

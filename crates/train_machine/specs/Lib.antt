@@ -8,3 +8,4 @@ pub mod Machine
 pub mod Moves
 pub mod Run
 pub mod Promise
+pub mod Invariant

@@ -137,6 +137,11 @@ pass_stepped now clock (Past time) = Past time
 abbrev pub stopped : Train → Train
 stopped train = record { places = train.places; under = Nothing; way = [] }
 
+-- a train whose rear left the rearmost element; one that is gone is under nothing
+abbrev pub followed : (places : List ℕ) → Train → Train
+followed [] train = record { places = []; under = Nothing; way = [] }
+followed (place ∷ places) train = record { places = place ∷ places; under = train.under; way = train.way }
+
 abbrev pub turned_train : Track → Train → Train
 turned_train track train = record { places = turned_round (map track.turned train.places) []; under = Nothing; way = [] }
 
@@ -146,7 +151,7 @@ after track machine (Enters train border) = entering track train border (track.t
 after track machine (Passes train route place) = come track train place (OnRoute route) (track.later route) (passed track train route machine)
 after track machine (Goes train place) = come track train place (machine.trains train).under (later_way (machine.trains train).way) machine
 after track machine (Follows train) =
-    with_train train (record (machine.trains train) { places = without_last (machine.trains train).places }) machine
+    with_train train (followed (without_last (machine.trains train).places) (machine.trains train)) machine
 after track machine (Turns train) = with_train train (turned_train track (machine.trains train)) machine
 after track machine (Hears section news) = told section news machine
 after track machine (Sets route) = with_route route (set_route track route) machine
