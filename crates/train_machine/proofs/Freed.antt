@@ -17,7 +17,7 @@ use Rattle.train_machine.proofs.Routes.{told_clear, open_given, free_sound}
 pub held_before : (holds : ℕ → Bool) (section other : ℕ) → changed_at section false holds other ≡ true → (other ≢ section) × (holds other ≡ true)
 held_before holds section other = at_each (λ n h. h ≡ true → (n ≢ section) × (holds n ≡ true)) section false holds (λ e. absurd (cc (e))) (λ n differs e. (differs, e)) other
 
-gone_or_not : (told : Told) → (told ≡ Gone) ⊎ (told ≢ Gone)
+pub gone_or_not : (told : Told) → (told ≡ Gone) ⊎ (told ≢ Gone)
 gone_or_not Late = inr (λ e. cc (e))
 gone_or_not Awaited = inr (λ e. cc (e))
 gone_or_not Came = inr (λ e. cc (e))

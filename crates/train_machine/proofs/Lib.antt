@@ -2,3 +2,6 @@ pub mod Lists
 pub mod Frames
 pub mod Routes
 pub mod Freed
+pub mod Carried
+pub mod Rest
+pub mod Told
