@@ -5,3 +5,4 @@ pub mod Freed
 pub mod Carried
 pub mod Rest
 pub mod Told
+pub mod Shrunk
