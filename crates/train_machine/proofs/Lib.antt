@@ -6,3 +6,4 @@ pub mod Carried
 pub mod Rest
 pub mod Told
 pub mod Shrunk
+pub mod Come
