@@ -7,3 +7,4 @@ pub mod Rest
 pub mod Told
 pub mod Shrunk
 pub mod Come
+pub mod Entered
