@@ -8,3 +8,4 @@ pub mod Told
 pub mod Shrunk
 pub mod Come
 pub mod Entered
+pub mod Goes

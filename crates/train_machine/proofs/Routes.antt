@@ -70,6 +70,13 @@ open_given Proceeding e = refl
 open_given Withdrawn e = refl
 open_given Ended e = refl
 
+pub open_whole : (phase : Phase) → is_open phase ≡ true → is_whole phase ≡ true
+open_whole Free e = absurd (cc (e))
+open_whole Waiting e = absurd (cc (e))
+open_whole Proceeding e = refl
+open_whole Withdrawn e = refl
+open_whole Ended e = absurd (cc (e))
+
 -- what is told of a section that is believed clear
 pub told_clear : (told : Told) (belief : Belief) → belief ≡ Clear → (told ≡ Came → belief ≢ Clear) → (is_unheard told ≡ true) ⊎ (told ≡ Gone)
 told_clear Late belief clear came = inl refl
