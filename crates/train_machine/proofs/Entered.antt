@@ -57,7 +57,7 @@ module _ (track : Track) (machine : Machine) (kept : Invariant track machine) (t
   not_this unowned n holds same = cc (unowned, (holder (subst (λ (m : ℕ). (machine.routes number).holds m ≡ true) same holds)).owner)
 
   not_waiting : (machine.routes number).phase ≡ Waiting → (n : ℕ) → (machine.routes number).holds n ≡ true → n ≢ section
-  not_waiting waiting n holds same = cc (waiting, ap is_given waiting, (holder (subst (λ (m : ℕ). (machine.routes number).holds m ≡ true) same holds)).given)
+  not_waiting waiting n holds same = cc (ap is_given waiting, (holder (subst (λ (m : ℕ). (machine.routes number).holds m ≡ true) same holds)).given)
 
   pub once_still : is_open (machine.routes number).phase ≡ true → (open_holds : (machine.routes number).holds (track.section (track.first number)) ≡ true) → (pass : Pass)
       → IsOnce (machine.routes number).phase (machine.routes number).lit (machine.sections (track.section (track.first number))) pass

@@ -9,3 +9,4 @@ pub mod Shrunk
 pub mod Come
 pub mod Entered
 pub mod Goes
+pub mod Throats
