@@ -10,3 +10,5 @@ pub mod Come
 pub mod Entered
 pub mod Goes
 pub mod Throats
+pub mod Passes
+pub mod Kept
