@@ -60,16 +60,16 @@ module _ (track : Track) (machine : Machine) (kept : Invariant track machine) (t
   not_waiting waiting n holds same = cc (ap is_given waiting, (holder (subst (λ (m : ℕ). (machine.routes number).holds m ≡ true) same holds)).given)
 
   pub once_still : is_open (machine.routes number).phase ≡ true → (open_holds : (machine.routes number).holds (track.section (track.first number)) ≡ true) → (pass : Pass)
-      → IsOnce (machine.routes number).phase (machine.routes number).lit (machine.sections (track.section (track.first number))) pass
-      → IsOnce (machine.routes number).phase (machine.routes number).lit
+      → IsOnce (machine.routes number).phase (machine.routes number).withdrawn_at (machine.sections (track.section (track.first number))) pass
+      → IsOnce (machine.routes number).phase (machine.routes number).withdrawn_at
       (changed_at section (section_entered inlet machine.clock (machine.sections section)) machine.sections (track.section (track.first number))) pass
   once_still is_opened holds pass once =
-      subst (λ (s : Section). IsOnce (machine.routes number).phase (machine.routes number).lit s pass)
+      subst (λ (s : Section). IsOnce (machine.routes number).phase (machine.routes number).withdrawn_at s pass)
       (sym (elsewhere section (section_entered inlet machine.clock (machine.sections section)) machine.sections (track.section (track.first number))
       (λ same. (holder (subst (λ (m : ℕ). (machine.routes number).holds m ≡ true) same holds)).later same))) once
 
   pub entered_sound : (passes : ℕ → Pass)
-      → (is_open (machine.routes number).phase ≡ true → (machine.routes number).owner ≢ None → IsOnce (machine.routes number).phase (machine.routes number).lit
+      → (is_open (machine.routes number).phase ≡ true → (machine.routes number).owner ≢ None → IsOnce (machine.routes number).phase (machine.routes number).withdrawn_at
       (changed_at section (section_entered inlet machine.clock (machine.sections section)) machine.sections (track.section (track.first number))) (passes (track.entry number)))
       → IsRouteSound track (changed_at section (section_entered inlet machine.clock (machine.sections section)) machine.sections) machine.points passes machine.now number (machine.routes number)
   entered_sound passes once = record {

@@ -16,6 +16,14 @@ use Rattle.train_machine.proofs.Come.{arrived, Arrives, arrived_kept}
 use Rattle.train_machine.proofs.Entered.{entered_there, entered_not_came, Holder, once_still, entered_sound}
 use Rattle.train_machine.proofs.Goes.{led_on}
 
+-- an open route that isn't proceeding is withdrawn
+open_withdrawn_now : (phase : Phase) → is_open phase ≡ true → phase ≢ Proceeding → phase ≡ Withdrawn
+open_withdrawn_now Free is_opened other = absurd (cc (is_opened))
+open_withdrawn_now Waiting is_opened other = absurd (cc (is_opened))
+open_withdrawn_now Proceeding is_opened other = absurd (other refl)
+open_withdrawn_now Withdrawn is_opened other = refl
+open_withdrawn_now Ended is_opened other = absurd (cc (is_opened))
+
 module _ (track : Track) (sound : IsSound track) (machine : Machine) (kept : Invariant track machine) (train route place : ℕ) (may : MayPass track machine train route place) where
   old : IsRouteSound track machine.sections machine.points machine.passes machine.now route (machine.routes route)
   old = kept.routes route
@@ -45,10 +53,11 @@ module _ (track : Track) (sound : IsSound track) (machine : Machine) (kept : Inv
   unowned = go (machine.routes route).owner refl
     where
       twice : (pass : Pass) → HasHeadway machine.now pass
-          → IsOnce (machine.routes route).phase (machine.routes route).lit (machine.sections (track.section (track.first route))) pass → ⊥
+          → IsOnce (machine.routes route).phase (machine.routes route).withdrawn_at (machine.sections (track.section (track.first route))) pass → ⊥
       twice Never headway once = once
       twice (At reading) headway once = headway
-      twice (Past time) headway once = let lit = may.lit in let late = once.1 in omega (arith, headway, lit, late)
+      twice (Past time) headway once =
+          let lit = may.dark (open_withdrawn_now (machine.routes route).phase may.shown once.0) in let late = once.1 in omega (arith, headway, lit, late)
 
       go : (owner : Option ℕ) → (machine.routes route).owner ≡ owner → (machine.routes route).owner ≡ None
       go None e = e
@@ -65,9 +74,6 @@ module _ (track : Track) (sound : IsSound track) (machine : Machine) (kept : Inv
 
   nobody : (other : ℕ) → IsIn track machine other (track.section place) → ⊥
   nobody = kept.gone (track.section place) (left (track.section place) holds_here)
-
-  owned : Route
-  owned = record (machine.routes route) { owner = Some train }
 
   here : changed_at (track.section place) (section_entered false machine.clock (machine.sections (track.section place))) machine.sections (track.section place)
       ≡ section_entered false machine.clock (machine.sections (track.section place))
@@ -101,7 +107,7 @@ module _ (track : Track) (sound : IsSound track) (machine : Machine) (kept : Inv
     begun = λ ended. absurd (cc (ap is_open ended, may.shown));
     went_on = λ e a b next differs holds none told_a told_b. absurd (told_b (still_left (track.section b)
         (λ same. sound.not_back route a b next differs (same ∙ sym (ap track.section first_place))) holds));
-    once = λ «open» some. subst (IsOnce (machine.routes route).phase (machine.routes route).lit
+    once = λ «open» some. subst (IsOnce (machine.routes route).phase (machine.routes route).withdrawn_at
         (changed_at (track.section place) (section_entered false machine.clock (machine.sections (track.section place))) machine.sections (track.section (track.first route))))
         (sym (at_it (track.entry route) (At machine.clock) machine.passes))
         (λ proceeding. subst (λ (n : ℕ). ((changed_at (track.section place) (section_entered false machine.clock (machine.sections (track.section place))) machine.sections n).told ≡ Awaited)
@@ -118,7 +124,7 @@ module _ (track : Track) (sound : IsSound track) (machine : Machine) (kept : Inv
       (changed_at (track.entry route) (At machine.clock) machine.passes) machine.now number (machine.routes number)
   other_sound number differs =
       entered_sound track machine kept train (track.section place) false number holder (changed_at (track.entry route) (At machine.clock) machine.passes)
-      (λ «open» some. subst (IsOnce (machine.routes number).phase (machine.routes number).lit
+      (λ «open» some. subst (IsOnce (machine.routes number).phase (machine.routes number).withdrawn_at
       (changed_at (track.section place) (section_entered false machine.clock (machine.sections (track.section place))) machine.sections (track.section (track.first number))))
       (sym (elsewhere (track.entry route) (At machine.clock) machine.passes (track.entry number) (apart «open»)))
       (once_still track machine kept train (track.section place) false number holder «open» (whole «open») (machine.passes (track.entry number)) ((kept.routes number).once «open» some)))

@@ -10,7 +10,7 @@ use Rattle.train_machine.specs.Section.{Belief, Clear, Told, Late, Awaited, Came
 use Rattle.train_machine.specs.Route.{Phase, Free, Waiting, Proceeding, Withdrawn, Ended, Route, is_given, is_open, is_whole}
 use Rattle.train_machine.specs.Machine.{report_time, Point, Pass, Never, At, Past, Machine, IsIn, IsOn, with_point}
 use Rattle.train_machine.specs.Promise.{StandsAt}
-use Rattle.train_machine.specs.Moves.{AreFresh, MayGiveMove, route_stepped, lit_by, pass_stepped}
+use Rattle.train_machine.specs.Moves.{AreFresh, MayGiveMove, pass_stepped}
 use Rattle.train_machine.specs.Invariant.{IsOnce, IsRouteSound, HoldsPoint, Invariant}
 use Rattle.train_machine.proofs.Lists.{at_each, has_in, true_or_false}
 use Rattle.train_machine.proofs.Routes.{told_clear}
@@ -131,20 +131,6 @@ module _ (track : Track) (machine : Machine) (kept : Invariant track machine) wh
 
 -- ---- a step
 
-lit_now : (now lit : ℕ) (phase : Phase) → lit ≤ now → lit_by now phase lit ≤ now
-lit_now now lit Free past = past
-lit_now now lit Waiting past = past
-lit_now now lit Proceeding past = omega arith
-lit_now now lit Withdrawn past = past
-lit_now now lit Ended past = past
-
-lit_still : (now lit : ℕ) (phase : Phase) → phase ≢ Proceeding → lit_by now phase lit ≡ lit
-lit_still now lit Free other = refl
-lit_still now lit Waiting other = refl
-lit_still now lit Proceeding other = absurd (other refl)
-lit_still now lit Withdrawn other = refl
-lit_still now lit Ended other = refl
-
 module _ (track : Track) (machine : Machine) (kept : Invariant track machine) (fresh : AreFresh machine) (number : ℕ) where
   -- while it proceeds, its entry signal was passed a short time ago
   early : (reading : ℕ) → (machine.routes number).phase ≡ Proceeding
@@ -158,25 +144,24 @@ module _ (track : Track) (machine : Machine) (kept : Invariant track machine) (f
       let soon = fresh (track.section (track.first number)) (ap is_unheard at.0) (old.clear proceeding (track.section (track.first number)) holds) in
       let same = at.1 in omega (arith, soon, same)
 
-  once_stepped : (pass : Pass) → IsOnce (machine.routes number).phase (machine.routes number).lit (machine.sections (track.section (track.first number))) pass
-      → IsOnce (machine.routes number).phase (lit_by machine.now (machine.routes number).phase (machine.routes number).lit)
+  once_stepped : (pass : Pass) → IsOnce (machine.routes number).phase (machine.routes number).withdrawn_at (machine.sections (track.section (track.first number))) pass
+      → IsOnce (machine.routes number).phase (machine.routes number).withdrawn_at
       (machine.sections (track.section (track.first number))) (pass_stepped machine.now machine.clock pass)
   once_stepped Never once = once
   once_stepped (At reading) once = go (nat_le (reading + report_time) machine.clock) refl
     where
       go : (test : Bool) → nat_le (reading + report_time) machine.clock ≡ test
-          → IsOnce (machine.routes number).phase (lit_by machine.now (machine.routes number).phase (machine.routes number).lit)
+          → IsOnce (machine.routes number).phase (machine.routes number).withdrawn_at
           (machine.sections (track.section (track.first number))) (if test then Past machine.now else At reading)
       go true e = (
         (λ proceeding. let soon = early reading proceeding once in let late = leb-true (reading + report_time) machine.clock e in omega (arith, soon, late)),
-        lit_now machine.now (machine.routes number).lit (machine.routes number).phase (kept.routes number).past,
+        (kept.routes number).past,
       )
       go false e = once
-  once_stepped (Past time) once =
-      (once.0, subst (λ (n : ℕ). n ≤ time) (sym (lit_still machine.now (machine.routes number).lit (machine.routes number).phase once.0)) once.1)
+  once_stepped (Past time) once = once
 
   stepped_sound : IsRouteSound track machine.sections machine.points (λ signal. pass_stepped machine.now machine.clock (machine.passes signal)) machine.now number
-      (route_stepped machine.now (machine.routes number))
+      (machine.routes number)
   stepped_sound = let old = kept.routes number in record {
     unset = old.unset;
     on_path = old.on_path;
@@ -191,16 +176,14 @@ module _ (track : Track) (machine : Machine) (kept : Invariant track machine) (f
     begun = old.begun;
     went_on = old.went_on;
     once = λ «open» owned. once_stepped (machine.passes (track.entry number)) (old.once «open» owned);
-    past = lit_now machine.now (machine.routes number).lit (machine.routes number).phase old.past;
+    past = old.past;
     settled = old.settled;
   }
 
-pub steps_kept : (track : Track) (machine : Machine) → Invariant track machine → AreFresh machine → Invariant track (record machine {
-  routes = λ route. route_stepped machine.now (machine.routes route);
-  passes = λ signal. pass_stepped machine.now machine.clock (machine.passes signal);
-})
+pub steps_kept : (track : Track) (machine : Machine) → Invariant track machine → AreFresh machine
+    → Invariant track (record machine { passes = λ signal. pass_stepped machine.now machine.clock (machine.passes signal) })
 steps_kept track machine kept fresh =
-    carried_kept track machine kept machine.sections (λ route. route_stepped machine.now (machine.routes route)) machine.points
+    carried_kept track machine kept machine.sections machine.routes machine.points
     (λ signal. pass_stepped machine.now machine.clock (machine.passes signal)) machine.now machine.clock record {
       sound = λ route. stepped_sound track machine kept fresh route;
       given = λ route. refl;

@@ -5,9 +5,9 @@ use Rattle.train_machine.specs.Lists.{is_same, changed_at, IsOf, IsFirst, IsNext
 use Rattle.train_machine.specs.Track.{Track, IsSound, path}
 use Rattle.train_machine.specs.Train.{Under, Nothing, Throat, OnRoute, is_in}
 use Rattle.train_machine.specs.Section.{Belief, Unknown, Occupied, Clear, Told, Late, Awaited, Came, Gone, Section, is_unheard}
-use Rattle.train_machine.specs.Route.{Phase, Free, Waiting, Proceeding, Withdrawn, Ended, Route, free_route, is_given, is_open, is_whole, withdrawn_phase}
+use Rattle.train_machine.specs.Route.{Phase, Free, Waiting, Proceeding, Withdrawn, Ended, Route, free_route, is_given, is_open, is_whole, withdrawn_phase, withdrawn_time}
 use Rattle.train_machine.specs.Machine.{report_time, Pass, Never, At, Past, Machine, IsIn, IsOn, with_route}
-use Rattle.train_machine.specs.Moves.{AreFresh, MaySet, MayAuthorise, MayFreeSection, MayFreeCancelled, MayFree, set_route, authorised}
+use Rattle.train_machine.specs.Moves.{AreFresh, MaySet, MayAuthorise, set_route, authorised, withdrawn}
 use Rattle.train_machine.specs.Invariant.{IsOnce, IsRouteSound, IsHeldBy, IsAccounted, IsClaimed, IsReserved, Invariant}
 use Rattle.train_machine.proofs.Lists.{at_each, at_it, elsewhere, same_or_not, in_has, has_in, end_of, true_or_false}
 use Rattle.train_machine.proofs.Frames.{Changes, route_frame, claim_kept}
@@ -76,6 +76,20 @@ open_whole Waiting e = absurd (cc (e))
 open_whole Proceeding e = refl
 open_whole Withdrawn e = refl
 open_whole Ended e = absurd (cc (e))
+
+pub time_past : (now before : ℕ) (phase : Phase) → before ≤ now → withdrawn_time now phase before ≤ now
+time_past now before Free past = past
+time_past now before Waiting past = past
+time_past now before Proceeding past = omega arith
+time_past now before Withdrawn past = past
+time_past now before Ended past = past
+
+pub time_still : (now before : ℕ) (phase : Phase) → phase ≢ Proceeding → withdrawn_time now phase before ≡ before
+time_still now before Free other = refl
+time_still now before Waiting other = refl
+time_still now before Proceeding other = absurd (other refl)
+time_still now before Withdrawn other = refl
+time_still now before Ended other = refl
 
 -- what is told of a section that is believed clear
 pub told_clear : (told : Told) (belief : Belief) → belief ≡ Clear → (told ≡ Came → belief ≢ Clear) → (is_unheard told ≡ true) ⊎ (told ≡ Gone)
@@ -167,8 +181,8 @@ module _ (track : Track) (sound : IsSound track) (machine : Machine) (kept : Inv
         unreserved = λ train border place under reserved of holds. unreserved train border place under of (in_has track (track.section place) (path track number) holds);
       }
 
-  pub authorises_kept : MayAuthorise track machine number → Invariant track (with_route number (authorised machine.now (machine.routes number)) machine)
-  authorises_kept may = route_frame track machine kept number (authorised machine.now (machine.routes number)) changes sound
+  pub authorises_kept : MayAuthorise track machine number → Invariant track (with_route number (authorised (machine.routes number)) machine)
+  authorises_kept may = route_frame track machine kept number (authorised (machine.routes number)) changes sound
     where
       not_given : is_given (machine.routes number).phase ≡ true → ⊥
       not_given given = cc (given, ap is_given may.waiting)
@@ -176,7 +190,7 @@ module _ (track : Track) (sound : IsSound track) (machine : Machine) (kept : Inv
       holds_path : (place : ℕ) → IsOf place (path track number) → (machine.routes number).holds (track.section place) ≡ true
       holds_path = old.whole (ap is_whole may.waiting)
 
-      changes : Changes track machine number (authorised machine.now (machine.routes number))
+      changes : Changes track machine number (authorised (machine.routes number))
       changes = record {
         sound = record {
           unset = λ free. absurd (cc (free));
@@ -203,19 +217,20 @@ module _ (track : Track) (sound : IsSound track) (machine : Machine) (kept : Inv
         unreserved = λ train border place under reserved of holds. reserved.unheld number holds;
       }
 
-  pub withdraws_kept : Invariant track (with_route number (record (machine.routes number) { phase = withdrawn_phase (machine.routes number).phase }) machine)
-  withdraws_kept = route_frame track machine kept number (record (machine.routes number) { phase = withdrawn_phase (machine.routes number).phase }) changes sound
+  pub withdraws_kept : Invariant track (with_route number (withdrawn machine.now (machine.routes number)) machine)
+  withdraws_kept = route_frame track machine kept number (withdrawn machine.now (machine.routes number)) changes sound
     where
       was_given : is_given (withdrawn_phase (machine.routes number).phase) ≡ true → is_given (machine.routes number).phase ≡ true
       was_given given = sym (given_withdrawn (machine.routes number).phase) ∙ given
 
-      once : (pass : Pass) → IsOnce (machine.routes number).phase (machine.routes number).lit (machine.sections (track.section (track.first number))) pass
-          → IsOnce (withdrawn_phase (machine.routes number).phase) (machine.routes number).lit (machine.sections (track.section (track.first number))) pass
+      once : (pass : Pass) → IsOnce (machine.routes number).phase (machine.routes number).withdrawn_at (machine.sections (track.section (track.first number))) pass
+          → IsOnce (withdrawn_phase (machine.routes number).phase) (withdrawn_time machine.now (machine.routes number).phase (machine.routes number).withdrawn_at) (machine.sections (track.section (track.first number))) pass
       once Never none = none
       once (At reading) early = λ proceeding. absurd (not_proceeding (machine.routes number).phase proceeding)
-      once (Past time) late = (not_proceeding (machine.routes number).phase, late.1)
+      once (Past time) late = (not_proceeding (machine.routes number).phase,
+          subst (λ (n : ℕ). n ≤ time) (sym (time_still machine.now (machine.routes number).withdrawn_at (machine.routes number).phase late.0)) late.1)
 
-      changes : Changes track machine number (record (machine.routes number) { phase = withdrawn_phase (machine.routes number).phase })
+      changes : Changes track machine number (withdrawn machine.now (machine.routes number))
       changes = record {
         sound = record {
           unset = λ free. old.unset (free_before (machine.routes number).phase free);
@@ -231,14 +246,14 @@ module _ (track : Track) (sound : IsSound track) (machine : Machine) (kept : Inv
           begun = λ ended. old.begun (ended_before (machine.routes number).phase ended);
           went_on = λ given. old.went_on (was_given given);
           once = λ «open» owned. once (machine.passes (track.entry number)) (old.once (sym (open_withdrawn (machine.routes number).phase) ∙ «open») owned);
-          past = old.past;
+          past = time_past machine.now (machine.routes number).withdrawn_at (machine.routes number).phase old.past;
           settled = λ given. old.settled (was_given given);
         };
         locks = λ section other holds held. kept.locks other number section held holds;
         keeps = λ section given holds. inl (given_withdrawn (machine.routes number).phase ∙ given, holds);
         owns = λ train section given holds inside. kept.own train section number record { given = was_given given; holds = holds } inside;
         claims = λ train front place rear way stands under ends of claim.
-            claim_kept track machine number (record (machine.routes number) { phase = withdrawn_phase (machine.routes number).phase }) train front place
+            claim_kept track machine number (withdrawn machine.now (machine.routes number)) train front place
             (given_withdrawn (machine.routes number).phase ∙ claim.given) claim.holds refl refl claim;
         unreserved = λ train border place under reserved of holds. reserved.unheld number holds;
       }

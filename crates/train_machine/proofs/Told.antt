@@ -7,10 +7,10 @@ use Rattle.train_machine.specs.Train.{is_in}
 use Rattle.train_machine.specs.Section.{Belief, Unknown, Occupied, Clear, Told, Late, Awaited, Came, Gone, Section, is_clear, is_occupied, is_unheard, News, Lost, Old, IsOccupied, IsLeft, belief_told, told_after, section_told}
 use Rattle.train_machine.specs.Route.{Phase, Free, Waiting, Proceeding, Withdrawn, Ended, Route, is_given, is_open, is_whole, withdrawn_phase}
 use Rattle.train_machine.specs.Machine.{Pass, Never, At, Past, Machine, IsIn}
-use Rattle.train_machine.specs.Moves.{MayBeOld, MayHear, phase_told, route_told, told}
+use Rattle.train_machine.specs.Moves.{MayBeOld, MayHear, phase_told, time_told, route_told, told}
 use Rattle.train_machine.specs.Invariant.{IsOnce, IsRouteSound, Invariant}
 use Rattle.train_machine.proofs.Lists.{at_each, at_it, elsewhere, same_or_not}
-use Rattle.train_machine.proofs.Routes.{given_withdrawn, whole_withdrawn, open_withdrawn, free_before, waiting_before, ended_before, not_proceeding}
+use Rattle.train_machine.proofs.Routes.{given_withdrawn, whole_withdrawn, open_withdrawn, free_before, waiting_before, ended_before, not_proceeding, time_past, time_still}
 use Rattle.train_machine.proofs.Freed.{gone_or_not}
 use Rattle.train_machine.proofs.Carried.{carried_kept}
 
@@ -64,6 +64,18 @@ still_clear false belief phase e held = absurd (cc (held))
 still_clear true Unknown phase e held = absurd (not_proceeding phase e)
 still_clear true Occupied phase e held = absurd (not_proceeding phase e)
 still_clear true Clear phase e held = refl
+
+time_by : (now : ℕ) (holds : Bool) (belief : Belief) (before : ℕ) (phase : Phase) → before ≤ now → time_told now holds belief phase before ≤ now
+time_by now false belief before phase past = past
+time_by now true Unknown before phase past = time_past now before phase past
+time_by now true Occupied before phase past = time_past now before phase past
+time_by now true Clear before phase past = past
+
+time_stays : (now : ℕ) (holds : Bool) (belief : Belief) (before : ℕ) (phase : Phase) → phase ≢ Proceeding → time_told now holds belief phase before ≡ before
+time_stays now false belief before phase other = refl
+time_stays now true Unknown before phase other = time_still now before phase other
+time_stays now true Occupied before phase other = time_still now before phase other
+time_stays now true Clear before phase other = refl
 
 -- ---- what is seen
 
@@ -222,8 +234,9 @@ module _ (track : Track) (machine : Machine) (kept : Invariant track machine) (s
       begin_here IsLeft may was is at = absurd (may.1 (ap is_unheard at) was)
 
       once_told : (pass : Pass) → is_open (machine.routes number).phase ≡ true
-          → IsOnce (machine.routes number).phase (machine.routes number).lit (machine.sections (track.section (track.first number))) pass
-          → IsOnce (phase_told ((machine.routes number).holds section) (belief_told news) (machine.routes number).phase) (machine.routes number).lit
+          → IsOnce (machine.routes number).phase (machine.routes number).withdrawn_at (machine.sections (track.section (track.first number))) pass
+          → IsOnce (phase_told ((machine.routes number).holds section) (belief_told news) (machine.routes number).phase)
+          (time_told machine.now ((machine.routes number).holds section) (belief_told news) (machine.routes number).phase (machine.routes number).withdrawn_at)
           (changed_at section (section_told machine.clock news (machine.sections section)) machine.sections (track.section (track.first number))) pass
       once_told Never is_opened once = once
       once_told (At reading) is_opened once =
@@ -237,10 +250,11 @@ module _ (track : Track) (machine : Machine) (kept : Invariant track machine) (s
           was_proceeding : phase_told ((machine.routes number).holds section) (belief_told news) (machine.routes number).phase ≡ Proceeding → (machine.routes number).phase ≡ Proceeding
           was_proceeding = proceeding_told ((machine.routes number).holds section) (belief_told news) (machine.routes number).phase
       once_told (Past time) is_opened once =
-          ((λ proceeding. once.0 (proceeding_told ((machine.routes number).holds section) (belief_told news) (machine.routes number).phase proceeding)), once.1)
+          ((λ proceeding. once.0 (proceeding_told ((machine.routes number).holds section) (belief_told news) (machine.routes number).phase proceeding)),
+          subst (λ (n : ℕ). n ≤ time) (sym (time_stays machine.now ((machine.routes number).holds section) (belief_told news) (machine.routes number).withdrawn_at (machine.routes number).phase once.0)) once.1)
 
       route_sound : IsRouteSound track (changed_at section (section_told machine.clock news (machine.sections section)) machine.sections) machine.points machine.passes machine.now number
-          (route_told section (belief_told news) (machine.routes number))
+          (route_told machine.now section (belief_told news) (machine.routes number))
       route_sound = record {
         unset = λ free. old.unset (free_told ((machine.routes number).holds section) (belief_told news) (machine.routes number).phase free);
         on_path = old.on_path;
@@ -269,7 +283,7 @@ module _ (track : Track) (machine : Machine) (kept : Invariant track machine) (s
         once = λ «open» owned. once_told (machine.passes (track.entry number))
             (sym (open_told ((machine.routes number).holds section) (belief_told news) (machine.routes number).phase) ∙ «open»)
             (old.once (sym (open_told ((machine.routes number).holds section) (belief_told news) (machine.routes number).phase) ∙ «open») owned);
-        past = old.past;
+        past = time_by machine.now ((machine.routes number).holds section) (belief_told news) (machine.routes number).withdrawn_at (machine.routes number).phase old.past;
         settled = λ given. old.settled (was_given given);
       }
         where
@@ -296,7 +310,7 @@ module _ (track : Track) (machine : Machine) (kept : Invariant track machine) (s
     pub told_kept : Invariant track (told section news machine)
     told_kept =
         carried_kept track machine kept (changed_at section (section_told machine.clock news (machine.sections section)) machine.sections)
-        (λ route. route_told section (belief_told news) (machine.routes route)) machine.points machine.passes machine.now machine.clock record {
+        (λ route. route_told machine.now section (belief_told news) (machine.routes route)) machine.points machine.passes machine.now machine.clock record {
           sound = route_sound;
           given = λ route. given_told ((machine.routes route).holds section) (belief_told news) (machine.routes route).phase;
           holds = λ route n. refl;

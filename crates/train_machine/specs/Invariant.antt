@@ -10,11 +10,11 @@ use Rattle.train_machine.specs.Machine.{report_time, Point, Pass, Never, At, Pas
 use Rattle.train_machine.specs.Promise.{StandsAt}
 
 -- One: the entry signal of an open route was passed in this setting. While the route isn't withdrawn, nothing was told of
--- that; and once the interlocking has made a step of report_time later, it is withdrawn, and its lamp no longer told since.
-abbrev pub IsOnce : Phase → (lit : ℕ) → Section → Pass → Type 0
-IsOnce phase lit begin Never = ⊥
-IsOnce phase lit begin (At reading) = phase ≡ Proceeding → (begin.told ≡ Awaited) × (begin.entered ≡ reading)
-IsOnce phase lit begin (Past time) = (phase ≢ Proceeding) × (lit ≤ time)
+-- that; and once the interlocking has made a step of report_time later, it has been withdrawn.
+abbrev pub IsOnce : Phase → (withdrawn_at : ℕ) → Section → Pass → Type 0
+IsOnce phase withdrawn_at begin Never = ⊥
+IsOnce phase withdrawn_at begin (At reading) = phase ≡ Proceeding → (begin.told ≡ Awaited) × (begin.entered ≡ reading)
+IsOnce phase withdrawn_at begin (Past time) = (phase ≢ Proceeding) × (withdrawn_at ≤ time)
 
 pub record IsRouteSound (track : Track) (sections : ℕ → Section) (points : ℕ → Point) (passes : ℕ → Pass) (now : ℕ) (number : ℕ) (route : Route) : Type 0 where
   -- a route that isn't set holds nothing, and what a route holds lies on its path
@@ -44,8 +44,8 @@ pub record IsRouteSound (track : Track) (sections : ℕ → Section) (points : �
       → route.holds (track.section b) ≡ true → route.seen (track.section a) ≡ false → (sections (track.section a)).told ≡ Gone
       → (sections (track.section b)).told ≢ Gone → (sections (track.section b)).entered ≤ (sections (track.section a)).since
   pub once : is_open route.phase ≡ true → route.owner ≢ None
-      → IsOnce route.phase route.lit (sections (track.section (track.first number))) (passes (track.entry number))
-  pub past : route.lit ≤ now
+      → IsOnce route.phase route.withdrawn_at (sections (track.section (track.first number))) (passes (track.entry number))
+  pub past : route.withdrawn_at ≤ now
   -- each point of what it holds with authority stands undriven at its side
   pub settled : is_given route.phase ≡ true → (place point : ℕ) → IsOf place (path track number) → track.point place ≡ Some point
       → route.holds (track.section place) ≡ true → StandsAt (track.leg place) (points point)

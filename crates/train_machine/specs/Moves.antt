@@ -5,7 +5,7 @@ use Rattle.train_machine.specs.Lists.{IsOf, changed_at, without_last, turned_rou
 use Rattle.train_machine.specs.Track.{Side, Track, path}
 use Rattle.train_machine.specs.Train.{Under, Nothing, Throat, OnRoute, Train, is_throat, is_in}
 use Rattle.train_machine.specs.Section.{Belief, Unknown, Occupied, Clear, Told, Late, Awaited, Came, Gone, Section, is_occupied, is_unheard, section_entered, News, Lost, Old, IsOccupied, IsLeft, belief_told, section_told}
-use Rattle.train_machine.specs.Route.{Phase, Free, Waiting, Proceeding, Ended, Route, free_route, is_given, is_open, withdrawn_phase}
+use Rattle.train_machine.specs.Route.{Phase, Free, Waiting, Proceeding, Withdrawn, Ended, Route, free_route, is_given, is_open, withdrawn_phase, withdrawn_time}
 use Rattle.train_machine.specs.Machine.{report_time, lamp_time, Point, Pass, Never, At, Past, Machine, IsIn, with_train, with_route, with_point}
 
 -- what can happen
@@ -38,7 +38,7 @@ pub data Move : Type 0 where
   Frees : (route : ℕ) → Move
   -- it gives a move to a point
   GivesMove : (point : ℕ) → Move
-  -- it makes a step
+  -- it ends a step
   Steps : Move
   -- it is resumed after it was made anew: it knows nothing of its former routes, which stood until now
   Resumes : Move
@@ -85,20 +85,26 @@ phase_told true Unknown phase = withdrawn_phase phase
 phase_told true Occupied phase = withdrawn_phase phase
 phase_told true Clear phase = phase
 
-abbrev pub route_told : ℕ → Belief → Route → Route
-route_told section belief route = record {
+abbrev pub time_told : (now : ℕ) (holds : Bool) → Belief → Phase → (before : ℕ) → ℕ
+time_told now false belief phase before = before
+time_told now true Unknown phase before = withdrawn_time now phase before
+time_told now true Occupied phase before = withdrawn_time now phase before
+time_told now true Clear phase before = before
+
+abbrev pub route_told : (now : ℕ) → ℕ → Belief → Route → Route
+route_told now section belief route = record {
   phase = phase_told (route.holds section) belief route.phase;
   holds = route.holds;
   seen = if is_occupied belief then changed_at section true route.seen else route.seen;
   owner = route.owner;
-  lit = route.lit;
+  withdrawn_at = time_told now (route.holds section) belief route.phase route.withdrawn_at;
   ended = route.ended;
 }
 
 abbrev pub told : ℕ → News → Machine → Machine
 told section news machine = record machine {
   sections = changed_at section (section_told machine.clock news (machine.sections section)) machine.sections;
-  routes = λ route. route_told section (belief_told news) (machine.routes route);
+  routes = λ route. route_told machine.now section (belief_told news) (machine.routes route);
 }
 
 abbrev pub set_route : Track → ℕ → Route
@@ -107,24 +113,20 @@ set_route track route = record {
   holds = λ section. is_in track section (path track route);
   seen = λ section. false;
   owner = None;
-  lit = 0;
+  withdrawn_at = 0;
   ended = 0;
 }
 
-abbrev pub authorised : (now : ℕ) → Route → Route
-authorised now route = record { phase = Proceeding; holds = route.holds; seen = λ section. false; owner = None; lit = now; ended = route.ended }
+abbrev pub authorised : Route → Route
+authorised route = record { phase = Proceeding; holds = route.holds; seen = λ section. false; owner = None; withdrawn_at = 0; ended = route.ended }
 
-abbrev pub lit_by : (now : ℕ) → Phase → (lit : ℕ) → ℕ
-lit_by now Proceeding lit = now
-lit_by now _ lit = lit
-
-abbrev pub route_stepped : (now : ℕ) → Route → Route
-route_stepped now route = record {
-  phase = route.phase;
+abbrev pub withdrawn : (now : ℕ) → Route → Route
+withdrawn now route = record {
+  phase = withdrawn_phase route.phase;
   holds = route.holds;
   seen = route.seen;
   owner = route.owner;
-  lit = lit_by now route.phase route.lit;
+  withdrawn_at = withdrawn_time now route.phase route.withdrawn_at;
   ended = route.ended;
 }
 
@@ -155,19 +157,15 @@ after track machine (Follows train) =
 after track machine (Turns train) = with_train train (turned_train track (machine.trains train)) machine
 after track machine (Hears section news) = told section news machine
 after track machine (Sets route) = with_route route (set_route track route) machine
-after track machine (Authorises route) = with_route route (authorised machine.now (machine.routes route)) machine
-after track machine (Withdraws route) =
-    with_route route (record (machine.routes route) { phase = withdrawn_phase (machine.routes route).phase }) machine
+after track machine (Authorises route) = with_route route (authorised (machine.routes route)) machine
+after track machine (Withdraws route) = with_route route (withdrawn machine.now (machine.routes route)) machine
 after track machine (Ends route) = with_route route (record (machine.routes route) { phase = Ended; ended = machine.clock }) machine
 after track machine (FreesSection route section) =
     with_route route (record (machine.routes route) { holds = changed_at section false (machine.routes route).holds }) machine
 after track machine (FreesCancelled route) = with_route route free_route machine
 after track machine (Frees route) = with_route route free_route machine
 after track machine (GivesMove point) = with_point point (record (machine.points point) { moves = true }) machine
-after track machine Steps = record machine {
-  routes = λ route. route_stepped machine.now (machine.routes route);
-  passes = λ signal. pass_stepped machine.now machine.clock (machine.passes signal);
-}
+after track machine Steps = record machine { passes = λ signal. pass_stepped machine.now machine.clock (machine.passes signal) }
 after track machine Resumes = record machine { trains = λ train. stopped (machine.trains train); routes = λ route. free_route }
 after track machine (Acts point lies moves) = with_point point (record { lies = lies; moves = moves }) machine
 after track machine (Time now clock) = record machine { now = now; clock = clock }
@@ -199,10 +197,10 @@ pub record MayPass (track : Track) (machine : Machine) (train route place : ℕ)
   pub led : IsLed track machine front place
   pub before : track.signal front ≡ Some (track.entry route)
   -- Obey, a premise of the traffic: the signal shows the aspect of a route. The headline gives that this route has
-  -- authority, and what the controller's link gives (dark) that the last step in which this wasn't withdrawn is less
-  -- than lamp_time ago.
+  -- authority, or had it when the interlocking was made anew; and what the controller's link gives (dark) that the step
+  -- in which it was withdrawn, if it is, is less than lamp_time ago.
   pub shown : is_open (machine.routes route).phase ≡ true
-  pub lit : machine.now < (machine.routes route).lit + lamp_time
+  pub dark : (machine.routes route).phase ≡ Withdrawn → machine.now < (machine.routes route).withdrawn_at + lamp_time
   pub headway : HasHeadway machine.now (machine.passes (track.entry route))
 
 -- A train goes on without passing a signal.

@@ -23,14 +23,14 @@ pub record Route : Type 0 where
   pub seen : (section : ℕ) → Bool
   -- the train that passed its entry signal since its authority was given
   pub owner : Option ℕ
-  -- the true time of the last step before whose rules it had authority and this wasn't withdrawn
-  pub lit : ℕ
+  -- the true time of the step in which its authority was withdrawn
+  pub withdrawn_at : ℕ
   -- the interlocking's reading when its authority ended
   pub ended : ℕ
 
 -- it isn't set
 abbrev pub free_route : Route
-free_route = record { phase = Free; holds = λ section. false; seen = λ section. false; owner = None; lit = 0; ended = 0 }
+free_route = record { phase = Free; holds = λ section. false; seen = λ section. false; owner = None; withdrawn_at = 0; ended = 0 }
 
 abbrev pub is_free : Phase → Bool
 is_free Free = true
@@ -66,3 +66,11 @@ withdrawn_phase Waiting = Waiting
 withdrawn_phase Proceeding = Withdrawn
 withdrawn_phase Withdrawn = Withdrawn
 withdrawn_phase Ended = Ended
+
+-- when its authority was withdrawn, if it is withdrawn now
+abbrev pub withdrawn_time : (now : ℕ) → Phase → (before : ℕ) → ℕ
+withdrawn_time now Free before = before
+withdrawn_time now Waiting before = before
+withdrawn_time now Proceeding before = now
+withdrawn_time now Withdrawn before = before
+withdrawn_time now Ended before = before

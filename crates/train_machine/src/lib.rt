@@ -4,4 +4,4 @@
 
 mod laws;
 
-pub use laws::apart_holds_at_first;
+pub use laws::{invariant_is_kept, promise_follows, trains_are_kept_apart};
