@@ -12,3 +12,4 @@ pub mod Goes
 pub mod Throats
 pub mod Passes
 pub mod Kept
+pub mod Sound

@@ -9,3 +9,4 @@ pub mod Moves
 pub mod Run
 pub mod Promise
 pub mod Invariant
+pub mod Stations
