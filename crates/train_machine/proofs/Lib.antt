@@ -13,3 +13,5 @@ pub mod Throats
 pub mod Passes
 pub mod Kept
 pub mod Sound
+pub mod Checks
+pub mod Checked
