@@ -9,8 +9,8 @@ use Rattle.train_machine.specs.Section.{Belief, Unknown, Occupied, Clear, Told, 
 use Rattle.train_machine.specs.Route.{Phase, Free, Waiting, Proceeding, Withdrawn, Ended, Route, free_route, is_given, is_open}
 use Rattle.train_machine.specs.Machine.{report_time, lamp_time, Point, Pass, Never, At, Past, Machine, IsIn}
 use Rattle.train_machine.specs.Moves.{Move, Enters, Passes, Goes, Follows, Turns, Hears, Sets, Authorises, Withdraws, Ends, FreesSection, FreesCancelled, Frees, GivesMove, Steps, Resumes, Acts, Time, IsLed, IsAtFront, HasHeadway, MayBeOld, AreFresh, MayPass, MayGo, MayEnter, MaySet, MayAuthorise, MayFreeSection, MayFreeCancelled, MayFree, MayGiveMove, May}
-use Rattle.train_machine.proofs.Lists.{same_is}
-use Rattle.train_machine.proofs.Checks.{is_below, all, trains, fours, with_front, is_empty, same_side, is_some, is_none, is_at, may_be_at, is_nothing, is_free_phase, is_waiting, is_withdrawn, is_ended, has_headway, may_be_old, by_leg, stands_for, is_led, is_nobody_in, is_unclaimed, is_unheld, are_fresh, can}
+use Rattle.train_machine.proofs.Lists.{same_self, same_is}
+use Rattle.train_machine.proofs.Checks.{is_below, all, trains, fours, with_front, is_empty, same_side, is_some, is_none, is_at, may_be_at, is_nothing, is_free_phase, is_waiting, is_withdrawn, is_ended, has_headway, may_be_old, by_leg, stands_for, joins, is_nobody_in, is_unclaimed_by, is_unclaimed, is_unheld, is_fresh_or_unclear, is_fresh, was_entered, is_over, is_unguarded, Can}
 
 -- ---- tests
 
@@ -158,3 +158,148 @@ stands_lies (Some there) points leg e point over =
   where
     some_same : (a b : ℕ) → Some a ≡ Some b → a ≡ b
     some_same a b e = cc (e)
+
+-- Three trains, and four sections and routes are in use.
+pub record IsSmall (machine : Machine) : Type 0 where
+  pub absent : (n : ℕ) → (machine.trains (suc (suc (suc n)))).places ≡ []
+  pub loose : (n : ℕ) → (machine.trains (suc (suc (suc n)))).under ≡ Nothing
+  pub told : (n : ℕ) → (machine.sections (suc (suc (suc (suc n))))).told ≡ Came
+  pub entered : (n : ℕ) → (machine.sections (suc (suc (suc (suc n))))).entered ≡ 0
+  pub unset : (n section : ℕ) → (machine.routes (suc (suc (suc (suc n))))).holds section ≡ false
+  pub free : (n : ℕ) → (machine.routes (suc (suc (suc (suc n))))).phase ≡ Free
+  pub unheld : (route n : ℕ) → (machine.routes route).holds (suc (suc (suc (suc n)))) ≡ false
+
+module _ (track : Track) (machine : Machine) (small : IsSmall machine) where
+  nobody : (section : ℕ) → is_nobody_in track machine section ≡ true → (train : ℕ) → IsIn track machine train section → ⊥
+  nobody section e train = never (is_in track section (machine.trains train).places) (trains_are (λ train. not (is_in track section (machine.trains train).places)) e
+      (λ n. ap (λ l. not (is_in track section l)) (small.absent n)) train)
+
+  unclaimed : (section : ℕ) → is_unclaimed track machine section ≡ true → (train from ahead : ℕ) → (machine.trains train).under ≡ Throat from
+      → IsOf ahead (machine.trains train).way → track.section ahead ≢ section
+  unclaimed section e train from ahead under of same =
+      never (is_same (track.section ahead) section) (all_is (machine.trains train).way (λ ahead. not (is_same (track.section ahead) section))
+      (either (is_throat (machine.trains train).under) (all (machine.trains train).way (λ ahead. not (is_same (track.section ahead) section)))
+      (trains_are (is_unclaimed_by track machine section) e
+      (λ n. ap (λ u. not (is_throat u) || all (machine.trains (suc (suc (suc n)))).way (λ ahead. not (is_same (track.section ahead) section))) (small.loose n)) train)
+      (ap is_throat under)) ahead of) (subst (λ (n : ℕ). is_same (track.section ahead) n ≡ true) same (same_self (track.section ahead)))
+
+  unheld : (section : ℕ) → is_unheld machine section ≡ true → (route : ℕ) → (machine.routes route).holds section ≡ true → ⊥
+  unheld section e route = never ((machine.routes route).holds section)
+      (fours_are (λ route. not ((machine.routes route).holds section)) e (λ n. ap not (small.unset n section)) route)
+
+  fresh : fours (is_fresh machine) ≡ true → AreFresh machine
+  fresh e section unheard clear =
+      leb-true (suc machine.clock) ((machine.sections section).entered + report_time)
+      (either (is_clear (machine.sections section).belief) (is_below machine.clock ((machine.sections section).entered + report_time))
+      (either (is_unheard (machine.sections section).told) (is_fresh_or_unclear machine.clock (machine.sections section)) (fours_are (is_fresh machine) e
+      (λ n. ap (λ t. not (is_unheard t) || is_fresh_or_unclear machine.clock (machine.sections (suc (suc (suc (suc n)))))) (small.told n)) section) unheard) (ap is_clear clear))
+
+  led : (front place : ℕ) → joins track machine place front ≡ true → IsLed track machine front place
+  led front place e = record {
+    joined = and_left (track.follows front place) (by_leg (track.point place) (track.is_facing place) machine.points (track.leg place)) e;
+    by_leg = leg_is (track.point place) (track.is_facing place) machine.points (track.leg place)
+        (and_right (track.follows front place) (by_leg (track.point place) (track.is_facing place) machine.points (track.leg place)) e);
+  }
+
+  pub can_may : (move : Move) → Can track machine move → May track machine move
+  can_may (Enters train border) e = record {
+    absent = empty_is (machine.trains train).places e.1;
+    empty = λ place other of. nobody (track.section place) (all_is (track.throat border) (λ place. is_nobody_in track machine (track.section place)) e.3 place of) other;
+    unclaimed = λ place other from ahead of. unclaimed (track.section place)
+        (all_is (track.throat border) (λ place. is_unclaimed track machine (track.section place)) e.4 place of) other from ahead;
+    unheld = λ place route of. unheld (track.section place) (all_is (track.throat border) (λ place. is_unheld machine (track.section place)) e.5 place of) route;
+  }
+  can_may (Passes train route place) e =
+      let at = front_is (machine.trains train).places (λ front. joins track machine place front && is_some (track.entry route) (track.signal front)) e.3 in record {
+        front = at.0;
+        at_front = record { rear = at.1; stands = at.2 };
+        led = led at.0 place (and_left (joins track machine place at.0) (is_some (track.entry route) (track.signal at.0)) at.3);
+        before = some_is (track.entry route) (track.signal at.0) (and_right (joins track machine place at.0) (is_some (track.entry route) (track.signal at.0)) at.3);
+        shown = e.4;
+        dark = λ withdrawn. leb-true (suc machine.now) ((machine.routes route).withdrawn_at + lamp_time)
+            (either (is_withdrawn (machine.routes route).phase) (is_below machine.now ((machine.routes route).withdrawn_at + lamp_time)) e.5 (ap is_withdrawn withdrawn));
+        headway = headway_is machine.now (machine.passes (track.entry route)) e.6;
+      }
+  can_may (Goes train place) e =
+      let at = front_is (machine.trains train).places (λ front. joins track machine place front && is_none (track.signal front)) e.2 in record {
+        front = at.0;
+        at_front = record { rear = at.1; stands = at.2 };
+        led = led at.0 place (and_left (joins track machine place at.0) (is_none (track.signal at.0)) at.3);
+        unsignalled = none_is (track.signal at.0) (and_right (joins track machine place at.0) (is_none (track.signal at.0)) at.3);
+        let_go = nothing_is (machine.trains train).under e.3;
+      }
+  can_may (Follows train) e = tt
+  can_may (Turns train) e = tt
+  can_may (Hears section Lost) e = tt
+  can_may (Hears section (Old belief)) e = old_is (machine.sections section).told belief e.1
+  can_may (Hears section IsOccupied) e = gone_not (machine.sections section).told e.1
+  can_may (Hears section IsLeft) e = (nobody section e.1, λ unheard. clear_not (machine.sections section).belief
+      (either (is_unheard (machine.sections section).told) (not (is_clear (machine.sections section).belief)) e.2 unheard))
+  can_may (Sets route) e = record {
+    fresh = fresh e.1;
+    free = free_is (machine.routes route).phase e.2;
+    clear = λ place of. clear_is (machine.sections (track.section place)).belief
+        (all_is (path track route) (λ place. is_clear (machine.sections (track.section place)).belief) e.4 place of);
+    unheld = λ place other of. unheld (track.section place) (all_is (path track route) (λ place. is_unheld machine (track.section place)) e.5 place of) other;
+    entered = λ place of inlet. leb-true ((machine.sections (track.section place)).entered + report_time) machine.clock
+        (either (machine.sections (track.section place)).inlet (was_entered machine (track.section place))
+        (all_is (path track route) (λ place. not (machine.sections (track.section place)).inlet || was_entered machine (track.section place)) e.6 place of) inlet);
+    unclaimed = λ place train from ahead of. unclaimed (track.section place)
+        (all_is (path track route) (λ place. is_unclaimed track machine (track.section place)) e.7 place of) train from ahead;
+  }
+  can_may (Authorises route) e = record {
+    waiting = waiting_is (machine.routes route).phase e.1;
+    clear = λ place of. clear_is (machine.sections (track.section place)).belief
+        (all_is (path track route) (λ place. is_clear (machine.sections (track.section place)).belief) e.2 place of);
+    stands = λ place point of over. (stands_lies (track.point place) machine.points (track.leg place)
+        (all_is (path track route) (λ place. stands_for (track.point place) machine.points (track.leg place)) e.3 place of) point over).0;
+    undriven = λ place point of over. (stands_lies (track.point place) machine.points (track.leg place)
+        (all_is (path track route) (λ place. stands_for (track.point place) machine.points (track.leg place)) e.3 place of) point over).1;
+  }
+  can_may (Withdraws route) e = tt
+  can_may (Ends route) e = e.1
+  can_may (FreesSection route section) e = record {
+    ended = ended_is (machine.routes route).phase e.1;
+    seen = e.2;
+    clear = clear_is (machine.sections section).belief e.3;
+  }
+  can_may (FreesCancelled route) e = record {
+    fresh = fresh e.1;
+    ended = ended_is (machine.routes route).phase e.2;
+    over = leb-true ((machine.routes route).ended + report_time) machine.clock e.3;
+    unseen = λ place of. false_of ((machine.routes route).seen (track.section place))
+        (all_is (path track route) (λ place. not ((machine.routes route).seen (track.section place))) e.4 place of);
+    clear = λ place of. clear_is (machine.sections (track.section place)).belief
+        (all_is (path track route) (λ place. is_clear (machine.sections (track.section place)).belief) e.5 place of);
+    since = λ place of. leb-true ((machine.sections (track.section place)).since + report_time) machine.clock
+        (all_is (path track route) (λ place. nat_le ((machine.sections (track.section place)).since + report_time) machine.clock) e.6 place of);
+  }
+  can_may (Frees route) e = go (one_of (is_waiting (machine.routes route).phase)
+      (is_ended (machine.routes route).phase && fours (λ section. not ((machine.routes route).holds section))) e.1)
+    where
+      go : (is_waiting (machine.routes route).phase ≡ true) ⊎ ((is_ended (machine.routes route).phase && fours (λ section. not ((machine.routes route).holds section))) ≡ true)
+          → MayFree (machine.routes route)
+      go (inl waiting) = inl (waiting_is (machine.routes route).phase waiting)
+      go (inr ended) = inr (
+        ended_is (machine.routes route).phase (and_left (is_ended (machine.routes route).phase) (fours (λ section. not ((machine.routes route).holds section))) ended),
+        (λ section. never ((machine.routes route).holds section) (fours_are (λ section. not ((machine.routes route).holds section))
+        (and_right (is_ended (machine.routes route).phase) (fours (λ section. not ((machine.routes route).holds section))) ended)
+        (λ n. ap not (small.unheld route n)) section)),
+      )
+  can_may (GivesMove point) e = record {
+    fresh = fresh e.0;
+    clear = clear_is (machine.sections (track.own point)).belief e.1;
+    unheld = λ route place given of over. never ((machine.routes route).holds (track.section place))
+        (either (is_some point (track.point place)) (not ((machine.routes route).holds (track.section place)))
+        (all_is (path track route) (is_over track machine point route)
+        (either (is_given (machine.routes route).phase) (all (path track route) (is_over track machine point route))
+        (fours_are (is_unguarded track machine point) e.2
+        (λ n. ap (λ p. not (is_given p) || all (path track (suc (suc (suc (suc n))))) (is_over track machine point (suc (suc (suc (suc n)))))) (small.free n)) route) given) place of)
+        (ap (is_some point) over ∙ same_self point));
+  }
+  can_may Steps e = fresh e
+  can_may Resumes e = λ section.
+      leb-true ((machine.sections section).entered + report_time) machine.clock
+      (fours_are (was_entered machine) e.1 (λ n. ap (λ t. nat_le (t + report_time) machine.clock) (small.entered n) ∙ e.0) section)
+  can_may (Acts point lies moves) e = e
+  can_may (Time now clock) e = (leb-true machine.now now e.0, leb-true machine.clock clock e.1)

@@ -108,56 +108,78 @@ abbrev pub stands_for : Option ℕ → (ℕ → Point) → Side → Bool
 stands_for None points leg = true
 stands_for (Some point) points leg = is_at leg (points point).lies && not (points point).moves
 
-module _ (track : Track) (machine : Machine) where
-  abbrev pub is_led : (place next : ℕ) → Bool
-  is_led place next = track.follows place next && by_leg (track.point next) (track.is_facing next) machine.points (track.leg next)
+abbrev pub joins : Track → Machine → (place front : ℕ) → Bool
+joins track machine place front = track.follows front place && by_leg (track.point place) (track.is_facing place) machine.points (track.leg place)
 
-  abbrev pub is_nobody_in : (section : ℕ) → Bool
-  is_nobody_in section = trains (λ train. not (is_in track section (machine.trains train).places))
+abbrev pub is_nobody_in : Track → Machine → (section : ℕ) → Bool
+is_nobody_in track machine section = trains (λ train. not (is_in track section (machine.trains train).places))
 
-  -- no train in a throat has a place of the section before it
-  abbrev pub is_unclaimed : (section : ℕ) → Bool
-  is_unclaimed section = trains (λ train. not (is_throat (machine.trains train).under) || all (machine.trains train).way (λ ahead. not (is_same (track.section ahead) section)))
+-- no train in a throat has a place of the section before it
+abbrev pub is_unclaimed_by : Track → Machine → (section train : ℕ) → Bool
+is_unclaimed_by track machine section train =
+    not (is_throat (machine.trains train).under) || all (machine.trains train).way (λ ahead. not (is_same (track.section ahead) section))
 
-  abbrev pub is_unheld : (section : ℕ) → Bool
-  is_unheld section = fours (λ route. not ((machine.routes route).holds section))
+abbrev pub is_unclaimed : Track → Machine → (section : ℕ) → Bool
+is_unclaimed track machine section = trains (is_unclaimed_by track machine section)
 
-  abbrev pub are_fresh : Bool
-  are_fresh = fours (λ section. not (is_unheard (machine.sections section).told) || (not (is_clear (machine.sections section).belief)
-      || is_below machine.clock ((machine.sections section).entered + report_time)))
+abbrev pub is_unheld : Machine → (section : ℕ) → Bool
+is_unheld machine section = fours (λ route. not ((machine.routes route).holds section))
 
-  abbrev pub can : Move → Bool
-  can (Enters train border) = is_below train 3 && (is_empty (machine.trains train).places && all (track.throat border)
-      (λ place. is_below (track.section place) 4 && (is_nobody_in (track.section place) && (is_unclaimed (track.section place) && is_unheld (track.section place)))))
-  can (Passes train route place) = is_below train 3 && (is_below route 4 && (is_below (track.section place) 4
-      && (with_front (machine.trains train).places (λ front. is_led front place && is_some (track.entry route) (track.signal front))
-      && (is_open (machine.routes route).phase && ((not (is_withdrawn (machine.routes route).phase) || is_below machine.now ((machine.routes route).withdrawn_at + lamp_time))
-      && has_headway machine.now (machine.passes (track.entry route)))))))
-  can (Goes train place) = is_below train 3 && (is_below (track.section place) 4
-      && (with_front (machine.trains train).places (λ front. is_led front place && is_none (track.signal front)) && not (is_nothing (machine.trains train).under)))
-  can (Follows train) = is_below train 3
-  can (Turns train) = is_below train 3
-  can (Hears section Lost) = is_below section 4
-  can (Hears section (Old belief)) = is_below section 4 && may_be_old (machine.sections section).told belief
-  can (Hears section IsOccupied) = is_below section 4 && not (is_gone (machine.sections section).told)
-  can (Hears section IsLeft) = is_below section 4
-      && (is_nobody_in section && (not (is_unheard (machine.sections section).told) || not (is_clear (machine.sections section).belief)))
-  can (Sets route) = is_below route 4 && (are_fresh && (is_free_phase (machine.routes route).phase && all (path track route)
-      (λ place. is_below (track.section place) 4 && (is_clear (machine.sections (track.section place)).belief && (is_unheld (track.section place)
-      && ((not (machine.sections (track.section place)).inlet || nat_le ((machine.sections (track.section place)).entered + report_time) machine.clock)
-      && is_unclaimed (track.section place)))))))
-  can (Authorises route) = is_below route 4 && (is_waiting (machine.routes route).phase && all (path track route)
-      (λ place. is_clear (machine.sections (track.section place)).belief && stands_for (track.point place) machine.points (track.leg place)))
-  can (Withdraws route) = is_below route 4
-  can (Ends route) = is_below route 4 && is_open (machine.routes route).phase
-  can (FreesSection route section) = is_below route 4 && (is_ended (machine.routes route).phase && ((machine.routes route).seen section && is_clear (machine.sections section).belief))
-  can (FreesCancelled route) = is_below route 4 && (are_fresh && (is_ended (machine.routes route).phase && (nat_le ((machine.routes route).ended + report_time) machine.clock
-      && all (path track route) (λ place. not ((machine.routes route).seen (track.section place)) && (is_clear (machine.sections (track.section place)).belief
-      && nat_le ((machine.sections (track.section place)).since + report_time) machine.clock)))))
-  can (Frees route) = is_below route 4 && (is_waiting (machine.routes route).phase || (is_ended (machine.routes route).phase && fours (λ section. not ((machine.routes route).holds section))))
-  can (GivesMove point) = are_fresh && (is_clear (machine.sections (track.own point)).belief
-      && fours (λ route. not (is_given (machine.routes route).phase) || all (path track route) (λ place. not (is_some point (track.point place)) || not ((machine.routes route).holds (track.section place)))))
-  can Steps = are_fresh
-  can Resumes = nat_le report_time machine.clock && fours (λ section. nat_le ((machine.sections section).entered + report_time) machine.clock)
-  can (Acts point lies moves) = (machine.points point).moves
-  can (Time now clock) = nat_le machine.now now && nat_le machine.clock clock
+abbrev pub is_fresh_or_unclear : (clock : ℕ) → Section → Bool
+is_fresh_or_unclear clock section = not (is_clear section.belief) || is_below clock (section.entered + report_time)
+
+abbrev pub is_fresh : Machine → (section : ℕ) → Bool
+is_fresh machine section = not (is_unheard (machine.sections section).told) || is_fresh_or_unclear machine.clock (machine.sections section)
+
+abbrev pub was_entered : Machine → (section : ℕ) → Bool
+was_entered machine section = nat_le ((machine.sections section).entered + report_time) machine.clock
+
+abbrev pub is_over : Track → Machine → (point route place : ℕ) → Bool
+is_over track machine point route place = not (is_some point (track.point place)) || not ((machine.routes route).holds (track.section place))
+
+abbrev pub is_unguarded : Track → Machine → (point route : ℕ) → Bool
+is_unguarded track machine point route = not (is_given (machine.routes route).phase) || all (path track route) (is_over track machine point route)
+
+-- the tests of a move, all of which hold
+abbrev pub Can : Track → Machine → Move → Type 0
+Can track machine (Enters train border) = (is_below train 3 ≡ true) × (is_empty (machine.trains train).places ≡ true)
+    × (all (track.throat border) (λ place. is_below (track.section place) 4) ≡ true) × (all (track.throat border) (λ place. is_nobody_in track machine (track.section place)) ≡ true)
+    × (all (track.throat border) (λ place. is_unclaimed track machine (track.section place)) ≡ true) × (all (track.throat border) (λ place. is_unheld machine (track.section place)) ≡ true)
+Can track machine (Passes train route place) = (is_below train 3 ≡ true) × (is_below route 4 ≡ true) × (is_below (track.section place) 4 ≡ true)
+    × (with_front (machine.trains train).places (λ front. joins track machine place front && is_some (track.entry route) (track.signal front)) ≡ true)
+    × (is_open (machine.routes route).phase ≡ true)
+    × ((not (is_withdrawn (machine.routes route).phase) || is_below machine.now ((machine.routes route).withdrawn_at + lamp_time)) ≡ true)
+    × (has_headway machine.now (machine.passes (track.entry route)) ≡ true)
+Can track machine (Goes train place) = (is_below train 3 ≡ true) × (is_below (track.section place) 4 ≡ true)
+    × (with_front (machine.trains train).places (λ front. joins track machine place front && is_none (track.signal front)) ≡ true)
+    × (not (is_nothing (machine.trains train).under) ≡ true)
+Can track machine (Follows train) = is_below train 3 ≡ true
+Can track machine (Turns train) = is_below train 3 ≡ true
+Can track machine (Hears section Lost) = is_below section 4 ≡ true
+Can track machine (Hears section (Old belief)) = (is_below section 4 ≡ true) × (may_be_old (machine.sections section).told belief ≡ true)
+Can track machine (Hears section IsOccupied) = (is_below section 4 ≡ true) × (not (is_gone (machine.sections section).told) ≡ true)
+Can track machine (Hears section IsLeft) = (is_below section 4 ≡ true) × (is_nobody_in track machine section ≡ true)
+    × ((not (is_unheard (machine.sections section).told) || not (is_clear (machine.sections section).belief)) ≡ true)
+Can track machine (Sets route) = (is_below route 4 ≡ true) × (fours (is_fresh machine) ≡ true) × (is_free_phase (machine.routes route).phase ≡ true)
+    × (all (path track route) (λ place. is_below (track.section place) 4) ≡ true) × (all (path track route) (λ place. is_clear (machine.sections (track.section place)).belief) ≡ true)
+    × (all (path track route) (λ place. is_unheld machine (track.section place)) ≡ true)
+    × (all (path track route) (λ place. not (machine.sections (track.section place)).inlet || was_entered machine (track.section place)) ≡ true)
+    × (all (path track route) (λ place. is_unclaimed track machine (track.section place)) ≡ true)
+Can track machine (Authorises route) = (is_below route 4 ≡ true) × (is_waiting (machine.routes route).phase ≡ true)
+    × (all (path track route) (λ place. is_clear (machine.sections (track.section place)).belief) ≡ true)
+    × (all (path track route) (λ place. stands_for (track.point place) machine.points (track.leg place)) ≡ true)
+Can track machine (Withdraws route) = is_below route 4 ≡ true
+Can track machine (Ends route) = (is_below route 4 ≡ true) × (is_open (machine.routes route).phase ≡ true)
+Can track machine (FreesSection route section) = (is_below route 4 ≡ true) × (is_ended (machine.routes route).phase ≡ true) × ((machine.routes route).seen section ≡ true)
+    × (is_clear (machine.sections section).belief ≡ true)
+Can track machine (FreesCancelled route) = (is_below route 4 ≡ true) × (fours (is_fresh machine) ≡ true) × (is_ended (machine.routes route).phase ≡ true)
+    × (nat_le ((machine.routes route).ended + report_time) machine.clock ≡ true) × (all (path track route) (λ place. not ((machine.routes route).seen (track.section place))) ≡ true)
+    × (all (path track route) (λ place. is_clear (machine.sections (track.section place)).belief) ≡ true)
+    × (all (path track route) (λ place. nat_le ((machine.sections (track.section place)).since + report_time) machine.clock) ≡ true)
+Can track machine (Frees route) = (is_below route 4 ≡ true)
+    × ((is_waiting (machine.routes route).phase || (is_ended (machine.routes route).phase && fours (λ section. not ((machine.routes route).holds section)))) ≡ true)
+Can track machine (GivesMove point) = (fours (is_fresh machine) ≡ true) × (is_clear (machine.sections (track.own point)).belief ≡ true) × (fours (is_unguarded track machine point) ≡ true)
+Can track machine Steps = fours (is_fresh machine) ≡ true
+Can track machine Resumes = (nat_le report_time machine.clock ≡ true) × (fours (was_entered machine) ≡ true)
+Can track machine (Acts point lies moves) = (machine.points point).moves ≡ true
+Can track machine (Time now clock) = (nat_le machine.now now ≡ true) × (nat_le machine.clock clock ≡ true)
