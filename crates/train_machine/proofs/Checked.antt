@@ -5,11 +5,11 @@ use Rattle.std.specs.Prelude.{◌≢◌, if◌then◌else◌}
 use Rattle.train_machine.specs.Lists.{is_same, changed_at, IsOf, without_last, turned_round}
 use Rattle.train_machine.specs.Track.{Side, Left, Right, Track, path}
 use Rattle.train_machine.specs.Train.{Under, Nothing, Throat, OnRoute, Train, is_throat, is_in}
-use Rattle.train_machine.specs.Section.{Belief, Unknown, Occupied, Clear, Told, Late, Awaited, Came, Gone, Section, is_clear, is_unheard, is_gone, News, Lost, Old, IsOccupied, IsLeft, section_entered, section_told}
-use Rattle.train_machine.specs.Route.{Phase, Free, Waiting, Proceeding, Withdrawn, Ended, Route, free_route, is_given, is_open}
-use Rattle.train_machine.specs.Machine.{report_time, lamp_time, Point, Pass, Never, At, Past, Machine, IsIn}
-use Rattle.train_machine.specs.Moves.{Move, Enters, Passes, Goes, Follows, Turns, Hears, Sets, Authorises, Withdraws, Ends, FreesSection, FreesCancelled, Frees, GivesMove, Steps, Resumes, Acts, Time, IsLed, IsAtFront, HasHeadway, MayBeOld, AreFresh, MayPass, MayGo, MayEnter, MaySet, MayAuthorise, MayFreeSection, MayFreeCancelled, MayFree, MayGiveMove, May}
-use Rattle.train_machine.proofs.Lists.{same_self, same_is}
+use Rattle.train_machine.specs.Section.{Belief, Unknown, Occupied, Clear, Told, Late, Awaited, Came, Gone, Section, is_clear, is_unheard, is_gone, News, Lost, Old, IsOccupied, IsLeft, belief_told, section_entered, section_told}
+use Rattle.train_machine.specs.Route.{Phase, Free, Waiting, Proceeding, Withdrawn, Ended, Route, free_route, is_given, is_open, withdrawn_phase}
+use Rattle.train_machine.specs.Machine.{report_time, lamp_time, Point, Pass, Never, At, Past, Machine, IsIn, with_route, with_train}
+use Rattle.train_machine.specs.Moves.{Move, Enters, Passes, Goes, Follows, Turns, Hears, Sets, Authorises, Withdraws, Ends, FreesSection, FreesCancelled, Frees, GivesMove, Steps, Resumes, Acts, Time, IsLed, IsAtFront, HasHeadway, MayBeOld, AreFresh, MayPass, MayGo, MayEnter, MaySet, MayAuthorise, MayFreeSection, MayFreeCancelled, MayFree, MayGiveMove, May, phase_told, route_told, told, come, entering, sections_entered, passed, later_way, stopped, followed, turned_train, set_route, authorised, withdrawn, after}
+use Rattle.train_machine.proofs.Lists.{same_self, same_is, different, at_each, elsewhere}
 use Rattle.train_machine.proofs.Checks.{is_below, all, trains, fours, with_front, is_empty, same_side, is_some, is_none, is_at, may_be_at, is_nothing, is_free_phase, is_waiting, is_withdrawn, is_ended, has_headway, may_be_old, by_leg, stands_for, joins, is_nobody_in, is_unclaimed_by, is_unclaimed, is_unheld, is_fresh_or_unclear, is_fresh, was_entered, is_over, is_unguarded, Can}
 
 -- ---- tests
@@ -303,3 +303,181 @@ module _ (track : Track) (machine : Machine) (small : IsSmall machine) where
       (fours_are (was_entered machine) e.1 (λ n. ap (λ t. nat_le (t + report_time) machine.clock) (small.entered n) ∙ e.0) section)
   can_may (Acts point lies moves) e = e
   can_may (Time now clock) e = (leb-true machine.now now e.0, leb-true machine.clock clock e.1)
+
+-- ---- a small machine stays small
+
+apart3 : (i n : ℕ) → is_below i 3 ≡ true → suc (suc (suc n)) ≢ i
+apart3 i n e same = let low = leb-true (suc i) 3 e in omega (arith, low, same)
+
+apart4 : (i n : ℕ) → is_below i 4 ≡ true → suc (suc (suc (suc n))) ≢ i
+apart4 i n e same = let low = leb-true (suc i) 4 e in omega (arith, low, same)
+
+in_below : (track : Track) (places : List ℕ) → all places (λ place. is_below (track.section place) 4) ≡ true → (n : ℕ) → is_in track (suc (suc (suc (suc n)))) places ≡ false
+in_below track [] e n = refl
+in_below track (first ∷ later) e n =
+    neither (is_same (track.section first) (suc (suc (suc (suc n))))) (is_in track (suc (suc (suc (suc n)))) later)
+    (different (track.section first) (suc (suc (suc (suc n))))
+    (λ same. apart4 (track.section first) n (and_left (is_below (track.section first) 4) (all later (λ place. is_below (track.section place) 4)) e) (sym same)))
+    (in_below track later (and_right (is_below (track.section first) 4) (all later (λ place. is_below (track.section place) 4)) e) n)
+  where
+    neither : (a b : Bool) → a ≡ false → b ≡ false → (a || b) ≡ false
+    neither a b ea eb = cc (ap (λ t. t || b) ea, eb)
+
+free_stays : (holds : Bool) (belief : Belief) (phase : Phase) → phase ≡ Free → phase_told holds belief phase ≡ Free
+free_stays false belief phase free = free
+free_stays true Unknown phase free = ap withdrawn_phase free
+free_stays true Occupied phase free = ap withdrawn_phase free
+free_stays true Clear phase free = free
+
+-- the numbers of a move are those of a small station
+abbrev pub IsWithin : Track → Move → Type 0
+IsWithin track (Enters train border) = (is_below train 3 ≡ true) × (all (track.throat border) (λ place. is_below (track.section place) 4) ≡ true)
+IsWithin track (Passes train route place) = (is_below train 3 ≡ true) × (is_below route 4 ≡ true) × (is_below (track.section place) 4 ≡ true)
+IsWithin track (Goes train place) = (is_below train 3 ≡ true) × (is_below (track.section place) 4 ≡ true)
+IsWithin track (Follows train) = is_below train 3 ≡ true
+IsWithin track (Turns train) = is_below train 3 ≡ true
+IsWithin track (Hears section news) = is_below section 4 ≡ true
+IsWithin track (Sets route) = (is_below route 4 ≡ true) × (all (path track route) (λ place. is_below (track.section place) 4) ≡ true)
+IsWithin track (Authorises route) = is_below route 4 ≡ true
+IsWithin track (Withdraws route) = is_below route 4 ≡ true
+IsWithin track (Ends route) = is_below route 4 ≡ true
+IsWithin track (FreesSection route section) = is_below route 4 ≡ true
+IsWithin track (FreesCancelled route) = is_below route 4 ≡ true
+IsWithin track (Frees route) = is_below route 4 ≡ true
+IsWithin track (GivesMove point) = Unit {0}
+IsWithin track Steps = Unit {0}
+IsWithin track Resumes = Unit {0}
+IsWithin track (Acts point lies moves) = Unit {0}
+IsWithin track (Time now clock) = Unit {0}
+
+pub within : (track : Track) (machine : Machine) (move : Move) → Can track machine move → IsWithin track move
+within track machine (Enters train border) e = (e.0, e.2)
+within track machine (Passes train route place) e = (e.0, e.1, e.2)
+within track machine (Goes train place) e = (e.0, e.1)
+within track machine (Follows train) e = e
+within track machine (Turns train) e = e
+within track machine (Hears section Lost) e = e
+within track machine (Hears section (Old belief)) e = e.0
+within track machine (Hears section IsOccupied) e = e.0
+within track machine (Hears section IsLeft) e = e.0
+within track machine (Sets route) e = (e.0, e.3)
+within track machine (Authorises route) e = e.0
+within track machine (Withdraws route) e = e
+within track machine (Ends route) e = e.0
+within track machine (FreesSection route section) e = e.0
+within track machine (FreesCancelled route) e = e.0
+within track machine (Frees route) e = e.0
+within track machine (GivesMove point) e = tt
+within track machine Steps e = tt
+within track machine Resumes e = tt
+within track machine (Acts point lies moves) e = tt
+within track machine (Time now clock) e = tt
+
+module _ (machine : Machine) (small : IsSmall machine) where
+  -- one train, or one route, changes
+  train_small : (number : ℕ) (new : Train) → is_below number 3 ≡ true → IsSmall (with_train number new machine)
+  train_small number new low = record {
+    absent = λ n. ap (λ t. t.places) (elsewhere number new machine.trains (suc (suc (suc n))) (apart3 number n low)) ∙ small.absent n;
+    loose = λ n. ap (λ t. t.under) (elsewhere number new machine.trains (suc (suc (suc n))) (apart3 number n low)) ∙ small.loose n;
+    told = small.told;
+    entered = small.entered;
+    unset = small.unset;
+    free = small.free;
+    unheld = small.unheld;
+  }
+
+  route_small : (number : ℕ) (new : Route) → is_below number 4 ≡ true → ((n : ℕ) → new.holds (suc (suc (suc (suc n)))) ≡ false) → IsSmall (with_route number new machine)
+  route_small number new low unheld = record {
+    absent = small.absent;
+    loose = small.loose;
+    told = small.told;
+    entered = small.entered;
+    unset = λ n section. ap (λ r. r.holds section) (elsewhere number new machine.routes (suc (suc (suc (suc n)))) (apart4 number n low)) ∙ small.unset n section;
+    free = λ n. ap (λ r. r.phase) (elsewhere number new machine.routes (suc (suc (suc (suc n)))) (apart4 number n low)) ∙ small.free n;
+    unheld = λ route n. at_each (λ m r. r.holds (suc (suc (suc (suc n)))) ≡ false) number new machine.routes (unheld n) (λ m differs. small.unheld m n) route;
+  }
+
+  come_small : (track : Track) (train place : ℕ) (under : Under) (way : List ℕ) → is_below train 3 ≡ true → is_below (track.section place) 4 ≡ true
+      → IsSmall (come track train place under way machine)
+  come_small track train place under way low low_section = go (is_in track (track.section place) (machine.trains train).places)
+    where
+      go : (test : Bool) → IsSmall (record machine {
+        trains = changed_at train (record { places = place ∷ (machine.trains train).places; under = under; way = way }) machine.trains;
+        sections = if test then machine.sections
+            else changed_at (track.section place) (section_entered (is_throat under) machine.clock (machine.sections (track.section place))) machine.sections;
+      })
+      go true = let old = train_small train (record { places = place ∷ (machine.trains train).places; under = under; way = way }) low
+          in record { absent = old.absent; loose = old.loose; told = small.told; entered = small.entered; unset = small.unset; free = small.free; unheld = small.unheld }
+      go false = let old = train_small train (record { places = place ∷ (machine.trains train).places; under = under; way = way }) low in record {
+        absent = old.absent;
+        loose = old.loose;
+        told = λ n. ap (λ s. s.told) (elsewhere (track.section place) (section_entered (is_throat under) machine.clock (machine.sections (track.section place))) machine.sections
+            (suc (suc (suc (suc n)))) (apart4 (track.section place) n low_section)) ∙ small.told n;
+        entered = λ n. ap (λ s. s.entered) (elsewhere (track.section place) (section_entered (is_throat under) machine.clock (machine.sections (track.section place))) machine.sections
+            (suc (suc (suc (suc n)))) (apart4 (track.section place) n low_section)) ∙ small.entered n;
+        unset = small.unset;
+        free = small.free;
+        unheld = small.unheld;
+      }
+
+  told_small : (section : ℕ) (news : News) → is_below section 4 ≡ true → IsSmall (told section news machine)
+  told_small section news low = record {
+    absent = small.absent;
+    loose = small.loose;
+    told = λ n. ap (λ s. s.told) (elsewhere section (section_told machine.clock news (machine.sections section)) machine.sections (suc (suc (suc (suc n)))) (apart4 section n low)) ∙ small.told n;
+    entered = λ n. ap (λ s. s.entered) (elsewhere section (section_told machine.clock news (machine.sections section)) machine.sections (suc (suc (suc (suc n)))) (apart4 section n low)) ∙ small.entered n;
+    unset = small.unset;
+    free = λ n. free_stays ((machine.routes (suc (suc (suc (suc n))))).holds section) (belief_told news) (machine.routes (suc (suc (suc (suc n))))).phase (small.free n);
+    unheld = small.unheld;
+  }
+
+-- the owner of a route, and passes, are of no account
+passed_small : (track : Track) (train route : ℕ) (machine : Machine) → IsSmall machine → is_below route 4 ≡ true → IsSmall (passed track train route machine)
+passed_small track train route machine small low =
+    let old = route_small machine small route (record (machine.routes route) { owner = Some train }) low (small.unheld route) in record {
+      absent = old.absent;
+      loose = old.loose;
+      told = old.told;
+      entered = old.entered;
+      unset = old.unset;
+      free = old.free;
+      unheld = old.unheld;
+    }
+
+entering_small : (track : Track) (train border : ℕ) (machine : Machine) → IsSmall machine → is_below train 3 ≡ true → (throat : List ℕ)
+    → all throat (λ place. is_below (track.section place) 4) ≡ true → IsSmall (entering track train border throat machine)
+entering_small track train border machine small low [] e = small
+entering_small track train border machine small low (place ∷ way) e =
+    come_small machine small track train place (Throat border) way low (and_left (is_below (track.section place) 4) (all way (λ place. is_below (track.section place) 4)) e)
+
+freed_holds : (holds : ℕ → Bool) (section n : ℕ) → holds n ≡ false → changed_at section false holds n ≡ false
+freed_holds holds section n e = at_each (λ m h. holds m ≡ false → h ≡ false) section false holds (λ f. refl) (λ m differs f. f) n e
+
+pub small_kept : (track : Track) (machine : Machine) → IsSmall machine → (move : Move) → IsWithin track move → IsSmall (after track machine move)
+small_kept track machine small (Enters train border) e = entering_small track train border machine small e.0 (track.throat border) e.1
+small_kept track machine small (Passes train route place) e =
+    come_small (passed track train route machine) (passed_small track train route machine small e.1) track train place (OnRoute route) (track.later route) e.0 e.2
+small_kept track machine small (Goes train place) e =
+    come_small machine small track train place (machine.trains train).under (later_way (machine.trains train).way) e.0 e.1
+small_kept track machine small (Follows train) e = train_small machine small train (followed (without_last (machine.trains train).places) (machine.trains train)) e
+small_kept track machine small (Turns train) e = train_small machine small train (turned_train track (machine.trains train)) e
+small_kept track machine small (Hears section news) e = told_small machine small section news e
+small_kept track machine small (Sets route) e = route_small machine small route (set_route track route) e.0 (in_below track (path track route) e.1)
+small_kept track machine small (Authorises route) e = route_small machine small route (authorised (machine.routes route)) e (small.unheld route)
+small_kept track machine small (Withdraws route) e = route_small machine small route (withdrawn machine.now (machine.routes route)) e (small.unheld route)
+small_kept track machine small (Ends route) e = route_small machine small route (record (machine.routes route) { phase = Ended; ended = machine.clock }) e (small.unheld route)
+small_kept track machine small (FreesSection route section) e =
+    route_small machine small route (record (machine.routes route) { holds = changed_at section false (machine.routes route).holds }) e
+    (λ n. freed_holds (machine.routes route).holds section (suc (suc (suc (suc n)))) (small.unheld route n))
+small_kept track machine small (FreesCancelled route) e = route_small machine small route free_route e (λ n. refl)
+small_kept track machine small (Frees route) e = route_small machine small route free_route e (λ n. refl)
+small_kept track machine small (GivesMove point) e = record {
+  absent = small.absent; loose = small.loose; told = small.told; entered = small.entered; unset = small.unset; free = small.free; unheld = small.unheld }
+small_kept track machine small Steps e = record {
+  absent = small.absent; loose = small.loose; told = small.told; entered = small.entered; unset = small.unset; free = small.free; unheld = small.unheld }
+small_kept track machine small Resumes e = record {
+  absent = small.absent; loose = λ n. refl; told = small.told; entered = small.entered; unset = λ n section. refl; free = λ n. refl; unheld = λ route n. refl }
+small_kept track machine small (Acts point lies moves) e = record {
+  absent = small.absent; loose = small.loose; told = small.told; entered = small.entered; unset = small.unset; free = small.free; unheld = small.unheld }
+small_kept track machine small (Time now clock) e = record {
+  absent = small.absent; loose = small.loose; told = small.told; entered = small.entered; unset = small.unset; free = small.free; unheld = small.unheld }
