@@ -14,11 +14,11 @@ use Rattle.train_machine.proofs.Checks.{is_below, all, trains, fours, with_front
 
 -- ---- tests
 
-and_left : (a b : Bool) → (a && b) ≡ true → a ≡ true
+pub and_left : (a b : Bool) → (a && b) ≡ true → a ≡ true
 and_left true b e = refl
 and_left false b e = absurd (cc (e))
 
-and_right : (a b : Bool) → (a && b) ≡ true → b ≡ true
+pub and_right : (a b : Bool) → (a && b) ≡ true → b ≡ true
 and_right true b e = e
 and_right false b e = absurd (cc (e))
 
@@ -27,7 +27,7 @@ either : (a b : Bool) → (not a || b) ≡ true → a ≡ true → b ≡ true
 either true b e at = e
 either false b e at = absurd (cc (at))
 
-never : (a : Bool) → not a ≡ true → a ≡ true → ⊥
+pub never : (a : Bool) → not a ≡ true → a ≡ true → ⊥
 never true e at = cc (e)
 never false e at = cc (at)
 
@@ -39,7 +39,7 @@ false_of : (a : Bool) → not a ≡ true → a ≡ false
 false_of true e = absurd (cc (e))
 false_of false e = refl
 
-all_is : (list : List ℕ) (test : ℕ → Bool) → all list test ≡ true → (n : ℕ) → IsOf n list → test n ≡ true
+pub all_is : (list : List ℕ) (test : ℕ → Bool) → all list test ≡ true → (n : ℕ) → IsOf n list → test n ≡ true
 all_is [] test e n of = absurd of
 all_is (first ∷ later) test e n (inl same) = subst (λ (m : ℕ). test m ≡ true) same (and_left (test first) (all later test) e)
 all_is (first ∷ later) test e n (inr of) = all_is later test (and_right (test first) (all later test) e) n of
@@ -75,7 +75,7 @@ some_is : (n : ℕ) (option : Option ℕ) → is_some n option ≡ true → opti
 some_is n None e = absurd (cc (e))
 some_is n (Some m) e = ap Some (same_is m n e)
 
-none_is : (option : Option ℕ) → is_none option ≡ true → option ≡ None
+pub none_is : (option : Option ℕ) → is_none option ≡ true → option ≡ None
 none_is None e = refl
 none_is (Some n) e = absurd (cc (e))
 

@@ -15,3 +15,5 @@ pub mod Kept
 pub mod Sound
 pub mod Checks
 pub mod Checked
+pub mod Runs
+pub mod Broken

@@ -10,3 +10,5 @@ pub mod Run
 pub mod Promise
 pub mod Invariant
 pub mod Stations
+pub mod Wrong
+pub mod Runs
