@@ -20,16 +20,17 @@ first_train =
 abbrev pub followed : List Move
 followed = first_train ++ Time 1802 1800 ∷ Steps ∷ Time 3604 3600 ∷ Enters 1 0 ∷ clears 0 ++ Passes 1 0 2 ∷ []
 
--- follow: the train before passed at reading 0; a step at reading 1799 is too early, and so is a pass less than 1802 ms after
--- one at 1800. The interlocking was told nothing since, so that the route isn't withdrawn before this step.
+-- follow: train 0 passes signal 0 at reading 0, and nothing is told of it; train 1 comes in after it
 abbrev pub before_follow : List Move
 before_follow = Hears 1 IsLeft ∷ clears 0 ++ Passes 0 0 2 ∷ Follows 0 ∷ Enters 1 0 ∷ []
 
+-- the interlocking makes a step at this true time and this reading, with the section's link lost where the reading is late,
+-- and time goes on
 abbrev pub follow_early : List Move
-follow_early = before_follow ++ Time 1801 1799 ∷ Steps ∷ Time 3603 3600 ∷ []
+follow_early = before_follow ++ Time 1801 1799 ∷ Steps ∷ Time 9000 9000 ∷ []
 
-abbrev pub follow_late : List Move
-follow_late = before_follow ++ Time 1802 1800 ∷ Hears 1 Lost ∷ Steps ∷ Time 3603 3600 ∷ []
+abbrev pub follow_late : (now : ℕ) → List Move
+follow_late now = before_follow ++ Time 1802 1800 ∷ Hears 1 Lost ∷ Steps ∷ Time now 3600 ∷ []
 
 abbrev pub following : List Move
 following = before_follow ++ Passes 1 0 2 ∷ []
@@ -134,16 +135,17 @@ unwithdrawn = Hears 1 IsLeft ∷ clears 0 ++ Passes 0 0 2 ∷ Follows 0 ∷ Hear
 abbrev pub freed_unseen : List Move
 freed_unseen = Hears 0 IsLeft ∷ Hears 1 IsLeft ∷ clears 2 ++ Passes 0 2 5 ∷ Ends 2 ∷ FreesSection 2 1 ∷ GivesMove 0 ∷ []
 
--- cancel and run: the train passes the signal at reading 1, where the authority of its route ends, and the route is freed
-abbrev pub cancel_and_run : (freed_at : ℕ) → List Move
-cancel_and_run freed_at = Hears 0 IsLeft ∷ Hears 1 IsLeft ∷ clears 2 ++ Time 1 1 ∷ Passes 0 2 5 ∷ Withdraws 2 ∷ Ends 2 ∷ Time freed_at freed_at ∷ FreesCancelled 2 ∷ []
+-- cancel and run: the train passes the signal at reading 1, where the authority of its route ends
+abbrev pub cancel_and_run : List Move
+cancel_and_run = Hears 0 IsLeft ∷ Hears 1 IsLeft ∷ clears 2 ++ Time 1 1 ∷ Passes 0 2 5 ∷ Withdraws 2 ∷ Ends 2 ∷ Time 1800 1800 ∷ FreesCancelled 2 ∷ GivesMove 0 ∷ []
 
-abbrev pub cancelled_and_moved : (freed_at : ℕ) → List Move
-cancelled_and_moved freed_at = cancel_and_run freed_at ++ GivesMove 0 ∷ []
-
--- with no train the route is freed at 1801, and not at 1800, where its authority ended at 1
+-- no train passes; the authority ends at reading 1, and the route is to be freed at another
 abbrev pub cancelled : (freed_at : ℕ) → List Move
-cancelled freed_at = Hears 0 IsLeft ∷ Hears 1 IsLeft ∷ clears 2 ++ Time 1 1 ∷ Withdraws 2 ∷ Ends 2 ∷ Time freed_at freed_at ∷ FreesCancelled 2 ∷ []
+cancelled freed_at = Hears 0 IsLeft ∷ Hears 1 IsLeft ∷ clears 2 ++ Time 1 1 ∷ Withdraws 2 ∷ Ends 2 ∷ Time freed_at freed_at ∷ []
+
+-- a train goes on at reading 1, and the interlocking is to be resumed at another
+abbrev pub went_on : (resumed_at : ℕ) → List Move
+went_on resumed_at = Hears 0 IsLeft ∷ Hears 1 IsLeft ∷ clears 2 ++ Time 1 1 ∷ Passes 0 2 5 ∷ Time resumed_at resumed_at ∷ []
 
 -- the authority ended at reading 1800, the train passed just before
 abbrev pub cancelled_at_once : List Move

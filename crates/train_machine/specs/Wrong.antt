@@ -1,6 +1,6 @@
 -- Machines in which one premise is left out: a move is judged as if another machine stood before it, one in which this premise
 -- holds whatever is so. What the move leaves stays the same.
-use Rattle.std.specs.Prelude.{◌≡◌, ◌⊎◌, ℕ, suc, Bool, true, false, not, ◌&&◌, ◌||◌, List, [], ◌∷◌, Option, Some, None, if◌then◌else◌}
+use Rattle.std.specs.Prelude.{◌≡◌, ◌-◌, ◌⊎◌, ℕ, suc, Bool, true, false, not, ◌&&◌, ◌||◌, List, [], ◌∷◌, Option, Some, None, if◌then◌else◌}
 use Rattle.train_machine.specs.Lists.{is_same, IsOf}
 use Rattle.train_machine.specs.Track.{Side, Track}
 use Rattle.train_machine.specs.Train.{Under, Nothing, Throat, OnRoute, Train, is_throat, is_in}
@@ -194,11 +194,21 @@ abbrev pub awaited_late : Told → Told
 awaited_late Late = Late
 awaited_late Awaited = Late
 awaited_late Came = Came
-awaited_late Gone = Late
+awaited_late Gone = Gone
 
 -- in order: an occupation is told that is older than what was told already
 abbrev pub in_order : Omission
 in_order = record { touches = is_hear; view = λ machine move. record plain { section = λ n s. record s { told = awaited_late s.told } } }
+
+abbrev pub gone_late : Told → Told
+gone_late Late = Late
+gone_late Awaited = Awaited
+gone_late Came = Came
+gone_late Gone = Late
+
+-- truth: a section is told occupied in which no train was
+abbrev pub truth : Omission
+truth = record { touches = is_hear; view = λ machine move. record plain { section = λ n s. record s { told = gone_late s.told } } }
 
 -- each change: a section that is believed clear is told clear again, without being told occupied or unknown between
 abbrev pub each_change : Omission
@@ -236,7 +246,10 @@ free_seen = record { touches = is_free_section; view = λ machine move. record p
 
 -- rule B one millisecond early; without the end of authority; without the time for which sections are clear; without clear
 abbrev pub cancel_early : Omission
-cancel_early = record { touches = is_free_cancelled; view = λ machine move. record plain { clock = suc } }
+cancel_early = record {
+  touches = is_free_cancelled;
+  view = λ machine move. record plain { section = λ n s. record s { since = s.since - 1 }; route = λ r. record r { ended = r.ended - 1 } };
+}
 
 abbrev pub cancel_ended : Omission
 cancel_ended = record { touches = is_free_cancelled; view = λ machine move. record plain { route = λ r. record r { ended = 0 } } }
