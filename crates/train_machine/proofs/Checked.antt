@@ -420,7 +420,7 @@ module _ (machine : Machine) (small : IsSmall machine) where
         unheld = small.unheld;
       }
 
-  told_small : (section : ℕ) (news : News) → is_below section 4 ≡ true → IsSmall (told section news machine)
+  pub told_small : (section : ℕ) (news : News) → is_below section 4 ≡ true → IsSmall (told section news machine)
   told_small section news low = record {
     absent = small.absent;
     loose = small.loose;

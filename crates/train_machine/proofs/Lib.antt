@@ -15,5 +15,6 @@ pub mod Kept
 pub mod Sound
 pub mod Checks
 pub mod Checked
-pub mod Runs
+pub mod CanRun
 pub mod Broken
+pub mod Lawful

@@ -1,13 +1,13 @@
 -- Machines in which one premise is left out: a move is judged as if another machine stood before it, one in which this premise
 -- holds whatever is so. What the move leaves stays the same.
-use Rattle.std.specs.Prelude.{◌≡◌, ◌-◌, ◌⊎◌, ℕ, suc, Bool, true, false, not, ◌&&◌, ◌||◌, List, [], ◌∷◌, Option, Some, None, if◌then◌else◌}
+use Rattle.std.specs.Prelude.{◌≡◌, ◌-◌, ℕ, Bool, true, false, ◌&&◌, ◌||◌, List, [], ◌∷◌, ◌++◌, Option, Some, None, if◌then◌else◌}
 use Rattle.train_machine.specs.Lists.{is_same, IsOf}
-use Rattle.train_machine.specs.Track.{Side, Track}
+use Rattle.train_machine.specs.Track.{Side, Left, Track}
 use Rattle.train_machine.specs.Train.{Under, Nothing, Throat, OnRoute, Train, is_throat, is_in}
-use Rattle.train_machine.specs.Section.{Belief, Unknown, Occupied, Clear, Told, Late, Awaited, Came, Gone, Section, is_clear, is_unheard, News, belief_told}
+use Rattle.train_machine.specs.Section.{Belief, Unknown, Occupied, Clear, Told, Late, Awaited, Came, Gone, Section, is_occupied, News, belief_told}
 use Rattle.train_machine.specs.Route.{Phase, Free, Waiting, Proceeding, Withdrawn, Ended, Route, free_route}
 use Rattle.train_machine.specs.Machine.{report_time, Point, Pass, Never, Machine}
-use Rattle.train_machine.specs.Moves.{Move, Enters, Passes, Goes, Hears, Sets, Authorises, FreesSection, FreesCancelled, GivesMove, Steps, Resumes, May, after}
+use Rattle.train_machine.specs.Moves.{Move, Enters, Passes, Goes, Hears, Sets, Authorises, FreesSection, FreesCancelled, GivesMove, Steps, Resumes, May, told, after}
 use Rattle.train_machine.specs.Run.{Rules, MayRun, MayStand, right_rules, run, first}
 use Rattle.train_machine.specs.Promise.{IsApart}
 use Rattle.train_machine.specs.Stations.{numbered}
@@ -267,14 +267,12 @@ abbrev pub move_clear : Omission
 move_clear = record { touches = is_give_move; view = λ machine move. all_clear }
 
 -- rule 1 left out: a route with authority isn't withdrawn where a section isn't clear
-abbrev pub route_not_told : ℕ → Belief → Route → Route
-route_not_told section Unknown route = route
-route_not_told section Occupied route = record route { seen = λ n. is_same n section || route.seen n }
-route_not_told section Clear route = route
-
 abbrev pub after_unwithdrawn : Track → Machine → Move → Machine
-after_unwithdrawn track machine (Hears section news) = record (after track machine (Hears section news)) {
-  routes = λ route. route_not_told section (belief_told news) (machine.routes route)
+after_unwithdrawn track machine (Hears section news) = record machine {
+  sections = (told section news machine).sections;
+  routes = λ route. record (machine.routes route) {
+    seen = λ n. (is_occupied (belief_told news) && is_same n section) || (machine.routes route).seen n
+  };
 }
 after_unwithdrawn track machine move = after track machine move
 
@@ -291,3 +289,17 @@ start standing side = first (numbered standing []) (λ point. Some side)
 abbrev pub Breaks : Track → (standing : List (List ℕ)) → Side → Rules → List Move → Type 0
 Breaks track standing side rules moves = MayStand track (numbered standing []) × MayRun rules track moves (start standing side)
     × (IsApart track (run rules track moves (start standing side)) → ⊥)
+
+-- These moves can be made from there, and this one after them can't.
+abbrev pub Refuses : Track → (standing : List (List ℕ)) → Side → List Move → Move → Type 0
+Refuses track standing side moves move = MayRun right_rules track moves (start standing side) × (May track (run right_rules track moves (start standing side)) move → ⊥)
+
+-- These moves can be made, the last one too.
+abbrev pub Allows : Track → (standing : List (List ℕ)) → Side → List Move → Move → Type 0
+Allows track standing side moves move = MayRun right_rules track (moves ++ move ∷ []) (start standing side)
+
+-- These moves can be made, and then the trains 0 and 1 stand on these places.
+abbrev pub Leads : Track → List Move → (one other : List ℕ) → Type 0
+Leads track moves one other = MayRun right_rules track moves (start [] Left)
+    × (((run right_rules track moves (start [] Left)).trains 0).places ≡ one)
+    × (((run right_rules track moves (start [] Left)).trains 1).places ≡ other)
