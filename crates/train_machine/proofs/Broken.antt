@@ -1,15 +1,15 @@
 -- Each run breaks the promise.
-use Rattle.std.proofs.Common.{rules, ◌≡◌, ℕ, zero, suc, Bool, true, false, ◌||◌, List, [], ◌∷◌, ◌++◌, Option, Some, None, refl, sym, ap, inl, inr, ◌∙◌}
+use Rattle.std.proofs.Common.{rules, ◌≡◌, ℕ, Bool, true, false, ◌||◌, [], ◌∷◌, refl, ap, inl, ◌∙◌}
 use Rattle.std.specs.Prelude.{if◌then◌else◌}
-use Rattle.train_machine.specs.Track.{Side, Left, Right, Track}
+use Rattle.train_machine.specs.Track.{Left, Right}
 use Rattle.train_machine.specs.Train.{is_in}
 use Rattle.train_machine.specs.Section.{Belief, Unknown, Occupied, Clear, Told, Came}
 use Rattle.train_machine.specs.Machine.{Machine}
 use Rattle.train_machine.specs.Moves.{Move, Passes}
 use Rattle.train_machine.specs.Stations.{line, small, joined}
-use Rattle.train_machine.specs.Wrong.{Breaks, View, plain, start, without, own_passes, clear_told, heard, awaited_late, gone_late, opened, let_go, authorise_clear, authorise_side, authorise_undriven, cancel_clear, cancel_early, cancel_ended, cancel_since, dark, each_change, free_seen, fresh, headway, in_order, inlet_empty, inlet_unclaimed, inlet_unheld, let_in, let_in_claimed, let_in_passed, move_clear, move_unheld, obey, own_headway, set_clear, set_unheld, stands, stood, stood_there, truth}
+use Rattle.train_machine.specs.Wrong.{Breaks, plain, start, without, own_passes, clear_told, heard, awaited_late, gone_late, opened, let_go, authorise_clear, authorise_side, authorise_undriven, cancel_clear, cancel_early, cancel_ended, cancel_since, dark, each_change, free_seen, fresh, headway, in_order, inlet_empty, inlet_unclaimed, inlet_unheld, let_in, let_in_claimed, let_in_passed, move_clear, move_unheld, obey, own_headway, set_clear, set_unheld, stands, stood, stood_there, truth}
 use Rattle.train_machine.specs.Runs.{disobeyed, following, passed_again, met_in_throat, met_in_joined, opposing, let_in_early, let_in_stale, let_in_before, resumed_early, resumed_stale, turned_back, lamp_starved, detector_starved, told_out_of_order, told_falsely, change_untold, set_unclear, set_held, authorised_unclear, authorised_beside, authorised_driven, freed_unseen, cancel_and_run, cancelled_at_once, cancelled_since, cancelled_unclear, moved_held, moved_unclear}
-use Rattle.train_machine.proofs.CanRun.{CanRun, KeepsSmall, can_run, start_small, stands_lawfully}
+use Rattle.train_machine.proofs.CanRun.{KeepsSmall, can_run, start_small, stands_lawfully}
 
 either_zero : (test : Bool) (n : ℕ) → n ≡ 0 → (if test then n else 0) ≡ 0
 either_zero true n e = e

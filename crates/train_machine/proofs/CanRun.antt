@@ -1,20 +1,19 @@
 -- Computed runs.
-use Rattle.std.proofs.Common.{rules, ◌≡◌, ℕ, zero, suc, ◌≤◌, ◌⊎◌, inl, inr, Bool, true, false, not, ◌&&◌, ◌||◌, List, [], ◌∷◌, ◌++◌, Option, Some, None, refl, sym, ap, subst, ◌∙◌, arith}
-use Rattle.std.specs.Prelude.{◌≢◌, if◌then◌else◌}
-use Rattle.train_machine.specs.Lists.{is_same, IsOf}
-use Rattle.train_machine.specs.Track.{Side, Left, Right, Track}
-use Rattle.train_machine.specs.Train.{Under, Nothing, Train, is_in}
-use Rattle.train_machine.specs.Section.{Told, Came, Section}
-use Rattle.train_machine.specs.Route.{Phase, Free, Route}
-use Rattle.train_machine.specs.Machine.{Machine, IsIn}
-use Rattle.train_machine.specs.Moves.{Move, May, after}
-use Rattle.train_machine.specs.Run.{Rules, MayRun, MayStand, right_rules, run, first}
-use Rattle.train_machine.specs.Promise.{IsApart}
-use Rattle.train_machine.specs.Stations.{numbered, line, small, joined}
-use Rattle.train_machine.specs.Wrong.{View, plain, through, Omission, seen_by, without, start}
-use Rattle.train_machine.proofs.Lists.{has_in, in_has}
+use Rattle.std.proofs.Common.{◌≡◌, ℕ, zero, suc, Bool, true, false, not, ◌&&◌, List, [], ◌∷◌, None, refl, sym, subst}
+use Rattle.std.specs.Prelude.{if◌then◌else◌}
+use Rattle.train_machine.specs.Lists.{IsOf}
+use Rattle.train_machine.specs.Track.{Side, Track}
+use Rattle.train_machine.specs.Train.{Nothing, Train, is_in}
+use Rattle.train_machine.specs.Section.{Came, Section}
+use Rattle.train_machine.specs.Route.{Free, Route}
+use Rattle.train_machine.specs.Machine.{Machine}
+use Rattle.train_machine.specs.Moves.{Move, after}
+use Rattle.train_machine.specs.Run.{MayRun, MayStand}
+use Rattle.train_machine.specs.Stations.{numbered, small}
+use Rattle.train_machine.specs.Wrong.{View, through, Omission, seen_by, without, start}
+use Rattle.train_machine.proofs.Lists.{in_has}
 use Rattle.train_machine.proofs.Checks.{all, is_none, Can}
-use Rattle.train_machine.proofs.Checked.{IsSmall, all_is, never, and_left, and_right, none_is, within, can_may, small_kept}
+use Rattle.train_machine.proofs.Checked.{IsSmall, all_is, never, none_is, within, can_may, small_kept}
 
 -- the tests of a list of moves
 abbrev pub CanRun : Omission → Track → List Move → Machine → Type 0

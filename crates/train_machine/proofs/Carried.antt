@@ -1,14 +1,13 @@
 -- The invariant is kept where no train moves, and no route holds more or less.
-use Rattle.std.proofs.Common.{◌≡◌, ℕ, ◌≤◌, ◌+◌, ◌⊎◌, inl, inr, Bool, true, false, List, [], ◌∷◌, Option, Some, None, refl, sym, ap, subst, ◌∙◌, arith}
-use Rattle.std.specs.Prelude.{◌≢◌, if◌then◌else◌}
-use Rattle.train_machine.specs.Lists.{IsOf, IsEnd}
-use Rattle.train_machine.specs.Track.{Track, path}
-use Rattle.train_machine.specs.Train.{Under, Nothing, Throat, OnRoute, is_in}
-use Rattle.train_machine.specs.Section.{Clear, Told, Came, Gone, Section, is_unheard}
+use Rattle.std.proofs.Common.{◌≡◌, ℕ, ◌≤◌, ◌+◌, ◌⊎◌, inl, inr, true, false, List, Some, sym, ◌∙◌, arith}
+use Rattle.std.specs.Prelude.{◌≢◌}
+use Rattle.train_machine.specs.Track.{Track}
+use Rattle.train_machine.specs.Train.{Under, Nothing, Throat, OnRoute}
+use Rattle.train_machine.specs.Section.{Clear, Came, Gone, Section, is_unheard}
 use Rattle.train_machine.specs.Route.{Route, is_given}
 use Rattle.train_machine.specs.Machine.{report_time, Point, Pass, Machine, IsIn, IsOn}
 use Rattle.train_machine.specs.Promise.{StandsAt}
-use Rattle.train_machine.specs.Invariant.{IsRouteSound, IsHeldBy, IsAccounted, IsClaimed, IsOnPath, IsReserved, IsOnThroat, IsOnWay, HoldsPoint, IsUnder, Invariant}
+use Rattle.train_machine.specs.Invariant.{IsRouteSound, IsHeldBy, IsAccounted, IsClaimed, IsOnWay, HoldsPoint, IsUnder, Invariant}
 
 abbrev pub carried : Machine → (ℕ → Section) → (ℕ → Route) → (ℕ → Point) → (ℕ → Pass) → (now clock : ℕ) → Machine
 carried machine sections routes points passes now clock =
@@ -31,7 +30,7 @@ pub record Carries (track : Track) (machine : Machine) (sections : ℕ → Secti
   pub runs : machine.clock ≤ clock
 
 module _ (track : Track) (machine : Machine) (kept : Invariant track machine) (sections : ℕ → Section) (routes : ℕ → Route) (points : ℕ → Point)
-  (passes : ℕ → Pass) (now clock : ℕ) (carries : Carries track machine sections routes points passes now clock) where
+    (passes : ℕ → Pass) (now clock : ℕ) (carries : Carries track machine sections routes points passes now clock) where
   held : (section route : ℕ) → IsHeldBy machine section route → IsHeldBy (carried machine sections routes points passes now clock) section route
   held section route old = record { given = carries.given route ∙ old.given; holds = carries.holds route section ∙ old.holds }
 
@@ -82,13 +81,16 @@ module _ (track : Track) (machine : Machine) (kept : Invariant track machine) (s
     where
       go : ((route : ℕ) × HoldsPoint track machine point route) ⊎ ((machine.sections (track.section place)).entered + report_time ≤ machine.clock)
           → ((route : ℕ) × HoldsPoint track (carried machine sections routes points passes now clock) point route) ⊎ ((sections (track.section place)).entered + report_time ≤ clock)
-      go (inl old) = inl (old.0, record {
-        place = old.1.place;
-        given = carries.given old.0 ∙ old.1.given;
-        on_path = old.1.on_path;
-        over = old.1.over;
-        holds = carries.holds old.0 (track.section old.1.place) ∙ old.1.holds;
-      })
+      go (inl old) = inl (
+        old.0,
+        record {
+          place = old.1.place;
+          given = carries.given old.0 ∙ old.1.given;
+          on_path = old.1.on_path;
+          over = old.1.over;
+          holds = carries.holds old.0 (track.section old.1.place) ∙ old.1.holds;
+        },
+      )
       go (inr old) = inr (past (track.section place) old)
 
   pub carried_kept : Invariant track (carried machine sections routes points passes now clock)

@@ -1,14 +1,14 @@
 -- What a test tells: the move may be made, and the machine stays small.
-use Rattle.std.proofs.Common.{◌≡◌, ℕ, zero, suc, ◌≤◌, ◌<◌, ◌+◌, ◌⊎◌, inl, inr, Bool, true, false, not, nat_le, ◌&&◌, ◌||◌, List, [], ◌∷◌, map, Option, Some, None, refl, sym, ap, subst, ◌∙◌, arith}
+use Rattle.std.proofs.Common.{◌≡◌, ℕ, zero, suc, ◌+◌, ◌⊎◌, inl, inr, Bool, true, false, not, nat_le, ◌&&◌, ◌||◌, List, [], ◌∷◌, Option, Some, None, refl, sym, ap, subst, ◌∙◌, arith}
 use Rattle.std.proofs.lemmas.Bool.{leb-true}
 use Rattle.std.specs.Prelude.{◌≢◌, if◌then◌else◌}
-use Rattle.train_machine.specs.Lists.{is_same, changed_at, IsOf, without_last, turned_round}
+use Rattle.train_machine.specs.Lists.{is_same, changed_at, IsOf, without_last}
 use Rattle.train_machine.specs.Track.{Side, Left, Right, Track, path}
 use Rattle.train_machine.specs.Train.{Under, Nothing, Throat, OnRoute, Train, is_throat, is_in}
-use Rattle.train_machine.specs.Section.{Belief, Unknown, Occupied, Clear, Told, Late, Awaited, Came, Gone, Section, is_clear, is_unheard, is_gone, News, Lost, Old, IsOccupied, IsLeft, belief_told, section_entered, section_told}
-use Rattle.train_machine.specs.Route.{Phase, Free, Waiting, Proceeding, Withdrawn, Ended, Route, free_route, is_given, is_open, withdrawn_phase}
+use Rattle.train_machine.specs.Section.{Belief, Unknown, Occupied, Clear, Told, Late, Awaited, Came, Gone, is_clear, is_unheard, is_gone, News, Lost, Old, IsOccupied, IsLeft, belief_told, section_entered, section_told}
+use Rattle.train_machine.specs.Route.{Phase, Free, Waiting, Proceeding, Withdrawn, Ended, Route, free_route, is_given, withdrawn_phase}
 use Rattle.train_machine.specs.Machine.{report_time, lamp_time, Point, Pass, Never, At, Past, Machine, IsIn, with_route, with_train}
-use Rattle.train_machine.specs.Moves.{Move, Enters, Passes, Goes, Follows, Turns, Hears, Sets, Authorises, Withdraws, Ends, FreesSection, FreesCancelled, Frees, GivesMove, Steps, Resumes, Acts, Time, IsLed, IsAtFront, HasHeadway, MayBeOld, AreFresh, MayPass, MayGo, MayEnter, MaySet, MayAuthorise, MayFreeSection, MayFreeCancelled, MayFree, MayGiveMove, May, phase_told, route_told, told, come, entering, sections_entered, passed, later_way, stopped, followed, turned_train, set_route, authorised, withdrawn, after}
+use Rattle.train_machine.specs.Moves.{Move, Enters, Passes, Goes, Follows, Turns, Hears, Sets, Authorises, Withdraws, Ends, FreesSection, FreesCancelled, Frees, GivesMove, Steps, Resumes, Acts, Time, IsLed, HasHeadway, MayBeOld, AreFresh, MayFree, May, phase_told, told, come, entering, passed, later_way, followed, turned_train, set_route, authorised, withdrawn, after}
 use Rattle.train_machine.proofs.Lists.{same_self, same_is, different, at_each, elsewhere}
 use Rattle.train_machine.proofs.Checks.{is_below, all, trains, fours, with_front, is_empty, same_side, is_some, is_none, is_at, may_be_at, is_nothing, is_free_phase, is_waiting, is_withdrawn, is_ended, has_headway, may_be_old, by_leg, stands_for, joins, is_nobody_in, is_unclaimed_by, is_unclaimed, is_unheld, is_fresh_or_unclear, is_fresh, was_entered, is_over, is_unguarded, Can}
 
@@ -152,9 +152,10 @@ stands_lies : (over : Option ℕ) (points : ℕ → Point) (leg : Side) → stan
     → ((points point).lies ≡ Some leg) × ((points point).moves ≡ false)
 stands_lies None points leg e point over = absurd (cc (over))
 stands_lies (Some there) points leg e point over =
-    subst (λ (n : ℕ). ((points n).lies ≡ Some leg) × ((points n).moves ≡ false)) (some_same there point over)
-    (at_is leg (points there).lies (and_left (is_at leg (points there).lies) (not (points there).moves) e),
-    false_of (points there).moves (and_right (is_at leg (points there).lies) (not (points there).moves) e))
+    subst (λ (n : ℕ). ((points n).lies ≡ Some leg) × ((points n).moves ≡ false)) (some_same there point over) (
+      at_is leg (points there).lies (and_left (is_at leg (points there).lies) (not (points there).moves) e),
+      false_of (points there).moves (and_right (is_at leg (points there).lies) (not (points there).moves) e),
+    )
   where
     some_same : (a b : ℕ) → Some a ≡ Some b → a ≡ b
     some_same a b e = cc (e)
@@ -233,8 +234,11 @@ module _ (track : Track) (machine : Machine) (small : IsSmall machine) where
   can_may (Hears section Lost) e = tt
   can_may (Hears section (Old belief)) e = old_is (machine.sections section).told belief e.1
   can_may (Hears section IsOccupied) e = gone_not (machine.sections section).told e.1
-  can_may (Hears section IsLeft) e = (nobody section e.1, λ unheard. clear_not (machine.sections section).belief
-      (either (is_unheard (machine.sections section).told) (not (is_clear (machine.sections section).belief)) e.2 unheard))
+  can_may (Hears section IsLeft) e = (
+    nobody section e.1,
+    λ unheard. clear_not (machine.sections section).belief
+        (either (is_unheard (machine.sections section).told) (not (is_clear (machine.sections section).belief)) e.2 unheard),
+  )
   can_may (Sets route) e = record {
     fresh = fresh e.1;
     free = free_is (machine.routes route).phase e.2;
@@ -283,8 +287,8 @@ module _ (track : Track) (machine : Machine) (small : IsSmall machine) where
       go (inr ended) = inr (
         ended_is (machine.routes route).phase (and_left (is_ended (machine.routes route).phase) (fours (λ section. not ((machine.routes route).holds section))) ended),
         (λ section. never ((machine.routes route).holds section) (fours_are (λ section. not ((machine.routes route).holds section))
-        (and_right (is_ended (machine.routes route).phase) (fours (λ section. not ((machine.routes route).holds section))) ended)
-        (λ n. ap not (small.unheld route n)) section)),
+            (and_right (is_ended (machine.routes route).phase) (fours (λ section. not ((machine.routes route).holds section))) ended)
+            (λ n. ap not (small.unheld route n)) section)),
       )
   can_may (GivesMove point) e = record {
     fresh = fresh e.0;
@@ -472,12 +476,47 @@ small_kept track machine small (FreesSection route section) e =
 small_kept track machine small (FreesCancelled route) e = route_small machine small route free_route e (λ n. refl)
 small_kept track machine small (Frees route) e = route_small machine small route free_route e (λ n. refl)
 small_kept track machine small (GivesMove point) e = record {
-  absent = small.absent; loose = small.loose; told = small.told; entered = small.entered; unset = small.unset; free = small.free; unheld = small.unheld }
+  absent = small.absent;
+  loose = small.loose;
+  told = small.told;
+  entered = small.entered;
+  unset = small.unset;
+  free = small.free;
+  unheld = small.unheld;
+}
 small_kept track machine small Steps e = record {
-  absent = small.absent; loose = small.loose; told = small.told; entered = small.entered; unset = small.unset; free = small.free; unheld = small.unheld }
+  absent = small.absent;
+  loose = small.loose;
+  told = small.told;
+  entered = small.entered;
+  unset = small.unset;
+  free = small.free;
+  unheld = small.unheld;
+}
 small_kept track machine small Resumes e = record {
-  absent = small.absent; loose = λ n. refl; told = small.told; entered = small.entered; unset = λ n section. refl; free = λ n. refl; unheld = λ route n. refl }
+  absent = small.absent;
+  loose = λ n. refl;
+  told = small.told;
+  entered = small.entered;
+  unset = λ n section. refl;
+  free = λ n. refl;
+  unheld = λ route n. refl;
+}
 small_kept track machine small (Acts point lies moves) e = record {
-  absent = small.absent; loose = small.loose; told = small.told; entered = small.entered; unset = small.unset; free = small.free; unheld = small.unheld }
+  absent = small.absent;
+  loose = small.loose;
+  told = small.told;
+  entered = small.entered;
+  unset = small.unset;
+  free = small.free;
+  unheld = small.unheld;
+}
 small_kept track machine small (Time now clock) e = record {
-  absent = small.absent; loose = small.loose; told = small.told; entered = small.entered; unset = small.unset; free = small.free; unheld = small.unheld }
+  absent = small.absent;
+  loose = small.loose;
+  told = small.told;
+  entered = small.entered;
+  unset = small.unset;
+  free = small.free;
+  unheld = small.unheld;
+}

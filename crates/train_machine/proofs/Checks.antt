@@ -1,10 +1,10 @@
 -- Tests of the premises of a move, for stations of three trains, and of four sections and routes.
-use Rattle.std.specs.Prelude.{◌≡◌, ℕ, zero, suc, Bool, true, false, not, nat_le, ◌&&◌, ◌||◌, ◌+◌, List, [], ◌∷◌, Option, Some, None}
+use Rattle.std.specs.Prelude.{◌≡◌, ℕ, suc, Bool, true, false, not, nat_le, ◌&&◌, ◌||◌, ◌+◌, List, [], ◌∷◌, Option, Some, None}
 use Rattle.train_machine.specs.Lists.{is_same}
 use Rattle.train_machine.specs.Track.{Side, Left, Right, Track, path}
-use Rattle.train_machine.specs.Train.{Under, Nothing, Throat, OnRoute, Train, is_throat, is_in}
-use Rattle.train_machine.specs.Section.{Belief, Unknown, Occupied, Clear, Told, Late, Awaited, Came, Gone, Section, is_clear, is_unheard, is_gone, News, Lost, Old, IsOccupied, IsLeft}
-use Rattle.train_machine.specs.Route.{Phase, Free, Waiting, Proceeding, Withdrawn, Ended, Route, is_given, is_open}
+use Rattle.train_machine.specs.Train.{Under, Nothing, Throat, OnRoute, is_throat, is_in}
+use Rattle.train_machine.specs.Section.{Belief, Unknown, Occupied, Clear, Told, Late, Awaited, Came, Gone, Section, is_clear, is_unheard, is_gone, Lost, Old, IsOccupied, IsLeft}
+use Rattle.train_machine.specs.Route.{Phase, Free, Waiting, Proceeding, Withdrawn, Ended, is_given, is_open}
 use Rattle.train_machine.specs.Machine.{report_time, lamp_time, Point, Pass, Never, At, Past, Machine}
 use Rattle.train_machine.specs.Moves.{Move, Enters, Passes, Goes, Follows, Turns, Hears, Sets, Authorises, Withdraws, Ends, FreesSection, FreesCancelled, Frees, GivesMove, Steps, Resumes, Acts, Time}
 

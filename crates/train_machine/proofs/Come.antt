@@ -1,15 +1,14 @@
 -- The invariant is kept where a train's head comes onto a place.
-use Rattle.std.proofs.Common.{◌≡◌, ℕ, ◌≤◌, ◌+◌, ◌⊎◌, inl, inr, Bool, true, false, List, [], ◌∷◌, Option, Some, None, refl, sym, ap, subst, ◌∙◌, arith}
-use Rattle.std.specs.Prelude.{◌≢◌, if◌then◌else◌, ◌||◌}
-use Rattle.train_machine.specs.Lists.{is_same, changed_at, IsOf, IsEnd}
-use Rattle.train_machine.specs.Track.{Track, path}
-use Rattle.train_machine.specs.Train.{Under, Nothing, Throat, OnRoute, Train, is_in}
-use Rattle.train_machine.specs.Section.{Clear, Told, Came, Gone, Section, is_unheard}
+use Rattle.std.proofs.Common.{◌≡◌, ℕ, ◌≤◌, ◌+◌, ◌⊎◌, inl, inr, true, false, List, ◌∷◌, Some, refl, sym, ap, subst, ◌∙◌}
+use Rattle.std.specs.Prelude.{◌≢◌}
+use Rattle.train_machine.specs.Lists.{is_same, changed_at, IsOf}
+use Rattle.train_machine.specs.Track.{Track}
+use Rattle.train_machine.specs.Train.{Under, Nothing, Throat, OnRoute, is_in}
+use Rattle.train_machine.specs.Section.{Clear, Came, Gone, Section, is_unheard}
 use Rattle.train_machine.specs.Route.{Route, is_given}
 use Rattle.train_machine.specs.Machine.{report_time, Pass, Machine, IsIn, IsOn}
-use Rattle.train_machine.specs.Promise.{StandsAt}
-use Rattle.train_machine.specs.Invariant.{IsRouteSound, IsHeldBy, IsAccounted, IsClaimed, IsOnPath, IsReserved, IsOnThroat, IsOnWay, HoldsPoint, IsUnder, Invariant}
-use Rattle.train_machine.proofs.Lists.{at_each, at_it, elsewhere, same_or_not, in_has, has_in, or_true, same_is}
+use Rattle.train_machine.specs.Invariant.{IsRouteSound, IsHeldBy, IsAccounted, IsClaimed, IsReserved, IsOnWay, HoldsPoint, IsUnder, Invariant}
+use Rattle.train_machine.proofs.Lists.{at_each, same_or_not, has_in, or_true, same_is}
 
 -- the machine when a train stands on one place more
 abbrev pub arrived : (train place : ℕ) → Under → (way : List ℕ) → (ℕ → Section) → (ℕ → Route) → (ℕ → Pass) → Machine → Machine
@@ -52,7 +51,7 @@ pub record Arrives (track : Track) (machine : Machine) (train place : ℕ) (unde
   pub over : (point : ℕ) → track.point place ≡ Some point → IsUnder track (arrived train place under way sections routes passes machine) place point
 
 module _ (track : Track) (machine : Machine) (kept : Invariant track machine) (train place : ℕ) (under : Under) (way : List ℕ) (sections : ℕ → Section)
-  (routes : ℕ → Route) (passes : ℕ → Pass) (arrives : Arrives track machine train place under way sections routes passes) where
+    (routes : ℕ → Route) (passes : ℕ → Pass) (arrives : Arrives track machine train place under way sections routes passes) where
   -- the sections as they are now, by how they were
   at_sections : (P : ℕ → Section → Type 0) → P (track.section place) (sections (track.section place))
       → ((n : ℕ) → n ≢ track.section place → P n (machine.sections n)) → (n : ℕ) → P n (sections n)
@@ -212,13 +211,16 @@ module _ (track : Track) (machine : Machine) (kept : Invariant track machine) (t
       go : ((route : ℕ) × HoldsPoint track machine point route) ⊎ ((machine.sections (track.section there)).entered + report_time ≤ machine.clock)
           → ((route : ℕ) × HoldsPoint track (arrived train place under way sections routes passes machine) point route)
           ⊎ ((sections (track.section there)).entered + report_time ≤ machine.clock)
-      go (inl old) = inl (old.0, record {
-        place = old.1.place;
-        given = arrives.given old.0 ∙ old.1.given;
-        on_path = old.1.on_path;
-        over = old.1.over;
-        holds = arrives.holds old.0 (track.section old.1.place) ∙ old.1.holds;
-      })
+      go (inl old) = inl (
+        old.0,
+        record {
+          place = old.1.place;
+          given = arrives.given old.0 ∙ old.1.given;
+          on_path = old.1.on_path;
+          over = old.1.over;
+          holds = arrives.holds old.0 (track.section old.1.place) ∙ old.1.holds;
+        },
+      )
       go (inr past) = inr (same_time (same_or_not (track.section there) (track.section place)) past)
 
   pub arrived_kept : Invariant track (arrived train place under way sections routes passes machine)

@@ -1,14 +1,13 @@
 -- A route stays sound where a train comes into a section.
-use Rattle.std.proofs.Common.{◌≡◌, ℕ, ◌≤◌, ◌+◌, ◌⊎◌, inl, inr, Bool, true, false, List, [], ◌∷◌, Option, Some, None, refl, sym, ap, subst, ◌∙◌, arith}
-use Rattle.std.specs.Prelude.{◌≢◌, if◌then◌else◌}
-use Rattle.train_machine.specs.Lists.{changed_at, IsOf, IsNext}
+use Rattle.std.proofs.Common.{◌≡◌, ℕ, ◌≤◌, ◌⊎◌, inl, Bool, true, false, Some, None, refl, sym, ap, subst, ◌∙◌}
+use Rattle.std.specs.Prelude.{◌≢◌}
+use Rattle.train_machine.specs.Lists.{changed_at, IsNext}
 use Rattle.train_machine.specs.Track.{Track, path}
-use Rattle.train_machine.specs.Train.{is_in}
-use Rattle.train_machine.specs.Section.{Belief, Clear, Told, Late, Awaited, Came, Gone, Section, is_unheard, is_gone, told_entered, section_entered}
-use Rattle.train_machine.specs.Route.{Phase, Waiting, Proceeding, Ended, Route, is_given, is_open, is_whole}
-use Rattle.train_machine.specs.Machine.{Pass, Never, At, Past, Machine, IsIn}
+use Rattle.train_machine.specs.Section.{Clear, Told, Late, Awaited, Came, Gone, Section, is_unheard, told_entered, section_entered}
+use Rattle.train_machine.specs.Route.{Waiting, is_given, is_open}
+use Rattle.train_machine.specs.Machine.{Pass, Machine}
 use Rattle.train_machine.specs.Invariant.{IsOnce, IsRouteSound, Invariant}
-use Rattle.train_machine.proofs.Lists.{at_each, at_it, elsewhere, same_or_not}
+use Rattle.train_machine.proofs.Lists.{at_each, elsewhere}
 
 pub entered_there : (told : Told) → told_entered told ≢ Gone
 entered_there Late e = cc (e)
@@ -34,7 +33,7 @@ pub record Holder (track : Track) (machine : Machine) (train section route : ℕ
       → (machine.sections (track.section a)).told ≢ Gone
 
 module _ (track : Track) (machine : Machine) (kept : Invariant track machine) (train section : ℕ) (inlet : Bool) (number : ℕ)
-  (holder : (machine.routes number).holds section ≡ true → Holder track machine train section number) where
+    (holder : (machine.routes number).holds section ≡ true → Holder track machine train section number) where
   old : IsRouteSound track machine.sections machine.points machine.passes machine.now number (machine.routes number)
   old = kept.routes number
 

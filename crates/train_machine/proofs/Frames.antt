@@ -1,14 +1,14 @@
 -- The invariant is kept where one route changes.
-use Rattle.std.proofs.Common.{◌≡◌, ℕ, ◌≤◌, ◌+◌, ◌⊎◌, inl, inr, Bool, true, false, List, [], ◌∷◌, Option, Some, None, refl, sym, ap, subst, ◌∙◌, arith}
-use Rattle.std.specs.Prelude.{◌≢◌, if◌then◌else◌}
-use Rattle.train_machine.specs.Lists.{is_same, changed_at, IsOf, IsEnd}
+use Rattle.std.proofs.Common.{◌≡◌, ℕ, ◌≤◌, ◌+◌, ◌⊎◌, inl, inr, true, false, List, ◌∷◌, Some, refl, sym, ap, subst, ◌∙◌}
+use Rattle.std.specs.Prelude.{◌≢◌}
+use Rattle.train_machine.specs.Lists.{changed_at, IsOf, IsEnd}
 use Rattle.train_machine.specs.Track.{Track, IsSound, path}
-use Rattle.train_machine.specs.Train.{Under, Nothing, Throat, OnRoute, is_in}
-use Rattle.train_machine.specs.Section.{Told, Gone, Section, is_unheard}
-use Rattle.train_machine.specs.Route.{Phase, Route, is_given}
+use Rattle.train_machine.specs.Train.{Under, Nothing, Throat, OnRoute}
+use Rattle.train_machine.specs.Section.{Gone, is_unheard}
+use Rattle.train_machine.specs.Route.{Route, is_given}
 use Rattle.train_machine.specs.Machine.{report_time, Machine, IsIn, IsOn, with_route}
-use Rattle.train_machine.specs.Invariant.{IsRouteSound, IsHeldBy, IsAccounted, IsClaimed, IsOnPath, IsReserved, IsOnThroat, IsOnWay, HoldsPoint, IsUnder, Invariant}
-use Rattle.train_machine.proofs.Lists.{at_each, at_it, elsewhere, same_or_not, in_has, has_in, end_of}
+use Rattle.train_machine.specs.Invariant.{IsRouteSound, IsHeldBy, IsAccounted, IsClaimed, IsOnPath, IsReserved, IsOnWay, HoldsPoint, IsUnder, Invariant}
+use Rattle.train_machine.proofs.Lists.{at_each, at_it, elsewhere, same_or_not, has_in}
 
 -- What is to be shown of a route that changes.
 pub record Changes (track : Track) (machine : Machine) (number : ℕ) (new : Route) : Type 0 where

@@ -1,15 +1,15 @@
 -- The invariant is kept where the authority of a route ends, and where a route is freed.
-use Rattle.std.proofs.Common.{◌≡◌, ℕ, ◌≤◌, ◌<◌, ◌+◌, ◌⊎◌, inl, inr, Bool, true, false, List, [], ◌∷◌, Option, Some, None, refl, sym, ap, subst, ◌∙◌, arith}
-use Rattle.std.specs.Prelude.{◌≢◌, if◌then◌else◌}
-use Rattle.train_machine.specs.Lists.{is_same, changed_at, IsOf, IsFirst, IsNext, IsEnd}
+use Rattle.std.proofs.Common.{◌≡◌, ℕ, ◌≤◌, ◌+◌, ◌⊎◌, inl, inr, Bool, true, false, List, [], ◌∷◌, refl, sym, ap, subst, ◌∙◌, arith}
+use Rattle.std.specs.Prelude.{◌≢◌}
+use Rattle.train_machine.specs.Lists.{changed_at, IsOf, IsNext, IsEnd}
 use Rattle.train_machine.specs.Track.{Track, IsSound, path}
-use Rattle.train_machine.specs.Train.{Under, Nothing, Throat, OnRoute, is_in}
-use Rattle.train_machine.specs.Section.{Belief, Clear, Told, Late, Awaited, Came, Gone, Section, is_unheard, is_gone}
-use Rattle.train_machine.specs.Route.{Phase, Free, Waiting, Proceeding, Withdrawn, Ended, Route, free_route, is_given, is_open, is_whole}
-use Rattle.train_machine.specs.Machine.{report_time, Machine, IsIn, IsOn, with_route}
-use Rattle.train_machine.specs.Moves.{AreFresh, MayFreeSection, MayFreeCancelled, MayFree}
-use Rattle.train_machine.specs.Invariant.{IsRouteSound, IsHeldBy, IsClaimed, IsReserved, Invariant}
-use Rattle.train_machine.proofs.Lists.{at_each, at_it, elsewhere, same_or_not, in_has, has_in, end_of, true_or_false}
+use Rattle.train_machine.specs.Train.{is_in}
+use Rattle.train_machine.specs.Section.{Told, Late, Awaited, Came, Gone, is_unheard}
+use Rattle.train_machine.specs.Route.{Ended, free_route, is_given, is_open, is_whole}
+use Rattle.train_machine.specs.Machine.{report_time, Machine, with_route}
+use Rattle.train_machine.specs.Moves.{MayFreeSection, MayFreeCancelled, MayFree}
+use Rattle.train_machine.specs.Invariant.{IsRouteSound, IsClaimed, Invariant}
+use Rattle.train_machine.proofs.Lists.{at_each, elsewhere, same_or_not, has_in, end_of}
 use Rattle.train_machine.proofs.Frames.{Changes, route_frame, claim_kept}
 use Rattle.train_machine.proofs.Routes.{told_clear, open_given, free_sound}
 
@@ -132,16 +132,16 @@ module _ (track : Track) (sound : IsSound track) (machine : Machine) (kept : Inv
   -- a route that then holds nothing
   all_freed : ((section : ℕ) → is_given (machine.routes number).phase ≡ true → (machine.routes number).holds section ≡ true → (machine.sections section).told ≡ Gone)
       → ((train front place : ℕ) (rear way : List ℕ) → (machine.trains train).places ≡ front ∷ rear → IsEnd front way (path track number)
-          → IsClaimed track machine train front number place → ⊥)
+      → IsClaimed track machine train front number place → ⊥)
       → Invariant track (with_route number free_route machine)
   all_freed gone unclaimed = route_frame track machine kept number free_route record {
-      sound = free_sound track machine number;
-      locks = λ section other holds. absurd (cc (holds));
-      keeps = λ section given holds. inr (gone section given holds);
-      owns = λ train section given. absurd (cc (given));
-      claims = λ train front place rear way stands under ends of claim. absurd (unclaimed train front place rear way stands ends claim);
-      unreserved = λ train border place under reserved of holds. cc (holds);
-    } sound
+    sound = free_sound track machine number;
+    locks = λ section other holds. absurd (cc (holds));
+    keeps = λ section given holds. inr (gone section given holds);
+    owns = λ train section given. absurd (cc (given));
+    claims = λ train front place rear way stands under ends of claim. absurd (unclaimed train front place rear way stands ends claim);
+    unreserved = λ train border place under reserved of holds. cc (holds);
+  } sound
 
   pub frees_kept : MayFree (machine.routes number) → Invariant track (with_route number free_route machine)
   frees_kept (inl waiting) =
@@ -150,7 +150,7 @@ module _ (track : Track) (sound : IsSound track) (machine : Machine) (kept : Inv
   frees_kept (inr ended) =
       all_freed (λ section given holds. absurd (ended.1 section holds)) (λ train front place rear way stands ends claim. ended.1 (track.section place) claim.holds)
 
-  -- rule B: its train has left each section, and the interlocking knows it
+  -- a cancelled route: its train has left each section, and the interlocking knows it
   module _ (may : MayFreeCancelled track machine number) where
     given : is_given (machine.routes number).phase ≡ true
     given = ap is_given may.ended

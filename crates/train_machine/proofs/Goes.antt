@@ -1,18 +1,17 @@
 -- A train that goes on without passing a signal goes on along its way, finds each point as it wants it, and the invariant is
 -- kept.
-use Rattle.std.proofs.Common.{◌≡◌, ℕ, ◌≤◌, ◌+◌, ◌⊎◌, inl, inr, Bool, true, false, List, [], ◌∷◌, Option, Some, None, refl, sym, ap, subst, ◌∙◌, arith}
+use Rattle.std.proofs.Common.{◌≡◌, ℕ, ◌≤◌, ◌⊎◌, inl, inr, Bool, true, false, List, ◌∷◌, Some, None, refl, sym, ap, subst, ◌∙◌, arith}
 use Rattle.std.specs.Prelude.{◌≢◌, if◌then◌else◌}
-use Rattle.train_machine.specs.Lists.{changed_at, IsOf, IsNext, IsLast, IsEnd}
-use Rattle.train_machine.specs.Track.{Side, Track, IsFork, IsSound, path}
-use Rattle.train_machine.specs.Train.{Under, Nothing, Throat, OnRoute, is_throat, is_in}
-use Rattle.train_machine.specs.Section.{Belief, Clear, Told, Late, Awaited, Came, Gone, Section, is_unheard, told_entered, section_entered}
-use Rattle.train_machine.specs.Route.{Route, is_given, is_open, is_whole}
-use Rattle.train_machine.specs.Machine.{report_time, Machine, IsIn, IsOn}
+use Rattle.train_machine.specs.Lists.{changed_at, IsOf, IsNext, IsEnd}
+use Rattle.train_machine.specs.Track.{Track, IsFork, IsSound, path}
+use Rattle.train_machine.specs.Train.{OnRoute, is_in}
+use Rattle.train_machine.specs.Section.{Clear, Came, Gone, Section, section_entered}
+use Rattle.train_machine.specs.Machine.{Machine, IsIn}
 use Rattle.train_machine.specs.Promise.{StandsAt, LiesFor}
-use Rattle.train_machine.specs.Moves.{IsLed, MayGo, later_way, come, sections_entered}
-use Rattle.train_machine.specs.Invariant.{IsOnce, IsRouteSound, IsHeldBy, IsAccounted, IsClaimed, IsOnPath, IsReserved, IsOnThroat, IsOnWay, HoldsPoint, IsUnder, Invariant}
-use Rattle.train_machine.proofs.Lists.{at_each, at_it, elsewhere, same_or_not, in_has, has_in, end_next, end_of, end_later, end_after_of, end_last}
-use Rattle.train_machine.proofs.Routes.{open_given, open_whole}
+use Rattle.train_machine.specs.Moves.{IsLed, sections_entered}
+use Rattle.train_machine.specs.Invariant.{IsRouteSound, IsHeldBy, IsClaimed, IsOnPath, IsUnder, Invariant}
+use Rattle.train_machine.proofs.Lists.{at_it, elsewhere, same_or_not, has_in, end_next, end_of, end_later}
+use Rattle.train_machine.proofs.Routes.{open_whole}
 use Rattle.train_machine.proofs.Come.{arrived, Arrives, arrived_kept}
 use Rattle.train_machine.proofs.Entered.{entered_there, entered_not_came, Holder, once_still, entered_sound}
 
@@ -29,7 +28,7 @@ led_on track sound machine front wanted place follows stands led = go (sound.one
     go (inr fork) = absurd (fork.legs (led.by_leg fork.point (track.leg wanted) fork.over_b fork.facing (stands fork.point fork.over_a).lies))
 
 module _ (track : Track) (sound : IsSound track) (machine : Machine) (kept : Invariant track machine) (train place : ℕ) (front : ℕ) (rear : List ℕ)
-  (stands : (machine.trains train).places ≡ front ∷ rear) (led : IsLed track machine front place) (unsignalled : track.signal front ≡ None) where
+    (stands : (machine.trains train).places ≡ front ∷ rear) (led : IsLed track machine front place) (unsignalled : track.signal front ≡ None) where
   at_front : IsIn track machine train (track.section front)
   at_front = subst (λ (l : List ℕ). is_in track (track.section front) l ≡ true) (sym stands) (has_in track (track.section front) (front ∷ rear) front (inl refl) refl)
 

@@ -1,6 +1,5 @@
 -- The first state has the invariant, each move keeps it, and the promise follows from it.
-use Rattle.std.proofs.Common.{◌≡◌, ℕ, ◌≤◌, ◌+◌, ◌⊎◌, inl, inr, Bool, true, false, List, [], ◌∷◌, Option, Some, None, refl, sym, ap, subst, ◌∙◌, arith}
-use Rattle.std.specs.Prelude.{◌≢◌}
+use Rattle.std.proofs.Common.{ℕ, List, [], ◌∷◌, Option, arith}
 use Rattle.train_machine.specs.Track.{Side, Track, IsSound}
 use Rattle.train_machine.specs.Machine.{Machine}
 use Rattle.train_machine.specs.Moves.{Move, Enters, Passes, Goes, Follows, Turns, Hears, Sets, Authorises, Withdraws, Ends, FreesSection, FreesCancelled, Frees, GivesMove, Steps, Resumes, Acts, Time, May, after}

@@ -1,17 +1,15 @@
--- Runs that may be made, bounds that are exact, and the rule of withdrawal.
-use Rattle.std.proofs.Common.{rules, ◌≡◌, ℕ, zero, suc, ◌≤◌, ◌+◌, Bool, true, false, ◌||◌, List, [], ◌∷◌, ◌++◌, Option, Some, None, refl, sym, ap, inl, inr, ◌∙◌, arith}
-use Rattle.std.specs.Prelude.{◌≢◌, if◌then◌else◌}
-use Rattle.train_machine.specs.Track.{Side, Left, Right, Track}
-use Rattle.train_machine.specs.Section.{Belief, Unknown, Occupied, Clear, News}
+-- Runs that may be made, bounds that are exact, and a machine that withdraws nothing.
+use Rattle.std.proofs.Common.{rules, ◌≤◌, false, List, [], ◌∷◌, ◌++◌, refl, arith}
+use Rattle.train_machine.specs.Track.{Left, Track}
 use Rattle.train_machine.specs.Machine.{Machine}
-use Rattle.train_machine.specs.Moves.{Move, Enters, Passes, Goes, Follows, Turns, Hears, Sets, Authorises, Withdraws, Ends, FreesSection, FreesCancelled, Frees, GivesMove, Steps, Resumes, Acts, Time, May, after}
+use Rattle.train_machine.specs.Moves.{Move, Passes, Hears, FreesCancelled, Resumes, May}
 use Rattle.train_machine.specs.Run.{MayRun, right_rules, run}
-use Rattle.train_machine.specs.Stations.{line, small, joined}
-use Rattle.train_machine.specs.Wrong.{Breaks, Omission, View, plain, seen_by, start, after_unwithdrawn, withdraws_nothing}
+use Rattle.train_machine.specs.Stations.{line, small}
+use Rattle.train_machine.specs.Wrong.{Breaks, Omission, plain, start, after_unwithdrawn, withdraws_nothing}
 use Rattle.train_machine.specs.Runs.{followed, follow_early, follow_late, cancelled, went_on, unwithdrawn}
 use Rattle.train_machine.proofs.Checks.{Can}
 use Rattle.train_machine.proofs.Checked.{IsSmall, within, can_may, small_kept, told_small}
-use Rattle.train_machine.proofs.CanRun.{CanRun, KeepsSmall, can_run, start_small, stands_lawfully}
+use Rattle.train_machine.proofs.CanRun.{CanRun, can_run, start_small, stands_lawfully}
 
 -- nothing is left out
 abbrev nothing : Omission
@@ -24,7 +22,14 @@ may_run track moves machine small_one can =
 
 start_none : IsSmall (start [] Left)
 start_none = record {
-  absent = λ n. refl; loose = λ n. refl; told = λ n. refl; entered = λ n. refl; unset = λ n section. refl; free = λ n. refl; unheld = λ route n. refl }
+  absent = λ n. refl;
+  loose = λ n. refl;
+  told = λ n. refl;
+  entered = λ n. refl;
+  unset = λ n section. refl;
+  free = λ n. refl;
+  unheld = λ route n. refl;
+}
 
 pub followed_may : MayRun right_rules line followed (start [] Left)
 followed_may = may_run line followed (start [] Left) start_none (search rules)
@@ -67,7 +72,7 @@ cancelled_refused may = let o : 1801 ≤ 1800 = may.over in omega (arith, o)
 pub resumed_refused : May small (run right_rules small (went_on 1800) (start ((7 ∷ []) ∷ [] ∷ [] ∷ []) Left)) Resumes → ⊥
 resumed_refused may = let s : 1801 ≤ 1800 = may 1 in omega (arith, s)
 
--- ---- without rule 1
+-- ---- without the rule of withdrawal
 
 unwithdrawn_small : (track : Track) (machine : Machine) → IsSmall machine → (move : Move) → Can track machine move → IsSmall (after_unwithdrawn track machine move)
 unwithdrawn_small track machine small_one (Hears section news) can =

@@ -1,5 +1,5 @@
 -- Lists, and families in which one is changed.
-use Rattle.std.proofs.Common.{◌≡◌, ℕ, zero, suc, ◌≤◌, ◌+◌, Bool, true, false, List, [], ◌∷◌, ◌⊎◌, inl, inr, refl, sym, ap, subst, map, ◌∙◌, arith}
+use Rattle.std.proofs.Common.{◌≡◌, ℕ, zero, suc, Bool, true, false, List, [], ◌∷◌, ◌⊎◌, inl, inr, refl, sym, ap, subst, map, ◌∙◌}
 use Rattle.std.specs.Prelude.{◌≢◌, if◌then◌else◌, ◌||◌}
 use Rattle.train_machine.specs.Lists.{is_same, changed_at, IsOf, IsFirst, IsNext, IsLast, IsEnd, without_last, turned_round}
 use Rattle.train_machine.specs.Track.{Track}

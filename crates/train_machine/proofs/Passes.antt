@@ -1,16 +1,16 @@
 -- The invariant is kept where a train passes the signal before it.
-use Rattle.std.proofs.Common.{◌≡◌, ℕ, ◌≤◌, ◌<◌, ◌+◌, ◌⊎◌, inl, inr, Bool, true, false, List, [], ◌∷◌, Option, Some, None, refl, sym, ap, subst, ◌∙◌, arith}
+use Rattle.std.proofs.Common.{◌≡◌, ℕ, ◌≤◌, ◌⊎◌, inl, inr, Bool, true, false, Option, Some, None, refl, sym, ap, subst, ◌∙◌, arith}
 use Rattle.std.specs.Prelude.{◌≢◌, if◌then◌else◌}
-use Rattle.train_machine.specs.Lists.{changed_at, IsOf, IsNext, IsEnd}
-use Rattle.train_machine.specs.Track.{Track, IsFork, IsSound, path}
-use Rattle.train_machine.specs.Train.{Under, Nothing, Throat, OnRoute, is_in}
-use Rattle.train_machine.specs.Section.{Belief, Clear, Told, Late, Awaited, Came, Gone, Section, is_unheard, told_entered, section_entered}
-use Rattle.train_machine.specs.Route.{Phase, Free, Waiting, Proceeding, Withdrawn, Ended, Route, is_given, is_open, is_whole}
-use Rattle.train_machine.specs.Machine.{report_time, lamp_time, Pass, Never, At, Past, Machine, IsIn, IsOn}
-use Rattle.train_machine.specs.Promise.{StandsAt, LiesFor}
-use Rattle.train_machine.specs.Moves.{IsLed, HasHeadway, MayPass, come, passed, sections_entered}
-use Rattle.train_machine.specs.Invariant.{IsOnce, IsRouteSound, IsHeldBy, IsAccounted, IsClaimed, IsOnPath, IsReserved, IsOnThroat, IsOnWay, HoldsPoint, IsUnder, Invariant}
-use Rattle.train_machine.proofs.Lists.{at_each, at_it, elsewhere, same_or_not, in_has, has_in, end_of, end_whole}
+use Rattle.train_machine.specs.Lists.{changed_at, IsOf, IsEnd}
+use Rattle.train_machine.specs.Track.{Track, IsSound, path}
+use Rattle.train_machine.specs.Train.{OnRoute, is_in}
+use Rattle.train_machine.specs.Section.{Clear, Awaited, Gone, Section, told_entered, section_entered}
+use Rattle.train_machine.specs.Route.{Phase, Free, Waiting, Proceeding, Withdrawn, Ended, is_given, is_open}
+use Rattle.train_machine.specs.Machine.{Pass, Never, At, Past, Machine, IsIn}
+use Rattle.train_machine.specs.Promise.{LiesFor}
+use Rattle.train_machine.specs.Moves.{HasHeadway, MayPass, come, passed}
+use Rattle.train_machine.specs.Invariant.{IsOnce, IsRouteSound, IsClaimed, Invariant}
+use Rattle.train_machine.proofs.Lists.{at_each, at_it, elsewhere, same_or_not, end_whole}
 use Rattle.train_machine.proofs.Routes.{open_given, open_whole}
 use Rattle.train_machine.proofs.Come.{arrived, Arrives, arrived_kept}
 use Rattle.train_machine.proofs.Entered.{entered_there, entered_not_came, Holder, once_still, entered_sound}
@@ -149,10 +149,13 @@ module _ (track : Track) (sound : IsSound track) (machine : Machine) (kept : Inv
     there = λ gone. entered_there (machine.sections (track.section place)).told (sym (ap (λ s. s.told) here) ∙ gone);
     came = λ came. absurd (entered_not_came (machine.sections (track.section place)).told (sym (ap (λ s. s.told) here) ∙ came));
     past = subst (λ (s : Section). s.entered ≤ machine.clock) (sym here) (omega arith);
-    behind = λ unheard. inl (route, record {
-      given = ap (λ r. is_given r.phase) (at_it route (record (machine.routes route) { owner = Some train }) machine.routes) ∙ given;
-      holds = ap (λ r. r.holds (track.section place)) (at_it route (record (machine.routes route) { owner = Some train }) machine.routes) ∙ holds_here;
-    });
+    behind = λ unheard. inl (
+      route,
+      record {
+        given = ap (λ r. is_given r.phase) (at_it route (record (machine.routes route) { owner = Some train }) machine.routes) ∙ given;
+        holds = ap (λ r. r.holds (track.section place)) (at_it route (record (machine.routes route) { owner = Some train }) machine.routes) ∙ holds_here;
+      },
+    );
     sound = at_each (λ n r. IsRouteSound track (changed_at (track.section place) (section_entered false machine.clock (machine.sections (track.section place))) machine.sections) machine.points
         (changed_at (track.entry route) (At machine.clock) machine.passes) machine.now n r) route (record (machine.routes route) { owner = Some train }) machine.routes own_sound other_sound;
     given = at_each (λ n r. is_given r.phase ≡ is_given (machine.routes n).phase) route (record (machine.routes route) { owner = Some train }) machine.routes refl (λ n differs. refl);
@@ -169,13 +172,16 @@ module _ (track : Track) (sound : IsSound track) (machine : Machine) (kept : Inv
     ahead = record { ends = subst (λ (n : ℕ). IsEnd n (track.later route) (path track route)) first_place (end_whole (track.first route) (track.later route)); claims = claims };
     over = λ point over. record {
       stands = passes_way point over;
-      guarded = inl (route, record {
-        place = place;
-        given = ap (λ r. is_given r.phase) (at_it route (record (machine.routes route) { owner = Some train }) machine.routes) ∙ given;
-        on_path = of_path;
-        over = over;
-        holds = ap (λ r. r.holds (track.section place)) (at_it route (record (machine.routes route) { owner = Some train }) machine.routes) ∙ holds_here;
-      });
+      guarded = inl (
+        route,
+        record {
+          place = place;
+          given = ap (λ r. is_given r.phase) (at_it route (record (machine.routes route) { owner = Some train }) machine.routes) ∙ given;
+          on_path = of_path;
+          over = over;
+          holds = ap (λ r. r.holds (track.section place)) (at_it route (record (machine.routes route) { owner = Some train }) machine.routes) ∙ holds_here;
+        },
+      );
     };
   }
     where
@@ -194,8 +200,10 @@ module _ (track : Track) (sound : IsSound track) (machine : Machine) (kept : Inv
               ⊎ (((changed_at (track.section place) (section_entered false machine.clock (machine.sections (track.section place))) machine.sections (track.section q)).told ≡ Gone)
               × ((changed_at route (record (machine.routes route) { owner = Some train }) machine.routes route).seen (track.section q) ≡ false))
           go (inl same) = inl same
-          go (inr differs) = inr (still_left (track.section q) differs (holds_path q (inr of)),
-              ap (λ r. r.seen (track.section q)) (at_it route (record (machine.routes route) { owner = Some train }) machine.routes) ∙ unseen (track.section q) (holds_path q (inr of)))
+          go (inr differs) = inr (
+            still_left (track.section q) differs (holds_path q (inr of)),
+            ap (λ r. r.seen (track.section q)) (at_it route (record (machine.routes route) { owner = Some train }) machine.routes) ∙ unseen (track.section q) (holds_path q (inr of)),
+          )
 
   pub passes_kept : Invariant track (come track train place (OnRoute route) (track.later route) (passed track train route machine))
   passes_kept = go (is_in track (track.section place) (machine.trains train).places) refl

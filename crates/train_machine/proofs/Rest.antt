@@ -1,18 +1,17 @@
 -- The invariant is kept where a point is given a move or goes on, where the interlocking makes a step, and where time
 -- passes.
-use Rattle.std.proofs.Common.{◌≡◌, ℕ, ◌≤◌, ◌<◌, ◌+◌, ◌⊎◌, inl, inr, Bool, true, false, nat_le, List, [], ◌∷◌, Option, Some, None, refl, sym, ap, subst, ◌∙◌, arith}
+use Rattle.std.proofs.Common.{◌≡◌, ℕ, ◌≤◌, ◌<◌, ◌+◌, ◌⊎◌, inl, inr, Bool, true, false, nat_le, Option, Some, refl, ap, subst, arith}
 use Rattle.std.proofs.lemmas.Bool.{leb-true}
-use Rattle.std.specs.Prelude.{◌≢◌, if◌then◌else◌}
+use Rattle.std.specs.Prelude.{if◌then◌else◌}
 use Rattle.train_machine.specs.Lists.{changed_at, IsOf}
 use Rattle.train_machine.specs.Track.{Side, Track, IsSound, path}
-use Rattle.train_machine.specs.Train.{is_in}
-use Rattle.train_machine.specs.Section.{Belief, Clear, Told, Late, Awaited, Came, Gone, Section, is_unheard}
-use Rattle.train_machine.specs.Route.{Phase, Free, Waiting, Proceeding, Withdrawn, Ended, Route, is_given, is_open, is_whole}
-use Rattle.train_machine.specs.Machine.{report_time, Point, Pass, Never, At, Past, Machine, IsIn, IsOn, with_point}
+use Rattle.train_machine.specs.Section.{Clear, Awaited, Gone, is_unheard}
+use Rattle.train_machine.specs.Route.{Proceeding, is_given, is_whole}
+use Rattle.train_machine.specs.Machine.{report_time, Point, Pass, Never, At, Past, Machine, IsOn, with_point}
 use Rattle.train_machine.specs.Promise.{StandsAt}
 use Rattle.train_machine.specs.Moves.{AreFresh, MayGiveMove, pass_stepped}
 use Rattle.train_machine.specs.Invariant.{IsOnce, IsRouteSound, HoldsPoint, Invariant}
-use Rattle.train_machine.proofs.Lists.{at_each, has_in, true_or_false}
+use Rattle.train_machine.proofs.Lists.{at_each, has_in}
 use Rattle.train_machine.proofs.Routes.{told_clear}
 use Rattle.train_machine.proofs.Carried.{Carries, carried_kept}
 

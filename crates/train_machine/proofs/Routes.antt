@@ -1,15 +1,15 @@
 -- The invariant is kept where a route is set, given authority, withdrawn, ended and freed.
-use Rattle.std.proofs.Common.{◌≡◌, ℕ, ◌≤◌, ◌<◌, ◌+◌, ◌⊎◌, inl, inr, Bool, true, false, List, [], ◌∷◌, Option, Some, None, refl, sym, ap, subst, ◌∙◌, arith}
-use Rattle.std.specs.Prelude.{◌≢◌, if◌then◌else◌}
-use Rattle.train_machine.specs.Lists.{is_same, changed_at, IsOf, IsFirst, IsNext, IsEnd}
+use Rattle.std.proofs.Common.{◌≡◌, ℕ, ◌≤◌, ◌+◌, ◌⊎◌, inl, inr, true, refl, sym, ap, subst, ◌∙◌, arith}
+use Rattle.std.specs.Prelude.{◌≢◌}
+use Rattle.train_machine.specs.Lists.{IsOf}
 use Rattle.train_machine.specs.Track.{Track, IsSound, path}
-use Rattle.train_machine.specs.Train.{Under, Nothing, Throat, OnRoute, is_in}
-use Rattle.train_machine.specs.Section.{Belief, Unknown, Occupied, Clear, Told, Late, Awaited, Came, Gone, Section, is_unheard}
-use Rattle.train_machine.specs.Route.{Phase, Free, Waiting, Proceeding, Withdrawn, Ended, Route, free_route, is_given, is_open, is_whole, withdrawn_phase, withdrawn_time}
-use Rattle.train_machine.specs.Machine.{report_time, Pass, Never, At, Past, Machine, IsIn, IsOn, with_route}
-use Rattle.train_machine.specs.Moves.{AreFresh, MaySet, MayAuthorise, set_route, authorised, withdrawn}
-use Rattle.train_machine.specs.Invariant.{IsOnce, IsRouteSound, IsHeldBy, IsAccounted, IsClaimed, IsReserved, Invariant}
-use Rattle.train_machine.proofs.Lists.{at_each, at_it, elsewhere, same_or_not, in_has, has_in, end_of, true_or_false}
+use Rattle.train_machine.specs.Train.{Throat}
+use Rattle.train_machine.specs.Section.{Belief, Clear, Told, Late, Awaited, Came, Gone, is_unheard}
+use Rattle.train_machine.specs.Route.{Phase, Free, Waiting, Proceeding, Withdrawn, Ended, free_route, is_given, is_open, is_whole, withdrawn_phase, withdrawn_time}
+use Rattle.train_machine.specs.Machine.{report_time, Pass, Never, At, Past, Machine, with_route}
+use Rattle.train_machine.specs.Moves.{MaySet, MayAuthorise, set_route, authorised, withdrawn}
+use Rattle.train_machine.specs.Invariant.{IsOnce, IsRouteSound, IsAccounted, Invariant}
+use Rattle.train_machine.proofs.Lists.{in_has, has_in}
 use Rattle.train_machine.proofs.Frames.{Changes, route_frame, claim_kept}
 
 -- ---- phases
@@ -227,8 +227,10 @@ module _ (track : Track) (sound : IsSound track) (machine : Machine) (kept : Inv
           → IsOnce (withdrawn_phase (machine.routes number).phase) (withdrawn_time machine.now (machine.routes number).phase (machine.routes number).withdrawn_at) (machine.sections (track.section (track.first number))) pass
       once Never none = none
       once (At reading) early = λ proceeding. absurd (not_proceeding (machine.routes number).phase proceeding)
-      once (Past time) late = (not_proceeding (machine.routes number).phase,
-          subst (λ (n : ℕ). n ≤ time) (sym (time_still machine.now (machine.routes number).withdrawn_at (machine.routes number).phase late.0)) late.1)
+      once (Past time) late = (
+        not_proceeding (machine.routes number).phase,
+        subst (λ (n : ℕ). n ≤ time) (sym (time_still machine.now (machine.routes number).withdrawn_at (machine.routes number).phase late.0)) late.1,
+      )
 
       changes : Changes track machine number (withdrawn machine.now (machine.routes number))
       changes = record {

@@ -1,16 +1,14 @@
 -- The invariant is kept where a train's rear follows, where a train turns, and where the interlocking is resumed.
-use Rattle.std.proofs.Common.{◌≡◌, ℕ, ◌≤◌, ◌+◌, ◌⊎◌, inl, inr, Bool, true, false, List, [], ◌∷◌, map, Option, Some, None, refl, sym, ap, subst, ◌∙◌, arith}
-use Rattle.std.specs.Prelude.{◌≢◌, if◌then◌else◌}
-use Rattle.train_machine.specs.Lists.{changed_at, IsOf, IsEnd, without_last, turned_round}
-use Rattle.train_machine.specs.Track.{Track, IsSound, path}
+use Rattle.std.proofs.Common.{◌≡◌, ℕ, ◌≤◌, ◌+◌, ◌⊎◌, inl, inr, true, List, [], ◌∷◌, map, Some, refl, sym, ap, subst, ◌∙◌}
+use Rattle.train_machine.specs.Lists.{changed_at, IsOf, without_last}
+use Rattle.train_machine.specs.Track.{Track, IsSound}
 use Rattle.train_machine.specs.Train.{Under, Nothing, Throat, OnRoute, Train, is_in}
-use Rattle.train_machine.specs.Section.{Told, Gone, Section, is_unheard}
-use Rattle.train_machine.specs.Route.{Route, free_route, is_given}
+use Rattle.train_machine.specs.Route.{free_route}
 use Rattle.train_machine.specs.Machine.{report_time, Machine, IsIn, IsOn, with_train}
 use Rattle.train_machine.specs.Promise.{StandsAt}
 use Rattle.train_machine.specs.Moves.{stopped, followed, turned_train}
-use Rattle.train_machine.specs.Invariant.{IsRouteSound, IsHeldBy, IsAccounted, IsClaimed, IsOnPath, IsReserved, IsOnThroat, IsOnWay, HoldsPoint, IsUnder, Invariant}
-use Rattle.train_machine.proofs.Lists.{at_each, at_it, elsewhere, same_or_not, in_has, has_in, without_of, without_first, turned_of, map_of}
+use Rattle.train_machine.specs.Invariant.{IsHeldBy, IsAccounted, IsOnWay, HoldsPoint, IsUnder, Invariant}
+use Rattle.train_machine.proofs.Lists.{at_each, in_has, has_in, without_of, without_first, turned_of, map_of}
 use Rattle.train_machine.proofs.Routes.{free_sound}
 
 -- the element of one place is that of another, and a train lies on it by the same leg
@@ -141,17 +139,21 @@ module _ (track : Track) (machine : Machine) (kept : Invariant track machine) wh
 
   pub turns_kept : IsSound track → (train : ℕ) → Invariant track (with_train train (turned_train track (machine.trains train)) machine)
   turns_kept sound train = shrunk_kept track machine kept train (turned_train track (machine.trains train)) record {
-      on = λ place of. at place (turned_of place (map track.turned (machine.trains train).places) [] of);
-      under = inl refl;
-    }
+    on = λ place of. at place (turned_of place (map track.turned (machine.trains train).places) [] of);
+    under = inl refl;
+  }
     where
       found : (place : ℕ) → (old : ℕ) × IsOf old (machine.trains train).places × (track.turned old ≡ place)
           → (other : ℕ) × IsOf other (machine.trains train).places × IsSameElement track place other
-      found place old = (old.0, old.1, record {
-        section = sym (sound.turned_section old.0) ∙ ap track.section old.2;
-        point = sym (sound.turned_point old.0) ∙ ap track.point old.2;
-        leg = sym (sound.turned_leg old.0) ∙ ap track.leg old.2;
-      })
+      found place old = (
+        old.0,
+        old.1,
+        record {
+          section = sym (sound.turned_section old.0) ∙ ap track.section old.2;
+          point = sym (sound.turned_point old.0) ∙ ap track.point old.2;
+          leg = sym (sound.turned_leg old.0) ∙ ap track.leg old.2;
+        },
+      )
 
       at : (place : ℕ) → IsOf place (map track.turned (machine.trains train).places) ⊎ IsOf place []
           → (other : ℕ) × IsOf other (machine.trains train).places × IsSameElement track place other

@@ -1,9 +1,9 @@
 -- The small stations are sound.
-use Rattle.std.proofs.Common.{◌≡◌, ℕ, zero, suc, ◌⊎◌, inl, inr, Bool, true, false, List, [], ◌∷◌, Option, Some, None, refl, sym, ap, subst, ◌∙◌, arith}
+use Rattle.std.proofs.Common.{◌≡◌, ℕ, zero, suc, ◌⊎◌, inl, inr, Bool, true, false, List, [], ◌∷◌, Some, None, refl, sym, ap, subst, ◌∙◌}
 use Rattle.std.specs.Prelude.{◌≢◌, ◌||◌}
-use Rattle.train_machine.specs.Lists.{is_same, IsOf, IsFirst, IsNext, IsLast, IsEnd}
-use Rattle.train_machine.specs.Track.{Side, Left, Right, Track, IsFork, IsSound, path}
-use Rattle.train_machine.specs.Stations.{numbered, is_of, line, small, joined}
+use Rattle.train_machine.specs.Lists.{is_same, IsOf, IsNext, IsLast, IsEnd}
+use Rattle.train_machine.specs.Track.{Track, IsFork, IsSound, path}
+use Rattle.train_machine.specs.Stations.{is_of, line, small, joined}
 use Rattle.train_machine.proofs.Lists.{same_is}
 
 pub below : (P : ℕ → Type 0) → P 0 → P 1 → P 2 → P 3 → ((n : ℕ) → P (suc (suc (suc (suc n))))) → (n : ℕ) → P n

@@ -1,16 +1,15 @@
 -- The invariant is kept where a train comes in, and where it goes on in a throat.
-use Rattle.std.proofs.Common.{◌≡◌, ℕ, ◌≤◌, ◌+◌, ◌⊎◌, inl, inr, Bool, true, false, List, [], ◌∷◌, Option, Some, None, refl, sym, ap, subst, ◌∙◌, arith}
+use Rattle.std.proofs.Common.{◌≡◌, ℕ, ◌≤◌, ◌+◌, ◌⊎◌, inl, inr, Bool, true, false, List, [], ◌∷◌, None, refl, sym, ap, subst, ◌∙◌, arith}
 use Rattle.std.specs.Prelude.{◌≢◌, if◌then◌else◌}
-use Rattle.train_machine.specs.Lists.{changed_at, IsOf, IsFirst, IsNext, IsLast, IsEnd}
-use Rattle.train_machine.specs.Track.{Track, IsFork, IsSound, path}
-use Rattle.train_machine.specs.Train.{Under, Nothing, Throat, OnRoute, is_throat, is_in}
-use Rattle.train_machine.specs.Section.{Belief, Clear, Told, Late, Awaited, Came, Gone, Section, is_unheard, told_entered, section_entered}
-use Rattle.train_machine.specs.Route.{Route, is_given, is_open, is_whole}
-use Rattle.train_machine.specs.Machine.{report_time, Machine, IsIn, IsOn}
-use Rattle.train_machine.specs.Promise.{StandsAt, LiesFor}
-use Rattle.train_machine.specs.Moves.{IsLed, MayEnter, MayGo, later_way, come, entering, sections_entered}
-use Rattle.train_machine.specs.Invariant.{IsOnce, IsRouteSound, IsHeldBy, IsAccounted, IsClaimed, IsOnPath, IsReserved, IsOnThroat, IsOnWay, HoldsPoint, IsUnder, Invariant}
-use Rattle.train_machine.proofs.Lists.{at_each, at_it, elsewhere, same_or_not, in_has, has_in, end_next, end_of, end_later, end_after_of, end_last, end_whole}
+use Rattle.train_machine.specs.Lists.{changed_at, IsOf, IsFirst, IsEnd}
+use Rattle.train_machine.specs.Track.{Track, IsSound, path}
+use Rattle.train_machine.specs.Train.{Under, Nothing, Throat, OnRoute, is_in}
+use Rattle.train_machine.specs.Section.{Clear, Came, Gone, Section, is_unheard, section_entered}
+use Rattle.train_machine.specs.Machine.{report_time, Machine, IsIn}
+use Rattle.train_machine.specs.Promise.{LiesFor}
+use Rattle.train_machine.specs.Moves.{MayEnter, MayGo, later_way, come, entering, sections_entered}
+use Rattle.train_machine.specs.Invariant.{IsRouteSound, IsAccounted, IsOnPath, IsReserved, IsOnThroat, IsOnWay, Invariant}
+use Rattle.train_machine.proofs.Lists.{at_each, at_it, elsewhere, end_next, end_of, end_later, end_after_of, end_last, end_whole}
 use Rattle.train_machine.proofs.Routes.{open_whole}
 use Rattle.train_machine.proofs.Come.{arrived, Arrives, arrived_kept}
 use Rattle.train_machine.proofs.Entered.{entered_there, entered_not_came, Holder, once_still, entered_sound}
@@ -23,7 +22,7 @@ record InThroat (track : Track) (machine : Machine) (train place border : ℕ) (
   free : (q : ℕ) → IsOf q (place ∷ way) → IsReserved track machine train q
 
 module _ (track : Track) (sound : IsSound track) (machine : Machine) (kept : Invariant track machine) (train place border : ℕ) (way : List ℕ)
-  (into : InThroat track machine train place border way) where
+    (into : InThroat track machine train place border way) where
   here_free : IsReserved track machine train place
   here_free = into.free place (inl refl)
 
@@ -135,16 +134,26 @@ module _ (track : Track) (sound : IsSound track) (machine : Machine) (kept : Inv
     -- its way begins with a place that follows, and this is where it comes
     route_way : (route : ℕ) (way : List ℕ) → IsOnPath track machine train may.front route way → (next : ℕ) × (later : List ℕ) × (way ≡ next ∷ later) × (next ≡ place)
     route_way route [] on = absurd (sound.ends route may.front place (end_last may.front (path track route) on.ends) may.unsignalled may.led.joined)
-    route_way route (next ∷ later) on = (next, later, refl, led_on track sound machine may.front next place
-        (sound.leads route may.front next (end_next may.front next later (path track route) on.ends))
-        (λ point over. (kept.routes route).settled (on.claims next (inl refl)).given next point
-        (end_after_of may.front next (next ∷ later) (path track route) on.ends (inl refl)) over (on.claims next (inl refl)).holds) may.led)
+    route_way route (next ∷ later) on = (
+      next,
+      later,
+      refl,
+      led_on track sound machine may.front next place
+          (sound.leads route may.front next (end_next may.front next later (path track route) on.ends))
+          (λ point over. (kept.routes route).settled (on.claims next (inl refl)).given next point
+          (end_after_of may.front next (next ∷ later) (path track route) on.ends (inl refl)) over (on.claims next (inl refl)).holds) may.led,
+    )
 
     throat_way : (border : ℕ) (way : List ℕ) → IsOnThroat track machine train may.front border way → (next : ℕ) × (later : List ℕ) × (way ≡ next ∷ later) × (next ≡ place)
     throat_way border [] on = absurd (sound.throat_ends border may.front (end_last may.front (track.throat border) on.ends) may.unsignalled)
-    throat_way border (next ∷ later) on = (next, later, refl, led_on track sound machine may.front next place
-        (sound.throat_leads border may.front next (end_next may.front next later (track.throat border) on.ends))
-        (λ point over. absurd (cc (over, sound.throat_plain border next (end_after_of may.front next (next ∷ later) (track.throat border) on.ends (inl refl))))) may.led)
+    throat_way border (next ∷ later) on = (
+      next,
+      later,
+      refl,
+      led_on track sound machine may.front next place
+          (sound.throat_leads border may.front next (end_next may.front next later (track.throat border) on.ends))
+          (λ point over. absurd (cc (over, sound.throat_plain border next (end_after_of may.front next (next ∷ later) (track.throat border) on.ends (inl refl))))) may.led,
+    )
 
     on_way : IsOnWay track machine train may.front (machine.trains train).under (machine.trains train).way
     on_way = kept.ways train may.front may.at_front.rear may.at_front.stands
@@ -155,9 +164,11 @@ module _ (track : Track) (sound : IsSound track) (machine : Machine) (kept : Inv
         go : (under : Under) (way : List ℕ) → (machine.trains train).under ≡ under → (machine.trains train).way ≡ way → IsOnWay track machine train may.front under way
             → LiesFor track machine place
         go Nothing way u w on = absurd (may.let_go u)
-        go (Throat border) way u w on = let found = throat_way border way on in λ point over. absurd (cc (over,
-            sound.throat_plain border place (subst (λ (n : ℕ). IsOf n (track.throat border)) found.3
-            (end_after_of may.front found.0 way (track.throat border) on.ends (subst (λ (l : List ℕ). IsOf found.0 l) (sym found.2) (inl refl))))))
+        go (Throat border) way u w on = let found = throat_way border way on in λ point over. absurd (cc (
+          over,
+          sound.throat_plain border place (subst (λ (n : ℕ). IsOf n (track.throat border)) found.3
+              (end_after_of may.front found.0 way (track.throat border) on.ends (subst (λ (l : List ℕ). IsOf found.0 l) (sym found.2) (inl refl)))),
+        ))
         go (OnRoute route) way u w on = let found = route_way route way on
             in route_lies track sound machine kept train place may.front may.at_front.rear may.at_front.stands may.led may.unsignalled route found.0 found.1 u
             (subst (λ (l : List ℕ). IsOnPath track machine train may.front route l) found.2 on) found.3

@@ -1,11 +1,10 @@
 -- The invariant is kept where the interlocking is told of a section.
-use Rattle.std.proofs.Common.{◌≡◌, ℕ, ◌≤◌, ◌<◌, ◌+◌, ◌⊎◌, inl, inr, Bool, true, false, List, [], ◌∷◌, Option, Some, None, refl, sym, ap, subst, ◌∙◌, arith}
+use Rattle.std.proofs.Common.{◌≡◌, ℕ, ◌≤◌, ◌⊎◌, inl, inr, Bool, true, false, List, [], ◌∷◌, refl, sym, ap, subst, ◌∙◌, arith}
 use Rattle.std.specs.Prelude.{◌≢◌, if◌then◌else◌}
-use Rattle.train_machine.specs.Lists.{changed_at, IsOf, IsFirst, IsNext}
+use Rattle.train_machine.specs.Lists.{changed_at, IsOf, IsNext}
 use Rattle.train_machine.specs.Track.{Track, path}
-use Rattle.train_machine.specs.Train.{is_in}
-use Rattle.train_machine.specs.Section.{Belief, Unknown, Occupied, Clear, Told, Late, Awaited, Came, Gone, Section, is_clear, is_occupied, is_unheard, News, Lost, Old, IsOccupied, IsLeft, belief_told, told_after, section_told}
-use Rattle.train_machine.specs.Route.{Phase, Free, Waiting, Proceeding, Withdrawn, Ended, Route, is_given, is_open, is_whole, withdrawn_phase}
+use Rattle.train_machine.specs.Section.{Belief, Unknown, Occupied, Clear, Told, Late, Awaited, Came, Gone, is_clear, is_occupied, is_unheard, News, Lost, Old, IsOccupied, IsLeft, belief_told, told_after, section_told}
+use Rattle.train_machine.specs.Route.{Phase, Free, Waiting, Proceeding, Ended, is_given, is_open, is_whole}
 use Rattle.train_machine.specs.Machine.{Pass, Never, At, Past, Machine, IsIn}
 use Rattle.train_machine.specs.Moves.{MayBeOld, MayHear, phase_told, time_told, route_told, told}
 use Rattle.train_machine.specs.Invariant.{IsOnce, IsRouteSound, Invariant}
@@ -242,16 +241,20 @@ module _ (track : Track) (machine : Machine) (kept : Invariant track machine) (s
       once_told (At reading) is_opened once =
           λ proceeding. at_each (λ n s. (machine.routes number).holds n ≡ true → (machine.sections n).told ≡ Awaited → (machine.sections n).entered ≡ reading
           → (s.told ≡ Awaited) × (s.entered ≡ reading)) section (section_told machine.clock news (machine.sections section)) machine.sections
-          (λ holds at same. (begin_here news may (old.clear (was_proceeding proceeding) section holds)
-          (still_clear ((machine.routes number).holds section) (belief_told news) (machine.routes number).phase proceeding holds) at, same))
+          (λ holds at same. (
+            begin_here news may (old.clear (was_proceeding proceeding) section holds)
+                (still_clear ((machine.routes number).holds section) (belief_told news) (machine.routes number).phase proceeding holds) at,
+            same,
+          ))
           (λ n differs holds at same. (at, same)) (track.section (track.first number))
           (old.whole (ap is_whole (was_proceeding proceeding)) (track.first number) (inl refl)) (once (was_proceeding proceeding)).0 (once (was_proceeding proceeding)).1
         where
           was_proceeding : phase_told ((machine.routes number).holds section) (belief_told news) (machine.routes number).phase ≡ Proceeding → (machine.routes number).phase ≡ Proceeding
           was_proceeding = proceeding_told ((machine.routes number).holds section) (belief_told news) (machine.routes number).phase
-      once_told (Past time) is_opened once =
-          ((λ proceeding. once.0 (proceeding_told ((machine.routes number).holds section) (belief_told news) (machine.routes number).phase proceeding)),
-          subst (λ (n : ℕ). n ≤ time) (sym (time_stays machine.now ((machine.routes number).holds section) (belief_told news) (machine.routes number).withdrawn_at (machine.routes number).phase once.0)) once.1)
+      once_told (Past time) is_opened once = (
+        (λ proceeding. once.0 (proceeding_told ((machine.routes number).holds section) (belief_told news) (machine.routes number).phase proceeding)),
+        subst (λ (n : ℕ). n ≤ time) (sym (time_stays machine.now ((machine.routes number).holds section) (belief_told news) (machine.routes number).withdrawn_at (machine.routes number).phase once.0)) once.1,
+      )
 
       route_sound : IsRouteSound track (changed_at section (section_told machine.clock news (machine.sections section)) machine.sections) machine.points machine.passes machine.now number
           (route_told machine.now section (belief_told news) (machine.routes number))

@@ -1,10 +1,10 @@
 -- What every move keeps, and what the promise follows from. Nothing in it is about how many trains, sections, points or
 -- routes there are.
-use Rattle.std.specs.Prelude.{◌≡◌, ◌≢◌, ◌⊎◌, ◌+◌, ◌≤◌, ℕ, Bool, true, false, List, [], ◌∷◌, Option, Some, None}
+use Rattle.std.specs.Prelude.{◌≡◌, ◌≢◌, ◌⊎◌, ◌+◌, ◌≤◌, ℕ, true, false, List, ◌∷◌, Some, None}
 use Rattle.train_machine.specs.Lists.{IsOf, IsNext, IsEnd}
 use Rattle.train_machine.specs.Track.{Track, path}
 use Rattle.train_machine.specs.Train.{Under, Nothing, Throat, OnRoute}
-use Rattle.train_machine.specs.Section.{Clear, Told, Late, Awaited, Came, Gone, Section, is_unheard}
+use Rattle.train_machine.specs.Section.{Clear, Awaited, Came, Gone, Section, is_unheard}
 use Rattle.train_machine.specs.Route.{Phase, Free, Waiting, Proceeding, Ended, Route, is_given, is_open, is_whole}
 use Rattle.train_machine.specs.Machine.{report_time, Point, Pass, Never, At, Past, Machine, IsIn, IsOn}
 use Rattle.train_machine.specs.Promise.{StandsAt}
@@ -36,8 +36,8 @@ pub record IsRouteSound (track : Track) (sections : ℕ → Section) (points : �
       → is_unheard (sections section).told ≡ false
   pub unseen_awaited : is_given route.phase ≡ true → (section : ℕ) → route.holds section ≡ true → route.seen section ≡ false
       → ((sections section).told ≡ Awaited) ⊎ ((sections section).told ≡ Gone)
-  -- of rule B: the train of this setting came into the first section before the authority ended, and into each later one
-  -- before the interlocking was told, unseen, that it had left the one before
+  -- cancelled: the train of this setting came into the first section before the authority ended, and into each later one
+  -- before the interlocking was told, with nothing seen, that it had left the one before
   pub begun : route.phase ≡ Ended → route.holds (track.section (track.first number)) ≡ true → (sections (track.section (track.first number))).told ≢ Gone
       → (sections (track.section (track.first number))).entered ≤ route.ended
   pub went_on : is_given route.phase ≡ true → (a b : ℕ) → IsNext a b (path track number) → track.section a ≢ track.section b
@@ -55,8 +55,8 @@ pub record IsHeldBy (machine : Machine) (section route : ℕ) : Type 0 where
   pub given : is_given (machine.routes route).phase ≡ true
   pub holds : (machine.routes route).holds section ≡ true
 
--- Behind: nothing was told of the last occupation of a section. Then a route with authority holds it, or a train came into it
--- that came in and had passed no signal, or that is report_time ago.
+-- Behind: nothing was told of the last occupation of a section. Then a route with authority holds it, or the train had come in
+-- from a border and had passed no signal yet, or it came into the section report_time ago.
 abbrev pub IsAccounted : Machine → ℕ → Type 0
 IsAccounted machine section = ((route : ℕ) × IsHeldBy machine section route)
     ⊎ (((machine.sections section).inlet ≡ true) ⊎ ((machine.sections section).entered + report_time ≤ machine.clock))

@@ -1,5 +1,5 @@
 -- The machine of a station with trains. It has no links, no nodes and no telegrams.
-use Rattle.std.specs.Prelude.{◌≡◌, ℕ, Bool, true, List, Option}
+use Rattle.std.specs.Prelude.{◌≡◌, ℕ, Bool, true, Option}
 use Rattle.train_machine.specs.Lists.{IsOf, changed_at}
 use Rattle.train_machine.specs.Track.{Side, Track}
 use Rattle.train_machine.specs.Train.{Train, is_in}

@@ -6,7 +6,7 @@ use Rattle.train_machine.specs.Track.{Side, Track, path}
 use Rattle.train_machine.specs.Train.{Under, Nothing, Throat, OnRoute, Train, is_throat, is_in}
 use Rattle.train_machine.specs.Section.{Belief, Unknown, Occupied, Clear, Told, Late, Awaited, Came, Gone, Section, is_occupied, is_unheard, section_entered, News, Lost, Old, IsOccupied, IsLeft, belief_told, section_told}
 use Rattle.train_machine.specs.Route.{Phase, Free, Waiting, Proceeding, Withdrawn, Ended, Route, free_route, is_given, is_open, withdrawn_phase, withdrawn_time}
-use Rattle.train_machine.specs.Machine.{report_time, lamp_time, Point, Pass, Never, At, Past, Machine, IsIn, with_train, with_route, with_point}
+use Rattle.train_machine.specs.Machine.{report_time, lamp_time, Pass, Never, At, Past, Machine, IsIn, with_train, with_route, with_point}
 
 -- what can happen
 pub data Move : Type 0 where
@@ -276,8 +276,8 @@ pub record MayFreeSection (machine : Machine) (route section : ℕ) : Type 0 whe
   pub seen : (machine.routes route).seen section ≡ true
   pub clear : (machine.sections section).belief ≡ Clear
 
--- A cancelled route that had authority is freed: rule B. Its authority ended report_time ago, no section of it was told
--- occupied since it was given, and each has been believed clear for report_time.
+-- A cancelled route that had authority is freed: a rule. Its authority ended report_time ago, no section of it was told
+-- occupied since it was given, and each has been believed clear for report_time, without a break.
 pub record MayFreeCancelled (track : Track) (machine : Machine) (route : ℕ) : Type 0 where
   pub fresh : AreFresh machine
   pub ended : (machine.routes route).phase ≡ Ended

@@ -1,5 +1,5 @@
 -- What is promised of the trains of a station.
-use Rattle.std.specs.Prelude.{◌≡◌, ℕ, Bool, false, Option, Some}
+use Rattle.std.specs.Prelude.{◌≡◌, ℕ, false, Some}
 use Rattle.train_machine.specs.Lists.{IsFirst}
 use Rattle.train_machine.specs.Track.{Side, Track}
 use Rattle.train_machine.specs.Machine.{Point, Machine, IsIn, IsOn}

@@ -1,6 +1,5 @@
 -- A route, as far as trains depend on it.
-use Rattle.std.specs.Prelude.{◌≡◌, ◌≢◌, ℕ, Bool, true, false, Option, None, Some, if◌then◌else◌, ◌||◌}
-use Rattle.train_machine.specs.Lists.{is_same, changed_at}
+use Rattle.std.specs.Prelude.{ℕ, Bool, true, false, Option, None}
 
 -- how far a route is
 pub data Phase : Type 0 where

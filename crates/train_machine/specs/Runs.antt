@@ -1,7 +1,7 @@
 -- Runs that break the promise where a premise is left out, and runs that may be made.
-use Rattle.std.specs.Prelude.{◌≡◌, ℕ, true, false, List, [], ◌∷◌, ◌++◌, Option, Some, None}
-use Rattle.train_machine.specs.Track.{Side, Left, Right, Track}
-use Rattle.train_machine.specs.Section.{Unknown, Occupied, Clear, News, Lost, Old, IsOccupied, IsLeft}
+use Rattle.std.specs.Prelude.{ℕ, false, List, [], ◌∷◌, ◌++◌, Some}
+use Rattle.train_machine.specs.Track.{Left, Right}
+use Rattle.train_machine.specs.Section.{Occupied, Clear, Lost, Old, IsOccupied, IsLeft}
 use Rattle.train_machine.specs.Moves.{Move, Enters, Passes, Goes, Follows, Turns, Hears, Sets, Authorises, Withdraws, Ends, FreesSection, FreesCancelled, Frees, GivesMove, Steps, Resumes, Acts, Time}
 
 -- ---- on the line: trains stand on the places of the list

@@ -1,5 +1,5 @@
 -- A section, and what the interlocking was told of it.
-use Rattle.std.specs.Prelude.{◌≡◌, ℕ, Bool, true, false, if◌then◌else◌}
+use Rattle.std.specs.Prelude.{ℕ, Bool, true, false, if◌then◌else◌}
 
 -- What the interlocking believes of a section. It is unknown while the link to its detector isn't ready.
 pub data Belief : Type 0 where

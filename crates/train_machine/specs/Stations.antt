@@ -1,7 +1,7 @@
 -- Three small stations, on which runs are computed.
-use Rattle.std.specs.Prelude.{◌≡◌, ℕ, zero, suc, Bool, true, false, List, [], ◌∷◌, ◌||◌, Option, Some, None}
+use Rattle.std.specs.Prelude.{ℕ, zero, suc, Bool, true, false, List, [], ◌∷◌, ◌||◌, Some, None}
 use Rattle.train_machine.specs.Lists.{is_same}
-use Rattle.train_machine.specs.Track.{Side, Left, Right, Track}
+use Rattle.train_machine.specs.Track.{Left, Right, Track}
 
 -- one of a list by its number, or else what stands for all others
 abbrev pub numbered : {A : Type 0} → List A → A → ℕ → A

@@ -1,5 +1,5 @@
 -- The track of a station, and its table of routes. All are numbers, of which any may be in use.
-use Rattle.std.specs.Prelude.{◌≡◌, ◌≢◌, ◌⊎◌, ℕ, Bool, true, false, List, [], ◌∷◌, Option, Some, None}
+use Rattle.std.specs.Prelude.{◌≡◌, ◌≢◌, ◌⊎◌, ℕ, Bool, true, List, ◌∷◌, Option, Some, None}
 use Rattle.train_machine.specs.Lists.{IsOf, IsNext, IsLast, IsEnd}
 
 -- the sides of a point

@@ -1,5 +1,5 @@
 -- A train, and what is remembered of it.
-use Rattle.std.specs.Prelude.{◌≡◌, ◌⊎◌, ◌==◌, ℕ, Bool, true, false, List, [], ◌∷◌, ◌||◌}
+use Rattle.std.specs.Prelude.{ℕ, Bool, true, false, List, [], ◌∷◌, ◌||◌}
 use Rattle.train_machine.specs.Lists.{is_same}
 use Rattle.train_machine.specs.Track.{Track}
 

@@ -1,10 +1,10 @@
 -- Machines in which one premise is left out: a move is judged as if another machine stood before it, one in which this premise
 -- holds whatever is so. What the move leaves stays the same.
 use Rattle.std.specs.Prelude.{◌≡◌, ◌-◌, ℕ, Bool, true, false, ◌&&◌, ◌||◌, List, [], ◌∷◌, ◌++◌, Option, Some, None, if◌then◌else◌}
-use Rattle.train_machine.specs.Lists.{is_same, IsOf}
+use Rattle.train_machine.specs.Lists.{is_same}
 use Rattle.train_machine.specs.Track.{Side, Left, Track}
-use Rattle.train_machine.specs.Train.{Under, Nothing, Throat, OnRoute, Train, is_throat, is_in}
-use Rattle.train_machine.specs.Section.{Belief, Unknown, Occupied, Clear, Told, Late, Awaited, Came, Gone, Section, is_occupied, News, belief_told}
+use Rattle.train_machine.specs.Train.{Under, Nothing, Throat, Train, is_throat, is_in}
+use Rattle.train_machine.specs.Section.{Belief, Unknown, Occupied, Clear, Told, Late, Awaited, Came, Gone, Section, is_occupied, belief_told}
 use Rattle.train_machine.specs.Route.{Phase, Free, Waiting, Proceeding, Withdrawn, Ended, Route, free_route}
 use Rattle.train_machine.specs.Machine.{report_time, Point, Pass, Never, Machine}
 use Rattle.train_machine.specs.Moves.{Move, Enters, Passes, Goes, Hears, Sets, Authorises, FreesSection, FreesCancelled, GivesMove, Steps, Resumes, May, told, after}
@@ -144,7 +144,7 @@ abbrev pub let_in_passed : Omission
 let_in_passed = record {
   touches = is_set;
   view = λ machine move. record plain {
-    section = λ n s. record s { inlet = s.inlet && (is_throat (machine.trains 0).under || (is_throat (machine.trains 1).under || is_throat (machine.trains 2).under)) }
+    section = λ n s. record s { inlet = s.inlet && (is_throat (machine.trains 0).under || (is_throat (machine.trains 1).under || is_throat (machine.trains 2).under)) };
   };
 }
 
@@ -162,7 +162,7 @@ stood_there track = record {
   touches = is_resume;
   view = λ machine move. record plain {
     section = λ n s. record s {
-      entered = if is_in track n (machine.trains 0).places || (is_in track n (machine.trains 1).places || is_in track n (machine.trains 2).places) then s.entered else 0
+      entered = if is_in track n (machine.trains 0).places || (is_in track n (machine.trains 1).places || is_in track n (machine.trains 2).places) then s.entered else 0;
     };
     clock = λ c. c;
   };
@@ -244,7 +244,8 @@ authorise_undriven = record { touches = is_authorise; view = λ machine move. re
 abbrev pub free_seen : Omission
 free_seen = record { touches = is_free_section; view = λ machine move. record plain { route = λ r. record r { seen = λ section. true } } }
 
--- rule B one millisecond early; without the end of authority; without the time for which sections are clear; without clear
+-- a cancelled route is freed one millisecond early; whenever its authority ended; however short its sections are clear; clear
+-- or not
 abbrev pub cancel_early : Omission
 cancel_early = record {
   touches = is_free_cancelled;
@@ -266,12 +267,12 @@ move_unheld = record { touches = is_give_move; view = λ machine move. record pl
 abbrev pub move_clear : Omission
 move_clear = record { touches = is_give_move; view = λ machine move. all_clear }
 
--- rule 1 left out: a route with authority isn't withdrawn where a section isn't clear
+-- a route with authority isn't withdrawn where a section isn't clear
 abbrev pub after_unwithdrawn : Track → Machine → Move → Machine
 after_unwithdrawn track machine (Hears section news) = record machine {
   sections = (told section news machine).sections;
   routes = λ route. record (machine.routes route) {
-    seen = λ n. (is_occupied (belief_told news) && is_same n section) || (machine.routes route).seen n
+    seen = λ n. (is_occupied (belief_told news) && is_same n section) || (machine.routes route).seen n;
   };
 }
 after_unwithdrawn track machine move = after track machine move
