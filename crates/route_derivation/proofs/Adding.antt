@@ -58,7 +58,7 @@ module _ (l : Site) (s : SignalId) where
   over_stopped zero p g h = refl
   over_stopped (suc n) p g h = ap (λ b. if b then ways_on (λ next. ways_over l s n (longer l p g) next) s (longer l p g).passages (comes_to l s g.left) else []) h
 
-  over_on : (n : ℕ) (p : Partial) (g : Passage) → may_go l p g ≡ true → (b : Beyond) → comes_to l s g.left ≡ b
+  pub over_on : (n : ℕ) (p : Partial) (g : Passage) → may_go l p g ≡ true → (b : Beyond) → comes_to l s g.left ≡ b
       → ways_over l s (suc n) p (Some g) ≡ ways_on (λ next. ways_over l s n (longer l p g) next) s (longer l p g).passages b
   unfolding ways_over
   over_on n p g h b e =

@@ -34,7 +34,7 @@ requires-before l path rest q t h = (h.0, Contains-append_left path rest h.0 h.1
 requires-own : (l : Site) (path : List Passage) (g : Passage) (n : PointId × Side) → used g ≡ Some n → Requires l (path ++ g ∷ []) n.0 n.1
 requires-own l path g n e = (g, contains-last path g, inl (used-uses g n e))
 
-flank-used : (l : Site) (g : Passage) (n : PointId × Side) (o : Option (PointId × Side)) → used g ≡ o → flank_at l o ≡ Some n → (p : PointId) × (s : Side) × Uses g p s × Guards l n.0 n.1 p s
+pub flank-used : (l : Site) (g : Passage) (n : PointId × Side) (o : Option (PointId × Side)) → used g ≡ o → flank_at l o ≡ Some n → (p : PointId) × (s : Side) × Uses g p s × Guards l n.0 n.1 p s
 flank-used l g n None u e = absurd (none-some n e)
 flank-used l g n (Some m) u e = (m.0, m.1, used-uses g m u, flank-from l m.0 m.1 n e)
 
@@ -153,7 +153,7 @@ unopposed-decides ns o =
     Decides-like (not (opposed ns o)) (λ h n e c. h (n, e, c)) (λ h x. h x.0 x.1 x.2)
     (Decides-not (opposed ns o) (some_and-decides (λ n. has_need ns (n.0, other n.1)) P (λ n. has-decides same_need need-decides ns (n.0, other n.1)) o))
 
-at_both : (l : Site) (path : List Passage) → NoneAtBothSides l path → (p : PointId) (s : Side) → Requires l path p s → Requires l path p (other s) → ⊥
+pub at_both : (l : Site) (path : List Passage) → NoneAtBothSides l path → (p : PointId) (s : Side) → Requires l path p s → Requires l path p (other s) → ⊥
 at_both l path h p side.Left a b = h p a b
 at_both l path h p side.Right a b = h p b a
 

@@ -6,3 +6,11 @@ pub mod SideLaws
 pub mod Lists
 pub mod Sections
 pub mod Grow
+pub mod Reach
+pub mod Sound
+pub mod Complete
+pub mod Order
+pub mod RouteWays
+pub mod Written
+pub mod DerivedLaws
+pub mod AspectLaws

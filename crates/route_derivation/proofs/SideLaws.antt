@@ -138,18 +138,22 @@ leg_of_another-is p q s differ =
 -- ---- the signal at a port
 
 -- the signal that is found stands there
-signal-found : (n : ℕ) (signals : List Signal) (p : Port) (s : SignalId) → signal_from n signals p ≡ Some s → (k : ℕ) × (s.0 ≡ n + k) × (option_map (λ (signal : Signal). signal.at) (slice_get signals k) ≡ Some p)
+abbrev FoundAt : ℕ → List Signal → Port → SignalId → Type 0
+FoundAt n signals p s = (k : ℕ) × (s.0 ≡ n + k) × (option_map (λ (signal : Signal). signal.at) (slice_get signals k) ≡ Some p)
+
+found-if : (n : ℕ) (one : Signal) (signals : List Signal) (p : Port) (s : SignalId) → (signal_from (suc n) signals p ≡ Some s → FoundAt (suc n) signals p s)
+    → (b : Bool) → is_port one.at p ≡ b → (if b then Some (record { 0 = n }) else signal_from (suc n) signals p) ≡ Some s → FoundAt n (one ∷ signals) p s
+found-if n one signals p s later true h e =
+    let same : n ≡ s.0 = ap (λ (t : SignalId). t.0) (some-injective (record { 0 = n }) s e) in
+    (0, omega (arith, same), ap Some ((port-decides one.at p).0 h))
+found-if n one signals p s later false h e =
+    let on = later e in
+    let at = on.1 in
+    (suc on.0, omega (arith, at), on.2)
+
+signal-found : (n : ℕ) (signals : List Signal) (p : Port) (s : SignalId) → signal_from n signals p ≡ Some s → FoundAt n signals p s
 signal-found n [] p s e = absurd (none-some s e)
-signal-found n (one ∷ signals) p s e = found (is_port one.at p) refl e where
-  found : (b : Bool) → is_port one.at p ≡ b → (if b then Some (record { 0 = n }) else signal_from (suc n) signals p) ≡ Some s
-      → (k : ℕ) × (s.0 ≡ n + k) × (option_map (λ (signal : Signal). signal.at) (slice_get (one ∷ signals) k) ≡ Some p)
-  found true h e =
-      let same : n ≡ s.0 = ap (λ (t : SignalId). t.0) (some-injective (record { 0 = n }) s e) in
-      (0, omega (arith, same), ap Some ((port-decides one.at p).0 h))
-  found false h e =
-      let on = signal-found (suc n) signals p s e in
-      let at = on.1 in
-      (suc on.0, omega (arith, at), on.2)
+signal-found n (one ∷ signals) p s e = found-if n one signals p s (signal-found (suc n) signals p s) (is_port one.at p) refl e
 
 pub signal-stands : (l : Site) (p : Port) (s : SignalId) → signal_from 0 l.signals p ≡ Some s → StandsAt l s p
 signal-stands l p s e =
@@ -158,14 +162,17 @@ signal-stands l p s e =
     ap (λ k. option_map (λ (signal : Signal). signal.at) (slice_get l.signals k)) at ∙ on.2
 
 -- where none is found, none stands
+absent-if : (n : ℕ) (one : Signal) (signals : List Signal) (p : Port)
+    → (signal_from (suc n) signals p ≡ None → (k : ℕ) → option_map (λ (signal : Signal). signal.at) (slice_get signals k) ≡ Some p → ⊥)
+    → (b : Bool) → is_port one.at p ≡ b → (if b then Some (record { 0 = n }) else signal_from (suc n) signals p) ≡ None
+    → (k : ℕ) → option_map (λ (signal : Signal). signal.at) (slice_get (one ∷ signals) k) ≡ Some p → ⊥
+absent-if n one signals p later true h e k at = none-some {A = SignalId} (record { 0 = n }) (sym e)
+absent-if n one signals p later false h e zero at = false≢true (sym h ∙ (port-decides one.at p).1 (some-injective one.at p at))
+absent-if n one signals p later false h e (suc k) at = later e k at
+
 signal-absent : (n : ℕ) (signals : List Signal) (p : Port) → signal_from n signals p ≡ None → (k : ℕ) → option_map (λ (signal : Signal). signal.at) (slice_get signals k) ≡ Some p → ⊥
 signal-absent n [] p e k at = none-some p at
-signal-absent n (one ∷ signals) p e k at = missing (is_port one.at p) refl e k at where
-  missing : (b : Bool) → is_port one.at p ≡ b → (if b then Some (record { 0 = n }) else signal_from (suc n) signals p) ≡ None
-      → (k : ℕ) → option_map (λ (signal : Signal). signal.at) (slice_get (one ∷ signals) k) ≡ Some p → ⊥
-  missing true h e k at = none-some (record { 0 = n }) (sym e)
-  missing false h e zero at = false≢true (sym h ∙ (port-decides one.at p).1 (some-injective one.at p at))
-  missing false h e (suc k) at = signal-absent (suc n) signals p e k at
+signal-absent n (one ∷ signals) p e k at = absent-if n one signals p (signal-absent (suc n) signals p) (is_port one.at p) refl e k at
 
 pub signal-missing : (l : Site) (p : Port) → signal_from 0 l.signals p ≡ None → (s : SignalId) → StandsAt l s p → ⊥
 signal-missing l p e s at = signal-absent 0 l.signals p e s.0 at

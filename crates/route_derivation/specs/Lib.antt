@@ -1,3 +1,4 @@
 pub mod Ways
+pub mod Derived
 pub mod Messages
 pub mod inside

@@ -1,6 +1,8 @@
 -- The ways that begin at a signal, and which of them can be routes.
-use Rattle.std.specs.Prelude.{◌≡◌, ◌≢◌, ℕ, ◌<◌, ◌≤◌, List, [], length}
-use Rattle.std.specs.List.{Contains}
+use Rattle.std.specs.Prelude.{◌≡◌, ◌≢◌, ℕ, ◌<◌, ◌≤◌, ◌⊎◌, List, [], ◌∷◌, ◌++◌, map, length}
+use Rattle.std.specs.List.{AllPairs, Contains}
+use Rattle.control_table.specs.sci_telegram.declared.message.Side.TheVariants as side
+use Rattle.control_table.specs.layout.declared.ids.PointId.{PointId}
 use Rattle.control_table.specs.layout.declared.ids.SignalId.{SignalId}
 use Rattle.control_table.specs.layout.declared.port.Port.{Port}
 use Rattle.control_table.specs.layout.declared.entries.Exit.{Exit}
@@ -9,7 +11,7 @@ use Rattle.control_table.specs.layout.Entries.{Site}
 use Rattle.control_table.specs.layout.Once.{Distinct}
 use Rattle.control_table.specs.Topology.{StandsAt}
 use Rattle.control_table.specs.Path.{Passage, Leads, ComesOnce, EndsAt}
-use Rattle.control_table.specs.Sides.{FlanksGuarded, NoneAtBothSides}
+use Rattle.control_table.specs.Sides.{leg, FlanksGuarded, NoneAtBothSides}
 
 -- The signal at which a way begins, where it ends, and its passages.
 pub record Way : Type 0 where
@@ -44,6 +46,31 @@ pub record IsRouteWay (l : Site) (entries : List SignalId) (w : Way) : Type 0 wh
   pub asked : Contains entries w.entry
   pub passable : IsPassable l w
   pub short : IsShort w
+
+-- Two paths part at a point: the first leads on to the left, the second to the right.
+pub record PartsLeft (first second : List Port) : Type 0 where
+  pub shared : List Port
+  pub point : PointId
+  pub left : List Port
+  pub right : List Port
+  pub to_left : first ≡ shared ++ leg point side.Left ∷ left
+  pub to_right : second ≡ shared ++ leg point side.Right ∷ right
+
+-- The ports by which a way leaves its elements.
+abbrev pub ports : Way → List Port
+ports w = map (λ g. g.left) w.passages
+
+-- A way comes before another: its signal does in the layout, or both begin at one signal and it leads on to the left
+-- where they part.
+abbrev pub ComesBefore : Way → Way → Type 0
+ComesBefore w v = (w.entry.0 < v.entry.0) ⊎ ((w.entry ≡ v.entry) × PartsLeft (ports w) (ports v))
+
+-- All such ways, each once and in order, of which there are at most 64.
+pub record AreRouteWays (l : Site) (entries : List SignalId) (ws : List Way) : Type 0 where
+  pub sound : (w : Way) → Contains ws w → IsRouteWay l entries w
+  pub complete : (w : Way) → IsRouteWay l entries w → Contains ws w
+  pub ordered : AllPairs ComesBefore ws
+  pub few : length ws ≤ 64
 
 -- More than 64 such ways exist.
 pub record TooManyWays (l : Site) (entries : List SignalId) : Type 0 where

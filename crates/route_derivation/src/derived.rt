@@ -1,12 +1,17 @@
 //! The routes that follow from a layout.
 
-ghost use Rattle.std.specs.Prelude.{◌≡◌};
+ghost use Rattle.std.specs.Prelude.{◌≡◌, IfOk, Err};
+ghost use Rattle.std.specs.List.{All};
+ghost use Rattle.route_derivation.specs.Derived.{HasDerivedAspect, IsDerived};
+ghost use Rattle.route_derivation.specs.Ways.{TooManyWays};
+ghost use Rattle.route_derivation.specs.declared.fault.Underived.TheVariants.{TooMany};
+ghost use Rattle.route_derivation.specs.inside.RouteParts.{IsAlong, AreAlong};
 
 use crate::approach::{ApproachRule, approach_of};
-use crate::fault::Underived;
+use crate::fault::{NameFault, Underived};
 use crate::names::{end_names, free_name, name_in_table, names_of};
 use crate::route_parts::{flank_of, path_of, points_of};
-use crate::search::{Way, ways};
+use crate::search::{Way, route_ways};
 use crate::slow::{SlowLegs, aspect_of};
 use control_table::layout::{Exit, Layout, PointId, Port, SectionId, SignalId};
 use control_table::sci_telegram::{Aspect, Name, Side};
@@ -114,18 +119,20 @@ struct Made<'a> {
 }
 
 /// The name of a route along a way: that which the table has for it, or a free one.
-fn name_of(made: Made<'_>, taken: &[Name], way: &Way, path: &[Port]) -> Result<Name, Underived> {
+fn name_of(made: Made<'_>, taken: &[Name], way: &Way, path: &[Port]) -> Result<Name, NameFault> {
     if let Some(name) = name_in_table(made.layout.routes(), way.entry, path) {
         return Ok(name);
     }
     match end_names(made.layout, way.entry, way.exit) {
         Some((entry, exit)) => free_name(made.alloc, taken, &entry, &exit),
-        None => Err(Underived::NoName),
+        None => Err(NameFault::NoName),
     }
 }
 
 /// The route along a way.
-fn route_along(made: Made<'_>, taken: &[Name], way: &Way) -> Result<DerivedRoute, Underived> {
+fn route_along(made: Made<'_>, taken: &[Name], way: &Way) -> Result<DerivedRoute, NameFault>
+    ensures { IfOk result (IsAlong made.entry.layout.now made.entry.slow.now way.now) }
+{
     let path = path_of(made.alloc, &way.passages)?;
     let name = name_of(made, taken, way, &path)?;
     let points = points_of(made.alloc, &way.passages)?;
@@ -145,33 +152,41 @@ fn route_along(made: Made<'_>, taken: &[Name], way: &Way) -> Result<DerivedRoute
 }
 
 /// The routes along ways, whose names aren't taken.
-fn routes_along(made: Made<'_>, ways: &[Way]) -> Result<Vec<DerivedRoute>, Underived> {
+fn routes_along(made: Made<'_>, ways: &[Way]) -> Result<Vec<DerivedRoute>, NameFault>
+    ensures { IfOk result (λ v. AreAlong made.entry.layout.now made.entry.slow.now ways.now v.items) }
+{
     let mut taken = names_of(made.alloc, made.layout)?;
     let mut routes = Vec::new(made.alloc);
     for way in ways {
         let route = route_along(made, &taken, way)?;
-        taken.push(route.name)?;
+        taken.push(*route.name())?;
         routes.push(route)?;
     }
     Ok(routes)
 }
 
-/// All routes that begin at some signals of a layout, in the order of these signals.
+/// The routes that follow from a layout and begin at some signals: one for each passable way of at most 64
+/// elements, in layout order, and left before right where ways part. `TooMany` comes where there are more
+/// than 64.
 pub fn derive(
     alloc: Global,
     layout: &Layout,
     entries: &[SignalId],
     slow: &[SlowLegs],
     rule: ApproachRule,
-) -> Result<Vec<DerivedRoute>, Underived> {
-    let ways = ways(alloc, layout, entries)?;
+) -> Result<Vec<DerivedRoute>, Underived>
+    ensures derived { IfOk result (λ v. IsDerived layout.now entries.now v.items) }
+    ensures aspects { IfOk result (λ v. All (HasDerivedAspect slow.now) v.items) }
+    ensures too_many { result ≡ Err TooMany → TooManyWays layout.now entries.now }
+{
+    let ways = route_ways(alloc, layout, entries)?;
     let made = Made {
         alloc,
         layout,
         slow,
         rule,
     };
-    routes_along(made, &ways)
+    Ok(routes_along(made, &ways)?)
 }
 
 /// All signals of a layout, in its order.

@@ -1,7 +1,7 @@
 //! Why no table is derived.
 
-ghost use Rattle.std.specs.Prelude.{◌≡◌};
-ghost use Rattle.route_derivation.specs.declared.fault.Underived.TheVariants.{OutOfMemory};
+ghost use Rattle.std.specs.Prelude.{◌≡◌, ◌≢◌};
+ghost use Rattle.route_derivation.specs.declared.fault.Underived.TheVariants.{TooMany, OutOfMemory};
 
 use std::alloc::{AllocError, AllocFailed};
 use std::error::Error;
@@ -48,5 +48,41 @@ impl<T: Drop> From<AllocFailed<T>> for Underived {
 
     fn from(_e: AllocFailed<T>) -> Underived {
         Underived::OutOfMemory
+    }
+}
+
+/// Why a route gets no name.
+#[derive(Clone, Copy, Debug, PartialEq, Eq)]
+pub(crate) enum NameFault {
+    /// No name was found.
+    NoName,
+    /// Memory ran out.
+    OutOfMemory,
+}
+
+impl From<AllocError> for NameFault {
+    ghost from_gives = { λ _ _. Unit {0} };
+
+    fn from(_e: AllocError) -> NameFault {
+        NameFault::OutOfMemory
+    }
+}
+
+impl<T: Drop> From<AllocFailed<T>> for NameFault {
+    ghost from_gives = { λ _ _. Unit {0} };
+
+    fn from(_e: AllocFailed<T>) -> NameFault {
+        NameFault::OutOfMemory
+    }
+}
+
+impl From<NameFault> for Underived {
+    ghost from_gives = { λ _ e. e ≢ TooMany };
+
+    fn from(fault: NameFault) -> Underived {
+        match fault {
+            NameFault::NoName => Underived::NoName,
+            NameFault::OutOfMemory => Underived::OutOfMemory,
+        }
     }
 }

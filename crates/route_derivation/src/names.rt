@@ -1,6 +1,6 @@
 //! The names of routes.
 
-use crate::fault::Underived;
+use crate::fault::NameFault;
 use control_table::layout::{Detector, Exit, Layout, Point, Port, Route, Signal, SignalId, Track};
 use control_table::sci_telegram::Name;
 use std::alloc::{AllocError, Global};
@@ -114,13 +114,13 @@ pub(crate) fn free_name(
     taken: &[Name],
     entry: &Name,
     exit: &Name,
-) -> Result<Name, Underived> {
+) -> Result<Name, NameFault> {
     if let Some(name) = free_by_ends(alloc, taken, entry, exit)? {
         return Ok(name);
     }
     match free_by_number(alloc, taken)? {
         Some(name) => Ok(name),
-        None => Err(Underived::NoName),
+        None => Err(NameFault::NoName),
     }
 }
 

@@ -1,8 +1,11 @@
 //! The search for all ways that begin at a signal.
 
-ghost use Rattle.std.specs.Prelude.{◌≡◌, ◌++◌, ◌∷◌, []};
-ghost use Rattle.std.specs.List.{flat_map};
-ghost use Rattle.route_derivation.specs.inside.WaySearch.{Adds, Finds, comes_to, beyond_joint, ways_over, ways_behind, ways_at, ways_from};
+ghost use Rattle.std.specs.Prelude.{◌≡◌, ◌++◌, ◌∷◌, [], length, IfOk, Err};
+ghost use Rattle.control_table.specs.layout.Once.{Once};
+ghost use Rattle.control_table.specs.layout.Station.{IsStation};
+ghost use Rattle.route_derivation.specs.Ways.{AreRouteWays, TooManyWays};
+ghost use Rattle.route_derivation.specs.declared.fault.Underived.TheVariants.{TooMany};
+ghost use Rattle.route_derivation.specs.inside.WaySearch.{Adds, Finds, comes_to, beyond_joint, ways_over, ways_behind, ways_from, is_asked, ways_asked, ways_below};
 
 use crate::fault::Underived;
 use crate::partial::{Partial, may_go};
@@ -170,17 +173,57 @@ fn add_ways_from(
     add_ways_behind(search, joined_to(layout.joints(), at), found)
 }
 
-/// All ways that begin at some signals, in the order of these signals.
-pub(crate) fn ways(
+/// Whether a signal stands in a list.
+fn is_asked(entries: &[SignalId], signal: SignalId) -> bool
+    ensures { result ≡ is_asked entries.now signal }
+{
+    entries.iter().any(|entry| entry.0 == signal.0)
+}
+
+/// Adds all ways that begin at a signal, if it stands in a list.
+fn add_ways_asked(
+    alloc: Global,
+    layout: &Layout,
+    entries: &[SignalId],
+    signal: SignalId,
+    found: &mut Vec<Way>,
+) -> Result<(), Underived>
+    ensures { Adds result found.old.items found.new.items (ways_asked layout.now entries.now signal) }
+{
+    if !is_asked(entries, signal) {
+        return Ok(());
+    }
+    add_ways_from(alloc, layout, signal, found)
+}
+
+/// All ways that begin at signals of a list, in layout order.
+fn ways_asked(
     alloc: Global,
     layout: &Layout,
     entries: &[SignalId],
 ) -> Result<Vec<Way>, Underived>
-    ensures { Finds (λ v. v.items) result (flat_map (ways_from layout.now) entries.now) }
+    ensures { Finds (λ v. v.items) result (ways_below layout.now entries.now (length layout.now.signals)) }
 {
     let mut found = Vec::new(alloc);
-    for entry in entries {
-        add_ways_from(alloc, layout, *entry, &mut found)?;
+    let signals = layout.signals();
+    for place in 0..signals.len() {
+        add_ways_asked(alloc, layout, entries, SignalId(place), &mut found)?;
     }
     Ok(found)
+}
+
+/// The passable ways of at most 64 elements that begin at signals of a list, or `TooMany` where there are
+/// more than 64.
+pub(crate) fn route_ways(
+    alloc: Global,
+    layout: &Layout,
+    entries: &[SignalId],
+) -> Result<Vec<Way>, Underived>
+    ensures found { IfOk result (λ v. AreRouteWays layout.now entries.now v.items) }
+    ensures too_many { result ≡ Err TooMany → TooManyWays layout.now entries.now }
+    ensures once { Once layout.now }
+    ensures station { IsStation layout.now }
+{
+    layout.joints();
+    ways_asked(alloc, layout, entries)
 }

@@ -40,15 +40,19 @@ fn is_slow_at(slow: &[SlowLegs], point: PointId, side: Side) -> bool
     is_slow_leg(slow.get(point.0).copied(), side)
 }
 
+/// Whether one of some points is passed slowly.
+fn uses_slow(slow: &[SlowLegs], points: &[(PointId, Side)]) -> bool
+    ensures { result ≡ list_any (λ n. is_slow_at slow.now n) points.now }
+{
+    points.iter().any(|point| is_slow_at(slow, point.0, point.1))
+}
+
 /// The aspect of a route that uses points at these sides: slow where one of these legs is.
 #[tactic(auto, unfolding(crate::specs::inside::RouteParts::aspect_of))]
 pub(crate) fn aspect_of(slow: &[SlowLegs], points: &[(PointId, Side)]) -> Aspect
     ensures { result ≡ aspect_of slow.now points.now }
 {
-    if points
-        .iter()
-        .any(|point| is_slow_at(slow, point.0, point.1))
-    {
+    if uses_slow(slow, points) {
         Aspect::Slow
     } else {
         Aspect::Proceed

@@ -1,16 +1,17 @@
 -- What a route writes that leads along a way, step by step.
-use Rattle.std.specs.Prelude.{ℕ, ◌==◌, Bool, true, false, List, [], ◌∷◌, Option, Some, None, slice_get, map, if◌then◌else◌}
-use Rattle.std.specs.List.{list_any, filter_map}
+use Rattle.std.specs.Prelude.{◌≡◌, ℕ, ◌==◌, Bool, true, false, List, [], ◌∷◌, Option, Some, None, slice_get, map, if◌then◌else◌}
+use Rattle.std.specs.List.{AllZip, list_any, filter_map}
 use Rattle.control_table.specs.sci_telegram.declared.message.Aspect.{Aspect}
 use Rattle.control_table.specs.sci_telegram.declared.message.Aspect.TheVariants.{Slow, Proceed}
 use Rattle.control_table.specs.sci_telegram.declared.message.Side.{Side}
 use Rattle.control_table.specs.sci_telegram.declared.message.Side.TheVariants as side
 use Rattle.control_table.specs.layout.declared.ids.PointId.{PointId}
 use Rattle.control_table.specs.layout.declared.port.Port.{Port}
-use Rattle.control_table.specs.layout.Entries.{Site}
+use Rattle.control_table.specs.layout.Entries.{RouteEntry, Site}
 use Rattle.control_table.specs.Path.{Passage}
 use Rattle.route_derivation.specs.declared.slow.SlowLegs.{SlowLegs}
 use Rattle.route_derivation.specs.declared.slow.SlowLegs.TheVariants as slow
+use Rattle.route_derivation.specs.Ways.{Way}
 use Rattle.route_derivation.specs.inside.WaySearch.{some_and, used, flank_at}
 
 -- a passage leads over a point
@@ -50,3 +51,18 @@ is_slow_at legs n = is_slow_leg (slice_get legs n.0.0) n.1
 
 unfoldable pub aspect_of : List SlowLegs → List (PointId × Side) → Aspect
 aspect_of legs points = if list_any (λ n. is_slow_at legs n) points then Slow else Proceed
+
+-- ---- a route that leads along a way, whatever its name and its approach
+
+pub record IsAlong (l : Site) (slow : List SlowLegs) (w : Way) (r : RouteEntry) : Type 0 where
+  pub entry : r.entry ≡ w.entry
+  pub exit : r.exit ≡ w.exit
+  pub path : r.path ≡ path_of w.passages
+  pub points : r.points ≡ points_of w.passages
+  pub flank : r.flank ≡ flank_of l w.passages
+  pub extra : r.extra ≡ []
+  pub aspect : r.aspect ≡ aspect_of slow r.points
+
+-- each route leads along the way at its place
+abbrev pub AreAlong : Site → List SlowLegs → List Way → List RouteEntry → Type 0
+AreAlong l slow ws rs = AllZip (IsAlong l slow) ws rs

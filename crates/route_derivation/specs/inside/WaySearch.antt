@@ -261,6 +261,18 @@ ways_at l s (Some at) = ways_behind l s (joined_to l.joints at)
 unfoldable pub ways_from : Site → SignalId → List Way
 ways_from l s = ways_at l s (port_of l.signals s)
 
+abbrev pub is_asked : List SignalId → SignalId → Bool
+is_asked entries s = list_any (λ e. e.0 == s.0) entries
+
+-- the ways that begin at a signal, if it stands in a list
+abbrev pub ways_asked : Site → List SignalId → SignalId → List Way
+ways_asked l entries s = if is_asked entries s then ways_from l s else []
+
+-- the ways that begin at signals of a list, of those below the n-th of the layout
+unfoldable pub ways_below : Site → List SignalId → ℕ → List Way
+ways_below l entries zero = []
+ways_below l entries (suc n) = ways_below l entries n ++ ways_asked l entries (record { 0 = n })
+
 -- ---- what was found
 
 -- ways were added to those found, of which there are then at most 64, or there would be more than 64
@@ -270,9 +282,13 @@ Adds (Err TooMany) old new ways = 64 < length (old ++ ways)
 Adds (Err NoName) old new ways = Unit {0}
 Adds (Err OutOfMemory) old new ways = Unit {0}
 
+-- what there is where a search stopped
+abbrev pub Stops : Underived → List Way → Type 0
+Stops TooMany ways = 64 < length ways
+Stops NoName ways = Unit {0}
+Stops OutOfMemory ways = Unit {0}
+
 -- these ways were found, at most 64, or there are more than 64
 abbrev pub Finds : {X : Type 0} → (X → List Way) → Result X Underived → List Way → Type 0
 Finds view (Ok x) ways = (view x ≡ ways) × (length ways ≤ 64)
-Finds view (Err TooMany) ways = 64 < length ways
-Finds view (Err NoName) ways = Unit {0}
-Finds view (Err OutOfMemory) ways = Unit {0}
+Finds view (Err e) ways = Stops e ways
