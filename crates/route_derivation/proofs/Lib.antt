@@ -14,3 +14,5 @@ pub mod RouteWays
 pub mod Written
 pub mod DerivedLaws
 pub mod AspectLaws
+pub mod Counting
+pub mod TopologyLaws

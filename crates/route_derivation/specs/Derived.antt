@@ -55,6 +55,13 @@ pub record IsDerived (l : Site) (entries : List SignalId) (rs : List RouteEntry)
   pub ordered : AllPairs IsBefore rs
   pub few : length rs ≤ 64
 
+-- Two layouts have the same topology: tracks, points, joints and signals.
+pub record SameTopology (l m : Site) : Type 0 where
+  pub tracks : l.tracks ≡ m.tracks
+  pub points : l.points ≡ m.points
+  pub joints : l.joints ≡ m.joints
+  pub signals : l.signals ≡ m.signals
+
 -- ---- aspects
 
 -- The legs of a point that are passed slowly are marked.

@@ -1,6 +1,6 @@
 //! The routes that follow from a layout.
 
-ghost use Rattle.std.specs.Prelude.{◌≡◌, IfOk, Err};
+ghost use Rattle.std.specs.Prelude.{◌≡◌, IfOk, OnOk, Err};
 ghost use Rattle.std.specs.List.{All};
 ghost use Rattle.route_derivation.specs.Derived.{HasDerivedAspect, IsDerived};
 ghost use Rattle.route_derivation.specs.Ways.{TooManyWays};
@@ -178,6 +178,7 @@ pub fn derive(
     ensures derived { IfOk result (λ v. IsDerived layout.now entries.now v.items) }
     ensures aspects { IfOk result (λ v. All (HasDerivedAspect slow.now) v.items) }
     ensures too_many { result ≡ Err TooMany → TooManyWays layout.now entries.now }
+    ensures not_too_many { OnOk result (TooManyWays layout.now entries.now → ⊥) }
 {
     let ways = route_ways(alloc, layout, entries)?;
     let made = Made {

@@ -2,6 +2,7 @@ use Rattle.std.proofs.Common.{subst}
 use Rattle.route_derivation.specs.inside.RouteParts.{AreAlong}
 use Rattle.route_derivation.proofs.DerivedLaws.{are-derived}
 use Rattle.route_derivation.proofs.AspectLaws.{derived-aspects}
+use Rattle.route_derivation.proofs.Counting.{not-too_many}
 use Rattle.route_derivation.proofs.derived.derive.Goals as goal
 
 pub returns-clause-derived : goal.returns-clause-derived
@@ -13,3 +14,6 @@ pub returns-clause-aspects : goal.returns-clause-aspects
 returns-clause-aspects c =
     let along = subst (λ ws. AreAlong c.args.layout.now c.args.slow.now ws c.in_ok-routes_along.field-0.items) c.deref.ensures.value c.in_ok-routes_along.ensures in
     derived-aspects c.args.layout.now c.args.slow.now c.in_ok-ways.ways.items c.in_ok-routes_along.field-0.items along
+
+pub returns-clause-not_too_many : goal.returns-clause-not_too_many
+returns-clause-not_too_many c = not-too_many c.args.layout.now c.args.entries.now c.in_ok-ways.ways.items c.in_ok-ways.ensures.found
