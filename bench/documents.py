@@ -27,6 +27,8 @@ OTHER_NAMES = {
     "programs of others": ["cmp", "mergecap", "wireshark"],
     "items of the kit": ["thiserror::Error", "Threads", "Wait"],
     "a field of HTTP": ["Origin"],
+    "functions of the C library": ["malloc", "memcpy", "memset"],
+    "keys of a keyboard": ["F2", "Shift"],
     "what bench/panel.py is asked for": ["storm"],
     "what is gone, and is told as gone": ["md4_speed", "station_sim"],
 }
@@ -40,8 +42,8 @@ OTHER_PATHS = re.compile(
     """,
     re.VERBOSE,
 )
-# Options of programs of others: of `rt`, and of `grep`.
-OTHER_OPTIONS = {"--only", "--allow-holes", "--test", "--progress", "--data", "--include", "--seconds"}
+# Options of programs of others: of `rt`, of `grep`, and of a linker.
+OTHER_OPTIONS = {"--only", "--allow-holes", "--test", "--progress", "--data", "--include", "--seconds", "--whole-archive", "--no-whole-archive"}
 
 BACKTICKED = re.compile(r"`([^`]+)`(\*(?!\*))?")
 NAME = re.compile(r"[A-Za-z_]\w*(?:::\w+)*")

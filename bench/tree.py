@@ -82,7 +82,7 @@ def members_of(text):
 
 
 class Names:
-    """The names of code and of definitions: all of them, and those within a crate, a module, a type or a trait."""
+    """The names of code, also in C, and of definitions: all of them, and those within a crate, a module, a type or a trait."""
 
     def __init__(self):
         self.all, self.within = set(crates()), collections.defaultdict(set)
@@ -93,6 +93,8 @@ class Names:
                 self.within[file.stem] |= words_of(file)
                 for holder, members in members_of(text_of(file)).items():
                     self.within[holder] |= members
+        for file in (*TOP.glob("crates/*/*.h"), *TOP.glob("examples/embedded/*.c")):
+            self.all.update(WORD.findall(text_of(file)))
         for file in sources(parts=["proofs"]):
             self.all.add(file.stem)
             self.all.update(PROOF_NAME.findall(text_of(file)))
