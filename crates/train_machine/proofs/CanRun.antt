@@ -9,7 +9,7 @@ use Rattle.train_machine.specs.Route.{Free, Route}
 use Rattle.train_machine.specs.Machine.{Machine}
 use Rattle.train_machine.specs.Moves.{Move, after}
 use Rattle.train_machine.specs.Run.{MayRun, MayStand}
-use Rattle.train_machine.specs.Stations.{numbered, small}
+use Rattle.train_machine.specs.Stations.{numbered}
 use Rattle.train_machine.specs.Wrong.{View, through, Omission, seen_by, without, start}
 use Rattle.train_machine.proofs.Lists.{in_has}
 use Rattle.train_machine.proofs.Checks.{all, is_none, Can}
@@ -30,27 +30,27 @@ pub record KeepsSmall (view : View) : Type 0 where
   pub free : (r : Route) → r.phase ≡ Free → (view.route r).phase ≡ Free
 
 through_small : (view : View) → KeepsSmall view → (machine : Machine) → IsSmall machine → IsSmall (through view machine)
-through_small view keeps machine small = record {
-  absent = λ n. keeps.absent (machine.trains (suc (suc (suc n)))) (small.absent n);
-  loose = λ n. keeps.loose (machine.trains (suc (suc (suc n)))) (small.absent n) (small.loose n);
-  told = λ n. keeps.told (suc (suc (suc (suc n)))) (machine.sections (suc (suc (suc (suc n))))) (small.told n);
-  entered = λ n. keeps.entered (suc (suc (suc (suc n)))) (machine.sections (suc (suc (suc (suc n))))) (small.entered n);
-  unset = λ n section. keeps.unset section (machine.routes (suc (suc (suc (suc n))))) (small.unset n section);
-  free = λ n. keeps.free (machine.routes (suc (suc (suc (suc n))))) (small.free n);
-  unheld = λ route n. keeps.unset (suc (suc (suc (suc n)))) (machine.routes route) (small.unheld route n);
+through_small view keeps machine few = record {
+  absent = λ n. keeps.absent (machine.trains (suc (suc (suc n)))) (few.absent n);
+  loose = λ n. keeps.loose (machine.trains (suc (suc (suc n)))) (few.absent n) (few.loose n);
+  told = λ n. keeps.told (suc (suc (suc (suc n)))) (machine.sections (suc (suc (suc (suc n))))) (few.told n);
+  entered = λ n. keeps.entered (suc (suc (suc (suc n)))) (machine.sections (suc (suc (suc (suc n))))) (few.entered n);
+  unset = λ n section. keeps.unset section (machine.routes (suc (suc (suc (suc n))))) (few.unset n section);
+  free = λ n. keeps.free (machine.routes (suc (suc (suc (suc n))))) (few.free n);
+  unheld = λ route n. keeps.unset (suc (suc (suc (suc n)))) (machine.routes route) (few.unheld route n);
 }
 
 seen_small : (test : Bool) (view : View) → KeepsSmall view → (machine : Machine) → IsSmall machine → IsSmall (if test then through view machine else machine)
-seen_small true view keeps machine small = through_small view keeps machine small
-seen_small false view keeps machine small = small
+seen_small true view keeps machine few = through_small view keeps machine few
+seen_small false view keeps machine few = few
 
 -- what the tests tell of a list of moves
 pub can_run : (omission : Omission) → ((machine : Machine) (move : Move) → KeepsSmall (omission.view machine move)) → (track : Track) (moves : List Move) (machine : Machine)
     → IsSmall machine → CanRun omission track moves machine → MayRun (without omission) track moves machine
-can_run omission keeps track [] machine small can = tt
-can_run omission keeps track (move ∷ moves) machine small can = (
-  can_may track (seen_by omission machine move) (seen_small (omission.touches move) (omission.view machine move) (keeps machine move) machine small) move can.0,
-  can_run omission keeps track moves (after track machine move) (small_kept track machine small move (within track (seen_by omission machine move) move can.0)) can.1,
+can_run omission keeps track [] machine few can = tt
+can_run omission keeps track (move ∷ moves) machine few can = (
+  can_may track (seen_by omission machine move) (seen_small (omission.touches move) (omission.view machine move) (keeps machine move) machine few) move can.0,
+  can_run omission keeps track moves (after track machine move) (small_kept track machine few move (within track (seen_by omission machine move) move can.0)) can.1,
 )
 
 pub start_small : (x y z : List ℕ) (side : Side) → IsSmall (start (x ∷ y ∷ z ∷ []) side)
