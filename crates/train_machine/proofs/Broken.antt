@@ -8,7 +8,7 @@ use Rattle.train_machine.specs.Machine.{Machine}
 use Rattle.train_machine.specs.Moves.{Move, Passes}
 use Rattle.train_machine.specs.Stations.{line, small, joined}
 use Rattle.train_machine.specs.Wrong.{Breaks, plain, start, without, own_passes, clear_told, heard, awaited_late, gone_late, opened, let_go, authorise_clear, authorise_side, authorise_undriven, cancel_clear, cancel_early, cancel_ended, cancel_since, dark, each_change, free_seen, fresh, headway, in_order, inlet_empty, inlet_unclaimed, inlet_unheld, let_in, let_in_claimed, let_in_passed, move_clear, move_unheld, obey, own_headway, set_clear, set_unheld, stands, stood, stood_there, truth}
-use Rattle.train_machine.specs.Runs.{disobeyed, following, passed_again, met_in_throat, met_in_joined, opposing, let_in_early, let_in_stale, let_in_before, resumed_early, resumed_stale, turned_back, lamp_starved, detector_starved, told_out_of_order, told_falsely, change_untold, set_unclear, set_held, authorised_unclear, authorised_beside, authorised_driven, freed_unseen, cancel_and_run, cancelled_at_once, cancelled_since, cancelled_unclear, moved_held, moved_unclear}
+use Rattle.train_machine.specs.Runs.{disobeyed, following, passed_again, met_in_throat, met_in_joined, opposing, let_in_early, let_in_stale, let_in_before, resumed_early, resumed_stale, turned_back, went_on_resumed, lamp_starved, detector_starved, told_out_of_order, told_falsely, change_untold, set_unclear, set_held, authorised_unclear, authorised_beside, authorised_driven, freed_unseen, cancel_and_run, cancelled_at_once, cancelled_since, cancelled_unclear, moved_held, moved_unclear}
 use Rattle.train_machine.proofs.CanRun.{KeepsSmall, can_run, start_small, stands_lawfully}
 
 either_zero : (test : Bool) (n : ℕ) → n ≡ 0 → (if test then n else 0) ≡ 0
@@ -109,6 +109,13 @@ turned_back_broken = (
   stands_lawfully small (7 ∷ []) [] [] refl refl refl refl refl refl,
   can_run stands (λ machine move. record { absent = λ t e. e; loose = λ t e f. ap (λ l. let_go l t.under) e ∙ f; told = λ n s e. e; entered = λ n s e. e; unset = λ n r e. e; free = λ r e. e }) small turned_back (start ((7 ∷ []) ∷ [] ∷ [] ∷ []) Left) (start_small (7 ∷ []) [] [] Left) (search rules),
   λ apart. cc (apart.alone 0 1 2 refl refl),
+)
+
+pub went_on_resumed_broken : Breaks small ((7 ∷ []) ∷ [] ∷ [] ∷ []) Left (without stands) went_on_resumed
+went_on_resumed_broken = (
+  stands_lawfully small (7 ∷ []) [] [] refl refl refl refl refl refl,
+  can_run stands (λ machine move. record { absent = λ t e. e; loose = λ t e f. ap (λ l. let_go l t.under) e ∙ f; told = λ n s e. e; entered = λ n s e. e; unset = λ n r e. e; free = λ r e. e }) small went_on_resumed (start ((7 ∷ []) ∷ [] ∷ [] ∷ []) Left) (start_small (7 ∷ []) [] [] Left) (search rules),
+  λ apart. cc (apart.alone 0 1 0 refl refl),
 )
 
 pub lamp_starved_broken : Breaks line ((5 ∷ []) ∷ [] ∷ [] ∷ []) Left (without dark) lamp_starved

@@ -6,7 +6,7 @@ use Rattle.train_machine.specs.Moves.{Move, Passes, Hears, FreesCancelled, Resum
 use Rattle.train_machine.specs.Run.{MayRun, right_rules, run}
 use Rattle.train_machine.specs.Stations.{line, small}
 use Rattle.train_machine.specs.Wrong.{Breaks, Omission, plain, start, after_unwithdrawn, withdraws_nothing}
-use Rattle.train_machine.specs.Runs.{followed, follow_early, follow_late, cancelled, went_on, unwithdrawn}
+use Rattle.train_machine.specs.Runs.{followed, restarted, follow_early, follow_late, cancelled, went_on, unwithdrawn}
 use Rattle.train_machine.proofs.Checks.{Can}
 use Rattle.train_machine.proofs.Checked.{IsSmall, within, can_may, small_kept, told_small}
 use Rattle.train_machine.proofs.CanRun.{CanRun, can_run, start_small, stands_lawfully}
@@ -33,6 +33,9 @@ start_none = record {
 
 pub followed_may : MayRun right_rules line followed (start [] Left)
 followed_may = may_run line followed (start [] Left) start_none (search rules)
+
+pub restarted_may : MayRun right_rules line restarted (start [] Left)
+restarted_may = may_run line restarted (start [] Left) start_none (search rules)
 
 pub early_may : MayRun right_rules line follow_early (start ((0 ∷ []) ∷ [] ∷ [] ∷ []) Left)
 early_may = may_run line follow_early (start ((0 ∷ []) ∷ [] ∷ [] ∷ []) Left) (start_small (0 ∷ []) [] [] Left) (search rules)

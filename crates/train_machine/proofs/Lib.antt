@@ -18,3 +18,4 @@ pub mod Checked
 pub mod CanRun
 pub mod Broken
 pub mod Lawful
+pub mod Composed

@@ -26,6 +26,12 @@ abbrev pub MayRun : Rules → Track → List Move → Machine → Type 0
 MayRun rules track [] machine = Unit {0}
 MayRun rules track (move ∷ moves) machine = rules.may track machine move × MayRun rules track moves (rules.after track machine move)
 
+-- A list of moves leads from one state to another.
+pub record MovesTo (track : Track) (old new : Machine) : Type 0 where
+  pub moves : List Move
+  pub may : MayRun right_rules track moves old
+  pub leads : run right_rules track moves old ≡ new
+
 -- Trains may stand in the station from the beginning: on tracks, no two in one section.
 pub record MayStand (track : Track) (standing : ℕ → List ℕ) : Type 0 where
   pub alone : (a b section : ℕ) → is_in track section (standing a) ≡ true → is_in track section (standing b) ≡ true → a ≡ b

@@ -20,6 +20,13 @@ first_train =
 abbrev pub followed : List Move
 followed = first_train ++ Time 1802 1800 ∷ Steps ∷ Time 3604 3600 ∷ Enters 1 0 ∷ clears 0 ++ Passes 1 0 2 ∷ []
 
+-- The interlocking is made anew when route 0 has authority: its links are lost. The train passes the signal all the same, as its lamp
+-- is still lit; when the interlocking is resumed it knows of the train, which goes on over route 2, and the next one comes in.
+abbrev pub restarted : List Move
+restarted =
+    Hears 0 IsLeft ∷ Hears 1 IsLeft ∷ Enters 0 0 ∷ clears 0 ++ Hears 0 Lost ∷ Hears 1 Lost ∷ Hears 2 Lost ∷ Passes 0 0 2 ∷ Follows 0 ∷ Time 6007 6000 ∷ Hears 0 IsLeft
+    ∷ Hears 1 IsOccupied ∷ Hears 2 IsLeft ∷ Resumes ∷ clears 2 ++ Passes 0 2 4 ∷ Enters 1 0 ∷ []
+
 -- follow: train 0 passes signal 0 at reading 0, and nothing is told of it; train 1 comes in after it
 abbrev pub before_follow : List Move
 before_follow = Hears 1 IsLeft ∷ clears 0 ++ Passes 0 0 2 ∷ Follows 0 ∷ Enters 1 0 ∷ []
@@ -81,6 +88,10 @@ abbrev pub resumed_stale : List Move
 resumed_stale =
     Time 1802 1800 ∷ Hears 0 IsLeft ∷ Hears 1 IsLeft ∷ clears 2 ++ Passes 0 2 5 ∷ Follows 0 ∷ Goes 0 1 ∷ Follows 0 ∷ Follows 0 ∷ Resumes ∷ GivesMove 0 ∷ Acts 0 (Some Right) false
     ∷ clears 3 ++ Passes 1 3 3 ∷ Hears 1 (Old Occupied) ∷ Hears 1 (Old Clear) ∷ Ends 3 ∷ FreesSection 3 1 ∷ GivesMove 0 ∷ []
+
+-- stands: a train goes on in its former route when the interlocking was resumed
+abbrev pub went_on_resumed : List Move
+went_on_resumed = Hears 1 IsLeft ∷ Hears 0 IsLeft ∷ clears 2 ++ Passes 0 2 5 ∷ Hears 1 IsOccupied ∷ Time 1802 1800 ∷ Resumes ∷ Enters 1 0 ∷ Goes 0 1 ∷ []
 
 -- turn
 abbrev pub turned_back : List Move

@@ -5,7 +5,7 @@
 mod laws;
 mod runs;
 
-pub use laws::{invariant_is_kept, promise_follows, trains_are_kept_apart};
+pub use laws::{invariant_is_kept, lists_of_moves_compose, promise_follows, trains_are_kept_apart};
 pub use runs::{
     bounds_are_exact, each_premise_on_trains_is_needed, each_rule_is_needed,
     trains_follow_one_another, what_links_give_is_needed,

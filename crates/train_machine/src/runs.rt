@@ -2,17 +2,19 @@
 
 ghost use Rattle.std.specs.Prelude.{◌∷◌, []};
 ghost use Rattle.train_machine.specs.Moves.{FreesCancelled, Passes, Resumes};
-ghost use Rattle.train_machine.specs.Runs.{authorised_beside, authorised_driven, authorised_unclear, cancel_and_run, cancelled, cancelled_at_once, cancelled_since, cancelled_unclear, change_untold, detector_starved, disobeyed, follow_early, follow_late, followed, following, freed_unseen, lamp_starved, let_in_before, let_in_early, let_in_stale, met_in_joined, met_in_throat, moved_held, moved_unclear, opposing, passed_again, resumed_early, resumed_stale, set_held, set_unclear, told_falsely, told_out_of_order, turned_back, unwithdrawn, went_on};
+ghost use Rattle.train_machine.specs.Runs.{authorised_beside, authorised_driven, authorised_unclear, cancel_and_run, cancelled, cancelled_at_once, cancelled_since, cancelled_unclear, change_untold, detector_starved, disobeyed, follow_early, follow_late, followed, following, freed_unseen, lamp_starved, let_in_before, let_in_early, let_in_stale, met_in_joined, met_in_throat, moved_held, moved_unclear, opposing, passed_again, resumed_early, resumed_stale, set_held, set_unclear, told_falsely, told_out_of_order, turned_back, unwithdrawn, restarted, went_on_resumed, went_on};
 ghost use Rattle.train_machine.specs.Stations.{joined, line, small};
 ghost use Rattle.train_machine.specs.Track.{IsSound, Left, Right};
 ghost use Rattle.train_machine.specs.Wrong.{Allows, Breaks, Leads, Refuses, authorise_clear, authorise_side, authorise_undriven, cancel_clear, cancel_early, cancel_ended, cancel_since, dark, each_change, free_seen, fresh, headway, in_order, inlet_empty, inlet_unclaimed, inlet_unheld, let_in, let_in_claimed, let_in_passed, move_clear, move_unheld, obey, own_headway, set_clear, set_unheld, stands, stood, stood_there, truth, withdraws_nothing, without};
 
-/// Trains do run: on a station that is sound two follow one another through a route. The theorem doesn't speak of nothing.
+/// Trains do run: on a station that is sound two follow one another through a route, and one
+/// goes on over a restart of the interlocking. The theorem doesn't speak of nothing.
 pub fn trains_follow_one_another()
     ensures line { IsSound line }
     ensures small { IsSound small }
     ensures joined { IsSound joined }
     ensures follow { Leads line followed (4 ∷ []) (2 ∷ 0 ∷ []) }
+    ensures restart { Leads line restarted (4 ∷ 2 ∷ []) (0 ∷ []) }
 {}
 
 /// Each premise on the traffic is needed: with one of them left out, a run of a small station breaks the promise. *Headway* counts a
@@ -30,6 +32,7 @@ pub fn each_premise_on_trains_is_needed()
     ensures let_in_before { Breaks joined ([] ∷ (7 ∷ []) ∷ [] ∷ []) Left (without let_in_claimed) let_in_before }
     ensures stood { Breaks small ((7 ∷ []) ∷ [] ∷ [] ∷ []) Left (without stood) resumed_early }
     ensures stood_gone { Breaks small ((7 ∷ []) ∷ (9 ∷ []) ∷ [] ∷ []) Left (without (stood_there small)) resumed_stale }
+    ensures stands { Breaks small ((7 ∷ []) ∷ [] ∷ [] ∷ []) Left (without stands) went_on_resumed }
     ensures turn { Breaks small ((7 ∷ []) ∷ [] ∷ [] ∷ []) Left (without stands) turned_back }
 {}
 

@@ -1,4 +1,4 @@
-use Rattle.train_machine.proofs.Broken.{disobeyed_broken, following_broken, passed_again_broken, met_in_throat_broken, met_in_joined_broken, opposing_broken, let_in_early_broken, let_in_stale_broken, let_in_before_broken, resumed_early_broken, resumed_stale_broken, turned_back_broken}
+use Rattle.train_machine.proofs.Broken.{disobeyed_broken, following_broken, passed_again_broken, met_in_throat_broken, met_in_joined_broken, opposing_broken, let_in_early_broken, let_in_stale_broken, let_in_before_broken, resumed_early_broken, resumed_stale_broken, turned_back_broken, went_on_resumed_broken}
 use Rattle.train_machine.proofs.runs.each_premise_on_trains_is_needed.Goals as goal
 
 pub returns-clause-obey : goal.returns-clause-obey
@@ -36,3 +36,6 @@ returns-clause-stood_gone c = resumed_stale_broken
 
 pub returns-clause-turn : goal.returns-clause-turn
 returns-clause-turn c = turned_back_broken
+
+pub returns-clause-stands : goal.returns-clause-stands
+returns-clause-stands c = went_on_resumed_broken
