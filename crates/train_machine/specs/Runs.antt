@@ -87,7 +87,7 @@ resumed_early = Hears 1 IsLeft ∷ Hears 0 IsLeft ∷ clears 2 ++ Passes 0 2 5 �
 abbrev pub resumed_stale : List Move
 resumed_stale =
     Time 1802 1800 ∷ Hears 0 IsLeft ∷ Hears 1 IsLeft ∷ clears 2 ++ Passes 0 2 5 ∷ Follows 0 ∷ Goes 0 1 ∷ Follows 0 ∷ Follows 0 ∷ Resumes ∷ GivesMove 0 ∷ Acts 0 (Some Right) false
-    ∷ clears 3 ++ Passes 1 3 3 ∷ Hears 1 (Old Occupied) ∷ Hears 1 (Old Clear) ∷ Ends 3 ∷ FreesSection 3 1 ∷ GivesMove 0 ∷ []
+    ∷ clears 3 ++ Passes 1 3 3 ∷ Hears 1 (Old Occupied) ∷ Hears 1 (Old Clear) ∷ Hears 0 IsOccupied ∷ Ends 3 ∷ FreesSection 3 1 ∷ GivesMove 0 ∷ []
 
 -- stands: a train goes on in its former route when the interlocking was resumed
 abbrev pub went_on_resumed : List Move
@@ -162,10 +162,12 @@ went_on resumed_at = Hears 0 IsLeft ∷ Hears 1 IsLeft ∷ clears 2 ++ Time 1 1 
 abbrev pub cancelled_at_once : List Move
 cancelled_at_once = Hears 0 IsLeft ∷ Hears 1 IsLeft ∷ clears 2 ++ Time 1802 1800 ∷ Passes 0 2 5 ∷ Withdraws 2 ∷ Ends 2 ∷ FreesCancelled 2 ∷ GivesMove 0 ∷ []
 
--- the first section is told clear again at reading 900, by a new initialisation, and the train went on just before
+-- The first section's link is lost for seven seconds. Its last step in which the section isn't clear is at reading 6100; at 7000 it is
+-- told clear, and the train went on just before. At 7900 the section is clear for 900 ms.
 abbrev pub cancelled_since : List Move
 cancelled_since =
-    Hears 0 IsLeft ∷ Hears 1 IsLeft ∷ clears 2 ++ Passes 0 2 5 ∷ Hears 1 Lost ∷ Ends 2 ∷ Time 900 900 ∷ Goes 0 1 ∷ Follows 0 ∷ Follows 0 ∷ Hears 1 IsLeft ∷ Time 1800 1800 ∷ comes_after
+    Hears 0 IsLeft ∷ Hears 1 IsLeft ∷ clears 2 ++ Passes 0 2 5 ∷ Hears 1 Lost ∷ Ends 2 ∷ Time 6100 6100 ∷ Steps ∷ Time 7000 7000 ∷ Goes 0 1 ∷ Follows 0 ∷ Follows 0 ∷ Hears 1 IsLeft
+    ∷ Time 7900 7900 ∷ comes_after
 
 abbrev pub cancelled_unclear : List Move
 cancelled_unclear =
