@@ -7,8 +7,8 @@ use Rattle.train_machine.specs.Section.{Belief, Unknown, Occupied, Clear, Told, 
 use Rattle.train_machine.specs.Machine.{Machine}
 use Rattle.train_machine.specs.Moves.{Move, Passes}
 use Rattle.train_machine.specs.Stations.{line, small, joined}
-use Rattle.train_machine.specs.Wrong.{Breaks, plain, start, without, own_passes, clear_told, heard, awaited_late, gone_late, opened, let_go, authorise_clear, authorise_side, authorise_undriven, cancel_clear, cancel_early, cancel_ended, cancel_since, dark, each_change, free_seen, fresh, headway, in_order, inlet_empty, inlet_unclaimed, inlet_unheld, let_in, let_in_claimed, let_in_passed, move_clear, move_unheld, obey, own_headway, set_clear, set_unheld, stands, stood, stood_there, truth}
-use Rattle.train_machine.specs.Runs.{disobeyed, following, passed_again, met_in_throat, met_in_joined, opposing, let_in_early, let_in_stale, let_in_before, resumed_early, resumed_stale, turned_back, went_on_resumed, lamp_starved, detector_starved, told_out_of_order, told_falsely, change_untold, set_unclear, set_held, authorised_unclear, authorised_beside, authorised_driven, freed_unseen, cancel_and_run, cancelled_at_once, cancelled_since, cancelled_unclear, moved_held, moved_unclear}
+use Rattle.train_machine.specs.Wrong.{Breaks, plain, start, without, own_passes, clear_told, heard, awaited_late, gone_late, opened, let_go, authorise_clear, authorise_side, authorise_undriven, cancel_clear, cancel_early, cancel_ended, cancel_since, dark, each_change, free_seen, fresh, headway, in_order, inlet_empty, inlet_unclaimed, inlet_unheld, let_in, let_in_claimed, let_in_passed, move_clear, move_unheld, obey, own_headway, set_clear, set_unheld, stands, stood, stood_there, truth, headway_short, let_in_short, stood_short}
+use Rattle.train_machine.specs.Runs.{disobeyed, following, passed_again, met_in_throat, met_in_joined, opposing, let_in_early, let_in_stale, let_in_before, resumed_early, resumed_stale, turned_back, went_on_resumed, lamp_starved, detector_starved, told_out_of_order, told_falsely, change_untold, set_unclear, set_held, authorised_unclear, authorised_beside, authorised_driven, freed_unseen, cancel_and_run, cancelled_at_once, cancelled_since, cancelled_unclear, moved_held, moved_unclear, followed_soon, let_in_soon, resumed_soon}
 use Rattle.train_machine.proofs.CanRun.{KeepsSmall, can_run, start_small, stands_lawfully}
 
 either_zero : (test : Bool) (n : ℕ) → n ≡ 0 → (if test then n else 0) ≡ 0
@@ -235,4 +235,25 @@ moved_unclear_broken = (
   stands_lawfully small (0 ∷ []) [] [] refl refl refl refl refl refl,
   can_run move_clear (λ machine move. record { absent = λ t e. e; loose = λ t e f. f; told = λ n s e. came_still s.belief s.told e; entered = λ n s e. e; unset = λ n r e. e; free = λ r e. e }) small moved_unclear (start ((0 ∷ []) ∷ [] ∷ [] ∷ []) Left) (start_small (0 ∷ []) [] [] Left) (search rules),
   λ apart. cc ((apart.still 0 4 (inl refl) 0 refl).undriven),
+)
+
+pub followed_soon_broken : Breaks line ((5 ∷ []) ∷ [] ∷ [] ∷ []) Left (without headway_short) followed_soon
+followed_soon_broken = (
+  stands_lawfully line (5 ∷ []) [] [] refl refl refl refl refl refl,
+  can_run headway_short (λ machine move. record { absent = λ t e. e; loose = λ t e f. f; told = λ n s e. e; entered = λ n s e. e; unset = λ n r e. e; free = λ r e. e }) line followed_soon (start ((5 ∷ []) ∷ [] ∷ [] ∷ []) Left) (start_small (5 ∷ []) [] [] Left) (search rules),
+  λ apart. cc (apart.alone 0 1 1 refl refl),
+)
+
+pub let_in_soon_broken : Breaks line ((3 ∷ []) ∷ [] ∷ [] ∷ []) Left (without let_in_short) let_in_soon
+let_in_soon_broken = (
+  stands_lawfully line (3 ∷ []) [] [] refl refl refl refl refl refl,
+  can_run let_in_short (λ machine move. record { absent = λ t e. e; loose = λ t e f. f; told = λ n s e. e; entered = λ n s e. e; unset = λ n r e. e; free = λ r e. e }) line let_in_soon (start ((3 ∷ []) ∷ [] ∷ [] ∷ []) Left) (start_small (3 ∷ []) [] [] Left) (search rules),
+  λ apart. cc (apart.alone 0 1 0 refl refl),
+)
+
+pub resumed_soon_broken : Breaks small ((7 ∷ []) ∷ [] ∷ [] ∷ []) Left (without stood_short) resumed_soon
+resumed_soon_broken = (
+  stands_lawfully small (7 ∷ []) [] [] refl refl refl refl refl refl,
+  can_run stood_short (λ machine move. record { absent = λ t e. e; loose = λ t e f. f; told = λ n s e. e; entered = λ n s e. e; unset = λ n r e. e; free = λ r e. e }) small resumed_soon (start ((7 ∷ []) ∷ [] ∷ [] ∷ []) Left) (start_small (7 ∷ []) [] [] Left) (search rules),
+  λ apart. cc ((apart.still 0 5 (inl refl) 0 refl).undriven),
 )

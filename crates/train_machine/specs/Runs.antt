@@ -42,6 +42,11 @@ follow_late now = before_follow ++ Time 1802 1800 ∷ Hears 1 Lost ∷ Steps ∷
 abbrev pub following : List Move
 following = before_follow ++ Passes 1 0 2 ∷ []
 
+-- headway: the lamp is lit until 1802 ms after the step at 3600
+abbrev pub followed_soon : List Move
+followed_soon =
+    Hears 1 IsLeft ∷ clears 3 ++ Passes 0 3 3 ∷ Time 3600 3600 ∷ Follows 0 ∷ Hears 1 Lost ∷ Enters 1 1 ∷ Steps ∷ Time 5401 5398 ∷ Passes 1 3 3 ∷ []
+
 -- without obey: on the small station, with the point at the left
 abbrev pub disobeyed : List Move
 disobeyed = Hears 1 IsLeft ∷ Hears 3 IsLeft ∷ Sets 0 ∷ Passes 0 0 4 ∷ Goes 0 6 ∷ []
@@ -67,6 +72,10 @@ opposing = Hears 2 IsLeft ∷ clears 2 ++ Enters 1 1 ∷ Passes 0 2 4 ∷ []
 abbrev pub let_in_early : List Move
 let_in_early = Enters 1 0 ∷ Hears 0 (Old Clear) ∷ clears 1 ++ Passes 0 1 1 ∷ []
 
+-- at reading 1799
+abbrev pub let_in_soon : List Move
+let_in_soon = Enters 1 0 ∷ Hears 0 (Old Clear) ∷ Time 1800 1799 ∷ clears 1 ++ Passes 0 1 1 ∷ []
+
 -- train 0 comes in, passes signal 0 and goes on to section 3, and only of section 0 nothing is told yet. Train 1 comes out over
 -- route 2 and stands in section 0. What is told now of train 0 there frees the section under train 1; train 0 comes back.
 abbrev pub let_in_stale : List Move
@@ -82,6 +91,9 @@ let_in_before = Enters 0 0 ∷ Hears 1 IsLeft ∷ clears 1 ++ Passes 1 1 3 ∷ G
 -- stood
 abbrev pub resumed_early : List Move
 resumed_early = Hears 1 IsLeft ∷ Hears 0 IsLeft ∷ clears 2 ++ Passes 0 2 5 ∷ Resumes ∷ GivesMove 0 ∷ []
+
+abbrev pub resumed_soon : List Move
+resumed_soon = Hears 1 IsLeft ∷ Hears 0 IsLeft ∷ clears 2 ++ Passes 0 2 5 ∷ Time 1800 1799 ∷ Resumes ∷ GivesMove 0 ∷ []
 
 -- train 0 has left the station when the interlocking is resumed, and nothing was told of it
 abbrev pub resumed_stale : List Move

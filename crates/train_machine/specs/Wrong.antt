@@ -1,12 +1,12 @@
 -- Machines in which one premise is left out: a move is judged as if another machine stood before it, one in which this premise
 -- holds whatever is so. What the move leaves stays the same.
-use Rattle.std.specs.Prelude.{◌≡◌, ◌-◌, ℕ, Bool, true, false, ◌&&◌, ◌||◌, List, [], ◌∷◌, ◌++◌, Option, Some, None, if◌then◌else◌}
+use Rattle.std.specs.Prelude.{◌≡◌, ◌+◌, ◌-◌, ℕ, Bool, true, false, not, nat_le, ◌&&◌, ◌||◌, List, [], ◌∷◌, ◌++◌, Option, Some, None, if◌then◌else◌}
 use Rattle.train_machine.specs.Lists.{is_same}
 use Rattle.train_machine.specs.Track.{Side, Left, Track}
 use Rattle.train_machine.specs.Train.{Under, Nothing, Throat, Train, is_throat, is_in}
 use Rattle.train_machine.specs.Section.{Belief, Unknown, Occupied, Clear, Told, Late, Awaited, Came, Gone, Section, is_occupied, belief_told}
 use Rattle.train_machine.specs.Route.{Phase, Free, Waiting, Proceeding, Withdrawn, Ended, Route, free_route}
-use Rattle.train_machine.specs.Machine.{report_time, Point, Pass, Never, Machine}
+use Rattle.train_machine.specs.Machine.{report_time, Point, Pass, Never, At, Past, Machine}
 use Rattle.train_machine.specs.Moves.{Move, Enters, Passes, Goes, Hears, Sets, Authorises, FreesSection, FreesCancelled, GivesMove, Steps, Resumes, May, told, after}
 use Rattle.train_machine.specs.Run.{Rules, MayRun, MayStand, right_rules, run, first}
 use Rattle.train_machine.specs.Promise.{IsApart}
@@ -125,6 +125,15 @@ own_passes machine _ = plain
 abbrev pub own_headway : Omission
 own_headway = record { touches = is_pass; view = own_passes }
 
+-- headway, one millisecond less
+abbrev pub earlier : Pass → Pass
+earlier Never = Never
+earlier (At reading) = At reading
+earlier (Past time) = Past (time - 1)
+
+abbrev pub headway_short : Omission
+headway_short = record { touches = is_pass; view = λ machine move. record plain { pass = earlier } }
+
 -- inlet: no train in the throat, none that has it before it, no route that holds it
 abbrev pub inlet_empty : Omission
 inlet_empty = record { touches = is_enter; view = λ machine move. record plain { train = λ t. record t { places = [] } } }
@@ -148,6 +157,13 @@ let_in_passed = record {
   };
 }
 
+-- one millisecond less
+abbrev pub let_in_short : Omission
+let_in_short = record {
+  touches = is_set;
+  view = λ machine move. record plain { section = λ n s. record s { inlet = s.inlet && not (nat_le (s.entered + 1799) machine.clock) } };
+}
+
 -- let in: a train that came in and has a section of the route before it
 abbrev pub let_in_claimed : Omission
 let_in_claimed = record { touches = is_set; view = λ machine move. record plain { train = λ t. record t { under = Nothing } } }
@@ -155,6 +171,10 @@ let_in_claimed = record { touches = is_set; view = λ machine move. record plain
 -- stood
 abbrev pub stood : Omission
 stood = record { touches = is_resume; view = λ machine move. record plain { section = λ n s. record s { entered = 0 }; clock = λ c. report_time } }
+
+-- one millisecond less
+abbrev pub stood_short : Omission
+stood_short = record { touches = is_resume; view = λ machine move. record plain { clock = λ c. c + 1 } }
 
 -- stood, of the trains that are still there (three)
 abbrev pub stood_there : Track → Omission

@@ -2,10 +2,10 @@
 
 ghost use Rattle.std.specs.Prelude.{◌∷◌, []};
 ghost use Rattle.train_machine.specs.Moves.{FreesCancelled, Passes, Resumes};
-ghost use Rattle.train_machine.specs.Runs.{authorised_beside, authorised_driven, authorised_unclear, cancel_and_run, cancelled, cancelled_at_once, cancelled_since, cancelled_unclear, change_untold, detector_starved, disobeyed, follow_early, follow_late, followed, following, freed_unseen, lamp_starved, let_in_before, let_in_early, let_in_stale, met_in_joined, met_in_throat, moved_held, moved_unclear, opposing, passed_again, resumed_early, resumed_stale, set_held, set_unclear, told_falsely, told_out_of_order, turned_back, unwithdrawn, restarted, went_on_resumed, went_on};
+ghost use Rattle.train_machine.specs.Runs.{authorised_beside, authorised_driven, authorised_unclear, cancel_and_run, cancelled, cancelled_at_once, cancelled_since, cancelled_unclear, change_untold, detector_starved, disobeyed, follow_early, follow_late, followed, following, freed_unseen, lamp_starved, let_in_before, let_in_early, let_in_stale, met_in_joined, met_in_throat, moved_held, moved_unclear, opposing, passed_again, resumed_early, resumed_stale, set_held, set_unclear, told_falsely, told_out_of_order, turned_back, unwithdrawn, restarted, went_on_resumed, went_on, followed_soon, let_in_soon, resumed_soon};
 ghost use Rattle.train_machine.specs.Stations.{joined, line, small};
 ghost use Rattle.train_machine.specs.Track.{IsSound, Left, Right};
-ghost use Rattle.train_machine.specs.Wrong.{Allows, Breaks, Leads, Refuses, authorise_clear, authorise_side, authorise_undriven, cancel_clear, cancel_early, cancel_ended, cancel_since, dark, each_change, free_seen, fresh, headway, in_order, inlet_empty, inlet_unclaimed, inlet_unheld, let_in, let_in_claimed, let_in_passed, move_clear, move_unheld, obey, own_headway, set_clear, set_unheld, stands, stood, stood_there, truth, withdraws_nothing, without};
+ghost use Rattle.train_machine.specs.Wrong.{Allows, Breaks, Leads, Refuses, authorise_clear, authorise_side, authorise_undriven, cancel_clear, cancel_early, cancel_ended, cancel_since, dark, each_change, free_seen, fresh, headway, in_order, inlet_empty, inlet_unclaimed, inlet_unheld, let_in, let_in_claimed, let_in_passed, move_clear, move_unheld, obey, own_headway, set_clear, set_unheld, stands, stood, stood_there, truth, withdraws_nothing, without, headway_short, let_in_short, stood_short};
 
 /// Trains do run: on a station that is sound two follow one another through a route, and one
 /// goes on over a restart of the interlocking. The theorem doesn't speak of nothing.
@@ -65,7 +65,8 @@ pub fn each_rule_is_needed()
 
 /// Bounds are exact. After a train that passed at reading 0, a step at 1799 doesn't count (*early*). After one at 1800 and true time
 /// 1802 the next train may pass from 3604 on (*late*), and then the lamp is dark (*dark*). A route whose authority ended at 1 is freed
-/// at 1801 (*freed*, *held*), and after a train that went on at 1 the interlocking is resumed at 1801 (*resumed*, *hold*).
+/// at 1801 (*freed*, *held*), and after a train that went on at 1 the interlocking is resumed at 1801 (*resumed*, *hold*). One
+/// millisecond less of headway, of let in or of stood breaks the promise.
 pub fn bounds_are_exact()
     ensures early { Refuses line ((0 ∷ []) ∷ [] ∷ [] ∷ []) Left follow_early (Passes 1 0 2) }
     ensures late { Refuses line ((0 ∷ []) ∷ [] ∷ [] ∷ []) Left (follow_late 3603) (Passes 1 0 2) }
@@ -73,5 +74,8 @@ pub fn bounds_are_exact()
     ensures held { Refuses small ((7 ∷ []) ∷ [] ∷ [] ∷ []) Left (cancelled 1800) (FreesCancelled 2) }
     ensures freed { Allows small ((7 ∷ []) ∷ [] ∷ [] ∷ []) Left (cancelled 1801) (FreesCancelled 2) }
     ensures hold { Refuses small ((7 ∷ []) ∷ [] ∷ [] ∷ []) Left (went_on 1800) Resumes }
+    ensures headway { Breaks line ((5 ∷ []) ∷ [] ∷ [] ∷ []) Left (without headway_short) followed_soon }
+    ensures let_in { Breaks line ((3 ∷ []) ∷ [] ∷ [] ∷ []) Left (without let_in_short) let_in_soon }
+    ensures stood { Breaks small ((7 ∷ []) ∷ [] ∷ [] ∷ []) Left (without stood_short) resumed_soon }
     ensures resumed { Allows small ((7 ∷ []) ∷ [] ∷ [] ∷ []) Left (went_on 1801) Resumes }
 {}
