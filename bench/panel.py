@@ -131,7 +131,7 @@ class Browser:
 
     def tab(self):
         for _ in range(200):
-            with contextlib.suppress(OSError, StopIteration, ValueError):
+            with contextlib.suppress(OSError, StopIteration, ValueError, IndexError):
                 port = pathlib.Path(self.folder.name, "DevToolsActivePort").read_text().split()[0]
                 tabs = json.load(urllib.request.urlopen(f"http://127.0.0.1:{port}/json"))
                 return next(tab["webSocketDebuggerUrl"] for tab in tabs if tab["type"] == "page")

@@ -79,22 +79,23 @@ function drawSignal(parent, key, toward, back) {
 
 // ---- words stand at the first of some places where they meet nothing that stands already, or where they meet least
 
-let boxes = [], labels = new Map(), letter = 9.5;
+let boxes = [], labels = new Map(), masts = new Map(), letter = 9.5;
 const meet = (one, other) => one[0] < other[2] && other[0] < one[2] && one[1] < other[3] && other[1] < one[3];
 
-function words(parent, places, said, className) {
-  const best = freest(places, halfOf(said) + 1, letter * .53);
-  boxes.push(boxAt(best, halfOf(said) + 1, letter * .53));
+function words(parent, places, said, className, cost) {
+  const best = freest(places, halfOf(said) + 1, letter * .53, cost);
+  // words side by side keep a little apart
+  boxes.push(boxAt(best, halfOf(said) + 5, letter * .53));
   writing(parent, ...best, said, className);
   return best;
 }
 
 const boxAt = ([x, y], half, high) => [x - half, y - high, x + half, y + high];
 
-function freest(places, half, high) {
+function freest(places, half, high, cost = () => 0) {
   let best = places[0], least = Infinity;
   for (const one of places) {
-    const number = boxes.filter(box => meet(box, boxAt(one, half, high))).length;
+    const number = boxes.filter(box => meet(box, boxAt(one, half, high))).length + cost(one);
     if (number < least) { best = one; least = number; }
     if (least === 0) break;
   }
@@ -108,6 +109,7 @@ const writing = (parent, x, y, said, className) => svg(parent, "text", {x, y: y 
 function takePlaces() {
   boxes = [];
   labels = new Map();
+  masts = new Map();
   for (const rail of Object.keys(drawing.rails)) {
     const [[a, b], [c, e]] = railEnds(rail).map(at);
     for (let part = 0; part <= 4; part++) { const [x, y] = [a + (c - a) * part / 4, b + (e - b) * part / 4]; boxes.push([x - 3, y - 4.5, x + 3, y + 4.5]); }
@@ -146,8 +148,15 @@ function paintSignal(one) {
   of.prepend(svg(of, "circle", {class: "ring", cx: x, cy: y, r: 14}));
   boxes.push([x - Math.abs(dx) * 11 - 4, y - Math.abs(dy) * 11 - 4, x + Math.abs(dx) * 11 + 4, y + Math.abs(dy) * 11 + 4]);
   const far = 11 + Math.abs(nx) * 5 + Math.abs(nx) * one.name.length * letter * .17, put = (along, aside) => [x + dx * along + nx * aside, y + dy * along + ny * aside];
-  const places = [[0, far], [-10, far], [10, far], [-24, 0], [-20, far], [14, far + 6], [0, far + 10], [-30, 4], [-16, far + 10]];
-  return () => labels.set(one.name, words(of, places.map(place => put(...place)), one.name, "name"));
+  const places = [[0, far], [-10, far], [10, far], [-24, 0], [-20, far], [14, far + 6], [0, far + 10], [-30, 4], [-16, far + 10], [14, 6], [18, 2], [20, far]];
+  masts.set(one.name, [x, y]);
+  return () => labels.set(one.name, words(of, places.map(place => put(...place)), one.name, "name", place => strangeness(one.name, place)));
+}
+
+// By how much another signal stands nearer to a place than the one whose name is to be there: nothing where none does.
+function strangeness(name, [x, y]) {
+  const far = ([u, v]) => Math.hypot(x - u, y - v), own = far(masts.get(name)), others = [...masts].filter(([other]) => other !== name).map(([, mast]) => far(mast));
+  return Math.max(0, 1 - Math.min(own, ...others) / own);
 }
 
 function paintBorder(key, of) {
