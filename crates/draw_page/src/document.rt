@@ -14,9 +14,9 @@ use crate::plan::plan;
 use crate::reading::reading;
 use crate::style::style;
 use crate::table::table;
-use crate::toml::toml;
+use crate::toml_text::toml_text;
 use crate::whole::whole;
 
 /// The page on which a station is drawn: HTML with its style and its script, and with nothing from elsewhere.
 pub const PAGE: &str =
-    style!([] body toml table grid reading names opening placing changes notes plan lists hand files whole);
+    style!([] body toml_text table grid reading names opening placing changes notes plan lists hand files whole);

@@ -16,7 +16,7 @@ mod plan;
 mod reading;
 mod style;
 mod table;
-mod toml;
+mod toml_text;
 mod whole;
 
 pub use document::PAGE;

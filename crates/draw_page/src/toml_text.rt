@@ -1,7 +1,7 @@
 //! Layouts as text.
 
 /// Reads TOML 1.1 as far as layouts go, and writes layouts.
-macro_rules! toml {
+macro_rules! toml_text {
     ([$($before:literal)*] $next:ident $($later:ident)*) => {
         $next!([$($before)* r##"// ---- TOML 1.1: what is read
 
@@ -145,4 +145,4 @@ function writePositions(lines) {
     };
 }
 
-pub(crate) use toml;
+pub(crate) use toml_text;
