@@ -2,13 +2,15 @@
 """Opens the page on which a station is drawn in Chromium (headless, by its DevTools protocol; the Debian package is `chromium`), draws there
 as a person does, and judges what comes of it. It ends with a table of what was seen, and with status 1 where anything didn't come.
 
-    python3 bench/draw.py [--to FOLDER] [--size 1280x720] [--cases FOLDER] [--station STATION] [mouse] [keyboard] [chosen] [faults] [served] [opened] [random] [routes]
+    python3 bench/draw.py [--to FOLDER] [--size 1280x720] [--cases FOLDER] [--station STATION] [mouse] [keyboard] [chosen] [view] [faults] [served] [opened] [random] [routes]
 
 mouse      Halden and Neustadt are drawn by the mouse: their sections, borders, joints, tracks, points, signals, routes and aspects are
            those of examples/. All is undone and redone, and the file that was written opens again as the same
 keyboard   the small station by the keyboard alone, with a note whose button puts the signal that is wanted
 chosen     what is chosen by hand and not derived: names, aspects, approaches, extra conflicts, what is left out, slow legs. A signal is
            dragged, room is made, rails are erased; a change takes some milliseconds
+view       zoom, sliding, moving the paper, fit; names by double click; another bend by Shift; a new drawing, and undo of it; a page that is
+           loaded again has what was drawn
 faults     each fault that a drawing can have is shown at its place, and its button mends it
 served     the page as a program serves it (played here): who checked, saving, a file that changed meanwhile, running
 opened     the layouts of examples/, which have no positions, are placed; what was chosen by hand is kept when they are opened again
@@ -378,6 +380,48 @@ def drag_and_room(page, report):
     report.say("a change is worked out and painted", took < 1000, f"{took:.0f} ms")
 
 
+# ---- what is in sight
+
+def view(page, report):
+    page.tell(f"load({json.dumps(example('halden'))})")
+    was = page.tell("({...view})")
+    [(x, y)] = page.pixels((10, 0))
+    wheel = lambda pixels, shift: (page.call("Input.dispatchMouseEvent", type="mouseWheel", x=x, y=y, deltaX=0, deltaY=pixels, modifiers=shift), time.sleep(0.3))
+    wheel(-300, 0)
+    zoomed = page.tell("({...view})")
+    wheel(300, 8)
+    slid = page.tell("view.x")
+    page.call("Input.dispatchKeyEvent", type="keyDown", key=" ", text=" ")
+    for kind, to in (("mousePressed", 600), ("mouseMoved", 700), ("mouseReleased", 700)):
+        page.mouse(kind, to, 200)
+    page.call("Input.dispatchKeyEvent", type="keyUp", key=" ")
+    moved = page.tell("view.x")
+    page.press("0")
+    report.say("zoom, sliding, moving the paper, fit", zoomed["w"] < was["w"] and slid > zoomed["x"] and moved < slid and page.tell("view.w") == was["w"], [was["w"], zoomed["w"], slid, moved])
+    sections = page.tell("read.l.section")
+    for kind, name in (("border", "West"), ("point", "W1"), ("section", "G1")):
+        page.named({f"N-{name}": page.tell(f"spot(read.placeOf('{kind}', '{name}'))")})
+    routes = page.tell("table.kept.map(one => one.name)")
+    report.say("names by double click, in their places", page.tell("read.l.section") == ["N-G1" if it == "G1" else it for it in sections] and "P1-N-West" in routes, routes)
+    text = page.text()
+    page.click("#d-new")
+    time.sleep(0.3)
+    page.click("#d-ask button[value=yes]")
+    time.sleep(0.3)
+    rails = page.tell("Object.keys(drawing.rails).length")
+    page.control("z")
+    report.say("a new drawing, and undo of it", rails == 0 and page.text() == text)
+    page.call("Page.reload")
+    time.sleep(2)
+    report.say("loaded again, it is what was drawn", page.text() == text)
+    page.anew()
+    page.at(2, 2)
+    [(x, y)] = page.pixels((8, 5))
+    for kind in ("mouseMoved", "mousePressed", "mouseReleased"):
+        page.call("Input.dispatchMouseEvent", type=kind, x=x, y=y, button="none" if kind == "mouseMoved" else "left", clickCount=0 if kind == "mouseMoved" else 1, modifiers=8)
+    report.say("Shift bends it the other way", page.tell("JSON.stringify(read.lines)") == '{"T1":[2,2,5,2,8,5]}', page.tell("JSON.stringify(read.lines)"))
+
+
 # ---- faults
 
 # The name of a fault, what draws it, where it is to be shown, and how many faults are left once its button was pressed.
@@ -618,7 +662,7 @@ def main():
     words.add_argument("--size", default="1280x720", type=lambda text: tuple(map(int, text.split("x"))))
     words.add_argument("--cases", type=pathlib.Path, help="layouts with derived routes")
     words.add_argument("--station", help="the program, which is to check what the page accepts")
-    words.add_argument("kinds", nargs="*", default=["mouse", "keyboard", "chosen", "faults", "served", "opened", "random", "routes"])
+    words.add_argument("kinds", nargs="*", default=["mouse", "keyboard", "chosen", "view", "faults", "served", "opened", "random", "routes"])
     given = words.parse_intermixed_args()
     if given.to:
         given.to.mkdir(parents=True, exist_ok=True)
@@ -637,7 +681,7 @@ def work(kind, address, given, report):
         return served(given.size, report)
     if kind == "routes" and not given.cases:
         return None
-    does = {"mouse": mouse, "keyboard": keyboard, "chosen": chosen, "faults": faults, "opened": opened, "random": random_drawings,
+    does = {"mouse": mouse, "keyboard": keyboard, "chosen": chosen, "view": view, "faults": faults, "opened": opened, "random": random_drawings,
             "routes": lambda page, report: routes(page, report, given.cases)}[kind]
     page = Page(address, given.size)
     try:

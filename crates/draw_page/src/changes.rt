@@ -132,6 +132,7 @@ function giveId(all, {kind, name}) {
 }
 
 function nameTrack(all, run, name) {
+  renameInOrder(all, run.name, name);
   if (read.isReversed(run)) all.reversed = [...all.reversed.filter(it => it !== run.name), name];
   for (const rail of run.rails) all.rails[rail].track = {name, own: true};
 }

@@ -259,7 +259,8 @@ function setApproach(one, text) {
 function stationFields() {
   const rows = [nameField("name", drawing.station, name => change(all => { all.station.name = name; }), id => change(all => { all.station.id = id; }))];
   for (const one of drawing.detectors.filter(one => read.l.detector.some(it => it.name === one.name))) {
-    rows.push(nameField("detector", one, name => change(() => { one.name = name; }), id => change(() => { one.id = id; })));
+    const rename = name => change(all => { renameInOrder(all, one.name, name); one.name = name; });
+    rows.push(nameField("detector", one, rename, id => change(() => { one.id = id; })));
   }
   // how far before a signal its approach sections reach
   rows.push(choice("approach", [["signal", "to a signal"], ["berth", "to a point"]], drawing.rule, rule => change(all => { all.rule = rule; })));

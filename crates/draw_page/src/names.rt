@@ -166,8 +166,14 @@ function tooMany(read, kind, most) {
 
 // ---- renaming
 
+// A list stays in its order when one of its things is named anew.
+function renameInOrder(all, old, name) {
+  all.order = all.order.map(it => it === old ? name : it);
+}
+
 // What is kept of routes names signals, borders and points.
 function renameInRoutes(all, old, name) {
+  renameInOrder(all, old, name);
   const pattern = new RegExp("(^|[| ])" + old.replace(/[^A-Za-z0-9]/g, "\\$&") + "(?=[|: ]|$)", "g"), renamed = key => key.replace(pattern, (_, head) => head + name);
   all.without = all.without.map(renamed);
   all.extra = all.extra.map(pair => pair.map(renamed));
@@ -175,6 +181,7 @@ function renameInRoutes(all, old, name) {
 }
 
 function renameSection(all, runs, old, name) {
+  renameInOrder(all, old, name);
   for (const run of runs) for (const rail of run.rails) all.rails[rail].section = {name, own: true};
   for (const one of all.detectors) one.sections = one.sections.map(it => it === old ? name : it);
   for (const one of Object.values(all.asides)) if (one.approach) one.approach = one.approach.map(it => it === old ? name : it);
