@@ -127,7 +127,9 @@ async function stop() {
 async function askLayout(isAgain) {
   station = await (await fetch("/layout", {cache: "no-store", signal: AbortSignal.timeout(5000)})).json();
   by("d-file-name").title = station.file;
-  if (station.text && load(station.text)) say(station.file + " can't be opened: " + by("d-hint").textContent);
+  const fault = station.text ? load(station.text) : "";
+  if (fault) say(station.file + " can't be opened: " + fault);
+  else station.text = read.text;
   if (!isAgain) past.length = future.length = 0;
 }
 
