@@ -5,6 +5,7 @@ pub mod Followed
 pub mod Heard
 pub mod Left
 pub mod Lent
+pub mod Resting
 pub mod Runs
 pub mod Started
 pub mod WorkedLoops

@@ -1,7 +1,9 @@
 //! What the calls of a loop come to: laws, as functions that do nothing.
 
-ghost use Rattle.std.specs.Prelude.{◌≡◌, ◌≤◌, ◌+◌, ℕ, false, is_ok, Ok, Err, Some, List};
+ghost use Rattle.std.specs.Prelude.{◌≡◌, ◌≤◌, ◌+◌, ℕ, false, true, is_ok, Ok, Err, Some, List};
+ghost use Rattle.rasta_core.specs.identity.Identity.{Identity};
 ghost use Rattle.object_host.specs.Host.{HostState};
+ghost use Rattle.object_host.specs.Hosted.{new_host};
 ghost use Rattle.embedded_host.specs.Calls.{Call, Hears, Takes, after_calls, answer_to, leaves_by};
 ghost use Rattle.embedded_host.specs.Causes.{HasCause};
 ghost use Rattle.embedded_host.specs.Embedded.{EmbeddedState, started};
@@ -49,6 +51,13 @@ pub fn a_refusal_has_its_cause<C: Controller>()
 #[tactic(auto, using(crate::proofs::Followed::follows_a_beginning))]
 pub fn the_equipment_follows_a_beginning<C: Controller>()
     ensures { (calls : List Call) (it : EmbeddedState C) → FollowsABeginning C.behaviour it calls (followed_after C.behaviour calls it it.hosted.host.object) }
+{}
+
+/// One that has just started has its equipment rest at every reading: stop, no drive.
+#[tactic(auto, using(crate::proofs::Resting::rests))]
+pub fn one_that_starts_rests<C: Controller>()
+    ensures { (identity : Identity) (own_name peer_name : List ℕ) (first_sequence_number now version reading : ℕ) (object : C)
+        → C.behaviour.is_restrictive reading (started (new_host C.behaviour identity own_name peer_name first_sequence_number now object version) now).hosted.host.object ≡ true }
 {}
 
 /// Small loops, worked by hand.
