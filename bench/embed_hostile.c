@@ -24,9 +24,6 @@ struct answer {
 };
 static _Alignas(16) uint8_t arena[3 * 36864];
 static size_t used;
-struct answer rattle_alloc(size_t size, size_t align);
-struct answer rattle_realloc(void *at, size_t old, size_t size, size_t align);
-void rattle_dealloc(void *at);
 struct answer rattle_alloc(size_t size, size_t align) {
     (void)align;
     if (size > sizeof arena - used) return (struct answer){0, arena};

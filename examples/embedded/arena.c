@@ -2,7 +2,6 @@
    two blocks, of 1600 and 33792 bytes. A program with malloc may link the kit's c/liblibc_c.a in its place. */
 #include <stddef.h>
 #include <stdint.h>
-
 #ifndef ARENA_BYTES
 #define ARENA_BYTES 36864
 #endif
@@ -14,10 +13,6 @@ struct answer {
 
 static _Alignas(16) uint8_t arena[ARENA_BYTES];
 static size_t used;
-
-struct answer rattle_alloc(size_t size, size_t align);
-struct answer rattle_realloc(void *at, size_t old, size_t size, size_t align);
-void rattle_dealloc(void *at);
 
 struct answer rattle_alloc(size_t size, size_t align) {
     (void)align; /* at most 16 */
