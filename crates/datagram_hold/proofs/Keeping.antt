@@ -43,7 +43,7 @@ asked_keeps now millis expected (one ∷ others) =
     let hold : HoldState = record { millis = millis; expected = expected; held = one ∷ others } in
     by_test (Keeps (one ∷ others)) (leaves now one hold) (handing one others hold) (None, hold) (IsPermutation-refl (one ∷ others)) (IsPermutation-refl (one ∷ others))
 
-call_keeps : (call : Call) (hold : HoldState) → Keeps (hold.held ++ came (call ∷ [])) (called call hold)
+pub call_keeps : (call : Call) (hold : HoldState) → Keeps (hold.held ++ came (call ∷ [])) (called call hold)
 call_keeps (Takes one) hold = taken_keeps hold.expected one hold
 call_keeps (Asks now) hold = subst (λ there. Keeps there (asked now hold)) (sym (append-nil hold.held)) (asked_keeps now hold.millis hold.expected hold.held)
 

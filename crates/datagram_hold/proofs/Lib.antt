@@ -5,3 +5,4 @@ pub mod Rounds
 pub mod Ordered
 pub mod Deadline
 pub mod WorkedHolds
+pub mod Intakes

@@ -4,3 +4,4 @@ pub mod Hold
 pub mod Runs
 pub mod Order
 pub mod Worked
+pub mod Intake

@@ -1,8 +1,9 @@
 //! What a hold comes to.
 
-ghost use Rattle.std.specs.Prelude.{◌≡◌, ◌≤◌, ◌<◌, ◌^◌, ◌++◌, [], ℕ, false, List, Option, Some, IsSome, length, All, IsPermutation};
+ghost use Rattle.std.specs.Prelude.{◌≡◌, ◌≤◌, ◌<◌, ◌^◌, ◌++◌, [], ℕ, false, true, List, Option, None, Some, IsSome, length, All, IsPermutation};
 ghost use Rattle.datagram_hold.specs.Came.{Came};
 ghost use Rattle.datagram_hold.specs.Hold.{HoldState, asked, deadline, handing, is_early, taken};
+ghost use Rattle.datagram_hold.specs.Intake.{IntakeCall, IntakeState, ReadsOn, first_ready, intake_run, is_fresh};
 ghost use Rattle.datagram_hold.specs.Order.{IsNear, IsSettled, LeavesNoGap, round};
 ghost use Rattle.datagram_hold.specs.Sequence.{number_of};
 ghost use Rattle.datagram_hold.specs.Runs.{Call, IsAskedOut, IsYoung, came, run};
@@ -53,6 +54,14 @@ pub fn what_is_handed_out_leaves_no_gap()
 pub fn the_deadline_is_the_first()
     ensures before { (hold : HoldState) (due now : ℕ) → deadline hold ≡ Some due → now < due → All (IsYoung hold.millis now) hold.held }
     ensures then { (hold : HoldState) (due : ℕ) → deadline hold ≡ Some due → due < 18446744073709551615 → IsSome (asked due hold).0 }
+{}
+
+/// Where at a reading each network was found empty less than so long before, and nothing is left to be handed out, all that an intake
+/// hands out from then on came less than that before the reading, or after it: each datagram counts from the reading before its own
+/// network was last found empty. The holds last no longer than that, and the clock doesn't fall.
+pub fn nothing_is_older()
+    ensures { (bound : ℕ) (intake : IntakeState) (calls : List IntakeCall) → 0 < bound → All (λ (hold : HoldState). hold.millis ≤ bound) intake.holds
+        → first_ready intake.latest intake.holds ≡ None → is_fresh bound intake ≡ true → ReadsOn intake.latest calls → All (IsYoung bound intake.latest) (intake_run calls intake).0 }
 {}
 
 /// Small runs, worked by hand: what was overtaken, what comes again or late, numbers that go round, partners that begin anew, damaged

@@ -1,0 +1,133 @@
+//! What a node takes from its networks.
+
+ghost use Rattle.std.specs.Prelude.{◌≡◌, ◌+◌, ◌<◌, nat_lt, IfOk, IfSome, length, replicate};
+ghost use Rattle.datagram_hold.specs.Intake.{first_ready, found_empty, given, is_fresh, new_hold, since, taken_from};
+
+use crate::incoming::Incoming;
+use crate::network::Network;
+use crate::sender_hold::SenderHold;
+use rasta_pdu::Received;
+use std::alloc::{AllocError, Global};
+use std::marker::Model;
+
+/// What a node takes from its networks: the holds of all senders, each by its place, and what was seen of each network. Clauses see it
+/// as an `IntakeState`. Its memory is taken as it is made.
+///
+/// Each datagram counts from the reading before the last call that found its network empty, so it came later. What two sockets hand
+/// out is bounded so in age, whatever waits in either.
+#[derive(Drop)]
+pub struct Intake {
+    /// What the clock read last.
+    latest: u64,
+    /// What it had read before the last call that found a network empty.
+    first: u64,
+    second: u64,
+    holds: Vec<SenderHold>,
+}
+
+impl Model for Intake {
+    ghost use Rattle.datagram_hold.specs.Intake.{IntakeState};
+
+    ghost Value = { IntakeState };
+
+    ghost view = { λ i. record { latest = i.latest; first = i.first; second = i.second; holds = i.holds.items } };
+}
+
+impl Intake {
+    /// An intake of so many senders, from none of which anything came, whose holds last for so many milliseconds. No network was found
+    /// empty.
+    pub fn new(alloc: Global, senders: usize, millis: u64) -> Result<Intake, AllocError>
+        ensures { IfOk result (λ intake. intake ≡ record { latest = 0; first = 0; second = 0; holds = replicate senders (new_hold millis) }) }
+    {
+        let mut holds = Vec::new(alloc);
+        for _ in 0..senders {
+            holds.push(SenderHold::new(millis))?;
+        }
+        Ok(Intake {
+            latest: 0,
+            first: 0,
+            second: 0,
+            holds,
+        })
+    }
+
+    /// The clock was read.
+    pub fn note_reading(&mut self, reading: u64)
+        ensures { self.new ≡ record self.old { latest = reading } }
+    {
+        self.latest = reading;
+    }
+
+    /// A call found a network empty.
+    pub fn note_empty(&mut self, network: Network)
+        ensures { self.new ≡ found_empty network self.old }
+    {
+        match network {
+            Network::First => self.first = self.latest,
+            Network::Second => self.second = self.latest,
+        }
+    }
+
+    /// Whether each network was found empty less than so many milliseconds before the latest reading.
+    pub fn is_fresh(&self, millis: u64) -> bool
+        ensures { result ≡ is_fresh millis self.now }
+    {
+        is_less(self.latest, self.first, millis) && is_less(self.latest, self.second, millis)
+    }
+
+    /// A datagram of the sender at a place came from a network. It answers what of this sender is handed out at once.
+    pub fn take(&mut self, network: Network, place: usize, bytes: Received) -> Option<Incoming>
+        requires { place < length self.old.holds }
+        ensures handed { result ≡ (taken_from network place bytes.items self.old).0 }
+        ensures after { self.new ≡ (taken_from network place bytes.items self.old).1 }
+    {
+        let at = self.since(network);
+        let hold = &mut self.holds[place];
+        hold.take(Incoming::new(at, bytes))
+    }
+
+    /// The next datagram that is handed out at a reading, if there is one, with the place of its sender.
+    pub fn next(&mut self, now: u64) -> Option<(usize, Incoming)>
+        ensures handed { result ≡ (given now self.old).0 }
+        ensures after { self.new ≡ (given now self.old).1 }
+    {
+        let place = first_ready(now, self.holds.as_slice())?;
+        let hold = &mut self.holds[place];
+        match hold.next(now) {
+            Some(incoming) => Some((place, incoming)),
+            None => None,
+        }
+    }
+
+    /// After which reading what waits in a network came.
+    fn since(&self, network: Network) -> u64
+        ensures { result ≡ since network self.now }
+    {
+        match network {
+            Network::First => self.first,
+            Network::Second => self.second,
+        }
+    }
+}
+
+/// Whether a reading is less than so long after another.
+fn is_less(reading: u64, other: u64, millis: u64) -> bool
+    ensures { result ≡ nat_lt reading (other + millis) }
+{
+    reading < other || reading - other < millis
+}
+
+/// The first sender whose hold hands out something at a reading.
+fn first_ready(now: u64, holds: &[SenderHold]) -> Option<usize>
+    ensures place { result ≡ first_ready now holds.now }
+    ensures within { IfSome result (λ place. place < length holds.now) }
+{
+    let (hold, others) = holds.split_first()?;
+    if hold.has_next(now) {
+        return Some(0);
+    }
+    match first_ready(now, others) {
+        Some(place) => Some(1 + place),
+        None => None,
+    }
+}
