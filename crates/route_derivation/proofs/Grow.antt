@@ -92,10 +92,10 @@ unfolding longer
 faithful-longer l one p g f = record {
   sections_are = ap (λ ss. with_section ss (section_of l g.left.element)) f.sections_are ∙ sym (sections-grown l p.passages g);
   needed = λ n c. ⊎_elim (λ more. ⊎_elim (λ old. requires-before l p.passages (g ∷ []) n.0 n.1 (f.needed n old)) (λ own. requires-own l p.passages g n own) (with_need-cases p.needs (used g) n more))
-    (λ flank. requires-flank l p.passages g n flank) (with_need-cases (with_need p.needs (used g)) (flank_at l (used g)) n c);
+      (λ flank. requires-flank l p.passages g n flank) (with_need-cases (with_need p.needs (used g)) (flank_at l (used g)) n c);
   needs = λ n h. ⊎_elim (λ old. with_need-old (with_need p.needs (used g)) (flank_at l (used g)) n (with_need-old p.needs (used g) n (f.needs n old)))
-    (λ new. ⊎_elim (λ own. with_need-old (with_need p.needs (used g)) (flank_at l (used g)) n (with_need-new p.needs (used g) n own)) (λ flank. with_need-new (with_need p.needs (used g)) (flank_at l (used g)) n flank) new)
-    (requires-cases l one p.passages g n h);
+      (λ new. ⊎_elim (λ own. with_need-old (with_need p.needs (used g)) (flank_at l (used g)) n (with_need-new p.needs (used g) n own)) (λ flank. with_need-new (with_need p.needs (used g)) (flank_at l (used g)) n flank) new)
+      (requires-cases l one p.passages g n h);
 }
 
 -- ---- nothing comes twice, and what has been passed is passable

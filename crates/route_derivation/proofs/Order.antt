@@ -98,14 +98,17 @@ module _ (l : Site) (s : SignalId) where
       let one = starts n p g w c in
       let other = starts n p h v d in
       let part = legs-part entered g h first second in
-      inr (one.0 ∙ sym other.0, record {
-        shared = map (λ (k : Passage). k.left) p.passages;
-        point = part.0;
-        left = map (λ (k : Passage). k.left) one.1.0;
-        right = map (λ (k : Passage). k.left) other.1.0;
-        to_left = ports-behind p g w one.1.0 (leg part.0 side.Left) one.1.1 part.1;
-        to_right = ports-behind p h v other.1.0 (leg part.0 side.Right) other.1.1 part.2;
-      })
+      inr (
+        one.0 ∙ sym other.0,
+        record {
+          shared = map (λ (k : Passage). k.left) p.passages;
+          point = part.0;
+          left = map (λ (k : Passage). k.left) one.1.0;
+          right = map (λ (k : Passage). k.left) other.1.0;
+          to_left = ports-behind p g w one.1.0 (leg part.0 side.Left) one.1.1 part.1;
+          to_right = ports-behind p h v other.1.0 (leg part.0 side.Right) other.1.1 part.2;
+        },
+      )
 
   abbrev OrderedAt : ℕ → Type 0
   OrderedAt n = (p : Partial) (next : Option Passage) → InOrder (ways_over l s n p next)

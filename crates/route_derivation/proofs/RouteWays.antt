@@ -23,7 +23,7 @@ use Rattle.route_derivation.specs.inside.WaySearch.{is_asked, ways_from, ways_as
 use Rattle.route_derivation.proofs.Members.{contains-none, any-decides, none-some}
 use Rattle.route_derivation.proofs.Same.{signal-decides, is_left}
 use Rattle.route_derivation.proofs.SideLaws.{option_map-some}
-use Rattle.route_derivation.proofs.Lists.{pairs-nil, pairs-append}
+use Rattle.route_derivation.proofs.Lists.{contains-last, pairs-nil, pairs-append}
 use Rattle.route_derivation.proofs.Sound.{found-fine}
 use Rattle.route_derivation.proofs.Complete.{passable-found}
 use Rattle.route_derivation.proofs.Order.{from-ordered}
@@ -190,3 +190,19 @@ finds_too_many view l entries (Ok x) once h e = absurd (cc)
 finds_too_many view l entries (Err TooMany) once h e = too_many-ways l once entries (length l.signals) h
 finds_too_many view l entries (Err NoName) once h e = absurd (cc)
 finds_too_many view l entries (Err OutOfMemory) once h e = absurd (cc)
+
+-- ---- the list of all signals
+
+pub signals-more : (n : ℕ) (xs new : List SignalId) → ((s : SignalId) → s.0 < n → Contains xs s) → new ≡ xs ++ signal n ∷ [] → (s : SignalId) → s.0 < n + 1 → Contains new s
+signals-more n xs new before is s lt = at (s.0 == n) refl where
+  at : (b : Bool) → (s.0 == n) ≡ b → Contains new s
+  at true e =
+      let same : s.0 ≡ n = (Decides-eqb s.0 n).0 e in
+      let this : signal n ≡ s = λ i. record { 0 = sym same i } in
+      let C : List SignalId → Type 0 = λ ys. Contains ys s in
+      let D : SignalId → Type 0 = λ t. Contains (xs ++ signal n ∷ []) t in
+      subst C (sym is) (subst D this (contains-last xs (signal n)))
+  at false e =
+      let differ : s.0 ≢ n = λ h. false≢true (sym e ∙ (Decides-eqb s.0 n).1 h) in
+      let C : List SignalId → Type 0 = λ ys. Contains ys s in
+      subst C (sym is) (Contains-append_left xs (signal n ∷ []) s (before s (omega (arith, lt, differ))))

@@ -137,8 +137,8 @@ module _ (l : Site) (once : Once l) (s : SignalId) (from : Port) (stands : Stand
       by-end (comes.Exit x) to c =
           let F : Way → Type 0 = λ v. IsFine (length p.passages + suc n) v in
           let same : record { entry = s; exit = x; passages = path } ≡ w = ⊎_elim
-            (λ e. ap (λ ps. record { entry = s; exit = x; passages = ps }) (sym (longer-passages l p g)) ∙ e)
-            (λ none. absurd (contains-none w none)) (contains-cases (record { entry = s; exit = x; passages = (longer l p g).passages }) w [] c) in
+          (λ e. ap (λ ps. record { entry = s; exit = x; passages = ps }) (sym (longer-passages l p g)) ∙ e)
+          (λ none. absurd (contains-none w none)) (contains-cases (record { entry = s; exit = x; passages = (longer l p g).passages }) w [] c) in
           subst F same (ended n x to)
       by-end (comes.On entered) to c =
           ⊎_elim (λ first. further (first_out entered) entered (λ h e. first-passes entered h e) to first)

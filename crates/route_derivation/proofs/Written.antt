@@ -54,12 +54,12 @@ point-on l path none p s needed on =
     let here : C t = given-to (λ g. used g) path on.0 (p, t) on.2 (uses-used on.0 p t on.3) in
     let R : Side → Type 0 = λ x. Requires l path p x in
     at (same_side t s) (side-decides t s) here own where
-  at : (b : Bool) → Decides b (on.1 ≡ s) → Contains (filter_map (λ g. used g) path) (p, on.1) → Requires l path p on.1 → Contains (filter_map (λ g. used g) path) (p, s)
-  at true d here own = let C : Side → Type 0 = λ x. Contains (filter_map (λ g. used g) path) (p, x) in subst C (d.0 refl) here
-  at false d here own =
-      let differ : on.1 ≡ s → ⊥ = λ e. false≢true (d.1 e) in
-      let R : Side → Type 0 = λ x. Requires l path p x in
-      absurd (at_both l path none p on.1 own (subst R (differ-other on.1 s differ) needed))
+      at : (b : Bool) → Decides b (on.1 ≡ s) → Contains (filter_map (λ g. used g) path) (p, on.1) → Requires l path p on.1 → Contains (filter_map (λ g. used g) path) (p, s)
+      at true d here own = let C : Side → Type 0 = λ x. Contains (filter_map (λ g. used g) path) (p, x) in subst C (d.0 refl) here
+      at false d here own =
+          let differ : on.1 ≡ s → ⊥ = λ e. false≢true (d.1 e) in
+          let R : Side → Type 0 = λ x. Requires l path p x in
+          absurd (at_both l path none p on.1 own (subst R (differ-other on.1 s differ) needed))
 
 point-from : (l : Site) (path : List Passage) (p : PointId) (s : Side) → Contains (points_of path) (p, s) → Requires l path p s × OnPath path p
 unfolding points_of

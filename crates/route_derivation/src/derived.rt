@@ -1,7 +1,9 @@
 //! The routes that follow from a layout.
 
 ghost use Rattle.std.specs.Prelude.{◌≡◌, IfOk, OnOk, Err};
-ghost use Rattle.std.specs.List.{All};
+ghost use Rattle.std.specs.List.{All, Contains};
+ghost use Rattle.control_table.specs.layout.declared.ids.SignalId.{SignalId};
+ghost use Rattle.control_table.specs.layout.Station.{HasSignal};
 ghost use Rattle.route_derivation.specs.Derived.{HasDerivedAspect, IsDerived};
 ghost use Rattle.route_derivation.specs.Ways.{TooManyWays};
 ghost use Rattle.route_derivation.specs.declared.fault.Underived.TheVariants.{TooMany};
@@ -15,7 +17,7 @@ use crate::search::{Way, route_ways};
 use crate::slow::{SlowLegs, aspect_of};
 use control_table::layout::{Exit, Layout, PointId, Port, SectionId, SignalId};
 use control_table::sci_telegram::{Aspect, Name, Side};
-use std::alloc::Global;
+use std::alloc::{AllocError, Global};
 use std::marker::Model;
 
 /// A route that follows from a layout. It lists no extra conflicts.

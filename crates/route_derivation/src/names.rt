@@ -1,7 +1,10 @@
 //! The names of routes.
 
 use crate::fault::NameFault;
-use control_table::layout::{Detector, Exit, Layout, Point, Port, Route, Signal, SignalId, Track};
+use control_table::layout::{
+    Detector, Element, Exit, Layout, Point, PointId, Port, Route, SectionId, Signal, SignalId,
+    Track,
+};
 use control_table::sci_telegram::Name;
 use std::alloc::{AllocError, Global};
 
@@ -125,15 +128,34 @@ pub(crate) fn free_name(
 }
 
 /// The name of a signal.
-fn signal_name(layout: &Layout, signal: SignalId) -> Option<Name> {
+pub(crate) fn signal_name(layout: &Layout, signal: SignalId) -> Option<Name> {
     layout.signals().get(signal.0).map(|entry| entry.name)
 }
 
 /// The name of an exit.
-fn exit_name(layout: &Layout, exit: Exit) -> Option<Name> {
+pub(crate) fn exit_name(layout: &Layout, exit: Exit) -> Option<Name> {
     match exit {
         Exit::Signal(signal) => signal_name(layout, signal),
         Exit::Border(border) => layout.borders().get(border.0).copied(),
+    }
+}
+
+/// The name of a point.
+pub(crate) fn point_name(layout: &Layout, point: PointId) -> Option<Name> {
+    layout.points().get(point.0).map(|entry| entry.name)
+}
+
+/// The name of a section.
+pub(crate) fn section_name(layout: &Layout, section: SectionId) -> Option<Name> {
+    layout.sections().get(section.0).copied()
+}
+
+/// The name of an element.
+pub(crate) fn element_name(layout: &Layout, element: Element) -> Option<Name> {
+    match element {
+        Element::Track(track) => layout.tracks().get(track.0).map(|entry| entry.name),
+        Element::Point(point) => point_name(layout, point),
+        Element::Border(border) => layout.borders().get(border.0).copied(),
     }
 }
 

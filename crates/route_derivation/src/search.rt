@@ -197,11 +197,7 @@ fn add_ways_asked(
 }
 
 /// All ways that begin at signals of a list, in layout order.
-fn ways_asked(
-    alloc: Global,
-    layout: &Layout,
-    entries: &[SignalId],
-) -> Result<Vec<Way>, Underived>
+fn ways_asked(alloc: Global, layout: &Layout, entries: &[SignalId]) -> Result<Vec<Way>, Underived>
     ensures { Finds (λ v. v.items) result (ways_below layout.now entries.now (length layout.now.signals)) }
 {
     let mut found = Vec::new(alloc);

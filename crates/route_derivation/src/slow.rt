@@ -44,7 +44,9 @@ fn is_slow_at(slow: &[SlowLegs], point: PointId, side: Side) -> bool
 fn uses_slow(slow: &[SlowLegs], points: &[(PointId, Side)]) -> bool
     ensures { result ≡ list_any (λ n. is_slow_at slow.now n) points.now }
 {
-    points.iter().any(|point| is_slow_at(slow, point.0, point.1))
+    points
+        .iter()
+        .any(|point| is_slow_at(slow, point.0, point.1))
 }
 
 /// The aspect of a route that uses points at these sides: slow where one of these legs is.
