@@ -464,12 +464,23 @@ def faults(page, report):
         if fault.left is not None and found:
             page.click("#d-faults li button")
             report.say("  its button mends it", page.tell("read.faults.length") == fault.left, page.rows())
+    told_faults(page, report)
     page.anew()
     page.tell("change(all => { addPlaces(all, pathBetween('0,3', '14,3', false)); addPlaces(all, ['4,3', '4,4', '4,5']); addPlaces(all, pathBetween('6,1', '10,5', false)); all.borders['14,3'] = 'the east'; "
               "addPlaces(all, ['17,2', '18,2', '18,3', '18,4']); })")
     page.tell("fit()")
     page.row("#d-faults", "crossings")
     report.shot(page, "faults")
+
+
+def told_faults(page, report):
+    """Faults as the program tells them, each with an entry of a key or a route: each is found in the drawing."""
+    page.tell(f"load({json.dumps(example('halden'))})")
+    lines = [f"layout fault {number} {word} at {key} {place}" for number, word in ((3, "WrongKind"), (5, "DoubleName"), (7, "Limit"))
+             for key in ("section", "track", "point", "border", "joint", "signal", "detector", "route") for place in (1, 2) if (key, place) != ("detector", 2)]
+    lines += [f"table fault {number} X at route {route}" for number in range(1, 10) for route in ("A-N1", "P2-West")]
+    lost = page.tell(f"{json.dumps(lines)}.filter(line => placeOfFault(line).at.length === 0)")
+    report.say("faults that the program tells are found in the drawing", not lost, f"{len(lines)} lines {lost}")
 
 
 # ---- as a program serves it

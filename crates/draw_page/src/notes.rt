@@ -105,7 +105,7 @@ function signalFix(port) {
   return null;
 }
 
-// ---- the station after the page, where there is one: its check is the proved one
+// ---- the station that serves the page, where one does: its check is the proved one
 
 let station = null, answer = null, asking = null;
 
@@ -136,14 +136,14 @@ async function check() {
   repaintLit();
 }
 
-// Where a fault lies that the station tells.
+// Where a fault lies that the station tells: it names a key with the place of an entry, or a route.
 function placeOfFault(line) {
-  const layout = line.match(/^layout fault \d+ \w+ at (\w+) (\d+)/), route = line.match(/^table fault \d+ \w+ at route (\S+)/);
-  const one = route && table.kept.find(it => it.name === route[1]);
-  if (one) return {at: [read.placeOf("signal", one.entry)].filter(Boolean), way: one};
-  const entry = layout && read.l[layout[1]]?.[layout[2] - 1];
+  const [, key, number] = line.match(/^layout fault \d+ \w+ at (\w+) (\d+)/) || [], [, name] = line.match(/^table fault \d+ \w+ at route (\S+)/) || [];
+  const route = key === "route" ? table.kept[number - 1] : table.kept.find(it => it.name === name);
+  if (route) return {at: [read.placeOf("signal", route.entry)].filter(Boolean), way: route};
+  const entry = read.l[key]?.[number - 1];
   if (!entry) return {at: []};
-  return {at: [layout[1] === "joint" ? read.where.port.get(entry[0]) : read.placeOf(layout[1], entry.name ?? entry)].filter(Boolean)};
+  return {at: [key === "joint" ? read.where.port.get(entry[0]) : read.placeOf(key, entry.name ?? entry)].filter(Boolean)};
 }
 
 // What the station tells beyond the notes of the page, by what its lines begin with.
