@@ -9,7 +9,7 @@ top=$(dirname "$bench")
 crate=$top/crates/controllers_c
 examples=$top/examples/embedded
 record=$top/crates/stored_runs/data/A.record
-steps=${1:-1000000}
+steps=${1:-10000000}
 seed=${2:-1}
 room=$(mktemp -d)
 trap 'rm -rf "$room"' EXIT

@@ -253,7 +253,7 @@ int main(int argc, char **argv) {
                 if (wants_hearing(now) == ZENDURAI_OK) steps(now);
                 upto++;
                 orders(latest);
-                if (drawn() % 8) expect(!done(), "done"), in_force = 1;
+                if (drawn() % 8) expect(!done(), "done"), in_force |= kind != 2;
                 takes_all(latest);
                 continue;
             }
