@@ -27,7 +27,7 @@ all_behind : {X : Type 0} (P : X → Type 0) (xs ys : List X) → All P (xs ++ y
 all_behind P [] ys all = all
 all_behind P (x ∷ xs) ys all = all_behind P xs ys (All-tail P x (xs ++ ys) all)
 
-all_at : {X : Type 0} (P : X → Type 0) (xs : List X) (place : ℕ) (x : X) → slice_get xs place ≡ Some x → All P xs → P x
+pub all_at : {X : Type 0} (P : X → Type 0) (xs : List X) (place : ℕ) (x : X) → slice_get xs place ≡ Some x → All P xs → P x
 all_at P [] place x e all = absurd (cc)
 all_at P (y ∷ xs) zero x e all = subst P (same_Some y x e) (All-head P y xs all)
 all_at P (y ∷ xs) (suc place) x e all = all_at P xs place x e (All-tail P y xs all)

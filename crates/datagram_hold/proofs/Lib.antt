@@ -6,3 +6,4 @@ pub mod Ordered
 pub mod Deadline
 pub mod WorkedHolds
 pub mod Intakes
+pub mod Lasting

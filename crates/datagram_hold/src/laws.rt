@@ -1,9 +1,9 @@
 //! What a hold comes to.
 
-ghost use Rattle.std.specs.Prelude.{◌≡◌, ◌≤◌, ◌<◌, ◌^◌, ◌++◌, [], ℕ, false, true, List, Option, None, Some, IsSome, length, All, IsPermutation};
+ghost use Rattle.std.specs.Prelude.{◌≡◌, ◌≤◌, ◌<◌, ◌^◌, ◌++◌, [], ℕ, false, true, List, Option, None, Some, IsSome, length, replicate, All, IsPermutation};
 ghost use Rattle.datagram_hold.specs.Came.{Came};
 ghost use Rattle.datagram_hold.specs.Hold.{HoldState, asked, deadline, handing, is_early, taken};
-ghost use Rattle.datagram_hold.specs.Intake.{IntakeCall, IntakeState, ReadsOn, first_ready, intake_run, is_fresh};
+ghost use Rattle.datagram_hold.specs.Intake.{IntakeCall, IntakeState, ReadsOn, first_ready, intake_run, is_fresh, new_hold};
 ghost use Rattle.datagram_hold.specs.Order.{IsNear, IsSettled, LeavesNoGap, round};
 ghost use Rattle.datagram_hold.specs.Sequence.{number_of};
 ghost use Rattle.datagram_hold.specs.Runs.{Call, IsAskedOut, IsYoung, came, run};
@@ -62,6 +62,13 @@ pub fn the_deadline_is_the_first()
 pub fn nothing_is_older()
     ensures { (bound : ℕ) (intake : IntakeState) (calls : List IntakeCall) → 0 < bound → All (λ (hold : HoldState). hold.millis ≤ bound) intake.holds
         → first_ready intake.latest intake.holds ≡ None → is_fresh bound intake ≡ true → ReadsOn intake.latest calls → All (IsYoung bound intake.latest) (intake_run calls intake).0 }
+{}
+
+/// The holds of an intake last as long as it was made for, whatever is called.
+pub fn holds_last_as_long()
+    ensures first { (senders millis : ℕ) → All (λ (hold : HoldState). hold.millis ≡ millis) (replicate senders (new_hold millis)) }
+    ensures kept { (millis : ℕ) (calls : List IntakeCall) (intake : IntakeState) → All (λ (hold : HoldState). hold.millis ≡ millis) intake.holds
+        → All (λ (hold : HoldState). hold.millis ≡ millis) (intake_run calls intake).1.holds }
 {}
 
 /// Small runs, worked by hand: what was overtaken, what comes again or late, numbers that go round, partners that begin anew, damaged

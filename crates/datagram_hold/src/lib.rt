@@ -12,9 +12,9 @@ mod sequence;
 pub use incoming::Incoming;
 pub use intake::Intake;
 pub use laws::{
-    a_hold_of_0_holds_nothing, holds_are_as_worked_by_hand, nothing_is_lost, nothing_is_older,
-    nothing_waits_for_long, the_deadline_is_the_first, what_is_handed_out_leaves_no_gap,
-    what_isnt_ahead_is_handed_out_at_once,
+    a_hold_of_0_holds_nothing, holds_are_as_worked_by_hand, holds_last_as_long, nothing_is_lost,
+    nothing_is_older, nothing_waits_for_long, the_deadline_is_the_first,
+    what_is_handed_out_leaves_no_gap, what_isnt_ahead_is_handed_out_at_once,
 };
 pub use network::Network;
 pub use sender_hold::{MOST_HELD, SenderHold};
