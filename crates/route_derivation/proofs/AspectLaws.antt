@@ -12,6 +12,7 @@ use Rattle.control_table.specs.sci_telegram.declared.message.Side.{Side}
 use Rattle.control_table.specs.sci_telegram.declared.message.Side.TheVariants as side
 use Rattle.control_table.specs.layout.declared.ids.PointId.{PointId}
 use Rattle.control_table.specs.layout.Entries.{RouteEntry, Site}
+use Rattle.route_derivation.specs.declared.rule.ApproachRule.{ApproachRule}
 use Rattle.route_derivation.specs.declared.slow.SlowLegs.{SlowLegs}
 use Rattle.route_derivation.specs.declared.slow.SlowLegs.TheVariants as legs
 use Rattle.route_derivation.specs.Ways.{Way}
@@ -53,5 +54,5 @@ derived-aspect marks r e = at (list_any (λ n. is_slow_at marks n) r.points) (us
 all-of : {A : Type 0} (P : A → Type 0) (xs : List A) → ((x : A) → Contains xs x → P x) → All P xs
 all-of P xs h k d lt = h (get_or xs k d) (k, lt, get_or_default xs k (get_or xs k d) d lt)
 
-pub derived-aspects : (l : Site) (marks : List SlowLegs) (ws : List Way) (rs : List RouteEntry) → AreAlong l marks ws rs → All (HasDerivedAspect marks) rs
-derived-aspects l marks ws rs z = all-of (HasDerivedAspect marks) rs (λ r c. let on = zip-from l marks ws rs z r c in derived-aspect marks r on.2.aspect)
+pub derived-aspects : (l : Site) (marks : List SlowLegs) (rule : ApproachRule) (ws : List Way) (rs : List RouteEntry) → AreAlong l marks rule ws rs → All (HasDerivedAspect marks) rs
+derived-aspects l marks rule ws rs z = all-of (HasDerivedAspect marks) rs (λ r c. let on = zip-from l marks rule ws rs z r c in derived-aspect marks r on.2.aspect)

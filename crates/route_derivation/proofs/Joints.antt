@@ -14,7 +14,7 @@ use Rattle.route_derivation.proofs.Members.{contains-none, contains-here, contai
 use Rattle.route_derivation.proofs.Same.{port-decides}
 
 -- Some joint of a list lies between two ports.
-abbrev JoinedIn : List Joint → Port → Port → Type 0
+abbrev pub JoinedIn : List Joint → Port → Port → Type 0
 JoinedIn joints p q = (joint : Joint) × Contains joints joint × Joins joint p q
 
 -- ---- what is found is joined
@@ -47,7 +47,7 @@ ports-contained (other ∷ joints) joint c =
     let behind : (p : Port) → Contains ports p → Contains (joined_ports (other ∷ joints)) p = λ p on. contains-there other.first p (other.second ∷ ports) (contains-there other.second p ports on) in
     ⊎_elim (λ e. subst Both e here) (λ later. let on = ports-contained joints joint later in (behind joint.first on.0, behind joint.second on.1)) (contains-cases other joint joints c)
 
-stands-in : (joints : List Joint) (p q : Port) → JoinedIn joints p q → Contains (joined_ports joints) p
+pub stands-in : (joints : List Joint) (p q : Port) → JoinedIn joints p q → Contains (joined_ports joints) p
 stands-in joints p q h =
     let on = ports-contained joints h.0 h.1 in
     let C : Port → Type 0 = λ port. Contains (joined_ports joints) port in

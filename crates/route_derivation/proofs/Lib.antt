@@ -15,4 +15,5 @@ pub mod Written
 pub mod DerivedLaws
 pub mod AspectLaws
 pub mod Counting
+pub mod ApproachLaws
 pub mod TopologyLaws

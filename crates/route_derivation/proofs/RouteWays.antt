@@ -112,7 +112,7 @@ ordered-distinct ws h i j d lt within e = before-differs _ _ (h i j d lt within)
 
 -- ---- together
 
-get-below : {A : Type 0} (xs : List A) (i : ℕ) (x : A) → slice_get xs i ≡ Some x → i < length xs
+pub get-below : {A : Type 0} (xs : List A) (i : ℕ) (x : A) → slice_get xs i ≡ Some x → i < length xs
 get-below [] i x e = absurd (none-some x e)
 get-below (y ∷ xs) zero x e = omega arith
 get-below (y ∷ xs) (suc i) x e = let lt = get-below xs i x e in omega (arith, lt)

@@ -4,15 +4,17 @@ ghost use Rattle.std.specs.Prelude.{◌≡◌, IfOk, OnOk, Err};
 ghost use Rattle.std.specs.List.{All, Contains};
 ghost use Rattle.control_table.specs.layout.declared.ids.SignalId.{SignalId};
 ghost use Rattle.control_table.specs.layout.Station.{HasSignal};
+ghost use Rattle.route_derivation.specs.Approach.{IsApproach};
 ghost use Rattle.route_derivation.specs.Derived.{HasDerivedAspect, IsDerived};
 ghost use Rattle.route_derivation.specs.Ways.{TooManyWays};
 ghost use Rattle.route_derivation.specs.declared.fault.Underived.TheVariants.{TooMany};
 ghost use Rattle.route_derivation.specs.inside.RouteParts.{IsAlong, AreAlong};
 
-use crate::approach::{ApproachRule, approach_of};
+use crate::approach::approach_of;
 use crate::fault::{NameFault, Underived};
 use crate::names::{end_names, free_name, name_in_table, names_of};
 use crate::route_parts::{flank_of, path_of, points_of};
+use crate::rule::ApproachRule;
 use crate::search::{Way, route_ways};
 use crate::slow::{SlowLegs, aspect_of};
 use control_table::layout::{Exit, Layout, PointId, Port, SectionId, SignalId};
@@ -133,7 +135,7 @@ fn name_of(made: Made<'_>, taken: &[Name], way: &Way, path: &[Port]) -> Result<N
 
 /// The route along a way.
 fn route_along(made: Made<'_>, taken: &[Name], way: &Way) -> Result<DerivedRoute, NameFault>
-    ensures { IfOk result (IsAlong made.entry.layout.now made.entry.slow.now way.now) }
+    ensures { IfOk result (IsAlong made.entry.layout.now made.entry.slow.now made.entry.rule way.now) }
 {
     let path = path_of(made.alloc, &way.passages)?;
     let name = name_of(made, taken, way, &path)?;
@@ -155,7 +157,7 @@ fn route_along(made: Made<'_>, taken: &[Name], way: &Way) -> Result<DerivedRoute
 
 /// The routes along ways, whose names aren't taken.
 fn routes_along(made: Made<'_>, ways: &[Way]) -> Result<Vec<DerivedRoute>, NameFault>
-    ensures { IfOk result (λ v. AreAlong made.entry.layout.now made.entry.slow.now ways.now v.items) }
+    ensures { IfOk result (λ v. AreAlong made.entry.layout.now made.entry.slow.now made.entry.rule ways.now v.items) }
 {
     let mut taken = names_of(made.alloc, made.layout)?;
     let mut routes = Vec::new(made.alloc);
@@ -179,6 +181,7 @@ pub fn derive(
 ) -> Result<Vec<DerivedRoute>, Underived>
     ensures derived { IfOk result (λ v. IsDerived layout.now entries.now v.items) }
     ensures aspects { IfOk result (λ v. All (HasDerivedAspect slow.now) v.items) }
+    ensures approaches { IfOk result (λ v. All (λ r. IsApproach layout.now rule r.entry r.approach) v.items) }
     ensures too_many { result ≡ Err TooMany → TooManyWays layout.now entries.now }
     ensures not_too_many { OnOk result (TooManyWays layout.now entries.now → ⊥) }
 {

@@ -11,6 +11,8 @@ use Rattle.control_table.specs.layout.Entries.{RouteEntry, Site}
 use Rattle.control_table.specs.Path.{Passage}
 use Rattle.route_derivation.specs.declared.slow.SlowLegs.{SlowLegs}
 use Rattle.route_derivation.specs.declared.slow.SlowLegs.TheVariants as slow
+use Rattle.route_derivation.specs.declared.rule.ApproachRule.{ApproachRule}
+use Rattle.route_derivation.specs.Approach.{IsApproach}
 use Rattle.route_derivation.specs.Ways.{Way}
 use Rattle.route_derivation.specs.inside.WaySearch.{some_and, used, flank_at}
 
@@ -52,9 +54,9 @@ is_slow_at legs n = is_slow_leg (slice_get legs n.0.0) n.1
 unfoldable pub aspect_of : List SlowLegs → List (PointId × Side) → Aspect
 aspect_of legs points = if list_any (λ n. is_slow_at legs n) points then Slow else Proceed
 
--- ---- a route that leads along a way, whatever its name and its approach
+-- ---- a route that leads along a way, whatever its name
 
-pub record IsAlong (l : Site) (slow : List SlowLegs) (w : Way) (r : RouteEntry) : Type 0 where
+pub record IsAlong (l : Site) (slow : List SlowLegs) (rule : ApproachRule) (w : Way) (r : RouteEntry) : Type 0 where
   pub entry : r.entry ≡ w.entry
   pub exit : r.exit ≡ w.exit
   pub path : r.path ≡ path_of w.passages
@@ -62,7 +64,8 @@ pub record IsAlong (l : Site) (slow : List SlowLegs) (w : Way) (r : RouteEntry) 
   pub flank : r.flank ≡ flank_of l w.passages
   pub extra : r.extra ≡ []
   pub aspect : r.aspect ≡ aspect_of slow r.points
+  pub approach : IsApproach l rule r.entry r.approach
 
 -- each route leads along the way at its place
-abbrev pub AreAlong : Site → List SlowLegs → List Way → List RouteEntry → Type 0
-AreAlong l slow ws rs = AllZip (IsAlong l slow) ws rs
+abbrev pub AreAlong : Site → List SlowLegs → ApproachRule → List Way → List RouteEntry → Type 0
+AreAlong l slow rule ws rs = AllZip (IsAlong l slow rule) ws rs
