@@ -1,0 +1,7 @@
+pub mod Observer
+pub mod Knowledge
+pub mod Starved
+pub mod Change
+pub mod Exact
+pub mod Chain
+pub mod inside
