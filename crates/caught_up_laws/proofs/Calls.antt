@@ -1,12 +1,12 @@
 -- Each call at an end keeps the exact order of both.
-use Rattle.std.proofs.Common.{◌≡◌, ℕ, ◌<◌, Bool, true, false, ◌&&◌, if◌then◌else◌, List, [], Option, Some, None, refl, ap, subst, ◌∙◌, arith}
-use Rattle.std.specs.Prelude.{is_ok, nat_le}
+use Rattle.std.proofs.Common.{◌≡◌, ℕ, ◌<◌, Bool, true, false, ◌&&◌, if◌then◌else◌, List, [], Option, Some, None, refl, ap, ◌∙◌, arith}
+use Rattle.std.specs.Prelude.{nat_le}
 use Rattle.rasta_core_spec.specs.Parameters.{connection_limit}
 use Rattle.rasta_core_spec.specs.State.{LinkState, is_client, is_open}
 use Rattle.rasta_core_spec.specs.Clock.{deadline, settled, state_at}
 use Rattle.rasta_core_spec.specs.PdusHandedOut.{Step, entered, limited, sending, silent, telling}
 use Rattle.rasta_core_spec.specs.Establishment.{may_open, is_down}
-use Rattle.rasta_core_spec.specs.Calls.{answer_to_send, opens, opening, ticking, closing_by, sending_item}
+use Rattle.rasta_core_spec.specs.Calls.{opens, opening}
 use Rattle.rasta_core_spec.specs.identity.Identity.{Identity}
 use Rattle.rasta_core_spec.specs.identity.Role.{Role}
 use Rattle.rasta_core_spec.specs.identity.Role.TheVariants as role

@@ -1,13 +1,13 @@
 -- What calls hand out repeats an item in a retransmission alone.
-use Rattle.std.proofs.Common.{◌≡◌, ℕ, ◌+◌, ◌-◌, Bool, true, false, ◌&&◌, not, if◌then◌else◌, List, [], ◌∷◌, ◌++◌, length, Option, Some, None, inl, inr, ◌⊎◌, Result, Ok, Err, refl, sym, ap, subst, ◌∙◌, append-nil}
-use Rattle.std.specs.Prelude.{◌==◌, is_ok, map, nat_eq, nat_le, nat_lt}
+use Rattle.std.proofs.Common.{ℕ, ◌+◌, ◌-◌, Bool, true, false, ◌&&◌, not, if◌then◌else◌, List, [], ◌∷◌, ◌++◌, Result, Ok, Err, refl}
+use Rattle.std.specs.Prelude.{◌==◌, is_ok, nat_eq, nat_le, nat_lt}
 use Rattle.std.specs.Cmp.Lexicographic.{pointwise}
 use Rattle.rasta_core_spec.specs.Parameters.{connection_limit, heartbeat_interval, own_version, sequence_range, window_size}
 use Rattle.rasta_core_spec.specs.State.{LinkState, is_client, is_open, is_up}
 use Rattle.rasta_core_spec.specs.Clock.{settled, state_at}
 use Rattle.rasta_core_spec.specs.PdusHandedOut.{Step, beating, closed, closing, entered, giving, header_of, is_told, limited, pdu_of, sending, silent, telling, then_do}
 use Rattle.rasta_core_spec.specs.Establishment.{beginning, granting, joining, judging, may_open, meeting, own_opening, requesting}
-use Rattle.rasta_core_spec.specs.Receipt.{Receipt, accepting, admission, admitting, ahead, answering, answers_request, asking, bringing, by_state, confirms, connected, handing, hearing, in_turn, is_opening_again, is_stale, missing, refusing, repeated, repeating, resting, taking, testing, up, violating}
+use Rattle.rasta_core_spec.specs.Receipt.{Receipt, accepting, admission, admitting, ahead, answering, answers_request, asking, bringing, by_state, confirms, connected, handing, hearing, in_turn, is_opening_again, is_stale, missing, refusing, repeated, repeating, resting, taking, testing, violating}
 use Rattle.rasta_core_spec.specs.Calls.{acceptance, closing_by, hearing_bytes, opening, receiving, sending_item, ticking}
 use Rattle.rasta_core_spec.specs.Ends.{Call, Closes, EndState, Opens, Receives, Sends, Ticks, outcome, reading_of}
 use Rattle.rasta_core_spec.specs.header.Header.{Header}

@@ -1,15 +1,15 @@
 -- What each call makes of an end in a connection.
-use Rattle.std.proofs.Common.{◌≡◌, ℕ, ◌+◌, ◌-◌, Bool, true, false, ◌&&◌, not, if◌then◌else◌, List, [], ◌∷◌, ◌++◌, length, Option, Some, None, inl, inr, ◌⊎◌, Result, Ok, Err, refl, sym, ap, subst, ◌∙◌, arith}
-use Rattle.std.specs.Prelude.{◌==◌, is_ok, map, nat_eq, nat_le, nat_lt}
+use Rattle.std.proofs.Common.{◌≡◌, ℕ, ◌+◌, ◌-◌, Bool, true, false, ◌&&◌, not, if◌then◌else◌, List, Result, Ok, Err, refl, sym, ap, subst, ◌∙◌, arith}
+use Rattle.std.specs.Prelude.{◌==◌, is_ok, nat_eq, nat_le, nat_lt}
 use Rattle.std.specs.Cmp.Lexicographic.{pointwise}
 use Rattle.std.proofs.lemmas.Bool.{eqb-true}
 use Rattle.rasta_core_spec.specs.Parameters.{connection_limit, heartbeat_interval, own_version, quiet_time, sequence_range, window_size}
 use Rattle.rasta_core_spec.specs.Sequence.{wire}
 use Rattle.rasta_core_spec.specs.State.{LinkState, is_asking, is_client, is_open, is_up}
 use Rattle.rasta_core_spec.specs.Clock.{deadline, open_state, settled, state_at}
-use Rattle.rasta_core_spec.specs.PdusHandedOut.{Step, beating, closed, closing, entered, giving, header_of, is_told, limited, pdu_of, sending, silent, telling, then_do}
-use Rattle.rasta_core_spec.specs.Establishment.{granting, joining, judging, may_open, meeting, requesting}
-use Rattle.rasta_core_spec.specs.Receipt.{Receipt, accepting, admission, admitting, ahead, answering, answers_request, asking, bringing, by_state, confirms, connected, handing, hearing, in_turn, is_opening_again, is_stale, missing, refusing, repeated, repeating, resting, taking, testing, up, violating}
+use Rattle.rasta_core_spec.specs.PdusHandedOut.{Step, beating, closed, closing, entered, giving, is_told, limited, sending, silent, telling}
+use Rattle.rasta_core_spec.specs.Establishment.{joining, judging, may_open, meeting, requesting}
+use Rattle.rasta_core_spec.specs.Receipt.{Receipt, accepting, admission, admitting, ahead, answering, answers_request, asking, bringing, by_state, confirms, connected, handing, hearing, in_turn, is_opening_again, is_stale, missing, refusing, repeating, taking, testing, violating}
 use Rattle.rasta_core_spec.specs.Calls.{acceptance, closing_by, hearing_bytes, opening, opens, receiving, sending_item, ticking}
 use Rattle.rasta_core_spec.specs.reason.Reason.{Reason}
 use Rattle.rasta_core_spec.specs.reason.Reason.TheVariants as reason
@@ -25,7 +25,7 @@ use Rattle.rasta_core_spec.specs.body.Opening.{Opening}
 use Rattle.rasta_core_spec.specs.body.Body.{Body}
 use Rattle.rasta_core_spec.specs.body.Body.TheVariants.{ConnectionRequest, ConnectionResponse, RetransmissionRequest, RetransmissionResponse, DisconnectionRequest, Heartbeat, Data, RetransmittedData}
 use Rattle.rasta_core.specs.FirstPdus.{HearsOutside, grants, refuses}
-use Rattle.caught_up_laws.specs.Change.{Change, IsMeant, IsPlain, TakesInTurn, joins, recovers, rests, shuts, turns}
+use Rattle.caught_up_laws.specs.Change.{Change, IsMeant, IsPlain, joins, recovers, rests, shuts, turns}
 use Rattle.caught_up_laws.specs.Observer.{is_recovering}
 use Rattle.caught_up_laws.specs.inside.Laws.{Laws}
 use Rattle.caught_up_laws.proofs.Lists.{by_test}

@@ -1,5 +1,5 @@
 -- What comes to an end is a PDU that its partner sent, or isn't for it.
-use Rattle.std.proofs.Common.{◌≡◌, ◌≢◌, ℕ, zero, suc, ◌<◌, inl, inr, Bool, true, false, ◌&&◌, not, if◌then◌else◌, List, [], ◌∷◌, ◌++◌, Some, Result, Ok, Err, refl, sym, ap, subst, ◌∙◌, arith}
+use Rattle.std.proofs.Common.{◌≡◌, ℕ, zero, suc, inl, inr, Bool, true, false, ◌&&◌, if◌then◌else◌, List, [], ◌∷◌, ◌++◌, Some, Ok, refl, sym, ap, subst, ◌∙◌, arith}
 use Rattle.std.specs.Prelude.{◌==◌}
 use Rattle.std.proofs.lemmas.Bool.{eqb-true, eq-eqb}
 use Rattle.std.proofs.lemmas.Option.{same_Some}
@@ -7,7 +7,6 @@ use native.Mathlib.Decide.{ℕ_discrete}
 use Rattle.rasta_core_spec.specs.identity.Identity.{Identity}
 use Rattle.rasta_core_spec.specs.identity.Role.{Role}
 use Rattle.rasta_core_spec.specs.identity.Role.TheVariants as role
-use Rattle.rasta_core_spec.specs.Bag.{lifetime}
 use Rattle.rasta_core_spec.specs.Ends.{Sent, Receives}
 use Rattle.rasta_core_spec.specs.Run.{Ends}
 use Rattle.rasta_core_spec.specs.Each.{Each}

@@ -1,12 +1,9 @@
 -- What an end knows, after every list of events.
-use Rattle.std.proofs.Common.{◌≡◌, ℕ, zero, suc, ◌+◌, ◌*◌, ◌<◌, ◌≤◌, ◌⊎◌, Bool, true, false, List, [], ◌∷◌, ◌++◌, length, take, Some, inl, inr, refl, sym, ap, subst, ◌∙◌, arith}
+use Rattle.std.proofs.Common.{◌≡◌, ℕ, zero, suc, ◌≤◌, true, false, List, [], ◌∷◌, ◌++◌, length, take, inl, inr, refl, sym, ap, subst, ◌∙◌, arith}
 use Rattle.rasta_core_spec.specs.Calls.{created}
 use Rattle.rasta_core_spec.specs.Clock.{alive_until}
-use Rattle.rasta_core_spec.specs.Each.{Each}
-use Rattle.rasta_core_spec.specs.Ends.{EndState, reading_of}
 use Rattle.rasta_core_spec.specs.Events.{Event, MayRun, Start, happened, run, started}
 use Rattle.rasta_core_spec.specs.Names.{AreNames, Names, partner_of}
-use Rattle.rasta_core_spec.specs.Parameters.{time_limit}
 use Rattle.rasta_core_spec.specs.Run.{Ends, end_of}
 use Rattle.rasta_core_spec.specs.State.{LinkState, is_asking, is_open, is_up}
 use Rattle.rasta_core_spec.specs.identity.Role.{Role}
@@ -15,13 +12,13 @@ use Rattle.rasta_core_spec.specs.phase.Phase.{Phase}
 use Rattle.rasta_core_spec.specs.phase.Phase.TheVariants as phase
 use Rattle.rasta_core.specs.Carried.{carried}
 use Rattle.caught_up_laws.specs.Exact.{pdus_of}
-use Rattle.caught_up_laws.specs.Knowledge.{HasTaken, IsBeginning, KnowsAllBy, KnowsAllInTime, KnowsUntil, clock_of}
-use Rattle.caught_up_laws.specs.Observer.{caught_up, is_recovering, until_by, watched}
+use Rattle.caught_up_laws.specs.Knowledge.{HasTaken, KnowsAllBy, KnowsAllInTime, KnowsUntil}
+use Rattle.caught_up_laws.specs.Observer.{caught_up, until_by, watched}
 use Rattle.caught_up_laws.specs.inside.Laws.{Laws}
 use Rattle.caught_up_laws.proofs.KnownRuns.{event_knows}
-use Rattle.caught_up_laws.proofs.Knows.{IsWatched, Knowing, Stayed, begins_known, watches}
+use Rattle.caught_up_laws.proofs.Knows.{IsWatched, Knowing, Stayed, begins_known}
 use Rattle.caught_up_laws.proofs.Level.{carried-append}
-use Rattle.caught_up_laws.proofs.Whole.{IsWhole, given_carried, part_of, whole_kept, whole_starts}
+use Rattle.caught_up_laws.proofs.Whole.{IsWhole, given_carried, part_of, whole_starts}
 
 -- ---- runs
 

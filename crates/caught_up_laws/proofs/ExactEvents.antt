@@ -1,5 +1,5 @@
 -- Every event keeps the exact order of two ends, and so does every run.
-use Rattle.std.proofs.Common.{◌≡◌, ℕ, ◌+◌, inl, inr, List, [], ◌∷◌, refl, sym, ap, ◌∙◌}
+use Rattle.std.proofs.Common.{ℕ, ◌+◌, inr, List, [], ◌∷◌, refl, ◌∙◌}
 use Rattle.rasta_core_spec.specs.Calls.{created}
 use Rattle.rasta_core_spec.specs.identity.Identity.{Identity}
 use Rattle.rasta_core_spec.specs.identity.Role.{Role}
@@ -12,7 +12,7 @@ use Rattle.rasta_core_spec.specs.Names.{Names, AreNames}
 use Rattle.rasta_core.specs.Invariant.{Timely}
 use Rattle.rasta_core.specs.Ordered.{Ordered}
 use Rattle.rasta_core_spec.specs.Events.{Event, Calls, Passes, Loses, Restarts, Elsewhere, May, MayCall, MayRun, Start, happened, run, started}
-use Rattle.caught_up_laws.specs.Exact.{AreTogether, Exact, unbegun, alone, together}
+use Rattle.caught_up_laws.specs.Exact.{Exact, unbegun, alone, together}
 use Rattle.caught_up_laws.specs.inside.Laws.{Laws}
 use Rattle.caught_up_laws.proofs.Lists.{flow_without}
 use Rattle.caught_up_laws.proofs.Calls.{ticks_client, closes_client, sends_client, opens_client, ticks_server, closes_server, sends_server, opens_server}

@@ -1,20 +1,18 @@
 -- A call keeps what an end knows of its partner.
-use Rattle.std.proofs.Common.{◌≡◌, ℕ, zero, suc, ◌+◌, ◌-◌, ◌*◌, ◌<◌, ◌≤◌, ◌/◌, ◌⊎◌, Bool, true, false, ◌&&◌, not, if◌then◌else◌, List, [], ◌∷◌, ◌++◌, length, Option, Some, None, inl, inr, Result, Ok, Err, refl, sym, ap, subst, ◌∙◌, arith}
+use Rattle.std.proofs.Common.{◌≡◌, ℕ, suc, ◌+◌, ◌-◌, ◌<◌, ◌≤◌, ◌⊎◌, Bool, true, false, if◌then◌else◌, List, [], ◌∷◌, ◌++◌, length, Option, Some, None, inl, inr, Result, Ok, Err, refl, sym, ap, subst, ◌∙◌, arith}
 use Rattle.std.proofs.lemmas.List.{length-append}
 use Rattle.std.proofs.lemmas.Option.{same_Some}
-use Rattle.rasta_core_spec.specs.Bag.{lifetime}
-use Rattle.rasta_core_spec.specs.Calls.{closing_by, opening, opens, receiving, sending_item, ticking}
-use Rattle.rasta_core_spec.specs.Clock.{alive_until, settled}
-use Rattle.rasta_core_spec.specs.Ends.{Call, Closes, EndState, Opens, Outcome, Receives, Sends, Sent, Ticks, end_after, is_taken, kept, newer, outcome, reading_of}
-use Rattle.rasta_core_spec.specs.Events.{Calls, Event, IsDelivered, MayCall, happened}
+use Rattle.rasta_core_spec.specs.Calls.{opens}
+use Rattle.rasta_core_spec.specs.Ends.{Call, Closes, EndState, Opens, Outcome, Receives, Sends, Sent, Ticks, end_after, kept, newer, outcome, reading_of}
+use Rattle.rasta_core_spec.specs.Events.{Calls, IsDelivered, MayCall}
 use Rattle.rasta_core_spec.specs.Names.{AreNames, Names, identity_of, partner_of}
 use Rattle.rasta_core_spec.specs.Parameters.{stops_at_greatest, time_limit}
 use Rattle.rasta_core_spec.specs.PduRead.{reading}
-use Rattle.rasta_core_spec.specs.Receipt.{age, ahead}
+use Rattle.rasta_core_spec.specs.Receipt.{age}
 use Rattle.rasta_core_spec.specs.Run.{Ends, called, end_of}
 use Rattle.rasta_core_spec.specs.Sentences.{IsOpening}
-use Rattle.rasta_core_spec.specs.Sequence.{distance, stamp, wire}
-use Rattle.rasta_core_spec.specs.State.{LinkState, is_asking, is_open}
+use Rattle.rasta_core_spec.specs.Sequence.{distance, stamp}
+use Rattle.rasta_core_spec.specs.State.{LinkState, is_open}
 use Rattle.rasta_core_spec.specs.identity.Identity.{Identity}
 use Rattle.rasta_core_spec.specs.identity.Role.{Role}
 use Rattle.rasta_core_spec.specs.identity.Role.TheVariants as role
@@ -22,20 +20,18 @@ use Rattle.rasta_core_spec.specs.key.Key.{Key}
 use Rattle.rasta_core_spec.specs.pdu.Pdu.{Pdu}
 use Rattle.rasta_core_spec.specs.pdu_fault.PduFault.{PduFault}
 use Rattle.rasta_core_spec.specs.pdu_fault.PduFault.TheVariants as fault
-use Rattle.rasta_core_spec.specs.phase.Phase.{Phase}
-use Rattle.rasta_core_spec.specs.phase.Phase.TheVariants as phase
 use Rattle.rasta_core.specs.Carried.{carried}
 use Rattle.rasta_core.specs.EndFlow.{IsAt, IsOf}
 use Rattle.rasta_core.specs.Invariant.{Timely}
 use Rattle.caught_up_laws.specs.Chain.{repeats}
-use Rattle.caught_up_laws.specs.Change.{Change, IsMeant, TakesInTurn, joins, recovers, rests, shuts, turns}
+use Rattle.caught_up_laws.specs.Change.{Change, TakesInTurn, joins, recovers, rests, shuts, turns}
 use Rattle.caught_up_laws.specs.Exact.{pdus_of}
 use Rattle.caught_up_laws.specs.Knowledge.{clock_of}
 use Rattle.caught_up_laws.specs.Observer.{caught_up, is_recovering}
 use Rattle.caught_up_laws.specs.inside.Laws.{Laws}
 use Rattle.caught_up_laws.proofs.Changes.{IsSettled, changes_closing, changes_opening, changes_received, changes_sending, changes_ticking, clock_is}
 use Rattle.caught_up_laws.proofs.Comes.{Comes, begun, comes, in_newest, of_last}
-use Rattle.caught_up_laws.proofs.Knows.{IsWatched, Known, Knowing, Stayed, keeps_so, none_elapses, open_alive, sees_exactly, steady_known, until_same}
+use Rattle.caught_up_laws.proofs.Knows.{Knowing, Stayed, keeps_so, none_elapses, open_alive, sees_exactly, steady_known, until_same}
 use Rattle.caught_up_laws.proofs.Level.{at_back, at_front, carried-append, same_at}
 use Rattle.caught_up_laws.proofs.Receptions.{opens_by, took}
 use Rattle.caught_up_laws.proofs.Sent.{event_grows}

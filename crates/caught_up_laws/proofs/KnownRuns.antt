@@ -1,10 +1,10 @@
 -- Every event keeps what an end knows of its partner, and so does every run.
-use Rattle.std.proofs.Common.{◌≡◌, ℕ, ◌+◌, ◌*◌, ◌<◌, ◌≤◌, ◌⊎◌, Bool, true, false, ◌&&◌, if◌then◌else◌, List, [], ◌∷◌, ◌++◌, length, Option, Some, None, inl, inr, refl, sym, ap, subst, ◌∙◌, arith}
+use Rattle.std.proofs.Common.{◌≡◌, ℕ, ◌+◌, ◌≤◌, Bool, true, false, ◌&&◌, List, length, refl, sym, ap, subst, ◌∙◌, arith}
 use Rattle.std.specs.Prelude.{nat_le}
 use Rattle.rasta_core_spec.specs.Calls.{created}
 use Rattle.rasta_core_spec.specs.Clock.{deadline, settled}
-use Rattle.rasta_core_spec.specs.Ends.{Call, EndState, Outcome, end_after, end_later, end_restarted, outcome, reading_of}
-use Rattle.rasta_core_spec.specs.Events.{Calls, Elsewhere, Event, IsWithinDrift, Loses, May, MayCall, MayRun, Passes, Restarts, happened, run}
+use Rattle.rasta_core_spec.specs.Ends.{Call, EndState, end_later, end_restarted, reading_of}
+use Rattle.rasta_core_spec.specs.Events.{Calls, Elsewhere, Event, IsWithinDrift, Loses, May, MayCall, Passes, Restarts, happened}
 use Rattle.rasta_core_spec.specs.Names.{AreNames, Names, partner_of}
 use Rattle.rasta_core_spec.specs.Parameters.{time_limit}
 use Rattle.rasta_core_spec.specs.Run.{Ends, called, end_of, later, lost, restarted}
@@ -14,7 +14,7 @@ use Rattle.rasta_core_spec.specs.identity.Role.TheVariants as role
 use Rattle.caught_up_laws.specs.Observer.{caught_up, is_recovering}
 use Rattle.caught_up_laws.specs.inside.Laws.{Laws}
 use Rattle.caught_up_laws.proofs.KnownCalls.{called_known, called_time, clock_after, link_after}
-use Rattle.caught_up_laws.proofs.Knows.{IsWatched, Known, Knowing, outside_recovers_not, same_known, steady_known, until_same, watches}
+use Rattle.caught_up_laws.proofs.Knows.{Known, Knowing, outside_recovers_not, same_known, steady_known, until_same, watches}
 use Rattle.caught_up_laws.proofs.Lists.{by_test}
 use Rattle.caught_up_laws.proofs.Since.{event_since}
 use Rattle.caught_up_laws.proofs.Whole.{IsWhole, whole_kept}
@@ -74,8 +74,11 @@ module _ (law : Laws) (names : Names) (are : AreNames names) where
   unfolding end_later
   passes who past now next until elapsed own moment was k drift time is = record {
     known = steady_known law names are who past was now until k next elapsed own drift time (ap (λ (e : EndState). e.clock) is) (ap (λ (e : EndState). e.connection) is) (lengths (ap (λ (e : EndState). e.taken) is))
-        (λ opened. (open_then opened, until_same until (end_of who now).link (end_of who next).link (open_then opened) (k.watched.exact (open_then opened))
-        (ap (λ (e : EndState). is_recovering e.link.phase) is ∙ ap is_recovering (same opened).0) opened (ap (λ (e : EndState). e.link.own_stamp) is ∙ (same opened).1)));
+        (λ opened. (
+          open_then opened,
+          until_same until (end_of who now).link (end_of who next).link (open_then opened) (k.watched.exact (open_then opened))
+              (ap (λ (e : EndState). is_recovering e.link.phase) is ∙ ap is_recovering (same opened).0) opened (ap (λ (e : EndState). e.link.own_stamp) is ∙ (same opened).1),
+        ));
     bounded = λ opened e. goes_on (k.watched.bounded (open_then opened)) (ap (λ (end : EndState). end.clock) is);
   }
     where

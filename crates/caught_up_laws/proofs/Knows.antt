@@ -1,56 +1,38 @@
 -- What an end knows of its partner: what it gave by a past moment, where the end is caught up.
-use Rattle.std.proofs.Common.{◌≡◌, ℕ, zero, suc, ◌+◌, ◌-◌, ◌*◌, ◌<◌, ◌≤◌, ◌/◌, ◌⊎◌, Bool, true, false, ◌&&◌, ◌||◌, not, if◌then◌else◌, List, [], ◌∷◌, ◌++◌, length, Option, Some, None, inl, inr, Result, Ok, Err, refl, sym, ap, subst, ◌∙◌, arith}
-use Rattle.std.specs.Prelude.{◌==◌, min, nat_eq, nat_le}
-use Rattle.std.proofs.lemmas.List.{length-append}
-use Rattle.std.proofs.lemmas.Option.{same_Some}
-use Rattle.rasta_core_spec.specs.Bag.{lifetime}
-use Rattle.rasta_core_spec.specs.Calls.{created, hearing_bytes, opening, opens, receiving}
-use Rattle.rasta_core_spec.specs.Clock.{alive_until, deadline, settled}
-use Rattle.rasta_core_spec.specs.Each.{Each}
-use Rattle.rasta_core_spec.specs.Ends.{Call, Closes, EndState, Opens, Outcome, Receives, Sends, Sent, Ticks, end_after, end_later, end_restarted, is_taken, kept, newer, outcome, reading_of}
-use Rattle.rasta_core_spec.specs.Establishment.{beginning, granting, judging, may_open, meeting, own_opening, requesting}
+use Rattle.std.proofs.Common.{◌≡◌, ℕ, ◌+◌, ◌*◌, ◌<◌, ◌≤◌, ◌⊎◌, Bool, true, false, if◌then◌else◌, List, [], length, Some, None, inl, inr, Result, Ok, Err, refl, sym, ap, subst, ◌∙◌, arith}
+use Rattle.std.specs.Prelude.{◌==◌, nat_eq}
+use Rattle.rasta_core_spec.specs.Calls.{hearing_bytes, opening, opens, receiving}
+use Rattle.rasta_core_spec.specs.Clock.{alive_until, deadline}
+use Rattle.rasta_core_spec.specs.Ends.{Call, Closes, EndState, Opens, Receives, Sends, Ticks, outcome, reading_of}
+use Rattle.rasta_core_spec.specs.Establishment.{beginning, granting, judging, meeting, own_opening, requesting}
 use Rattle.std.specs.Cmp.Lexicographic.{pointwise}
 use Rattle.rasta_core_spec.specs.reason.Reason.TheVariants as reason
 use Rattle.rasta_core_spec.specs.body.Body.TheVariants.{ConnectionResponse}
-use Rattle.rasta_core_spec.specs.Events.{Calls, Elsewhere, Event, IsDelivered, IsWithinDrift, Loses, May, MayCall, MayRun, Passes, Restarts, Start, happened, run, started}
-use Rattle.rasta_core_spec.specs.Names.{AreNames, Names, identity_of, partner_of}
-use Rattle.rasta_core_spec.specs.Parameters.{greatest, own_version, stops_at_greatest, time_limit, window_size}
+use Rattle.rasta_core_spec.specs.Events.{IsWithinDrift}
+use Rattle.rasta_core_spec.specs.Names.{AreNames, Names, partner_of}
+use Rattle.rasta_core_spec.specs.Parameters.{own_version, stops_at_greatest, time_limit, window_size}
 use Rattle.rasta_core_spec.specs.PduRead.{reading}
 use Rattle.rasta_core_spec.specs.PdusHandedOut.{Step, entered, sending, silent, telling}
-use Rattle.rasta_core_spec.specs.Receipt.{Receipt, accepting, age, ahead, hearing}
-use Rattle.rasta_core_spec.specs.Run.{Ends, called, end_of, later, lost, restarted}
-use Rattle.rasta_core_spec.specs.Sentences.{IsOpening}
-use Rattle.rasta_core_spec.specs.Sequence.{distance, stamp, wire}
-use Rattle.rasta_core_spec.specs.State.{LinkState, is_asking, is_open, is_up}
+use Rattle.rasta_core_spec.specs.Receipt.{Receipt, hearing}
+use Rattle.rasta_core_spec.specs.Run.{Ends, end_of}
+use Rattle.rasta_core_spec.specs.Sequence.{stamp}
+use Rattle.rasta_core_spec.specs.State.{LinkState, is_asking, is_open}
 use Rattle.rasta_core_spec.specs.body.Opening.{Opening}
-use Rattle.rasta_core_spec.specs.identity.Identity.{Identity}
 use Rattle.rasta_core_spec.specs.identity.Role.{Role}
 use Rattle.rasta_core_spec.specs.identity.Role.TheVariants as role
-use Rattle.rasta_core_spec.specs.key.Key.{Key}
 use Rattle.rasta_core_spec.specs.pdu.Pdu.{Pdu}
 use Rattle.rasta_core_spec.specs.pdu_fault.PduFault.{PduFault}
 use Rattle.rasta_core_spec.specs.phase.Phase.{Phase}
 use Rattle.rasta_core_spec.specs.phase.Phase.TheVariants as phase
-use Rattle.rasta_core.specs.Carried.{carried}
-use Rattle.rasta_core.specs.EndFlow.{IsAt, IsOf}
 use Rattle.rasta_core.specs.FirstPdus.{HearsOutside, grants, refuses}
-use Rattle.rasta_core.specs.Invariant.{IsEnd, Timely}
-use Rattle.rasta_core.specs.TimedEnds.{IsInside, Inside, Outside, own_stamp, standing}
-use Rattle.caught_up_laws.specs.Chain.{repeats}
-use Rattle.caught_up_laws.specs.Change.{Change, IsPlain, TakesInTurn, joins, recovers, rests, shuts, turns}
-use Rattle.caught_up_laws.specs.Exact.{pdus_of}
+use Rattle.rasta_core.specs.Invariant.{Timely}
+use Rattle.rasta_core.specs.TimedEnds.{Inside, Outside, own_stamp, standing}
 use Rattle.caught_up_laws.specs.Knowledge.{clock_of}
 use Rattle.caught_up_laws.specs.Observer.{caught_up, is_recovering}
 use Rattle.caught_up_laws.specs.inside.Laws.{Laws}
-use Rattle.caught_up_laws.proofs.Changes.{IsSettled, changes_closing, changes_opening, changes_received, changes_sending, changes_ticking, clock_is}
-use Rattle.caught_up_laws.proofs.Comes.{Comes, comes, of_last}
-use Rattle.caught_up_laws.proofs.Level.{at_back, at_front, same_at, within}
 use Rattle.caught_up_laws.proofs.Lists.{by_test}
-use Rattle.caught_up_laws.proofs.Receptions.{opens_by, took}
-use Rattle.caught_up_laws.proofs.Sent.{event_grows}
-use Rattle.caught_up_laws.proofs.Since.{Since, WasSentBy, event_since, since_self}
-use Rattle.caught_up_laws.proofs.Times.{told_by_then}
-use Rattle.caught_up_laws.proofs.Whole.{IsWhole, WasTold, given_carried, its_place, level_at, plain_repeats, inside_of, was_told, whole_kept, whole_starts}
+use Rattle.caught_up_laws.proofs.Since.{Since, since_self}
+use Rattle.caught_up_laws.proofs.Whole.{IsWhole, inside_of}
 
 -- ---- the observer
 

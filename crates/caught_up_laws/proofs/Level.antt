@@ -7,7 +7,7 @@ use Rattle.rasta_core_spec.specs.pdu.Pdu.{Pdu}
 use Rattle.rasta_core_spec.specs.body.Body.{Body}
 use Rattle.rasta_core_spec.specs.body.Body.TheVariants.{ConnectionRequest, ConnectionResponse, RetransmissionRequest, RetransmissionResponse, DisconnectionRequest, Heartbeat, Data, RetransmittedData}
 use Rattle.rasta_core.specs.Carried.{carried}
-use Rattle.rasta_core.specs.EndFlow.{EndFlow, IsAt, sent}
+use Rattle.rasta_core.specs.EndFlow.{EndFlow, IsAt}
 use Rattle.rasta_core.specs.Order.{Carries, Way}
 use Rattle.caught_up_laws.specs.Chain.{Chained, MayFollow, repeats}
 

@@ -1,5 +1,5 @@
 -- What comes to an end keeps the exact order of both.
-use Rattle.std.proofs.Common.{◌≡◌, ℕ, ◌<◌, ◌≤◌, inl, inr, Bool, true, false, ◌&&◌, not, if◌then◌else◌, List, [], ◌++◌, Option, Some, None, Result, Ok, Err, refl, sym, ap, subst, ◌∙◌, arith}
+use Rattle.std.proofs.Common.{◌≡◌, ℕ, inl, inr, Bool, true, false, ◌&&◌, not, if◌then◌else◌, List, [], ◌++◌, Some, None, Result, Ok, Err, refl, sym, ap, subst, ◌∙◌, arith}
 use Rattle.std.specs.Prelude.{◌==◌, nat_le}
 use Rattle.rasta_core_spec.specs.Parameters.{connection_limit}
 use Rattle.rasta_core_spec.specs.State.{LinkState, is_open, is_client}
@@ -21,7 +21,7 @@ use Rattle.rasta_core.specs.EndFlow.{EndFlow, IsOf, IsAt}
 use Rattle.rasta_core.specs.Order.{Carries, InOrder}
 use Rattle.rasta_core.specs.LinkAndFlow.{GoesOn}
 use Rattle.rasta_core.specs.FirstPdus.{EarlyGoesOn, Grants, HearsOutside, refuses, grants}
-use Rattle.rasta_core_spec.specs.Names.{AreNames, Names, identity_of, partner_of}
+use Rattle.rasta_core_spec.specs.Names.{AreNames, Names}
 use Rattle.rasta_core.specs.Invariant.{Timely}
 use Rattle.rasta_core.specs.Ordered.{Ordered}
 use Rattle.rasta_core_spec.specs.Events.{IsDelivered, MayCall}
@@ -39,7 +39,7 @@ use Rattle.caught_up_laws.specs.inside.Laws.{Laws}
 use Rattle.caught_up_laws.proofs.Lists.{both_true, by_test}
 use Rattle.caught_up_laws.proofs.Made.{made_at, server_granted}
 use Rattle.caught_up_laws.proofs.Calls.{client_call, server_call, swap, server_key, client_key, same_ends, server_silent}
-use Rattle.caught_up_laws.proofs.Comes.{Comes, IsMeant, begun, comes, for_me, in_flow, nothing_comes, nothing_sent, of_last}
+use Rattle.caught_up_laws.proofs.Comes.{Comes, IsMeant, comes, for_me, in_flow, nothing_comes, nothing_sent, of_last}
 
 not_true : (one : Bool) → not one ≡ true → one ≡ false
 not_true true e = absurd (cc (e))

@@ -1,14 +1,14 @@
 -- What was sent grows, event by event, and repeats an item in a retransmission alone.
-use Rattle.std.proofs.Common.{◌≡◌, ℕ, Bool, true, false, ◌&&◌, if◌then◌else◌, List, [], ◌∷◌, ◌++◌, length, Option, Some, None, refl, sym, ap, subst, ◌∙◌, append-nil}
+use Rattle.std.proofs.Common.{◌≡◌, ℕ, Bool, true, false, ◌&&◌, if◌then◌else◌, List, [], ◌∷◌, ◌++◌, Option, Some, None, refl, sym, ap, subst, ◌∙◌, append-nil}
 use Rattle.std.specs.Prelude.{◌==◌}
 use Rattle.rasta_core_spec.specs.Each.{Each}
-use Rattle.rasta_core_spec.specs.Ends.{Call, EndState, Outcome, Sent, end_after, handed_out, outcome}
-use Rattle.rasta_core_spec.specs.Events.{Calls, Elsewhere, Event, Loses, May, MayRun, Passes, Restarts, Start, happened, run, started}
+use Rattle.rasta_core_spec.specs.Ends.{Call, Outcome, end_after, handed_out, outcome}
+use Rattle.rasta_core_spec.specs.Events.{Calls, Elsewhere, Event, Loses, May, MayRun, Passes, Restarts, happened, run}
 use Rattle.rasta_core_spec.specs.Given.{is_same}
-use Rattle.rasta_core_spec.specs.Names.{Names, identity_of}
+use Rattle.rasta_core_spec.specs.Names.{Names}
 use Rattle.rasta_core_spec.specs.Outbox.{spellings}
 use Rattle.rasta_core_spec.specs.PduRead.{reading}
-use Rattle.rasta_core_spec.specs.Run.{Ends, called, end_of, later, lost, restarted, with_end}
+use Rattle.rasta_core_spec.specs.Run.{Ends, called, end_of, later, lost, restarted}
 use Rattle.rasta_core_spec.specs.Spelling.{writing}
 use Rattle.rasta_core_spec.specs.Values.{IsPdu}
 use Rattle.rasta_core_spec.specs.identity.Identity.{Identity}

@@ -1,5 +1,5 @@
 -- What an end has sent since a moment.
-use Rattle.std.proofs.Common.{◌≡◌, ℕ, zero, suc, ◌+◌, Bool, true, false, List, [], ◌∷◌, ◌++◌, Option, ◌⊎◌, inl, inr, Ok, refl, sym, ap, subst, ◌∙◌, append_assoc, append-nil}
+use Rattle.std.proofs.Common.{◌≡◌, ℕ, zero, suc, true, List, [], ◌∷◌, ◌++◌, ◌⊎◌, inl, inr, Ok, refl, sym, ap, subst, ◌∙◌, append_assoc, append-nil}
 use Rattle.rasta_core_spec.specs.Bag.{is_copy, without_oldest}
 use Rattle.rasta_core_spec.specs.Ends.{Call, Sent, end_after, handed_out, outcome}
 use Rattle.rasta_core_spec.specs.Events.{Calls, Elsewhere, Event, IsAmong, Loses, Passes, Restarts, happened}
@@ -108,9 +108,9 @@ since_lost names who connection then now bytes since = record {
         → WasSentBy then datagram ⊎ IsOf pdu since.more
     of_kept datagram pdu was its there read = elim (since.sources was.before pdu was.among (was.same.sender ∙ its) (was.same.connection ∙ there)
         (subst (λ (b : List ℕ). reading names.key b ≡ Ok pdu) (sym was.same.bytes) read)) [
-      | inl sent ↦ inl (record { earlier = sent.earlier; among = sent.among; same = same_on sent.earlier was.before datagram sent.same was.same })
-      | inr of ↦ inr of
-    ]
+          | inl sent ↦ inl (record { earlier = sent.earlier; among = sent.among; same = same_on sent.earlier was.before datagram sent.same was.same })
+          | inr of ↦ inr of
+        ]
 
 handed_by : Role → Call → Ends → List Sent
 handed_by utterer call ends = handed_out ends.time utterer (end_after (outcome call ends.moment (end_of utterer ends)) ends.moment (end_of utterer ends)).connection

@@ -1,5 +1,5 @@
 -- Whatever returns a stamp was sent after that was read.
-use Rattle.std.proofs.Common.{◌≡◌, ℕ, ◌+◌, ◌-◌, ◌*◌, ◌^◌, ◌≤◌, ◌<◌, ◌/◌, ◌%◌, sym, ap, subst, ◌∙◌, arith}
+use Rattle.std.proofs.Common.{◌≡◌, ℕ, ◌+◌, ◌-◌, ◌*◌, ◌^◌, ◌≤◌, ◌<◌, ◌/◌, arith}
 use Rattle.rasta_core_spec.specs.Sequence.{distance, stamp}
 
 -- a reading of less than a turn of the stamps ago is told by its stamp

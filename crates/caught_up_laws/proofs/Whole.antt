@@ -1,18 +1,15 @@
 -- What is kept of two ends, and where they stand in what they sent each other.
-use Rattle.std.proofs.Common.{◌≡◌, ℕ, zero, suc, ◌+◌, ◌-◌, ◌*◌, ◌^◌, ◌<◌, ◌≤◌, ◌/◌, ◌%◌, Bool, true, false, ◌&&◌, if◌then◌else◌, List, [], ◌∷◌, ◌++◌, length, Option, Some, None, inl, inr, Result, Ok, Err, refl, sym, ap, subst, ◌∙◌, append-nil, arith}
+use Rattle.std.proofs.Common.{◌≡◌, ℕ, suc, ◌+◌, ◌*◌, ◌^◌, ◌<◌, ◌≤◌, Bool, true, false, if◌then◌else◌, List, [], ◌∷◌, ◌++◌, length, Some, Result, Ok, Err, refl, sym, ap, subst, ◌∙◌, append-nil, arith}
 use Rattle.std.proofs.lemmas.Option.{same_Some}
-use Rattle.rasta_core_spec.specs.Bag.{lifetime}
-use Rattle.rasta_core_spec.specs.Each.{Each}
-use Rattle.rasta_core_spec.specs.Ends.{EndState, Sent, reading_of}
-use Rattle.rasta_core_spec.specs.Events.{Event, IsAmong, May, Start, happened, run, started}
+use Rattle.rasta_core_spec.specs.Ends.{Sent}
+use Rattle.rasta_core_spec.specs.Events.{Event, IsAmong, May, Start, happened, started}
 use Rattle.rasta_core_spec.specs.Given.{IsGiven, is_of, items_given, items_in, new_items}
 use Rattle.rasta_core_spec.specs.Names.{AreNames, Names, partner_of}
 use Rattle.rasta_core_spec.specs.PduRead.{reading}
-use Rattle.rasta_core_spec.specs.Receipt.{age, ahead}
+use Rattle.rasta_core_spec.specs.Receipt.{ahead}
 use Rattle.rasta_core_spec.specs.Run.{Ends, end_of}
 use Rattle.rasta_core_spec.specs.Sequence.{distance, stamp, wire}
 use Rattle.rasta_core_spec.specs.State.{LinkState, is_asking, is_open, is_up}
-use Rattle.rasta_core_spec.specs.TrueClocks.{most_off}
 use Rattle.rasta_core_spec.specs.body.Body.{Body}
 use Rattle.rasta_core_spec.specs.body.Body.TheVariants.{ConnectionRequest, ConnectionResponse, RetransmissionRequest, RetransmissionResponse, DisconnectionRequest, Heartbeat, Data, RetransmittedData}
 use Rattle.rasta_core_spec.specs.identity.Role.{Role}
@@ -21,22 +18,22 @@ use Rattle.rasta_core_spec.specs.pdu.Pdu.{Pdu}
 use Rattle.rasta_core_spec.specs.pdu_fault.PduFault.{PduFault}
 use Rattle.rasta_core_spec.specs.phase.Phase.TheVariants as phase
 use Rattle.rasta_core.specs.Carried.{carried}
-use Rattle.rasta_core.specs.EndFlow.{EndFlow, IsAt, IsOf, sent}
+use Rattle.rasta_core.specs.EndFlow.{EndFlow, IsAt}
 use Rattle.rasta_core.specs.FirstPdus.{PlaysEarly, asks, gone}
 use Rattle.rasta_core.specs.Invariant.{InFlight, Timely}
 use Rattle.rasta_core.specs.LinkAndFlow.{HasJoined, Plays, asking, joined, left, reads}
 use Rattle.rasta_core_spec.specs.Clock.{open_state}
 use Rattle.rasta_core.specs.Order.{Way}
 use Rattle.rasta_core.specs.TimedEnds.{IsInside, Inside, Outside, standing, times_of}
-use Rattle.rasta_core.specs.Timely.{IsAnswering, IsKnown, WasReadThenBy}
+use Rattle.rasta_core.specs.Timely.{IsAnswering, IsKnown}
 use Rattle.caught_up_laws.specs.Chain.{Chained, repeats}
-use Rattle.caught_up_laws.specs.Change.{IsPlain, TakesInTurn}
-use Rattle.caught_up_laws.specs.Exact.{AreTogether, Exact, IsAlone, alone, pdus_in, pdus_of, together, unbegun}
+use Rattle.caught_up_laws.specs.Change.{IsPlain}
+use Rattle.caught_up_laws.specs.Exact.{Exact, alone, pdus_in, pdus_of, together, unbegun}
 use Rattle.caught_up_laws.specs.inside.Laws.{Laws}
 use Rattle.caught_up_laws.proofs.ExactEvents.{IsSound, sound_kept, sound_starts}
 use Rattle.caught_up_laws.proofs.Chains.{chained_append}
 use Rattle.caught_up_laws.proofs.Sent.{event_grows}
-use Rattle.caught_up_laws.proofs.Level.{carried-append, level, same_at, within}
+use Rattle.caught_up_laws.proofs.Level.{carried-append, level, within}
 use Rattle.caught_up_laws.proofs.Lists.{among_each}
 
 pub record IsWhole (names : Names) (ends : Ends) : Type 0 where

@@ -1,5 +1,5 @@
 -- What a call makes of an end that is in a connection, as far as *caught up* goes.
-use Rattle.std.specs.Prelude.{◌≡◌, ℕ, ◌-◌, true, false, Result, Ok}
+use Rattle.std.specs.Prelude.{◌≡◌, ◌-◌, true, false, Result, Ok}
 use Rattle.rasta_core_spec.specs.Receipt.{age, ahead}
 use Rattle.rasta_core_spec.specs.Sequence.{wire}
 use Rattle.rasta_core_spec.specs.State.{LinkState, is_asking, is_open}

@@ -6,6 +6,7 @@ use Rattle.rasta_core_spec.specs.Events.{Event, MayRun, Start, run, started}
 use Rattle.rasta_core_spec.specs.Names.{Names, partner_of}
 use Rattle.rasta_core_spec.specs.Parameters.{time_limit}
 use Rattle.rasta_core_spec.specs.Run.{Ends, end_of}
+use Rattle.rasta_core_spec.specs.Sentences.{freshness}
 use Rattle.rasta_core_spec.specs.State.{is_up}
 use Rattle.rasta_core_spec.specs.TrueClocks.{sets}
 use Rattle.rasta_core_spec.specs.identity.Role.{Role}
