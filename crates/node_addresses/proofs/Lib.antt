@@ -1,3 +1,4 @@
 pub mod AddressesSoFar
 pub mod Refuted
 pub mod Explained
+pub mod NetworksExplained
