@@ -1,4 +1,3 @@
 pub mod AddressesSoFar
 pub mod Refuted
 pub mod Explained
-pub mod NetworksExplained
