@@ -142,7 +142,7 @@ module _ (law : Laws) (names : Names) (are : AreNames names) (who : Role) where
       (λ connection stayed. stayed.knows (omega (arith, before, long_ago, stayed.least)))
 
   pub knows_until : (start : Start) (earlier later : List Event) → KnowsUntil who names start earlier later
-  knows_until start earlier later may up before spared =
+  knows_until start earlier later may up before =
       let moment = at_moment start earlier later may
       in takes_all (run earlier (started names start)) (run later (run earlier (started names start))) (until_by caught_up who (earlier ++ later) (started names start)) moment.was moment.knowing up
       (λ connection stayed. stayed.knows before)

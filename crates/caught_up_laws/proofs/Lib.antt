@@ -16,3 +16,4 @@ mod Knows
 mod KnownCalls
 mod KnownRuns
 mod Conclusions
+mod Links

@@ -1,6 +1,5 @@
 -- How old what an end doesn't know can be.
-use Rattle.std.specs.Prelude.{◌≡◌, ℕ, ◌+◌, ◌≤◌, ◌<◌, true, false, List, ◌++◌, Some}
-use Rattle.rasta_core_spec.specs.Each.{Each}
+use Rattle.std.specs.Prelude.{◌≡◌, ℕ, ◌+◌, ◌≤◌, ◌<◌, true, List, ◌++◌, Some}
 use Rattle.rasta_core_spec.specs.Ends.{reading_of}
 use Rattle.rasta_core_spec.specs.Events.{Event, MayRun, Start, run, started}
 use Rattle.rasta_core_spec.specs.Names.{Names, partner_of}
@@ -8,17 +7,12 @@ use Rattle.rasta_core_spec.specs.Parameters.{time_limit}
 use Rattle.rasta_core_spec.specs.Run.{Ends, end_of}
 use Rattle.rasta_core_spec.specs.Sentences.{freshness}
 use Rattle.rasta_core_spec.specs.State.{is_up}
-use Rattle.rasta_core_spec.specs.TrueClocks.{sets}
 use Rattle.rasta_core_spec.specs.identity.Role.{Role}
 use Rattle.caught_up_laws.specs.Observer.{Rule, caught_up, until_by}
 
 -- what the clock of an end reads, in milliseconds
 abbrev pub clock_of : Role → Ends → ℕ
 clock_of who ends = reading_of (end_of who ends).clock
-
--- an event that doesn't make this end anew
-abbrev pub Spares : Role → Event → Type 0
-Spares who event = sets who event ≡ false
 
 -- these items are the first of those
 pub record IsBeginning (some all : List (List ℕ)) : Type 0 where
@@ -58,5 +52,4 @@ KnowsUntil who names start earlier later =
     in let now = run later then
     in MayRun names (earlier ++ later) (started names start)
     → is_up (end_of who now).link.phase ≡ true
-    → clock_of who then + time_limit < until_by caught_up who (earlier ++ later) (started names start)
-    → Each (Spares who) later → HasTaken who then now
+    → clock_of who then + time_limit < until_by caught_up who (earlier ++ later) (started names start) → HasTaken who then now

@@ -1,5 +1,6 @@
 pub mod Observer
 pub mod Knowledge
+pub mod EachLink
 pub mod Starved
 pub mod Change
 pub mod Exact
