@@ -74,7 +74,7 @@ ar x "$room/llvm.a"
 ar x "$top/crates/codec/out/libcodec.a"
 rm -f "$crate/out/libzendurai.a"
 ar rcs "$crate/out/libzendurai.a" ./*.o
-echo 'int main(void) { static const uint8_t text[] = "x"; return zendurai_layout_read(text, 1) == 1 && zendurai_pdu_read != NULL ? 0 : 1; }' |
+echo 'int main(void) { static const uint8_t text[] = "x"; struct zendurai_signal none = {NULL, 0}; return zendurai_layout_read(text, 1) == 1 && zendurai_signal_tick(&none, 0) == ZENDURAI_NOT_STARTED ? 0 : 1; }' |
     cat <(echo '#include "zendurai.h"') <(echo '#include "zendurai_controllers.h"') - >"$room/both.c"
 cc -std=c11 -O2 $warnings -I"$crate" -I"$top/crates/codec" -o "$room/both" "$room/both.c" "$crate/out/libzendurai.a" "$(dirname "$(rt doc)")/c/liblibc_c.a"
 "$room/both"
