@@ -14,6 +14,8 @@ mod rule;
 mod search;
 mod sides;
 mod slow;
+#[cfg(test)]
+mod tests;
 mod text;
 mod topology;
 
