@@ -1,6 +1,7 @@
 -- Each passable way of at most 64 elements is found.
-use Rattle.std.proofs.Common.{◌≡◌, ◌≤◌, ◌∙◌, ◌⊎◌, true, ℕ, zero, suc, List, [], ◌∷◌, ◌++◌, length, Option, Some, refl, sym, ap, subst, ⊎_elim, arith}
+use Rattle.std.proofs.Common.{◌≡◌, ◌≢◌, ◌≤◌, ◌+◌, ◌∙◌, ◌⊎◌, Bool, true, false, ℕ, zero, suc, List, [], ◌∷◌, ◌++◌, length, map, Option, Some, None, refl, sym, ap, subst, inl, inr, ⊎_elim, arith}
 use Rattle.std.specs.List.{Contains}
+use Rattle.std.proofs.lemmas.List.{map-append}
 use Rattle.std.proofs.lemmas.List.Elements.{Contains-append_left, Contains-append_right}
 use Rattle.control_table.specs.layout.declared.ids.SignalId.{SignalId}
 use Rattle.control_table.specs.layout.declared.ids.BorderId.{BorderId}
@@ -8,20 +9,21 @@ use Rattle.control_table.specs.layout.declared.port.Port.{Port}
 use Rattle.control_table.specs.layout.declared.port.Element.{Element}
 use Rattle.control_table.specs.layout.declared.port.Element.TheVariants as of
 use Rattle.control_table.specs.layout.declared.entries.Exit.{Exit}
+use Rattle.control_table.specs.layout.declared.entries.Exit.TheVariants as exit
 use Rattle.control_table.specs.layout.Entries.{Site}
 use Rattle.control_table.specs.layout.Once.{Once, Distinct}
 use Rattle.control_table.specs.layout.Station.{HasPort, IsStation}
-use Rattle.control_table.specs.Topology.{Joined, StandsAt}
-use Rattle.control_table.specs.Path.{Passage, Leads, ExitAt, EndsAt, elements}
+use Rattle.control_table.specs.Topology.{Joined, StandsAt, port_of}
+use Rattle.control_table.specs.Path.{Passage, Passes, Leads, ExitAt, EndsAt, elements}
 use Rattle.route_derivation.specs.declared.search.Beyond.TheVariants as comes
 use Rattle.route_derivation.specs.Ways.{Way, IsPassable, IsShort}
 use Rattle.route_derivation.specs.inside.WaySearch.{Partial, start, joined_to, first_out, second_out, may_go, longer, comes_to, ways_over, ways_behind, ways_at, ways_from}
 use Rattle.route_derivation.proofs.Joints.{OneBeyond, one-beyond}
-use Rattle.route_derivation.proofs.Members.{contains-here, contains-there, some-injective, distinct-first, distinct-rest}
-use Rattle.route_derivation.proofs.Lists.{append-one, mapped-contains}
+use Rattle.route_derivation.proofs.Members.{contains-none, contains-here, contains-there, some-injective, distinct-first, distinct-rest}
+use Rattle.route_derivation.proofs.Lists.{append-one, contains-last, mapped-contains, distinct-behind}
 use Rattle.route_derivation.proofs.Adding.{over_on}
 use Rattle.route_derivation.proofs.Grow.{Faithful, Fits, longer-passages, start-passages, faithful-start, faithful-longer, fits-prefix, may_go-decides}
-use Rattle.route_derivation.proofs.Reach.{joined-ports, exit-port, passage-tried, border-not-passed, end-is, GoesOn, on-is}
+use Rattle.route_derivation.proofs.Reach.{joined-ports, stands-port, exit-port, passage-tried, border-not-passed, IsEnd, end-is, GoesOn, on-is}
 
 -- ---- parts of a way
 

@@ -1,12 +1,13 @@
 -- What is found from all signals of a list.
-use Rattle.std.proofs.Common.{◌≡◌, ◌≢◌, ◌<◌, ◌≤◌, ◌+◌, ◌-◌, ◌∙◌, Bool, true, false, ◌==◌, ℕ, zero, suc, List, [], ◌∷◌, ◌++◌, length, Some, Ok, Err, refl, sym, ap, subst, inl, inr, ⊎_elim, arith, length-append}
+use Rattle.std.proofs.Common.{◌≡◌, ◌≢◌, ◌<◌, ◌≤◌, ◌+◌, ◌-◌, ◌∙◌, ◌⊎◌, Bool, true, false, ◌==◌, ℕ, zero, suc, List, [], ◌∷◌, ◌++◌, length, map, Option, Some, None, Ok, Err, refl, sym, ap, subst, inl, inr, ⊎_elim, arith, length-append}
 use Rattle.std.specs.Prelude.{Result, IfOk, slice_get, if◌then◌else◌}
 use Rattle.std.specs.Bool.{Decides}
-use Rattle.std.specs.List.{AllPairs, Contains}
+use Rattle.std.specs.List.{AllPairs, Contains, list_any}
 use Rattle.std.proofs.lemmas.Bool.{false≢true}
 use Rattle.std.proofs.lemmas.Bool.Decides.{Decides-like, Decides-eqb}
 use Rattle.std.proofs.lemmas.List.Elements.{Contains-append_left, Contains-append_right, Contains-append_cases}
 use Rattle.control_table.specs.sci_telegram.declared.message.Side.TheVariants as side
+use Rattle.control_table.specs.layout.declared.ids.PointId.{PointId}
 use Rattle.control_table.specs.layout.declared.ids.SignalId.{SignalId}
 use Rattle.control_table.specs.layout.declared.port.Port.{Port}
 use Rattle.control_table.specs.layout.declared.entries.Signal.{Signal}
@@ -20,7 +21,7 @@ use Rattle.route_derivation.specs.declared.fault.Underived.TheVariants.{TooMany,
 use Rattle.route_derivation.specs.Ways.{Way, IsRouteWay, PartsLeft, ports, ComesBefore, AreRouteWays, TooManyWays}
 use Rattle.route_derivation.specs.inside.WaySearch.{is_asked, ways_from, ways_asked, ways_below, Adds, Stops, Finds}
 use Rattle.route_derivation.proofs.Members.{contains-none, any-decides, none-some}
-use Rattle.route_derivation.proofs.Same.{signal-decides}
+use Rattle.route_derivation.proofs.Same.{signal-decides, is_left}
 use Rattle.route_derivation.proofs.SideLaws.{option_map-some}
 use Rattle.route_derivation.proofs.Lists.{contains-last, pairs-nil, pairs-append}
 use Rattle.route_derivation.proofs.Sound.{found-fine}

@@ -1,5 +1,5 @@
 -- Each way that is found is passable.
-use Rattle.std.proofs.Common.{◌≡◌, ◌≤◌, ◌+◌, ◌∙◌, Bool, true, false, ℕ, zero, suc, List, [], ◌∷◌, ◌++◌, length, Option, Some, None, refl, sym, ap, subst, ⊎_elim, arith, length-append}
+use Rattle.std.proofs.Common.{◌≡◌, ◌≢◌, ◌≤◌, ◌+◌, ◌∙◌, ◌⊎◌, Bool, true, false, ℕ, zero, suc, List, [], ◌∷◌, ◌++◌, length, map, Option, Some, None, refl, sym, ap, subst, inl, inr, ⊎_elim, arith, length-append}
 use Rattle.std.specs.List.{Contains}
 use Rattle.std.proofs.lemmas.List.Elements.{Contains-append_cases}
 use Rattle.control_table.specs.layout.declared.ids.SignalId.{SignalId}
@@ -16,7 +16,8 @@ use Rattle.route_derivation.specs.Ways.{Way, IsWay, IsPassable, IsShort}
 use Rattle.route_derivation.specs.inside.WaySearch.{Partial, start, joined_to, first_out, second_out, may_go, longer, comes_to, ways_on, ways_over, ways_behind, ways_at, ways_from}
 use Rattle.route_derivation.proofs.Joints.{OneBeyond, one-beyond, joined-found}
 use Rattle.route_derivation.proofs.Members.{contains-none, contains-cases}
-use Rattle.route_derivation.proofs.Lists.{contains-grown}
+use Rattle.route_derivation.proofs.SideLaws.{option_cases}
+use Rattle.route_derivation.proofs.Lists.{contains-last, contains-grown}
 use Rattle.route_derivation.proofs.Adding.{over_none, over_full, over_stopped, over_on}
 use Rattle.route_derivation.proofs.Grow.{Faithful, Fits, longer-passages, start-passages, faithful-start, faithful-longer, fits-start, may_go-decides}
 use Rattle.route_derivation.proofs.Reach.{first-passes, second-passes, end-found, on-found}

@@ -14,8 +14,6 @@ mod rule;
 mod search;
 mod sides;
 mod slow;
-#[cfg(test)]
-mod tests;
 mod text;
 mod topology;
 

@@ -1,7 +1,7 @@
 -- How ways are searched, step by step.
 use Rattle.std.specs.Prelude.{◌≡◌, ℕ, suc, zero, ◌<◌, ◌≤◌, ◌==◌, ◌-◌, ◌&&◌, ◌||◌, length, Bool, true, false, not, is_some, List, [], ◌∷◌, ◌++◌, Option, Some, None, Result, Ok, Err, slice_get, if◌then◌else◌}
 use Rattle.std.specs.Option.{option_map, option_or}
-use Rattle.std.specs.List.{list_any}
+use Rattle.std.specs.List.{list_any, flat_map}
 use Rattle.control_table.specs.sci_telegram.declared.message.Side.{Side}
 use Rattle.control_table.specs.sci_telegram.declared.message.Side.TheVariants as side
 use Rattle.control_table.specs.layout.declared.ids.SectionId.{SectionId}
@@ -14,6 +14,7 @@ use Rattle.layout_text.specs.declared.entries.End.{End}
 use Rattle.layout_text.specs.declared.entries.End.TheVariants as end
 use Rattle.control_table.specs.layout.declared.entries.Joint.{Joint}
 use Rattle.control_table.specs.layout.declared.entries.Signal.{Signal}
+use Rattle.control_table.specs.layout.declared.entries.Exit.{Exit}
 use Rattle.control_table.specs.layout.declared.entries.Exit.TheVariants as exit
 use Rattle.control_table.specs.layout.Entries.{Site}
 use Rattle.control_table.specs.layout.Known.{same_port, same_element, end_number}
