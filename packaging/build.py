@@ -17,7 +17,7 @@ import help_pages
 
 TOP = pathlib.Path(__file__).resolve().parent.parent
 OWN = pathlib.Path(__file__).resolve().parent
-MAINTAINER = "Zendurai <zendurai@localhost>"
+MAINTAINER = "Zendurai maintainers <maintainers@users.noreply.zendurai.example>"
 DISSECTORS = "usr/lib/x86_64-linux-gnu/wireshark/plugins"
 
 

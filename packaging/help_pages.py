@@ -70,10 +70,10 @@ def roff(text):
 
 
 def body(details):
-    """Paragraphs; what is set in by two and more is printed as it stands."""
+    """Paragraphs; what is set in by two and more, and examples, are printed as they stand."""
     out = []
     for part in re.split(r"\n\n+", details):
-        if part.startswith("  "):
+        if part.startswith(("  ", "Example")):
             out += [".PP", ".RS 2", ".nf", *map(roff, part.split("\n")), ".fi", ".RE"]
         else:
             out += [".PP", *map(roff, part.split("\n"))]
