@@ -1,6 +1,6 @@
 // Reads a PDU and a telegram over the C interface of the codecs, and tries changes of them drawn from a seed: what is read is
 // written as the same bytes. A tenth as many changes of a layout's text are read, too. usage: codec LAYOUT [CHANGES [SEED]]
-#include "zendurai.h"
+#include "zendurai_codecs.h"
 
 #include <stdio.h>
 #include <stdlib.h>

@@ -27,7 +27,7 @@ OTHER_NAMES = {
     "programs of others": ["cmp", "mergecap", "wireshark"],
     "items of the kit": ["thiserror::Error", "Threads", "Wait"],
     "a field of HTTP": ["Origin"],
-    "functions of the C library": ["malloc", "memcpy", "memset"],
+    "functions of the C library": ["malloc", "memcpy", "memmove", "memset"],
     "keys of a keyboard": ["F2", "Shift"],
     "what bench/panel.py is asked for": ["storm"],
     "what is gone, and is told as gone": ["md4_speed", "station_sim"],

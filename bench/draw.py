@@ -12,9 +12,10 @@ chosen     what is chosen by hand and not derived: names, aspects, approaches, e
 view       zoom, sliding, moving the paper, fit; names by double click; another bend by Shift; a new drawing, and undo of it; a page that is
            loaded again has what was drawn
 faults     each fault that a drawing can have is shown at its place, and its button mends it
-served     the page as a program serves it (played here): who checked, saving, a file that changed meanwhile, running
+served     the page as a program serves it (played here, so that it says what is wanted): who checked, saving, a file that changed
+           meanwhile, running
 opened     the layouts of examples/, which have no positions, are placed; what was chosen by hand is kept when they are opened again
-random     200 random drawings: what has no fault opens again as the same. With --station, the program, `station check` accepts each text, and
+random     200 random drawings, or --count: what has no fault opens again as the same. With --station, the program, `station check` accepts each text, and
            those that were drawn by mouse
 routes     layouts with the routes that another program derived (--cases, a folder of NAME.toml with NAME.routes): the page derives the
            same, and finds places for them, unless two borders are joined to one another
@@ -487,23 +488,24 @@ def told_faults(page, report):
 
 class Desk(http.server.BaseHTTPRequestHandler):
     """Plays the program: what the page is to ask, with the answers that it is given here."""
-    page, file, known, verdict, asked = "", "", "1", None, []
+    page, file, known, verdict, asked, running = "", "", "1", None, [], False
 
     def do_GET(self):
         if self.path == "/":
             return self.give(200, self.page, "text/html; charset=utf-8")
-        self.give(200, json.dumps({"file": "mine.toml", "text": type(self).file, "known": type(self).known, "token": "secret", "version": "1.0.0"}), "application/json")
+        self.give(200, json.dumps({"file": "mine.toml", "text": type(self).file, "known": type(self).known, "token": "secret", "version": "1.0.0", "running": type(self).running}), "application/json")
 
     def do_POST(self):
         body = self.rfile.read(int(self.headers["Content-Length"])).decode()
         self.asked.append((self.path, body, self.headers.get("X-Token"), self.headers.get("X-Known")))
         if self.path == "/check":
-            return self.give(200, json.dumps(type(self).verdict(body)), "application/json")
+            return self.give(200, json.dumps({**type(self).verdict(body), "running": type(self).running}), "application/json")
         if self.path == "/save":
-            if self.headers.get("X-Known") not in (None, type(self).known):
+            if self.headers.get("X-Known") not in ("anything", type(self).known):
                 return self.give(409, "changed meanwhile")
             type(self).file, type(self).known = body, str(int(type(self).known) + 1)
             return self.give(200, type(self).known)
+        type(self).running = body == "start"
         self.give(200, "http://127.0.0.1:1/\n" if body == "start" else "stopped")
 
     def give(self, status, text, kind="text/plain"):
@@ -630,7 +632,7 @@ RANDOM = """(() => {
 })()"""
 
 
-def random_drawings(page, report, count=200):
+def random_drawings(page, report, count):
     tell = {"sound": 0, "faulty": 0, "same": 0, "routes": 0, "other": [], "texts": []}
     for seed in range(1, 100):
         part = page.tell(RANDOM.replace("SEED", str(seed)).replace("COUNT", "50"))
@@ -673,6 +675,7 @@ def main():
     words.add_argument("--size", default="1280x720", type=lambda text: tuple(map(int, text.split("x"))))
     words.add_argument("--cases", type=pathlib.Path, help="layouts with derived routes")
     words.add_argument("--station", help="the program, which is to check what the page accepts")
+    words.add_argument("--count", type=int, default=200, help="how many random drawings without faults")
     words.add_argument("kinds", nargs="*", default=["mouse", "keyboard", "chosen", "view", "faults", "served", "opened", "random", "routes"])
     given = words.parse_intermixed_args()
     if given.to:
@@ -692,7 +695,8 @@ def work(kind, address, given, report):
         return served(given.size, report)
     if kind == "routes" and not given.cases:
         return None
-    does = {"mouse": mouse, "keyboard": keyboard, "chosen": chosen, "view": view, "faults": faults, "opened": opened, "random": random_drawings,
+    does = {"mouse": mouse, "keyboard": keyboard, "chosen": chosen, "view": view, "faults": faults, "opened": opened,
+            "random": lambda page, report: random_drawings(page, report, given.count),
             "routes": lambda page, report: routes(page, report, given.cases)}[kind]
     page = Page(address, given.size)
     try:

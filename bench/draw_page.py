@@ -1,5 +1,5 @@
 #!/usr/bin/env python3
-"""Writes the page on which a station is drawn to standard output, as `station draw` serves it. A browser opens it by itself:
+"""Writes the page on which a station is drawn to standard output. A browser opens it by itself:
 
     python3 bench/draw_page.py > draw.html
 

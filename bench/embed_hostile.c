@@ -1,7 +1,7 @@
 /* Drives a signal, a point and a detector with what a hostile network and a careless driver may bring: datagrams of a record, changed
    ones, random bytes; a clock that stands, jumps and falls; calls left out and in any order. The rooms have canaries on both sides. What
    each answer says is judged by a model of the rules of the loop. usage: embed_hostile RECORD STEPS SEED */
-#include "zendurai_controllers.h"
+#include "zendurai.h"
 
 #include <stdio.h>
 #include <stdlib.h>

@@ -1,111 +1,263 @@
-/* Replays what `station node` recorded of a signal through the library: the same datagrams and the same orders of its lamp, byte for
-   byte. usage: embed_replay RECORD OWN PARTNER OWN-NAME PARTNER-NAME VERSION */
-#include "zendurai_controllers.h"
+/* Replays what a process of `station node` recorded through the library: each line of the record has to follow, in its place, from what came
+   before it: the same orders, and the same datagrams, byte for byte. A record that ends early is a beginning.
+   usage: embed_replay signal|point|detector RECORD OWN PARTNER OWN-NAME PARTNER-NAME VERSION [SECTION ..]
+          embed_replay interlocking RECORD LAYOUT */
+#include "zendurai.h"
 
 #include <inttypes.h>
 #include <stdio.h>
 #include <stdlib.h>
 #include <string.h>
 
-static _Alignas(ZENDURAI_ROOM_ALIGN) uint8_t room[ZENDURAI_ROOM_BYTES];
-static char made[512][640], want[512][640];
-static size_t makes, wants;
+enum { SIGNAL, POINT, DETECTOR, IXL };
+static int kind;
+static _Alignas(ZENDURAI_ROOM_ALIGN) uint8_t room[ZENDURAI_INTERLOCKING_ROOM_BYTES];
+static struct zendurai_signal sig = {room, 0};
+static struct zendurai_point point = {room, 0};
+static struct zendurai_detector detector = {room, 0};
+static struct zendurai_interlocking ixl = {room, 0};
 
-static void note(char (*list)[640], size_t *count, const char *text) {
-    if (*count < 512) snprintf(list[(*count)++], 640, "%s", text);
+/* ---- the record, line by line */
+
+static FILE *record;
+static char line[2048], after[2048];
+static unsigned long line_number;
+static unsigned steps, datagrams, orders;
+
+static void ends(void) {
+    printf("same: %u steps, %u datagrams, %u orders\n", steps, datagrams, orders);
+    exit(0);
+}
+static void read_one(char *into) {
+    into[0] = 0;
+    if (!fgets(into, sizeof line, record)) return;
+    if (!strchr(into, '\n')) into[0] = 0; /* a line that isn't whole is none */
+    into[strcspn(into, "\n")] = 0;
+}
+/* The next line, which is there; `after` is the one after it. What tells of the process itself is no part of the replay. */
+static void go_on(void) {
+    do {
+        strcpy(line, after), line_number++;
+        read_one(after);
+    } while (!strncmp(line, "complains ", 10) || !strncmp(line, "throws ", 7) || (kind == IXL && (!strncmp(line, "writes ", 7) || !strcmp(line, "listens"))));
+}
+static void differs(const char *wanted) {
+    fprintf(stderr, "line %lu: %s\n  here: %s\n", line_number, line, wanted);
+    exit(1);
+}
+static int begins(const char *word) { return !strncmp(line, word, strlen(word)); }
+static uint64_t reading(void) {
+    uint64_t now;
+    if (!line[0]) ends();
+    if (sscanf(line, "at %" SCNu64, &now) != 1) differs("a reading");
+    go_on();
+    return now;
 }
 
-static char order[64] = "show stop"; /* what was written last */
+/* ---- what was handed out waits for its order, as it does there */
 
-static void after_step(struct zendurai_signal *s, uint64_t now) {
-    static const char *const names[] = {"stop", "proceed", "slow"};
+struct waiting {
+    uint64_t behind, since;
+    char text[640];
+};
+static struct waiting queue[4096];
+static size_t first, count;
+static uint64_t written, in_force, begun;
+static char order[64];
+
+static const char *receiver(size_t to) {
+    static char name[24];
+    size_t size = 0;
+    if (zendurai_interlocking_name(&ixl, ZENDURAI_KIND_NODE, to, (uint8_t *)name, 20, &size)) differs("a datagram to no node");
+    name[size] = 0;
+    return name;
+}
+
+static void takes_all(uint64_t now, const char *partner) {
     uint8_t out[ZENDURAI_DATAGRAM_BYTES];
-    struct zendurai_lamp lamp;
-    size_t size;
-    char text[640], line[64];
-    if (zendurai_signal_order(s, now, &lamp)) return;
-    if (lamp.aspect) snprintf(line, sizeof line, "show %s until %" PRIu64, names[lamp.aspect], lamp.until);
-    else snprintf(line, sizeof line, "show stop");
-    if (strcmp(line, order)) {
-        strcpy(order, line);
-        snprintf(text, sizeof text, "at %" PRIu64 " %s", now, line);
-        note(made, &makes, text);
-    }
-    zendurai_signal_done(s);
-    while (!zendurai_signal_next(s, now, out, sizeof out, &size) && size) {
-        char *at = text + sprintf(text, "sends ");
+    size_t size = 0, to = 0;
+    for (;;) {
+        uint32_t answer = kind == SIGNAL ? zendurai_signal_next(&sig, now, out, sizeof out, &size)
+                        : kind == POINT ? zendurai_point_next(&point, now, out, sizeof out, &size)
+                        : kind == DETECTOR ? zendurai_detector_next(&detector, now, out, sizeof out, &size)
+                        : zendurai_interlocking_next(&ixl, now, out, sizeof out, &size, &to);
+        if (answer == ZENDURAI_SOON || (!answer && !size)) return;
+        if (answer || count == 4096) differs("no datagrams");
+        struct waiting *it = &queue[count++];
+        *it = (struct waiting){written, now, ""};
+        char *at = it->text + sprintf(it->text, "sends %s ", kind == IXL ? receiver(to) : partner);
         for (size_t i = 0; i < size; i++) at += sprintf(at, "%02x", out[i]);
-        note(made, &makes, text);
     }
 }
 
-/* A datagram, of a socket that was found empty just before. In the first 2000 ms none is heard, and then its link takes none either. */
-static int hear(struct zendurai_signal *s, uint64_t now, const uint8_t *bytes, size_t length) {
-    if (zendurai_signal_empty(s, now)) return 1;
-    uint32_t answer = zendurai_signal_hear(s, now, bytes, length);
-    return answer != ZENDURAI_OK && answer != ZENDURAI_SOON;
+/* What needn't wait any more leaves, at a reading of its own; what waited for 500 ms is dropped. */
+static void release(uint64_t now) {
+    if (kind == IXL && now - begun < 2000) { /* it sends nothing here yet */
+        if (begins("at ") && !strncmp(after, "sends ", 6)) for (go_on(); begins("sends ");) go_on();
+        return;
+    }
+    if (first == count) return;
+    now = reading();
+    for (; first < count; first++) {
+        const struct waiting *it = &queue[first];
+        int fresh = now < it->since || now - it->since < 500;
+        if (fresh && it->behind > in_force) return;
+        if (!fresh) continue;
+        if (!line[0]) ends();
+        if (strcmp(line, it->text)) differs(it->text);
+        datagrams++;
+        go_on();
+    }
+    first = count = 0;
+}
+
+static void ordered(uint64_t now, char *text, size_t size) {
+    static const char *const aspects[] = {"stop", "proceed", "slow"}, *const sides[] = {"none", "left", "right"};
+    struct zendurai_lamp lamp = {0, 0};
+    struct zendurai_drive drive = {0, 0};
+    uint32_t answer = kind == SIGNAL ? zendurai_signal_order(&sig, now, &lamp) | zendurai_signal_done(&sig)
+                                     : zendurai_point_order(&point, now, &drive) | zendurai_point_done(&point);
+    uint64_t until = kind == SIGNAL ? lamp.until : drive.until;
+    int n = snprintf(text, size, "%s %s", kind == SIGNAL ? "show" : "drive", kind == SIGNAL ? aspects[lamp.aspect] : sides[drive.side]);
+    if (answer) differs("no order");
+    if (lamp.aspect || drive.side) snprintf(text + n, size - (size_t)n, " until %" PRIu64, until);
+}
+
+static void after_step(uint64_t now, const char *partner) {
+    char text[64], wanted[128];
+    steps++;
+    if (kind == SIGNAL || kind == POINT) {
+        ordered(now, text, sizeof text);
+        if (strcmp(text, order)) {
+            if (!line[0]) ends();
+            snprintf(wanted, sizeof wanted, "writes %" PRIu64 " at %" PRIu64 " %s", ++written, now, text);
+            if (strcmp(line, wanted)) differs(wanted);
+            strcpy(order, text), orders++;
+            go_on();
+        }
+    }
+    takes_all(now, partner);
+    release(now);
+}
+
+/* ---- what comes */
+
+static const char *sections[16];
+static int section_count, told[16];
+static uint32_t position, states[16];
+
+/* A line that the process heard, before its first reading and after it. It answers whether it made a step. */
+static int hears_line(const char *text, uint64_t now, int started) {
+    static const char *const positions[] = {"none", "left", "right"};
+    char word[16] = "", what[32] = "";
+    struct zendurai_cause cause;
+    size_t route = 0;
+    if (sscanf(text, "hears done %" SCNu64, &in_force) == 1) return 0;
+    sscanf(text, "hears %15s %31s", word, what);
+    if (kind == POINT && !strcmp(word, "reach"))
+        for (uint32_t p = 0; p < 3; p++)
+            if (!strcmp(what, positions[p])) {
+                if (!started) return position = p, told[0] = 1, 0;
+                if (p == position) return 0; /* told again: it is dropped */
+                return !zendurai_point_reached(&point, now, position = p);
+            }
+    for (int i = 0; kind == DETECTOR && i < section_count; i++)
+        if (!strcmp(what, sections[i])) {
+            uint32_t state = !strcmp(word, "occupy");
+            if (!started) return states[i] = state, told[i] = 1, 0;
+            if (state == states[i]) return 0;
+            return !zendurai_detector_report(&detector, now, (size_t)i, states[i] = state);
+        }
+    if (kind == IXL && !strcmp(word, "resume")) return !zendurai_interlocking_resume(&ixl, now, &cause);
+    if (kind == IXL && zendurai_interlocking_place(&ixl, ZENDURAI_KIND_ROUTE, (const uint8_t *)what, strlen(what), &route)) return 0;
+    if (kind == IXL && !strcmp(word, "set")) return !zendurai_interlocking_request(&ixl, now, route, &cause);
+    if (kind == IXL && !strcmp(word, "cancel")) return !zendurai_interlocking_cancel(&ixl, now, route, &cause);
+    return 0;
+}
+
+static int hears_datagram(const char *hex, uint64_t now) {
+    uint8_t bytes[512];
+    size_t n = 0;
+    while (n < sizeof bytes && sscanf(hex + 2 * n, "%2hhx", &bytes[n]) == 1) n++;
+    /* the socket of the process was found empty in its last round */
+    uint32_t answer = kind == SIGNAL ? zendurai_signal_empty(&sig, now) : kind == POINT ? zendurai_point_empty(&point, now)
+                    : kind == DETECTOR ? zendurai_detector_empty(&detector, now) : zendurai_interlocking_empty(&ixl, now);
+    if (!answer) answer = kind == SIGNAL ? zendurai_signal_hear(&sig, now, bytes, n) : kind == POINT ? zendurai_point_hear(&point, now, bytes, n)
+                        : kind == DETECTOR ? zendurai_detector_hear(&detector, now, bytes, n) : zendurai_interlocking_hear(&ixl, now, bytes, n);
+    if (answer && answer != ZENDURAI_SOON) differs("it isn't heard"); /* too soon for the library, and its link takes none then either */
+    return !answer;
+}
+
+static void starts(uint64_t now, char **words, uint32_t number) {
+    struct zendurai_setup setup = {(uint32_t)atoi(words[0]), (uint32_t)atoi(words[1]), {0x67452301, 0xefcdab89, 0x98badcfe, 0x10325476}, number, 1};
+    const uint8_t *own = (const uint8_t *)words[2], *peer = (const uint8_t *)words[3];
+    size_t own_length = strlen(words[2]), peer_length = strlen(words[3]), size = 0;
+    uint8_t all[16 * 22];
+    setup.version = (uint8_t)atoi(words[4]);
+    for (int i = 0; i < section_count; i++) {
+        size_t n = strlen(sections[i]);
+        all[size++] = (uint8_t)states[i], all[size++] = (uint8_t)n;
+        memcpy(all + size, sections[i], n), size += n;
+    }
+    uint32_t answer = kind == SIGNAL ? zendurai_signal_start(&sig, sizeof room, &setup, own, own_length, peer, peer_length, now)
+                    : kind == POINT ? zendurai_point_start(&point, sizeof room, &setup, own, own_length, peer, peer_length, position, now)
+                    : zendurai_detector_start(&detector, sizeof room, &setup, own, own_length, peer, peer_length, all, size, now);
+    if (answer) differs("no start");
+}
+
+static void starts_interlocking(uint64_t now, const char *layout, uint32_t number) {
+    static uint8_t text[1 << 20], why[80];
+    size_t size = 0;
+    FILE *file = fopen(layout, "rb");
+    if (!file) perror(layout), exit(2);
+    size_t length = fread(text, 1, sizeof text, file);
+    fclose(file);
+    if (zendurai_interlocking_start(&ixl, sizeof room, text, length, number, now, why, sizeof why, &size)) differs("no start");
+}
+
+/* Before its first reading a controller's process writes what rests, and waits for its `done` and for its contacts. */
+static uint64_t opens(void) {
+    const char *rests = kind == SIGNAL ? "show stop" : "drive none";
+    strcpy(order, rests);
+    for (;;) {
+        reading(); /* a round begins */
+        while (begins("hears ") || begins("from ")) {
+            char heard[2048];
+            strcpy(heard, line), go_on(), hears_line(heard, reading(), 0);
+        }
+        reading(); /* it ends */
+        if (begins("writes ")) written = 1, go_on();
+        int all = kind == DETECTOR ? 1 : in_force >= 1;
+        for (int i = 0; i < (kind == DETECTOR ? section_count : kind == POINT); i++) all &= told[i];
+        if (all) return reading();
+    }
 }
 
 int main(int argc, char **argv) {
-    if (argc < 7) return 2;
-    FILE *record = fopen(argv[1], "r");
-    if (!record) return perror(argv[1]), 1;
-    struct zendurai_signal s = {room, 0};
-    struct zendurai_setup setup = {(uint32_t)atoi(argv[2]), (uint32_t)atoi(argv[3]), {0x67452301, 0xefcdab89, 0x98badcfe, 0x10325476}, 0, (uint8_t)atoi(argv[6])};
-    static char text[1024], next[1024] = "";
-    uint8_t bytes[512];
-    size_t length = 0;
-    enum { ROUND, AFTER_LINE, AFTER_DATAGRAM } where = ROUND;
-    int started = 0, in_force = 0, steps = 0;
-    if (!fgets(next, sizeof next, record)) return 1;
-    while (next[0]) {
-        strcpy(text, next);
-        if (!fgets(next, sizeof next, record) || !strchr(next, '\n')) next[0] = 0; /* a line that isn't whole is none */
-        text[strcspn(text, "\n")] = 0;
-        uint64_t now;
-        if (sscanf(text, "node %*s first %" SCNu32, &setup.first_sequence_number) == 1) continue;
-        else if (sscanf(text, "at %" SCNu64, &now) == 1) {
-            /* a round that begins with lines or datagrams begins with a reading of its own; else its tick has the same */
-            int begins = where == ROUND && (!strncmp(next, "from ", 5) || !strncmp(next, "hears ", 6));
-            if (where == AFTER_DATAGRAM) {
-                if (hear(&s, now, bytes, length)) return fprintf(stderr, "clock %s\n", text), 1;
-                steps++, after_step(&s, now);
-            } else if (where == ROUND && !begins && started) {
-                if (zendurai_signal_tick(&s, now)) return fprintf(stderr, "clock %s\n", text), 1;
-                steps++, after_step(&s, now);
-            } else if (where == ROUND && !begins && in_force) {
-                if (zendurai_signal_start(&s, sizeof room, &setup, (const uint8_t *)argv[4], strlen(argv[4]), (const uint8_t *)argv[5], strlen(argv[5]), now)) return 1;
-                started = 1;
-            }
-            where = ROUND;
+    static const char *const kinds[] = {"signal", "point", "detector", "interlocking"};
+    for (kind = 0; argc > 3 && kind < 4 && strcmp(argv[1], kinds[kind]); kind++) continue;
+    if (argc < 4 || kind == 4 || (kind != IXL && argc < 8)) return 2;
+    record = fopen(argv[2], "r");
+    if (!record) return perror(argv[2]), 2;
+    for (int i = 8; i < argc && section_count < 16; i++) sections[section_count++] = argv[i];
+    read_one(after), go_on();
+    uint32_t number = 0;
+    if (sscanf(line, "node %*s first %" SCNu32, &number) != 1) differs("a head");
+    go_on();
+    const char *partner = kind == IXL ? NULL : argv[6];
+    if (kind == IXL) starts_interlocking(begun = reading(), argv[3], number);
+    else starts(begun = opens(), argv + 3, number);
+    for (;;) {
+        char heard[2048];
+        uint64_t now = reading(); /* a round begins */
+        while (begins("hears ") || begins("from ")) {
+            strcpy(heard, line), go_on(), now = reading();
+            if (heard[0] == 'h' ? hears_line(heard, now, 1) : hears_datagram(strrchr(heard, ' ') + 1, now)) after_step(now, partner);
+            else release(now);
         }
-        else if (!strncmp(text, "hears ", 6)) in_force = 1, where = AFTER_LINE;
-        else if (!strncmp(text, "from ", 5)) {
-            const char *hex = strrchr(text, ' ') + 1;
-            for (length = 0; hex[2 * length]; length++) sscanf(hex + 2 * length, "%2hhx", &bytes[length]);
-            where = AFTER_DATAGRAM;
-        } else if (!strncmp(text, "sends ", 6)) {
-            char line[640];
-            snprintf(line, sizeof line, "sends %.600s", strrchr(text, ' ') + 1);
-            note(want, &wants, line);
-        } else if (!strncmp(text, "writes ", 7) && started) note(want, &wants, strchr(text + 7, ' ') + 1);
+        now = reading();
+        if (kind == SIGNAL ? zendurai_signal_tick(&sig, now) : kind == POINT ? zendurai_point_tick(&point, now)
+            : kind == DETECTOR ? zendurai_detector_tick(&detector, now) : zendurai_interlocking_tick(&ixl, now)) differs("no tick");
+        after_step(now, partner);
     }
-    /* A datagram waits for its order, so datagrams and orders are compared each in their own order. */
-    size_t orders = 0, datagrams = 0, more = 0;
-    for (int kind = 0; kind < 2; kind++)
-        for (size_t i = 0, j = 0;; i++, j++) {
-            while (i < makes && (made[i][0] == 's') != kind) i++;
-            while (j < wants && (want[j][0] == 's') != kind) j++;
-            if (j >= wants) { /* a process that was killed leaves a beginning of its record */
-                while (i < makes) more += (made[i++][0] == 's') == kind;
-                break;
-            }
-            if (i >= makes || j >= wants || strcmp(made[i], want[j])) {
-                printf("differs\n made %s\n want %s\n", i < makes ? made[i] : "-", j < wants ? want[j] : "-");
-                return 1;
-            }
-            kind ? datagrams++ : orders++;
-        }
-    printf("same: %d steps, %zu datagrams, %zu orders; %zu more after the end of the record\n", steps, datagrams, orders, more);
-    return 0;
 }

@@ -1,6 +1,6 @@
 /* How deep the stack of each call of a signal gets, over a stored record, on a painted stack of its own. usage: embed_stack RECORD MOST */
 #define _DEFAULT_SOURCE
-#include "zendurai_controllers.h"
+#include "zendurai.h"
 
 #include <stdio.h>
 #include <stdlib.h>

@@ -3,7 +3,7 @@
 reorders datagrams, with the field equipment of examples/machines/field.py. A judge that knows the layout alone looks at the lamps and
 points after each change. It prints what was seen, and ends with status 1 where anything was unsafe or didn't come.
 
-    python3 bench/machines.py STATION [--layout FILE] [--route R] [quiet] [hostile] [strangers] [stopped] [flooded] [rest]
+    python3 bench/machines.py STATION [--layout FILE] [--route R] [quiet] [hostile] [strangers] [stopped] [flooded] [rest] [networks]
 
 quiet      one datagram in a hundred is lost, the others come up to 100 ms late, in order: a route comes to proceed, a train passes, and
            when the relay stops each lamp falls
@@ -15,6 +15,10 @@ stopped    the signal of the route is stopped (SIGSTOP) at proceed for 1, 3 and 
            nodes nothing is heard that was sent more than 500 ms before; the lamp falls, and the links come back
 flooded    20,000 datagrams a second come to the signal of the route for 5 s, from the address of the interlocking. The same is judged
 rest       the processor share and the memory of each node at rest
+networks   once with one network and once with two, while routes are set and cancelled, for --seconds each: nothing is lost; 1 in 100 and 5 in
+           100 is lost in each; the same while the second network is 49 ms slower. With two, each is cut in turn, with a train on its way, and
+           20,000 datagrams a second come from the address of a partner over the first for 5 s: no link closes. It counts links that were lost
+           and requests for retransmission; two networks at 5 in 100 close fewer than a tenth of what one does. Each cut is told, and its end
 """
 import argparse
 import collections
@@ -39,6 +43,7 @@ sys.path.insert(0, str(TOP / "examples" / "machines"))
 from start import Told, sections_of, start  # noqa: E402
 
 RELAY = "zendurai-relay"
+RELAYS = (RELAY, "zendurai-relay-b")
 PORT = 5000
 
 
@@ -49,23 +54,25 @@ def ip(*words):
 class Machines:
     """A namespace for each node, each joined to the relay's, and an addresses file for each: partners are reached at the relay."""
 
-    def __init__(self, program, layout, folder, records):
+    def __init__(self, program, layout, folder, records, networks=1):
         with open(layout, "rb") as file:
             self.told = tomllib.load(file)
-        self.layout, self.folder = layout, folder
+        self.layout, self.folder, self.networks = layout, folder, networks
         self.station = self.told["station"]["name"]
         self.controllers = [it["name"] for kind in ("signal", "point", "detector") for it in self.told.get(kind, [])]
         self.names = [self.station, *self.controllers]
-        ip("netns", "add", RELAY)
+        for relay_space in RELAYS[:networks]:
+            ip("netns", "add", relay_space)
         for at, name in enumerate(self.names):
             space = self.space(at)
             ip("netns", "add", space)
-            ip("link", "add", f"r{at}", "netns", RELAY, "type", "veth", "peer", "name", "n0", "netns", space)
-            for where, link, end in ((RELAY, f"r{at}", 1), (space, "n0", 2)):
-                ip("-n", where, "address", "add", f"10.77.{at}.{end}/24", "dev", link)
-                ip("-n", where, "link", "set", link, "up")
+            for over, relay_space in enumerate(RELAYS[:networks]):
+                ip("link", "add", f"r{at}", "netns", relay_space, "type", "veth", "peer", "name", f"n{over}", "netns", space)
+                for where, link, end in ((relay_space, f"r{at}", 1), (space, f"n{over}", 2)):
+                    ip("-n", where, "address", "add", f"10.{77 + over}.{at}.{end}/24", "dev", link)
+                    ip("-n", where, "link", "set", link, "up")
             ip("-n", space, "link", "set", "lo", "up")
-            lines = [f'{other} = "{self.seen_at(at, number)}"' for number, other in enumerate(self.names)]
+            lines = [f"{other} = {self.addresses(at, number)}" for number, other in enumerate(self.names)]
             pathlib.Path(folder, f"{name}.addresses").write_text("\n".join(lines) + "\n")
         # stands for the program: runs a node in its namespace, with its own addresses
         self.wrapper = pathlib.Path(folder, "station")
@@ -80,13 +87,13 @@ class Machines:
     def space(at):
         return f"zendurai-{at}"
 
-    @staticmethod
-    def seen_at(at, number):
-        """The address at which a node sees another, or has itself."""
-        return f"10.77.{at}.2:{PORT}" if number == at else f"10.77.{at}.1:{PORT + number}"
+    def addresses(self, at, number):
+        """The addresses at which a node sees another, or has itself, as they stand in its addresses file."""
+        seen = [f'"10.{77 + over}.{at}.2:{PORT}"' if number == at else f'"10.{77 + over}.{at}.1:{PORT + number}"' for over in range(self.networks)]
+        return seen[0] if len(seen) == 1 else f"[{', '.join(seen)}]"
 
     def remove(self):
-        for space in [RELAY, *(self.space(at) for at in range(len(self.names)))]:
+        for space in [*RELAYS[: self.networks], *(self.space(at) for at in range(len(self.names)))]:
             subprocess.run(["ip", "netns", "delete", space], stderr=subprocess.DEVNULL)
 
 
@@ -101,21 +108,21 @@ def noise(number, true):
     return random.choice(copies) if number % 2 and copies else os.urandom(number % 200)
 
 
-def relay(nodes):
-    """The relay's process: a socket for each way between the interlocking and a controller. A line of standard input sets how it treats
-    datagrams: `LOST REPEATED DELAY ORDERED`, the first two in a hundred, the delay in milliseconds at most. A line `flood COUNT` lets it
+def relay(nodes, over):
+    """The process of a network's relay: a socket for each way between the interlocking and a controller. A line of standard input sets how
+    it treats datagrams: `LOST REPEATED DELAY ORDERED LEAST`, the first two in a hundred, the delay in milliseconds at most and at least. A line `flood COUNT` lets it
     send so many that are noise, from the addresses of partners, 2 in a millisecond; it tells `flooded` behind the last."""
     heard, sockets = selectors.DefaultSelector(), {}
     for at in range(1, nodes):
         for one, other in ((0, at), (at, 0)):
             it = socket.socket(socket.AF_INET, socket.SOCK_DGRAM)
-            it.bind((f"10.77.{one}.1", PORT + other))
+            it.bind((f"10.{77 + over}.{one}.1", PORT + other))
             it.setblocking(False)
             sockets[one, other] = it
             heard.register(it, selectors.EVENT_READ, (one, other))
     os.set_blocking(0, False)
     heard.register(0, selectors.EVENT_READ, None)
-    lost, repeated, delay, ordered, due, number, last = 100, 0, 0, 1, [], itertools.count(), collections.Counter()
+    lost, repeated, delay, ordered, least, due, number, last = 100, 0, 0, 1, 0, [], itertools.count(), collections.Counter()
     flood, ways, true = 0, itertools.cycle(list(sockets)), collections.defaultdict(lambda: collections.deque(maxlen=500))
     print("ready", flush=True)
     while True:
@@ -130,7 +137,7 @@ def relay(nodes):
                     if what[0] == b"flood":
                         flood = int(what[1])
                     else:
-                        lost, repeated, delay, ordered = (int(it) for it in what)
+                        lost, repeated, delay, ordered, least = (int(it) for it in what)
                 continue
             one, other = key.data
             bytes_ = key.fileobj.recv(2000)
@@ -138,16 +145,16 @@ def relay(nodes):
             if random.random() * 100 < lost:
                 continue
             for _ in range(2 if random.random() * 100 < repeated else 1):
-                when = time.monotonic() + random.random() * delay / 1000
+                when = time.monotonic() + (least + random.random() * (delay - least)) / 1000
                 if ordered:
                     when = last[one, other] = max(when, last[one, other])
                 heapq.heappush(due, (when, next(number), one, other, bytes_))
         while due and due[0][0] <= time.monotonic():
             _, _, one, other, bytes_ = heapq.heappop(due)
-            sockets[other, one].sendto(bytes_, (f"10.77.{other}.2", PORT))
+            sockets[other, one].sendto(bytes_, (f"10.{77 + over}.{other}.2", PORT))
         for _ in range(min(flood, 2)):
             one, other = next(ways)
-            sockets[other, one].sendto(noise(flood, true[one, other]), (f"10.77.{other}.2", PORT))
+            sockets[other, one].sendto(noise(flood, true[one, other]), (f"10.{77 + over}.{other}.2", PORT))
             flood -= 1
             if not flood:
                 print("flooded", flush=True)
@@ -232,9 +239,12 @@ class Run:
     def __init__(self, program, machines):
         self.machines, self.program = machines, program
         self.judge = Judge(machines.told, conflicts_of(program, machines.layout))
-        words = ["ip", "netns", "exec", RELAY, sys.executable, os.path.abspath(__file__), "relay", str(len(machines.names))]
-        self.relay = Told("relay", subprocess.Popen(words, stdin=subprocess.PIPE, stdout=subprocess.PIPE, text=True))
-        self.relay.wait_for("ready")
+        self.relays = []
+        for over, space in enumerate(RELAYS[: machines.networks]):
+            words = ["ip", "netns", "exec", space, sys.executable, os.path.abspath(__file__), "relay", str(len(machines.names)), str(over)]
+            self.relays.append(Told("relay", subprocess.Popen(words, stdin=subprocess.PIPE, stdout=subprocess.PIPE, text=True)))
+            self.relays[-1].wait_for("ready")
+        self.relay = self.relays[0]
         field = [sys.executable, str(TOP / "examples/machines/field.py"), str(machines.wrapper), machines.layout, "-"]
         self.field = Field(self.judge, subprocess.Popen(field, stdin=subprocess.PIPE, stdout=subprocess.PIPE, text=True))
         self.begin()
@@ -244,9 +254,11 @@ class Run:
         words = [str(self.machines.wrapper), "node", self.machines.layout, self.machines.station, "--addresses", "-", "--clock", str(int(time.monotonic() * 1000)), *more]
         self.station = Operator("station", subprocess.Popen(words, stdin=subprocess.PIPE, stdout=subprocess.PIPE, text=True))
 
-    def treat(self, lost, repeated, delay, ordered):
-        self.relay.process.stdin.write(f"{lost} {repeated} {delay} {int(ordered)}\n")
-        self.relay.process.stdin.flush()
+    def treat(self, lost, repeated, delay, ordered, least=0, over=None):
+        """How each network treats datagrams, or one of them."""
+        for it in self.relays if over is None else self.relays[over : over + 1]:
+            it.process.stdin.write(f"{lost} {repeated} {delay} {int(ordered)} {least}\n")
+            it.process.stdin.flush()
 
     def flood(self, count):
         """So much noise in the names of partners."""
@@ -261,7 +273,8 @@ class Run:
         self.field.process.stdin.write("stop\n")
         self.field.process.stdin.flush()
         self.field.process.wait()
-        self.relay.process.stdin.close()
+        for it in self.relays:
+            it.process.stdin.close()
 
     def ready(self):
         self.station.wait_for("waiting for resume", *(f"link {it} ready" for it in self.machines.controllers))
@@ -392,7 +405,7 @@ def hearings(record):
         kind, *more = line.split(" ")
         behind = lines[place + 1 : place + 3]
         if kind == "from" and len(behind) == 2 and not behind[1].startswith("throws away "):
-            yield more[0], more[1], int(behind[0].split(" ")[1])
+            yield more[0], more[-1], int(behind[0].split(" ")[1])
 
 
 def oldest_heard(run, what):
@@ -489,6 +502,97 @@ print(sent)
     return back and oldest <= 500 and thrown > 0
 
 
+# what came of each round, by the number of networks and the round
+SEEN = {}
+
+
+def asked_again(run):
+    """How many requests for retransmission the nodes have sent, by their records."""
+    request = struct.pack("<H", 6212).hex()
+    records = pathlib.Path(run.machines.folder).glob("*.record")
+    return sum(it.startswith("sends ") and it.split(" ")[2][4:8] == request for record in records for it in lines_of(record))
+
+
+def during(run, what, seconds, also=lambda: None):
+    """Routes are set and cancelled for some time. It counts the links that were lost and the requests for retransmission."""
+    behind, asked, routes, until = len(run.station.lines), asked_again(run), itertools.cycle(run.machines.told["route"]), time.monotonic() + seconds
+    also()
+    while time.monotonic() < until:
+        demand(run, next(routes))
+        time.sleep(1)
+        run.station.say("cancel all")
+    lost = sum(it.startswith("link ") and it.endswith(" lost") for it in run.station.lines[behind:])
+    SEEN[run.machines.networks, what] = lost, asked_again(run) - asked
+    print(f"networks: {run.machines.networks}, {what}: {lost} links were lost, {SEEN[run.machines.networks, what][1]} requests for retransmission", flush=True)
+    return lost
+
+
+def settle(run):
+    run.treat(0, 0, 1, True)
+    begin_anew(run)
+
+
+def train(run, route):
+    """A train passes over a route."""
+    sections = route.get("approach", [])[-1:] + sections_of(run.machines.told, route)
+    for here, ahead in zip([None, *sections], [*sections, None]):
+        for what, section in (("occupy", ahead), ("clear", here)):
+            if section:
+                run.field.say(f"{what} {section}")
+                time.sleep(1)
+
+
+def flood_over_the_first(route, run):
+    at = run.machines.names.index(route["entry"])
+    flood = f"""
+import os, socket, struct, time
+s = socket.socket(socket.AF_INET, socket.SOCK_RAW, socket.IPPROTO_RAW)
+begun, sent = time.monotonic(), 0
+while time.monotonic() < begun + 5:
+    while sent < (time.monotonic() - begun) * 20000:
+        udp = struct.pack(">HHHH", {PORT}, {PORT}, 48, 0) + os.urandom(40)
+        ip = struct.pack(">BBHHHBBH4s4s", 0x45, 0, 68, 0, 0, 64, 17, 0, socket.inet_aton("10.77.{at}.1"), socket.inet_aton("10.77.{at}.2"))
+        s.sendto(ip + udp, ("10.77.{at}.2", 0))
+        sent += 1
+    time.sleep(0.0005)
+"""
+    subprocess.Popen(["ip", "netns", "exec", RELAY, sys.executable, "-c", flood])
+
+
+def networks(run, route):
+    two, seconds = run.machines.networks == 2, run.seconds
+    run.treat(0, 0, 1, True)
+    run.ready()
+    during(run, "nothing is lost", seconds)
+    for lost in (1, 5):
+        settle(run)
+        run.treat(lost, 0, 1, True)
+        during(run, f"{lost} in 100 is lost", seconds)
+    if not two:
+        return True
+    settle(run)
+    run.treat(5, 0, 1, True)
+    run.treat(5, 0, 50, True, least=49, over=1)
+    during(run, "5 in 100 is lost, and the second is 49 ms slower", seconds)
+    well = True
+    for over, letter in enumerate("AB"):
+        settle(run)
+        run.proceed(route)
+        behind, cut = len(run.station.lines), time.monotonic()
+        run.treat(100, 0, 0, True, over=over)
+        run.station.wait_for(*(f"network {letter} lost {it}" for it in run.machines.controllers), behind=behind)
+        print(f"networks: {time.monotonic() - cut:.1f} s behind its cut network {letter} is told as lost at each controller", flush=True)
+        train(run, route)
+        well &= during(run, f"network {letter} is cut", seconds) == 0
+        run.treat(0, 0, 1, True, over=over)
+        run.station.wait_for(*(f"network {letter} back {it}" for it in run.machines.controllers), behind=behind)
+    settle(run)
+    well &= during(run, "20,000 datagrams a second come over the first", 15, lambda: flood_over_the_first(route, run)) == 0
+    one, both = SEEN[1, "5 in 100 is lost"][0], SEEN[2, "5 in 100 is lost"][0]
+    print(f"networks: at 5 in 100 one network lost {one} links, two lost {both}", flush=True)
+    return well and both * 10 < one
+
+
 def gaps(record):
     """How many readings of a record came more than 20 ms behind the one before, how many there are, and the longest gap."""
     readings = [int(it.split()[1]) for it in pathlib.Path(record).read_text().splitlines() if it.startswith("at ")]
@@ -548,14 +652,16 @@ def main():
     words.add_argument("station")
     words.add_argument("--layout", default=str(TOP / "examples/halden.toml"))
     words.add_argument("--route", default="A-N1")
+    words.add_argument("--seconds", type=int, default=60)
     words.add_argument("kinds", nargs="*", default=["quiet", "hostile", "strangers", "stopped", "flooded", "rest"])
     given = words.parse_args()
     well = True
-    for kind in given.kinds:
+    for kind, count in [(kind, count) for kind in given.kinds for count in ((1, 2) if kind == "networks" else (1,))]:
         with tempfile.TemporaryDirectory() as folder:
-            machines = Machines(os.path.abspath(given.station), os.path.abspath(given.layout), folder, kind in ("stopped", "flooded"))
+            machines = Machines(os.path.abspath(given.station), os.path.abspath(given.layout), folder, kind in ("stopped", "flooded", "networks"), count)
             try:
                 run = Run(os.path.abspath(given.station), machines)
+                run.seconds = given.seconds
                 route = next(it for it in machines.told["route"] if it["name"] == given.route)
                 did = globals()[kind](run, route)
                 print(f"{kind}: {run.judge.looks} changes seen, {len(run.judge.unsafe)} unsafe", flush=True)
@@ -568,6 +674,6 @@ def main():
 
 if __name__ == "__main__":
     if sys.argv[1:2] == ["relay"]:
-        relay(int(sys.argv[2]))
+        relay(int(sys.argv[2]), int(sys.argv[3]))
     else:
         main()

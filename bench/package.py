@@ -1,7 +1,7 @@
 #!/usr/bin/env python3
 """Makes the Debian package of a built program and judges it, as root: `lintian` finds no error, each man page is read without a warning,
-both shells read their completions, `systemd-analyze` finds no fault in the units and calls their exposure at most 2.0; and in a root of
-its own the package is installed, its program checks the layout that came with it, and after its removal nothing of it is left.
+both shells read their completions, `systemd-analyze` finds no fault in the units and calls their exposure at most 2.0, each of them ends its
+process by a file; and in a root of its own the package is installed, its program checks the layout that came with it, and after its removal nothing of it is left.
 
     python3 bench/package.py STATION
 """
@@ -58,6 +58,8 @@ def judge_units(room, root):
     for file in (root / "usr/lib/systemd/system").iterdir():
         shutil.copy(file, units / file.name)
         shutil.copy(file, units / file.name.replace("@", "@halden"))
+    for file in sorted(units.glob("*@halden.service")):
+        ends_by_a_file(file)
     for file in sorted(units.glob("*@halden.*")):
         ran = run("systemd-analyze", "verify", "--man=no", file)
         well(f"verify {file.name}", ran, ran.returncode == 0 and not ran.stdout.strip())
@@ -65,6 +67,16 @@ def judge_units(room, root):
             ran = run("systemd-analyze", "security", "--offline=true", "--no-pager", file)
             found = re.search(r"Overall exposure level .*: ([\d.]+)", ran.stdout)
             well(f"exposure of {file.name}, {found[1]}", ran, float(found[1]) <= MOST_EXPOSED)
+
+
+def ends_by_a_file(file):
+    """What the unit starts looks for the file that its end makes."""
+    text = file.read_text(encoding="utf-8")
+    looked_for = re.findall(r"^ExecStart=.*--stop-file[ =](\S+)", text, re.MULTILINE)
+    made = re.findall(r"^ExecStop=/usr/bin/touch (\S+)$", text, re.MULTILINE)
+    if len(made) != 1 or made != looked_for:
+        sys.exit(f"{file.name} doesn't end by a file: NOT WELL")
+    print(f"{file.name} ends by a file: well", flush=True)
 
 
 def install(room, package):

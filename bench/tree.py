@@ -140,7 +140,7 @@ def ends_of_paths():
 def commands():
     """The commands of `station`, each with its options."""
     table = text_of(TOP / "crates/station_command/src/command_table.rt")
-    words = {name: word for name, word in re.findall(r'const (\w+): &str = "([a-z]+)";', table)}
+    words = {name: word for name, word in re.findall(r'const (\w+): &str = "([a-z-]+)";', table)}
     found = {}
     for command, arguments in re.findall(r"(?s)word: (\w+),(.*?)\n    },", table):
         options = re.findall(r"Argument\(\s*(\w+),\s*Kind::(?:Word|Number|Switch)", arguments)

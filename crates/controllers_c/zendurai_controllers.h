@@ -1,5 +1,6 @@
 /* The proved controllers of signals, points and detectors, for equipment of one's own, in C and C++. bench/embed.sh leaves
-   libzendurai.a, which has the codecs of zendurai.h, too. docs/EMBEDDED.md says what is proved, and what stays to be done.
+   libzendurai.a, which has the interlocking and the codecs, too; zendurai.h declares all. docs/EMBEDDED.md says what is proved, and what
+   stays to be done.
 
    THE SENTENCE THAT MATTERS MOST: `order` says until when it holds. From `until` on the lamp shows stop, and the motor is off, by a
    timer of its own, whether the loop below still runs or not.

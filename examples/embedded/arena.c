@@ -1,5 +1,5 @@
 /* The memory that controllers take as they start, of a static array. It isn't given back; no later call takes any. A controller takes
-   two blocks, of 1600 and 33792 bytes. A program with malloc may link the kit's c/liblibc_c.a in its place. */
+   two blocks, of 1600 and 33792 bytes. A program with malloc may link heap.c in its place. */
 #include <stddef.h>
 #include <stdint.h>
 #ifndef ARENA_BYTES
@@ -22,9 +22,10 @@ struct answer rattle_alloc(size_t size, size_t align) {
     return (struct answer){1, at};
 }
 
-struct answer rattle_realloc(void *at, size_t old, size_t size, size_t align) {
-    (void)at, (void)old, (void)size, (void)align;
-    return (struct answer){0, arena};
+struct answer rattle_realloc(void *at, size_t old, size_t size, size_t align) { /* an interlocking asks for it, a controller doesn't */
+    struct answer moved = rattle_alloc(size, align);
+    for (size_t i = 0; moved.given && i < old && i < size; i++) ((uint8_t *)moved.at)[i] = ((uint8_t *)at)[i];
+    return moved;
 }
 
 void rattle_dealloc(void *at) { (void)at; }

@@ -2,7 +2,7 @@
    its state: `0 1` says that the first one is occupied, `0 0` that it is clear. All begin clear.
    usage: detector NAME ID STATION STATION-ID OWN-PORT PARTNER-ADDRESS PARTNER-PORT SECTION .. */
 #include "udp.h"
-#include "zendurai_controllers.h"
+#include "zendurai.h"
 
 static _Alignas(ZENDURAI_ROOM_ALIGN) uint8_t room[ZENDURAI_ROOM_BYTES];
 static struct zendurai_detector detector = {room, 0};
@@ -10,7 +10,7 @@ static struct zendurai_detector detector = {room, 0};
 static void send_all(void) {
     uint8_t out[ZENDURAI_DATAGRAM_BYTES];
     size_t size;
-    while (zendurai_detector_next(&detector, clock_ms(), out, sizeof out, &size) == ZENDURAI_OK && size) send_to_partner(out, size);
+    while (zendurai_detector_next(&detector, clock_ms(), out, sizeof out, &size) == ZENDURAI_OK && size) send_to(0, out, size);
 }
 
 static void hear_all(void) {
@@ -27,16 +27,8 @@ static void hear_all(void) {
 }
 
 static void read_contacts(void) {
-    static char line[64];
-    static size_t length;
-    char byte;
-    while (read(0, &byte, 1) == 1) {
-        if (byte != '\n' && length < sizeof line - 1) {
-            line[length++] = byte;
-            continue;
-        }
+    for (char *line; (line = read_line());) {
         unsigned place, state;
-        line[length] = 0, length = 0;
         if (sscanf(line, "%u %u", &place, &state) != 2) continue;
         uint32_t answer = zendurai_detector_report(&detector, clock_ms(), place, state);
         printf("section %u %s: %u\n", place, state ? "occupied" : "clear", (unsigned)answer), fflush(stdout);
@@ -56,7 +48,7 @@ int main(int argc, char **argv) {
         memcpy(sections + size, argv[i], length);
         size += length;
     }
-    open_udp(argv[5], argv[6], argv[7]);
+    open_networks(3, argv + 5);
     fcntl(0, F_SETFL, O_NONBLOCK);
     struct zendurai_setup setup = {(uint32_t)atoi(argv[2]), (uint32_t)atoi(argv[4]), {0x67452301, 0xefcdab89, 0x98badcfe, 0x10325476},
                                    (uint32_t)time(NULL), 1};
@@ -64,8 +56,7 @@ int main(int argc, char **argv) {
                                               (const uint8_t *)argv[3], strlen(argv[3]), sections, size, clock_ms());
     if (answer) return fprintf(stderr, "no start: %u\n", (unsigned)answer), 1;
     for (;;) {
-        struct pollfd waits = {udp, POLLIN, 0};
-        poll(&waits, 1, 10);
+        poll(sockets, networks, 10);
         hear_all();
         read_contacts();
         if (zendurai_detector_tick(&detector, clock_ms()) == ZENDURAI_OK) send_all();

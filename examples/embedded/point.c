@@ -1,7 +1,8 @@
-/* A point with a motor on the terminal, over UDP: P1 of examples/small.toml. A turn takes 2 s; it begins at the left.
-   usage: point NAME ID STATION STATION-ID OWN-PORT PARTNER-ADDRESS PARTNER-PORT */
+/* A point with a motor on the terminal, over UDP in one network or two: P1 of examples/small.toml. A turn takes 2 s. It
+   begins at the left, or where the variable LIES says: neither, left or right.
+   usage: point NAME ID STATION STATION-ID OWN-PORT PARTNER-ADDRESS PARTNER-PORT [OWN-PORT PARTNER-ADDRESS PARTNER-PORT] */
 #include "udp.h"
-#include "zendurai_controllers.h"
+#include "zendurai.h"
 
 static _Alignas(ZENDURAI_ROOM_ALIGN) uint8_t room[ZENDURAI_ROOM_BYTES];
 static struct zendurai_point point = {room, 0};
@@ -34,7 +35,7 @@ static void after_step(uint64_t now) {
     if (ordered.side != drive.side) printf("%llu driven %s\n", (unsigned long long)now, sides[ordered.side]), fflush(stdout);
     drive = ordered;
     zendurai_point_done(&point);
-    while (zendurai_point_next(&point, clock_ms(), out, sizeof out, &size) == ZENDURAI_OK && size) send_to_partner(out, size);
+    while (zendurai_point_next(&point, clock_ms(), out, sizeof out, &size) == ZENDURAI_OK && size) send_to(0, out, size);
 }
 
 static void hear_all(void) {
@@ -52,16 +53,17 @@ static void hear_all(void) {
 }
 
 int main(int argc, char **argv) {
-    if (argc != 8) return fprintf(stderr, "usage: point NAME ID STATION STATION-ID OWN-PORT PARTNER-ADDRESS PARTNER-PORT\n"), 2;
-    open_udp(argv[5], argv[6], argv[7]);
+    const char *begins = getenv("LIES");
+    if (argc != 8 && argc != 11) return fprintf(stderr, "usage: point NAME ID STATION STATION-ID OWN-PORT PARTNER-ADDRESS PARTNER-PORT ..\n"), 2;
+    for (uint32_t side = 0; begins && side < 3; side++) if (!strcmp(begins, sides[side])) lies = side;
+    open_networks(argc - 5, argv + 5);
     struct zendurai_setup setup = {(uint32_t)atoi(argv[2]), (uint32_t)atoi(argv[4]), {0x67452301, 0xefcdab89, 0x98badcfe, 0x10325476},
                                    (uint32_t)time(NULL), 1};
     uint32_t answer = zendurai_point_start(&point, sizeof room, &setup, (const uint8_t *)argv[1], strlen(argv[1]),
                                            (const uint8_t *)argv[3], strlen(argv[3]), lies, clock_ms());
     if (answer) return fprintf(stderr, "no start: %u\n", (unsigned)answer), 1;
     for (;;) {
-        struct pollfd waits = {udp, POLLIN, 0};
-        poll(&waits, 1, 10);
+        poll(sockets, networks, 10);
         hear_all();
         uint32_t now_lies = contacts(clock_ms());
         uint64_t now = clock_ms();

@@ -1,7 +1,7 @@
-/* A light signal with a lamp on the terminal, over UDP: S1 of examples/small.toml.
-   usage: signal NAME ID STATION STATION-ID OWN-PORT PARTNER-ADDRESS PARTNER-PORT */
+/* A light signal with a lamp on the terminal, over UDP in one network or two: S1 of examples/small.toml.
+   usage: signal NAME ID STATION STATION-ID OWN-PORT PARTNER-ADDRESS PARTNER-PORT [OWN-PORT PARTNER-ADDRESS PARTNER-PORT] */
 #include "udp.h"
-#include "zendurai_controllers.h"
+#include "zendurai.h"
 #include <signal.h>
 
 static _Alignas(ZENDURAI_ROOM_ALIGN) uint8_t room[ZENDURAI_ROOM_BYTES];
@@ -47,7 +47,7 @@ static void after_step(uint64_t now) {
     if (zendurai_signal_order(&signal_1, now, &lamp) != ZENDURAI_OK) return;
     show(lamp);
     zendurai_signal_done(&signal_1);
-    while (zendurai_signal_next(&signal_1, clock_ms(), out, sizeof out, &size) == ZENDURAI_OK && size) send_to_partner(out, size);
+    while (zendurai_signal_next(&signal_1, clock_ms(), out, sizeof out, &size) == ZENDURAI_OK && size) send_to(0, out, size);
 }
 
 static void hear_all(void) {
@@ -65,20 +65,19 @@ static void hear_all(void) {
 }
 
 int main(int argc, char **argv) {
-    if (argc != 8) return fprintf(stderr, "usage: signal NAME ID STATION STATION-ID OWN-PORT PARTNER-ADDRESS PARTNER-PORT\n"), 2;
+    if (argc != 8 && argc != 11) return fprintf(stderr, "usage: signal NAME ID STATION STATION-ID OWN-PORT PARTNER-ADDRESS PARTNER-PORT ..\n"), 2;
     struct sigevent by_signal = {.sigev_notify = SIGEV_SIGNAL, .sigev_signo = SIGALRM};
     struct sigaction falling = {.sa_handler = falls, .sa_flags = SA_RESTART};
     sigaction(SIGALRM, &falling, NULL);
     timer_create(CLOCK_MONOTONIC, &by_signal, &fall);
-    open_udp(argv[5], argv[6], argv[7]);
+    open_networks(argc - 5, argv + 5);
     struct zendurai_setup setup = {(uint32_t)atoi(argv[2]), (uint32_t)atoi(argv[4]), {0x67452301, 0xefcdab89, 0x98badcfe, 0x10325476},
                                    (uint32_t)time(NULL), 1};
     uint32_t answer = zendurai_signal_start(&signal_1, sizeof room, &setup, (const uint8_t *)argv[1], strlen(argv[1]),
                                             (const uint8_t *)argv[3], strlen(argv[3]), clock_ms());
     if (answer) return fprintf(stderr, "no start: %u\n", (unsigned)answer), 1;
     for (;;) {
-        struct pollfd waits = {udp, POLLIN, 0};
-        poll(&waits, 1, 10);
+        poll(sockets, networks, 10);
         hear_all();
         uint64_t now = clock_ms();
         if (zendurai_signal_tick(&signal_1, now) == ZENDURAI_OK) after_step(now);

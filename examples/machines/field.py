@@ -2,9 +2,9 @@
 """Plays the field equipment of a station: the lamps of signals, the motors and contacts of points, and the contacts of sections.
 It starts the controller of each node that is named (of all, where none is), and is joined to it by its standard input and output.
 
-    python3 field.py STATION LAYOUT ADDRESSES [NODE ..]
+    python3 field.py STATION LAYOUT ADDRESSES [--stop-file=FILE] [NODE ..]
 
-A person or a script moves a train by lines on standard input: `occupy SECTION` and `clear SECTION`. `restart NODE` kills a controller,
+With a stop file all controllers end where it is there, and then the program does. A person or a script moves a train by lines on standard input: `occupy SECTION` and `clear SECTION`. `restart NODE` kills a controller,
 and starts it anew; `stop` ends all. What changes is told on standard output: `S1 proceed`, `P1 driven left`, `P1 moves`, `P1 left`,
 `P1 undriven`, `GA occupied`.
 
@@ -30,8 +30,8 @@ def reading():
 class Controller:
     """A controller's process, and the lines to and from it."""
 
-    def __init__(self, name, program, layout, addresses):
-        self.name, self.given = name, (program, "node", layout, name, "--addresses", addresses)
+    def __init__(self, name, program, layout, addresses, stop):
+        self.name, self.given = name, (program, "node", layout, name, "--addresses", addresses, *stop)
         self.start()
 
     def start(self):
@@ -148,10 +148,10 @@ class Detector(Controller):
         """Nothing of it goes by time."""
 
 
-def controllers_of(program, layout, addresses, wanted):
+def controllers_of(program, layout, addresses, stop, wanted):
     with open(layout, "rb") as file:
         told = tomllib.load(file)
-    given = program, layout, addresses
+    given = program, layout, addresses, stop
     found = [(Lamp, (it["name"],)) for it in told.get("signal", [])]
     found += [(Point, (it["name"],)) for it in told.get("point", [])]
     found += [(Detector, (it["sections"], it["name"])) for it in told.get("detector", [])]
@@ -172,8 +172,9 @@ def command(what, name, controllers, heard):
             heard.register(it.process.stdout, selectors.EVENT_READ, it)
 
 
-def main(program, layout, addresses, *wanted):
-    controllers = controllers_of(program, layout, addresses, wanted)
+def main(program, layout, addresses, *words):
+    stop = [it for it in words if it.startswith("--stop-file=")]
+    controllers = controllers_of(program, layout, addresses, stop, [it for it in words if it not in stop])
     heard = selectors.DefaultSelector()
     for it in controllers:
         heard.register(it.process.stdout, selectors.EVENT_READ, it)
@@ -195,6 +196,8 @@ def main(program, layout, addresses, *wanted):
                 heard.unregister(key.fileobj)
         for it in controllers:
             it.go_on(reading())
+        if stop and all(it.process.poll() is not None for it in controllers):
+            return
 
 
 if __name__ == "__main__":

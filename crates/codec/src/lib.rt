@@ -1,4 +1,4 @@
-//! The codecs of PDUs and of telegrams, and the reader of layouts, for programs in C: a static library, which `zendurai.h`
+//! The codecs of PDUs and of telegrams, and the reader of layouts, for programs in C: a static library, which `zendurai_codecs.h`
 //! declares. Only the reader of layouts takes memory.
 #![tactic(auto)]
 

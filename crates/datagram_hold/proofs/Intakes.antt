@@ -1,5 +1,5 @@
 -- How old what an intake hands out can be.
-use Rattle.std.proofs.Common.{◌≡◌, ◌≤◌, ◌<◌, ◌+◌, ℕ, zero, suc, nat_lt, ◌&&◌, Bool, true, false, cond, List, [], ◌∷◌, ◌++◌, Option, Some, None, slice_get, refl, sym, ap, subst, arith}
+use Rattle.std.proofs.Common.{◌≡◌, ◌≤◌, ◌<◌, ◌+◌, ℕ, zero, suc, nat_lt, ◌&&◌, Bool, true, false, cond, List, [], ◌∷◌, ◌++◌, length, map, Option, Some, None, slice_get, refl, sym, ap, subst, arith}
 use Rattle.std.specs.List.{All}
 use Rattle.std.specs.Option.{option_map, option_to_list}
 use Rattle.std.proofs.lemmas.Bool.{ltb-true}
@@ -9,7 +9,7 @@ use Rattle.std.proofs.lemmas.Option.{same_Some}
 use Rattle.datagram_hold.specs.Came.{Came}
 use Rattle.datagram_hold.specs.Hold.{Handed, HoldState, asked, handing, taken}
 use Rattle.datagram_hold.specs.Runs.{Asks, IsAskedOut, IsYoung, Takes}
-use Rattle.datagram_hold.specs.Intake.{AsksAt, FindsEmpty, IntakeCall, IntakeState, ReadsClock, ReadsOn, TakesFrom, first_ready, found_empty, given, given_at, given_by, intake_run, is_fresh, is_ready, since, taken_by_it, taken_from}
+use Rattle.datagram_hold.specs.Intake.{AsksAt, FindsEmpty, Forgets, IntakeCall, IntakeState, ReadsClock, ReadsOn, TakesFrom, emptied, first_ready, forgotten, found_empty, given, given_at, given_by, intake_run, is_fresh, is_ready, since, taken_by_it, taken_from}
 use Rattle.datagram_hold.specs.declared.network.Network.{Network}
 use Rattle.datagram_hold.specs.declared.network.Network.TheVariants.{First, Second}
 use Rattle.datagram_hold.proofs.Keeping.{Keeps, call_keeps}
@@ -18,6 +18,15 @@ use Rattle.datagram_hold.proofs.Time.{all_front, young_within}
 -- all that waits is such
 abbrev AllHeld : (Came → Type 0) → List HoldState → Type 0
 AllHeld P holds = All (λ (hold : HoldState). All P hold.held) holds
+
+-- what comes from no sender waits for nothing
+none_past : {X : Type 0} (xs : List X) (place : ℕ) → length xs ≤ place → slice_get xs place ≡ None
+none_past [] place past = refl
+none_past (x ∷ xs) zero past = absurd (omega (arith, past))
+none_past (x ∷ xs) (suc place) past = none_past xs place (omega (arith, past))
+
+pub from_no_sender : (place : ℕ) (one : Came) (holds : List HoldState) → length holds ≤ place → taken_by_it place one holds (slice_get holds place) ≡ (Some one, holds)
+from_no_sender place one holds past = ap (taken_by_it place one holds) (none_past holds place past)
 
 -- what was handed out is such, and so is all that waits then
 abbrev Such : (Came → Type 0) → List Came × List HoldState → Type 0
@@ -85,6 +94,10 @@ empty_from : (bound from : ℕ) (network : Network) (intake : IntakeState) → 0
 empty_from bound from First intake some later is = record { first = omega (arith, some, later); second = is.second; held = is.held }
 empty_from bound from Second intake some later is = record { first = is.first; second = omega (arith, some, later); held = is.held }
 
+none_held : (P : Came → Type 0) (holds : List HoldState) → AllHeld P (map emptied holds)
+none_held P [] = All-nil (λ (h : HoldState). All P h.held)
+none_held P (hold ∷ holds) = All-cons (λ (h : HoldState). All P h.held) (emptied hold) (map emptied holds) (All-nil P) (none_held P holds)
+
 all_from : (bound from : ℕ) (calls : List IntakeCall) (intake : IntakeState) → 0 < bound → from ≤ intake.latest → IsFrom bound from intake → ReadsOn intake.latest calls
     → All (IsYoung bound from) (intake_run calls intake).0
 all_from bound from [] intake some later is on = All-nil (IsYoung bound from)
@@ -97,9 +110,11 @@ all_from bound from (FindsEmpty Second ∷ calls) intake some later is on =
     all_from bound from calls (found_empty Second intake) some later (empty_from bound from Second intake some later is) on
 all_from bound from (TakesFrom network place bytes ∷ calls) intake some later is on =
     let taking = taken_from network place bytes intake in
-    let both = takes_such (IsYoung bound from) place (record { at = since network intake; bytes = bytes }) intake.holds (slice_get intake.holds place) refl (since_from bound from network intake is) is.held in
+    let both = takes_such (IsYoung bound from) place (record { at = since network intake; sender = place; over = network; bytes = bytes }) intake.holds (slice_get intake.holds place) refl (since_from bound from network intake is) is.held in
     All-append (IsYoung bound from) (option_to_list taking.0) (intake_run calls taking.1).0 both.0
     (all_from bound from calls taking.1 some later (record { first = is.first; second = is.second; held = both.1 }) on)
+all_from bound from (Forgets ∷ calls) intake some later is on =
+    all_from bound from calls (forgotten intake) some later (record { first = is.first; second = is.second; held = none_held (IsYoung bound from) intake.holds }) on
 all_from bound from (AsksAt now ∷ calls) intake some later is on =
     let giving = given now intake in
     let both = gives_such (IsYoung bound from) now intake.holds (first_ready now intake.holds) is.held in

@@ -1,12 +1,12 @@
 -- A hold lasts as long as it was made for.
-use Rattle.std.proofs.Common.{◌≡◌, ℕ, nat_lt, ◌&&◌, List, [], ◌∷◌, length, replicate, Option, Some, None, slice_get, refl, subst}
+use Rattle.std.proofs.Common.{◌≡◌, ℕ, nat_lt, ◌&&◌, List, [], ◌∷◌, length, map, replicate, Option, Some, None, slice_get, refl, subst}
 use Rattle.std.specs.Prelude.{insert}
 use Rattle.std.specs.List.{All}
-use Rattle.std.proofs.lemmas.List.Elements.{All-replicate, All-set}
+use Rattle.std.proofs.lemmas.List.Elements.{All-cons, All-head, All-nil, All-replicate, All-set, All-tail}
 use Rattle.datagram_hold.specs.Came.{Came}
 use Rattle.datagram_hold.specs.Sequence.{is_ahead, number_of}
 use Rattle.datagram_hold.specs.Hold.{Handed, HoldState, asked, handing, leaves, place_in, put_at, taken, taken_by, unless_full}
-use Rattle.datagram_hold.specs.Intake.{AsksAt, FindsEmpty, IntakeCall, IntakeState, ReadsClock, TakesFrom, first_ready, given_at, given_by, intake_called, intake_run, new_hold, since, taken_by_it}
+use Rattle.datagram_hold.specs.Intake.{AsksAt, FindsEmpty, Forgets, IntakeCall, IntakeState, ReadsClock, TakesFrom, emptied, first_ready, forgotten, given_at, given_by, intake_called, intake_run, new_hold, since, taken_by_it}
 use Rattle.datagram_hold.specs.declared.network.Network.TheVariants.{First, Second}
 use Rattle.datagram_hold.proofs.Keeping.{by_test}
 use Rattle.datagram_hold.proofs.Intakes.{all_at}
@@ -50,14 +50,21 @@ gives_last : (millis now : ℕ) (holds : List HoldState) (first : Option ℕ) �
 gives_last millis now holds None last = last
 gives_last millis now holds (Some place) last = gives_last_by millis now place holds (slice_get holds place) refl last
 
+emptied_last : (millis : ℕ) (holds : List HoldState) → AllLast millis holds → AllLast millis (map emptied holds)
+emptied_last millis [] last = All-nil (λ (h : HoldState). h.millis ≡ millis)
+emptied_last millis (hold ∷ holds) last =
+    All-cons (λ (h : HoldState). h.millis ≡ millis) (emptied hold) (map emptied holds) (All-head (λ (h : HoldState). h.millis ≡ millis) hold holds last)
+    (emptied_last millis holds (All-tail (λ (h : HoldState). h.millis ≡ millis) hold holds last))
+
 pub all_last : (millis : ℕ) (calls : List IntakeCall) (intake : IntakeState) → AllLast millis intake.holds → AllLast millis (intake_run calls intake).1.holds
 all_last millis [] intake last = last
 all_last millis (ReadsClock reading ∷ calls) intake last = all_last millis calls (record intake { latest = reading }) last
 all_last millis (FindsEmpty First ∷ calls) intake last = all_last millis calls (record intake { first = intake.latest }) last
 all_last millis (FindsEmpty Second ∷ calls) intake last = all_last millis calls (record intake { second = intake.latest }) last
 all_last millis (TakesFrom network place bytes ∷ calls) intake last =
-    let one : Came = record { at = since network intake; bytes = bytes } in
+    let one : Came = record { at = since network intake; sender = place; over = network; bytes = bytes } in
     all_last millis calls (intake_called (TakesFrom network place bytes) intake).1 (takes_last millis place one intake.holds (slice_get intake.holds place) refl last)
+all_last millis (Forgets ∷ calls) intake last = all_last millis calls (forgotten intake) (emptied_last millis intake.holds last)
 all_last millis (AsksAt now ∷ calls) intake last =
     all_last millis calls (intake_called (AsksAt now) intake).1 (gives_last millis now intake.holds (first_ready now intake.holds) last)
 

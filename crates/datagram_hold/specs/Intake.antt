@@ -1,5 +1,5 @@
 -- What a node takes from its networks: the holds of all senders, and what was seen of each network.
-use Rattle.std.specs.Prelude.{◌≤◌, ◌+◌, ℕ, suc, nat_lt, ◌&&◌, if◌then◌else◌, Bool, false, List, [], ◌∷◌, ◌++◌, Option, Some, None, slice_get, slice_set}
+use Rattle.std.specs.Prelude.{◌≤◌, ◌+◌, ℕ, suc, nat_lt, min, ◌&&◌, if◌then◌else◌, Bool, false, List, [], ◌∷◌, ◌++◌, Option, Some, None, slice_get, slice_set, length, map}
 use Rattle.std.specs.Option.{option_map, option_to_list}
 use Rattle.datagram_hold.specs.Came.{Came}
 use Rattle.datagram_hold.specs.Hold.{HoldState, asked, leaves, taken}
@@ -45,7 +45,7 @@ taken_by_it place one holds (Some hold) = ((taken one hold).0, slice_set holds p
 
 abbrev pub taken_from : Network → ℕ → List ℕ → IntakeState → Option Came × IntakeState
 taken_from network place bytes intake =
-    let taking = taken_by_it place (record { at = since network intake; bytes = bytes }) intake.holds (slice_get intake.holds place)
+    let taking = taken_by_it place (record { at = since network intake; sender = place; over = network; bytes = bytes }) intake.holds (slice_get intake.holds place)
     in (taking.0, record intake { holds = taking.1 })
 
 -- whether a hold hands out something at a reading
@@ -75,6 +75,18 @@ given now intake =
     let giving = given_at now intake.holds (first_ready now intake.holds)
     in (giving.0, record intake { holds = giving.1 })
 
+-- nothing waits any more, and what is expected stays
+abbrev pub emptied : HoldState → HoldState
+emptied hold = record hold { held = [] }
+
+abbrev pub forgotten : IntakeState → IntakeState
+forgotten intake = record intake { holds = map emptied intake.holds }
+
+-- how many wait in these holds, counted up to the largest number of 64 bits
+abbrev pub held_by : List HoldState → ℕ
+held_by [] = 0
+held_by (hold ∷ others) = min (length hold.held + held_by others) 18446744073709551615
+
 -- ---- one after another
 
 pub data IntakeCall : Type 0 where
@@ -82,12 +94,14 @@ pub data IntakeCall : Type 0 where
   FindsEmpty : (network : Network) → IntakeCall
   TakesFrom : (network : Network) (place : ℕ) (bytes : List ℕ) → IntakeCall
   AsksAt : (now : ℕ) → IntakeCall
+  Forgets : IntakeCall
 
 -- what a call hands out
 abbrev pub intake_called : IntakeCall → IntakeState → List Came × IntakeState
 intake_called (ReadsClock reading) intake = ([], record intake { latest = reading })
 intake_called (FindsEmpty network) intake = ([], found_empty network intake)
 intake_called (TakesFrom network place bytes) intake = let taking = taken_from network place bytes intake in (option_to_list taking.0, taking.1)
+intake_called Forgets intake = ([], forgotten intake)
 intake_called (AsksAt now) intake = let giving = given now intake in (option_to_list (option_map (λ one. one.1) giving.0), giving.1)
 
 abbrev pub intake_run : List IntakeCall → IntakeState → List Came × IntakeState

@@ -5,10 +5,11 @@ use Rattle.datagram_hold.specs.Came.{Came}
 use Rattle.datagram_hold.specs.Sequence.{number_of}
 use Rattle.datagram_hold.specs.Order.{round}
 use Rattle.datagram_hold.specs.Runs.{Call, asks, run}
+use Rattle.datagram_hold.specs.declared.network.Network.TheVariants.{First}
 
 -- a datagram of this number comes at a reading, and then it is asked until there is none
 abbrev comes : ℕ → ℕ → List Call
-comes at number = round (record { at = at; bytes = replicate 12 0 ++ to_le_bytes w32 number })
+comes at number = round (record { at = at; sender = 0; over = First; bytes = replicate 12 0 ++ to_le_bytes w32 number })
 
 abbrev all_of : List (List Call) → List Call
 all_of [] = []

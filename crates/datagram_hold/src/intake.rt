@@ -1,7 +1,7 @@
 //! What a node takes from its networks.
 
-ghost use Rattle.std.specs.Prelude.{◌≡◌, ◌+◌, ◌<◌, nat_lt, IfOk, IfSome, length, replicate};
-ghost use Rattle.datagram_hold.specs.Intake.{first_ready, found_empty, given, is_fresh, new_hold, since, taken_from};
+ghost use Rattle.std.specs.Prelude.{◌≡◌, ◌+◌, ◌<◌, nat_lt, IfOk, IfSome, is_some, length, map, not, replicate, slice_get};
+ghost use Rattle.datagram_hold.specs.Intake.{emptied, first_ready, forgotten, found_empty, given, held_by, is_fresh, new_hold, since, taken_by_it, taken_from};
 
 use crate::incoming::Incoming;
 use crate::network::Network;
@@ -75,15 +75,51 @@ impl Intake {
         is_less(self.latest, self.first, millis) && is_less(self.latest, self.second, millis)
     }
 
-    /// A datagram of the sender at a place came from a network. It answers what of this sender is handed out at once.
+    /// What the clock read last.
+    pub fn latest(&self) -> u64
+        ensures { result ≡ self.now.latest }
+    {
+        self.latest
+    }
+
+    /// Whether a network was found empty less than so many milliseconds before the latest reading.
+    pub fn is_fresh_in(&self, network: Network, millis: u64) -> bool
+        ensures { result ≡ nat_lt self.now.latest (since network self.now + millis) }
+    {
+        is_less(self.latest, self.since(network), millis)
+    }
+
+    /// Whether nothing is handed out at a reading.
+    pub fn has_none(&self, now: u64) -> bool
+        ensures { result ≡ not (is_some (first_ready now self.now.holds)) }
+    {
+        first_ready(now, self.holds.as_slice()).is_none()
+    }
+
+    /// A datagram of the sender at a place came from a network. It answers what of this sender is handed out at once. Where there is
+    /// no such sender it waits for nothing.
+    #[tactic(auto, using(crate::proofs::Intakes::from_no_sender))]
     pub fn take(&mut self, network: Network, place: usize, bytes: Received) -> Option<Incoming>
-        requires { place < length self.old.holds }
         ensures handed { result ≡ (taken_from network place bytes.items self.old).0 }
         ensures after { self.new ≡ (taken_from network place bytes.items self.old).1 }
     {
         let at = self.since(network);
+        let incoming = Incoming::new(at, place, network, bytes);
+        if place < self.holds.len() {
+            self.take_at(place, incoming)
+        } else {
+            Some(incoming)
+        }
+    }
+
+    /// The sender at a place takes a datagram.
+    fn take_at(&mut self, place: usize, incoming: Incoming) -> Option<Incoming>
+        requires { place < length self.old.holds }
+        ensures handed { result ≡ (taken_by_it place incoming self.old.holds (slice_get self.old.holds place)).0 }
+        ensures after { self.new ≡ record self.old { holds = (taken_by_it place incoming self.old.holds (slice_get self.old.holds place)).1 } }
+    {
         let hold = &mut self.holds[place];
-        hold.take(Incoming::new(at, bytes))
+        hold.take(incoming)
     }
 
     /// The next datagram that is handed out at a reading, if there is one, with the place of its sender.
@@ -97,6 +133,16 @@ impl Intake {
             Some(incoming) => Some((place, incoming)),
             None => None,
         }
+    }
+
+    /// Drops all that waits, and answers how many that were.
+    pub fn forget(&mut self) -> u64
+        ensures count { result ≡ held_by self.old.holds }
+        ensures after { self.new ≡ forgotten self.old }
+    {
+        let count = held_by(self.holds.as_slice());
+        forget_all(&mut self.holds);
+        count
     }
 
     /// After which reading what waits in a network came.
@@ -115,6 +161,25 @@ fn is_less(reading: u64, other: u64, millis: u64) -> bool
     ensures { result ≡ nat_lt reading (other + millis) }
 {
     reading < other || reading - other < millis
+}
+
+/// How many wait in these holds.
+fn held_by(holds: &[SenderHold]) -> u64
+    ensures { result ≡ held_by holds.now }
+{
+    match holds.split_first() {
+        Some((hold, others)) => hold.held().saturating_add(held_by(others)),
+        None => 0,
+    }
+}
+
+/// Drops what waits in these holds.
+fn forget_all(holds: &mut [SenderHold])
+    ensures { holds.new ≡ map emptied holds.old }
+{
+    for hold in holds.iter_mut() {
+        hold.forget();
+    }
 }
 
 /// The first sender whose hold hands out something at a reading.

@@ -11,7 +11,7 @@ macro_rules! body {
   <span class="d-right"><button id="d-undo" title="undo (Ctrl+Z)" aria-label="undo">&#8630;</button><button id="d-redo" title="redo (Ctrl+Y)" aria-label="redo">&#8631;</button><button id="d-room" title="makes room: what lies right of the pointer goes one to the right">Room <kbd>i</kbd></button><button id="d-fit" title="all of it in sight">Fit <kbd>0</kbd></button><button id="d-new" title="begins anew">New</button><button id="d-open" title="opens a layout">Open</button><button id="d-save" title="Ctrl+S">Save</button><button id="d-run">Run it</button><button id="d-help">Keys <kbd>?</kbd></button></span>
 </header>
 <div id="d-plan"><svg id="d-svg" role="application" aria-label="drawing of the station" tabindex="0"></svg><input id="d-name" hidden spellcheck="false" aria-label="name">
-  <div id="d-begin" hidden><b>A station is drawn with rails.</b><ol><li>drag a line from left to right, then others beside it</li><li>lead one rail into another: a point comes where three meet</li><li>put borders <kbd>b</kbd> at the ends, signals <kbd>s</kbd> and joints <kbd>j</kbd></li><li>routes follow, and are checked while you draw</li></ol></div>
+  <div id="d-begin" hidden><b>A station is drawn with rails.</b><ol><li>drag a line from left to right, then others beside it</li><li>lead one rail into another: a point comes where three meet</li><li>put borders <kbd>b</kbd> at the ends, signals <kbd>s</kbd> and joints <kbd>j</kbd></li><li>routes follow, and are checked while you draw</li><li>Run it: a panel of it opens, and trains run</li></ol></div>
 </div>
 <div id="d-word" aria-live="polite"><b id="d-said"></b><span id="d-by"></span><span class="d-hint" id="d-hint"></span></div>
 <main>

@@ -47,6 +47,7 @@ function remember(was) {
   if (JSON.stringify(drawing) === was) return;
   past.push(was);
   future.length = 0;
+  saying = "";
   keep();
 }
 
@@ -55,6 +56,7 @@ function undo(from, to) {
   to.push(JSON.stringify(drawing));
   drawing = JSON.parse(from.pop());
   chain = stroke = chosen = null;
+  saying = "";
   refresh();
   keep();
   paint();

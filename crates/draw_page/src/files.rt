@@ -50,6 +50,9 @@ function download() {
   URL.revokeObjectURL(link.href);
 }
 
+// What the page knows of a file that it couldn't open, and what it says where a file is to be written over, whatever stands there.
+const UNREAD = "unread", ANYTHING = "anything";
+
 // By the station the file is written; a page of a file gives a file to keep. What the file was when it was read is told along, so
 // that it isn't written over what changed meanwhile.
 async function save() {
@@ -64,11 +67,12 @@ async function save() {
 }
 
 async function saveOver() {
-  const ways = [["no", "Leave it"], ["over", "Write over it"], ["open", "Open what is there"]];
-  const way = await question(station.file + " changed meanwhile", "Something else wrote it after this page read it.", ways);
+  const isUnread = station.known === UNREAD, ways = [["no", "Leave it"], ["over", "Write over it"], ...isUnread ? [] : [["open", "Open what is there"]]];
+  const [head, why] = isUnread ? ["isn't what is drawn here", "What stands there couldn't be opened."] : ["changed meanwhile", "Something else wrote it after this page read it."];
+  const way = await question(station.file + " " + head, why, ways);
   if (way === "open") return askLayout(true);
   if (way !== "over") return;
-  const said = await ask("/save", read.text);
+  const said = await ask("/save", read.text, {"X-Known": ANYTHING});
   took(said.ok, await said.text());
 }
 
@@ -99,37 +103,54 @@ async function begin() {
 let isRunning = false;
 
 async function run() {
-  if (!station) return say("a page of a file has no station: station draw FILE has one");
+  try {
+    await runOrStop();
+  } catch {
+    say("it can't be run: the station doesn't answer");
+  }
+}
+
+async function runOrStop() {
+  if (!station) return say("this page alone judges what is drawn: it can be run where station draw FILE serves the page");
+  if (station.isGone) return say("it can't be run: " + station.isGone);
   if (isRunning) return stop();
   if (read.faults.length) return say("it can't be run: " + read.faults[0].text);
   const said = verdict();
   if (!said) return say("it can't be run yet: the station hasn't checked this text");
   if (said.status !== 0) return say("it can't be run: " + said.err.split("\n")[0]);
   if (!table.kept.length) return say("there is no route to run");
-  const answered = await ask("/run", "start");
-  const text = await answered.text();
+  const answered = await ask("/run", "start"), text = await answered.text();
   if (!answered.ok) return say("it doesn't run: " + text);
-  isRunning = true;
-  by("d-run").textContent = "Stop it";
+  showRunning(true);
   say("it runs at " + text.trim());
   window.open(text.trim(), "panel");
 }
 
 async function stop() {
   const answered = await ask("/run", "stop");
-  isRunning = !answered.ok;
-  by("d-run").textContent = isRunning ? "Stop it" : "Run it";
+  showRunning(!answered.ok);
+  say(answered.ok ? "it doesn't run any more" : "it can't be stopped: " + await answered.text());
+}
+
+function showRunning(is) {
+  isRunning = is;
+  by("d-run").textContent = is ? "Stop it" : "Run it";
 }
 
 // ---- the beginning
 
 // What the station serves: the text of the file, what it was known by, and who it is.
 async function askLayout(isAgain) {
-  station = await (await fetch("/layout", {cache: "no-store", signal: AbortSignal.timeout(5000)})).json();
+  const answered = await fetch("/layout", {cache: "no-store", signal: AbortSignal.timeout(5000)});
+  if (!answered.ok) return say("the station can't show it: " + await answered.text());
+  station = await answered.json();
   by("d-file-name").title = station.file;
+  showRunning(station.running);
   const fault = station.text ? load(station.text) : "";
-  if (fault) say(station.file + " can't be opened: " + fault);
-  else station.text = read.text;
+  if (fault) {
+    say(station.file + " can't be opened: " + fault);
+    station.known = UNREAD;
+  } else station.text = read.text;
   if (!isAgain) past.length = future.length = 0;
 }
 

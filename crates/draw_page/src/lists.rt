@@ -33,12 +33,12 @@ function paintWord() {
   by("d-by").dataset.proved = isProved ? "yes" : "no";
   by("d-hint").textContent = saying || HINTS[tool];
   by("d-hint").dataset.said = saying ? "yes" : "no";
-  if (station) by("d-file-name").textContent = station.file + (isUnsaved() ? " \u2022" : "");
+  if (station) by("d-file-name").textContent = (isUnsaved() ? "\u2022 " : "") + station.file.split("/").at(-1);
 }
 
 function whoChecked(isProved) {
   if (isProved) return "checked by station " + station.version;
-  if (station?.isGone) return "by this page, which isn't proved: the station doesn't answer";
+  if (station?.isGone) return "by this page, which isn't proved: " + station.isGone;
   return "by this page, which isn't proved" + (station && !read.faults.length ? ": the station is asked" : "");
 }
 

@@ -113,7 +113,7 @@ let station = null, answer = null, asking = null;
 const verdict = () => answer && answer.text === read.text ? answer : null;
 
 function ask(path, body, more = {}) {
-  return fetch(path, {method: "POST", body, headers: {"X-Token": station.token, "Content-Type": "text/plain", ...more}, signal: AbortSignal.timeout(5000)});
+  return fetch(path, {method: "POST", body, headers: {"X-Token": station.token, "Content-Type": "text/plain", ...more}, signal: AbortSignal.timeout(10000)});
 }
 
 function askStation() {
@@ -125,11 +125,15 @@ async function check() {
   const text = read.text;
   try {
     const said = await ask("/check", text);
-    if (!said.ok) throw new Error(said.status);
+    if (!said.ok) throw new Error(await said.text());
     answer = {text, ...await said.json()};
-    station.isGone = false;
-  } catch {
-    station.isGone = true;
+    station.isGone = "";
+    showRunning(answer.running);
+  } catch (fault) {
+    // a fault of the network has other words in each browser
+    station.isGone = fault.name === "Error" ? fault.message : "the station doesn't answer";
+    clearTimeout(asking);
+    asking = setTimeout(check, 3000);
   }
   paintWord();
   paintFaults();

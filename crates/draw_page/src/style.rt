@@ -29,7 +29,7 @@ header input{font-size:15px;font-weight:700;letter-spacing:.05em;width:9em;min-w
 .d-tools button[aria-pressed=true]{background:#f7d36b;font-weight:600;border-color:#f7d36b}
 header .d-right{margin-left:auto;display:flex;gap:4px;align-items:center}
 #d-run{background:#f7d36b;font-weight:600}
-#d-file-name{overflow:hidden;text-overflow:ellipsis;white-space:nowrap;max-width:13em;color:#cdd6dc}
+#d-file-name{flex:1 1 0;min-width:0;overflow:hidden;text-overflow:ellipsis;white-space:nowrap;color:#cdd6dc}
 #d-plan{position:relative;min-height:0;background:#fff;border-bottom:1px solid #b6c1c9;overflow:hidden;touch-action:none}
 #d-plan svg{display:block;width:100%;height:100%;user-select:none}
 #d-plan svg:focus-visible{outline-width:2px;outline-offset:-2px}

@@ -137,7 +137,7 @@ const writeStation = one => `\n[station]\nname = ${quoted(one.name)}\nid = ${one
 
 function writePositions(lines) {
   const key = name => name.includes(".") ? quoted(name) : name;
-  return "\n# Where it is drawn, on a grid: the ends and bends of each track, and of the rails of each point. Other commands ignore it.\n[drawing]\n"
+  return "\n# Where it is drawn, on a grid: the ends and bends of each track, and of the rails of each point. Plans go by it.\n[drawing]\n"
     + Object.entries(lines).map(([name, line]) => key(name) + " = [" + line.join(", ") + "]\n").join("");
 }
 

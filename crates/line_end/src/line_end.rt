@@ -129,8 +129,8 @@ impl LineEnd {
         }
     }
 
-    /// The link isn't up: nothing is asked, queried or told.
-    fn unlink(&mut self)
+    /// The link isn't up, or has left its connection: nothing is asked, queried or told.
+    pub fn unlink(&mut self)
         ensures { self.new ≡ record self.old { end = unlinked self.old.end } }
     {
         self.query = QueryOut::No;

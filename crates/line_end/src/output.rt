@@ -1,6 +1,6 @@
 //! What a step hands out.
 
-ghost use Rattle.std.specs.Prelude.{◌≡◌};
+ghost use Rattle.std.specs.Prelude.{◌≡◌, ◌≤◌, length};
 
 use crate::kept::Kept;
 use arrayvec::ArrayVec;
@@ -33,7 +33,8 @@ impl Output {
 
     /// What is to be given to the link then.
     pub fn items(&self) -> &[Item]
-        ensures { result.now ≡ self.now.items }
+        ensures items { result.now ≡ self.now.items }
+        ensures few { length result.now ≤ 5 }
     {
         self.items.as_slice()
     }

@@ -7,12 +7,13 @@ use Rattle.control_table.specs.layout.Entries.{Site}
 use Rattle.replay_lines.specs.Names.{node_names}
 use Rattle.node_addresses.specs.declared.fault.AddressesFault.{AddressesFault}
 use Rattle.node_addresses.specs.declared.fault.AddressesFault.TheVariants.{Toml, MissingNode, WrongAddress, DoubleAddress, UnknownNode, WrongName, OutOfMemory}
-use Rattle.node_addresses.specs.Addresses.{AreOfNodes, HasNone, IsFault, no_toml, at_node, at_key, IsSound, StopsAtNode, UnlessMemory, unknown_key}
+use Rattle.node_addresses.specs.declared.network.Network.{Network}
+use Rattle.node_addresses.specs.Addresses.{AreOfNodes, HasNone, IsFault, no_toml, at_node, at_key, IsSound, StopsAtNode, StopsIn, UnlessMemory, unknown_key}
 use Rattle.node_addresses.proofs.AddressesSoFar.{AreSoFar}
 use Rattle.node_addresses.proofs.Refuted.{refuted}
 
 -- what is told unless memory was refused leads to what follows
-unless_memory : {P Q : Type 0} (fault : AddressesFault) → (P → Q) → UnlessMemory fault P → UnlessMemory fault Q
+pub unless_memory : {P Q : Type 0} (fault : AddressesFault) → (P → Q) → UnlessMemory fault P → UnlessMemory fault Q
 unless_memory Toml follows said = follows said
 unless_memory (MissingNode name) follows said = follows said
 unless_memory (WrongAddress name) follows said = follows said
@@ -21,7 +22,7 @@ unless_memory (UnknownNode name) follows said = follows said
 unless_memory WrongName follows said = follows said
 unless_memory OutOfMemory follows said = tt
 
-anyway : {P : Type 0} (fault : AddressesFault) → P → UnlessMemory fault P
+pub anyway : {P : Type 0} (fault : AddressesFault) → P → UnlessMemory fault P
 anyway Toml said = said
 anyway (MissingNode name) said = said
 anyway (WrongAddress name) said = said
@@ -31,9 +32,9 @@ anyway WrongName said = said
 anyway OutOfMemory said = tt
 
 -- reading stops at the node that comes next
-pub stops_there : (site : Site) (document : Members) (before : List SocketAddr) (name : List ℕ) (fault : AddressesFault) → AreSoFar document (node_names site) before
-    → slice_get (node_names site) (length before) ≡ Some name → HasNone document name before fault → UnlessMemory fault (StopsAtNode site document fault)
-stops_there site document before name fault found next why =
+pub stops_there : (network : Network) (others : List SocketAddr) (site : Site) (document : Members) (before : List SocketAddr) (name : List ℕ) (fault : AddressesFault) → AreSoFar network others document (node_names site) before
+    → slice_get (node_names site) (length before) ≡ Some name → HasNone network others document name before fault → UnlessMemory fault (StopsIn network others site document fault)
+stops_there network others site document before name fault found next why =
     anyway fault (record { before = before; each = found.0; once = found.1; name = name; is_next = next; why = why })
 
 module _ (site : Site) (text : List ℕ) where

@@ -1,3 +1,5 @@
 pub mod AddressesSoFar
 pub mod Refuted
 pub mod Explained
+pub mod NetworksExplained
+pub mod Among

@@ -1,10 +1,11 @@
--- Which text gives each node of a station an address of its own, and what is wrong with another.
-use Rattle.std.specs.Prelude.{◌≡◌, ◌≢◌, ℕ, if◌then◌else◌, List, length, Option, Some, None, slice_get, Result, Ok, Err}
+-- Which text gives each node of a station an address of its own, or one in each of two networks, and what is wrong with another.
+use Rattle.std.specs.Prelude.{◌≡◌, ◌≢◌, ℕ, if◌then◌else◌, Bool, true, false, List, [], ◌∷◌, ◌++◌, length, Option, Some, None, slice_get, Result, Ok, Err}
 use Rattle.std.specs.List.{Contains}
+use Rattle.std.specs.Option.{option_and_then}
 use Rattle.std.specs.Net.Grammar.{IsSocketText}
 use Rattle.std.specs.Net.Socket.{socket_port}
 use Rattle.std.specs.declared.net.socket_addr.SocketAddr.{SocketAddr}
-use Rattle.toml.specs.Data.{Data, Members, no_members, member, get_member, as_str}
+use Rattle.toml.specs.Data.{Data, Items, no_items, item, Members, no_members, member, get_member, as_array, as_str}
 use Rattle.toml.specs.Parse.{parse_document}
 use Rattle.replay_words.specs.declared.fault.Fault.{Fault}
 use Rattle.control_table.specs.layout.Entries.{Site}
@@ -13,6 +14,8 @@ use Rattle.control_table.specs.layout.declared.ids.NodeId.{NodeId}
 use Rattle.replay_lines.specs.Names.{node_named, node_names}
 use Rattle.node_addresses.specs.Keys.{is_name}
 use Rattle.node_addresses.specs.declared.fault.AddressesFault.{AddressesFault}
+use Rattle.node_addresses.specs.declared.network.Network.{Network}
+use Rattle.node_addresses.specs.declared.network.Network.TheVariants.{Alone, First, Second}
 use Rattle.node_addresses.specs.declared.fault.AddressesFault.TheVariants.{Toml, MissingNode, WrongAddress, DoubleAddress, UnknownNode, WrongName, OutOfMemory}
 
 -- ---- one address
@@ -21,26 +24,48 @@ use Rattle.node_addresses.specs.declared.fault.AddressesFault.TheVariants.{Toml,
 abbrev pub WritesAddress : List ℕ → SocketAddr → Type 0
 WritesAddress text address = IsSocketText text address × (socket_port address ≢ 0)
 
--- a value is such a text
-abbrev pub GivesAddress : Data → SocketAddr → Type 0
-GivesAddress value address = (text : List ℕ) × (as_str value ≡ Some text) × WritesAddress text address
+-- the value of two items that stands in a network
+abbrev pub first_of : Items → Option Data
+first_of (item one (item other no_items)) = Some one
+first_of items = None
+
+abbrev pub second_of : Items → Option Data
+second_of (item one (item other no_items)) = Some other
+second_of items = None
+
+-- what of a node's value stands for its address in a network: all of it where there is one, or one of two items
+abbrev pub part_in : Network → Data → Option Data
+part_in Alone value = Some value
+part_in First value = option_and_then first_of (as_array value)
+part_in Second value = option_and_then second_of (as_array value)
+
+abbrev pub text_in : Network → Data → Option (List ℕ)
+text_in network value = option_and_then as_str (part_in network value)
+
+-- a value gives an address in a network by such a text
+abbrev pub GivesAddress : Network → Data → SocketAddr → Type 0
+GivesAddress network value address = (text : List ℕ) × (text_in network value ≡ Some text) × WritesAddress text address
 
 -- it stands under this key
-abbrev pub StandsUnder : Members → List ℕ → SocketAddr → Type 0
-StandsUnder document key address = (value : Data) × (get_member key document ≡ Some value) × GivesAddress value address
+abbrev pub StandsUnder : Network → Members → List ℕ → SocketAddr → Type 0
+StandsUnder network document key address = (value : Data) × (get_member key document ≡ Some value) × GivesAddress network value address
 
 -- ---- all of them
 
 -- each address stands under the name at its place
-abbrev pub StandUnder : Members → List (List ℕ) → List SocketAddr → Type 0
-StandUnder document names addresses = (place : ℕ) (address : SocketAddr) → slice_get addresses place ≡ Some address
-    → (name : List ℕ) × (slice_get names place ≡ Some name) × StandsUnder document name address
+abbrev pub StandUnder : Network → Members → List (List ℕ) → List SocketAddr → Type 0
+StandUnder network document names addresses = (place : ℕ) (address : SocketAddr) → slice_get addresses place ≡ Some address
+    → (name : List ℕ) × (slice_get names place ≡ Some name) × StandsUnder network document name address
 
--- Each node has its address, in the order of the layout's nodes, and no two have the same.
-pub record AreOfNodes (site : Site) (document : Members) (addresses : List SocketAddr) : Type 0 where
+-- Each node has its address in a network, in the order of the layout's nodes, and no two have the same, nor one of these others.
+pub record AreIn (network : Network) (others : List SocketAddr) (site : Site) (document : Members) (addresses : List SocketAddr) : Type 0 where
   pub count : length addresses ≡ length (node_names site)
-  pub each : StandUnder document (node_names site) addresses
-  pub once : Distinct addresses
+  pub each : StandUnder network document (node_names site) addresses
+  pub once : Distinct (others ++ addresses)
+
+-- in the only network
+abbrev pub AreOfNodes : Site → Members → List SocketAddr → Type 0
+AreOfNodes = AreIn Alone []
 
 -- a key that hasn't the form of a name isn't told
 abbrev pub unknown : List ℕ → AddressesFault
@@ -64,22 +89,26 @@ pub record IsSound (site : Site) (text : List ℕ) (addresses : List SocketAddr)
 
 -- ---- faults
 
--- why a node has no address of its own, where those before it have these
-abbrev pub HasNone : Members → List ℕ → List SocketAddr → AddressesFault → Type 0
-HasNone document name before (MissingNode told) = (told ≡ name) × (get_member name document ≡ None)
-HasNone document name before (WrongAddress told) =
-    (told ≡ name) × (value : Data) × (get_member name document ≡ Some value) × ((address : SocketAddr) → ¬ (GivesAddress value address))
-HasNone document name before (DoubleAddress told) = (told ≡ name) × (address : SocketAddr) × StandsUnder document name address × Contains before address
-HasNone document name before _ = ⊥
+-- why a node has no address of its own in a network, where those before it have these, and these others are taken
+abbrev pub HasNone : Network → List SocketAddr → Members → List ℕ → List SocketAddr → AddressesFault → Type 0
+HasNone network others document name before (MissingNode told) = (told ≡ name) × (get_member name document ≡ None)
+HasNone network others document name before (WrongAddress told) =
+    (told ≡ name) × (value : Data) × (get_member name document ≡ Some value) × ((address : SocketAddr) → ¬ (GivesAddress network value address))
+HasNone network others document name before (DoubleAddress told) =
+    (told ≡ name) × (address : SocketAddr) × StandsUnder network document name address × Contains (others ++ before) address
+HasNone network others document name before _ = ⊥
 
--- The first node in the order of the layout that has no address of its own.
-pub record StopsAtNode (site : Site) (document : Members) (fault : AddressesFault) : Type 0 where
+-- The first node in the order of the layout that has no address of its own in a network.
+pub record StopsIn (network : Network) (others : List SocketAddr) (site : Site) (document : Members) (fault : AddressesFault) : Type 0 where
   pub before : List SocketAddr
-  pub each : StandUnder document (node_names site) before
-  pub once : Distinct before
+  pub each : StandUnder network document (node_names site) before
+  pub once : Distinct (others ++ before)
   pub name : List ℕ
   pub is_next : slice_get (node_names site) (length before) ≡ Some name
-  pub why : HasNone document name before fault
+  pub why : HasNone network others document name before fault
+
+abbrev pub StopsAtNode : Site → Members → AddressesFault → Type 0
+StopsAtNode = StopsIn Alone []
 
 -- which fault a text has, where it is no addresses file
 pub data IsFault (site : Site) (text : List ℕ) : AddressesFault → Type 0 where

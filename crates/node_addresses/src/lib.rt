@@ -4,9 +4,13 @@
 mod address_read;
 mod fault;
 mod keys;
+mod network;
+mod networks;
 mod text;
 
 pub use fault::AddressesFault;
+pub use network::Network;
+pub use networks::{Networks, read_networks};
 pub use text::read_addresses;
 
 // What crates above need of the crates below.

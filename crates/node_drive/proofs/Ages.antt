@@ -1,7 +1,6 @@
 -- What a process saw is what its calls tell, so what it hears has waited briefly.
 use Rattle.std.proofs.Common.{◌≡◌, ◌∙◌, ◌&&◌, ℕ, nat_le, Bool, true, false, cond, List, [], ◌∷◌, ◌++◌, map, Option, Some, None, refl, sym, ap, subst, append_assoc, append-nil, arith}
 use Rattle.std.proofs.lemmas.Bool.Decides.{nat_tests}
-use Rattle.node_lines.specs.simulator_event.layout.declared.ids.NodeId.{NodeId}
 use Rattle.node_lines.specs.declared.order.Order.{Order}
 use Rattle.node_lines.specs.replay_words.declared.fault.Fault.TheVariants.{Number}
 use Rattle.node_drive.specs.Ages.{FindsEmpty, WaitedBriefly, WasEmptyBehind}
@@ -13,6 +12,7 @@ use Rattle.node_drive.specs.Seen.{all_seen, is_heard, is_recent, nothing_seen, s
 use Rattle.node_drive.specs.Waiting.{Waiting, leaving}
 use Rattle.node_drive.specs.declared.outside.ThrownAway.{ThrownAway}
 use Rattle.node_drive.specs.declared.socket_seen.SocketSeen.{SocketSeen}
+use Rattle.node_drive.specs.declared.outside.Origin.{Origin}
 
 -- ---- what calls tell
 
@@ -78,10 +78,10 @@ module _ {State In : Type 0} (kind : Kind State In) where
   taken_keeps now bytes standing true = step_keeps now (kind.datagram bytes) standing
   taken_keeps now bytes standing false = refl
 
-  heard_keeps : (now : ℕ) (from : Option NodeId) (bytes : List ℕ) (thrown : ThrownAway) (leaves : ℕ) (standing : Standing State) (heard : Bool)
-      → Keeps seen_of (seen_of standing) (cond heard (then_released leaves (datagram kind now from bytes standing)) (not_heard thrown standing))
-  heard_keeps now from bytes thrown leaves standing true = end_keeps leaves (seen_of standing) (datagram kind now from bytes standing) (taken_keeps now bytes standing (is_taken kind from))
-  heard_keeps now from bytes thrown leaves standing false = refl
+  heard_keeps : (now : ℕ) (origin : Origin) (bytes : List ℕ) (thrown : ThrownAway) (leaves : ℕ) (standing : Standing State) (heard : Bool)
+      → Keeps seen_of (seen_of standing) (cond heard (then_released leaves (datagram kind now origin bytes standing)) (not_heard thrown standing))
+  heard_keeps now origin bytes thrown leaves standing true = end_keeps leaves (seen_of standing) (datagram kind now origin bytes standing) (taken_keeps now bytes standing (is_taken kind origin.from))
+  heard_keeps now origin bytes thrown leaves standing false = refl
 
   -- by what a coming asks for first
   behind_asked : (now : ℕ) (coming : Coming) (standing : Standing State) (done : Done (Standing State)) → Keeps seen_of (all_seen (asked now coming) (seen_of standing)) done
@@ -97,7 +97,7 @@ module _ {State In : Type 0} (kind : Kind State In) where
       end_keeps leaves (seen_of here) (told kind now (kind.meaning now text standing.state) (heard_one here)) (told_keeps now (kind.meaning now text standing.state) (heard_one here))
   comes_keeps now NoLine standing = refl
   comes_keeps now LinesEnd standing = refl
-  comes_keeps now (Datagram from bytes thrown leaves) standing = heard_keeps now from bytes thrown leaves (having_called (Reads now ∷ []) standing) (is_heard now standing.course.seen)
+  comes_keeps now (Datagram origin bytes thrown leaves) standing = heard_keeps now origin bytes thrown leaves (having_called (Reads now ∷ []) standing) (is_heard now standing.course.seen)
   comes_keeps now NoDatagram standing = refl
   comes_keeps now FailedDatagram standing = refl
   comes_keeps now (Tick leaves) standing =
@@ -199,13 +199,13 @@ both_are one false taken e = cc
 
 module _ {State In : Type 0} (kind : Kind State In) where
   pub heard_waited_briefly : (earlier : List Call) (comings : List (ℕ × Coming)) (standing : Standing State) → standing.course.seen ≡ all_seen earlier nothing_seen
-      → (now : ℕ) (from : Option NodeId) (bytes : List ℕ) (thrown : ThrownAway) (leaves : ℕ)
-      → inputs_of kind now (Datagram from bytes thrown leaves) (all_come kind comings standing).1 ≡ (now, kind.datagram bytes) ∷ []
+      → (now : ℕ) (origin : Origin) (bytes : List ℕ) (thrown : ThrownAway) (leaves : ℕ)
+      → inputs_of kind now (Datagram origin bytes thrown leaves) (all_come kind comings standing).1 ≡ (now, kind.datagram bytes) ∷ []
       → WaitedBriefly now (earlier ++ (all_come kind comings standing).0)
-  heard_waited_briefly earlier comings standing kept now from bytes thrown leaves heard =
+  heard_waited_briefly earlier comings standing kept now origin bytes thrown leaves heard =
       let after = (all_come kind comings standing).1 in
       let called = (all_come kind comings standing).0 in
       let seen : after.course.seen ≡ all_seen (earlier ++ called) nothing_seen
       = all_keep kind comings standing ∙ ap (all_seen called) kept ∙ sym (seen-append earlier called nothing_seen) in
       let known = subst (λ (s : SocketSeen). Known s (earlier ++ called)) (sym seen) (all-known nothing_seen [] (earlier ++ called) (tt, tt)) in
-      recent_is now after.course.seen.empty (earlier ++ called) (both_are (now, kind.datagram bytes) (is_heard now after.course.seen) (is_taken kind from) heard) known.1
+      recent_is now after.course.seen.empty (earlier ++ called) (both_are (now, kind.datagram bytes) (is_heard now after.course.seen) (is_taken kind origin.from) heard) known.1

@@ -1,7 +1,6 @@
 -- The datagrams of a round, one after another.
-use Rattle.std.proofs.Common.{◌≡◌, ◌<◌, ◌≤◌, ℕ, nat_lt, Bool, true, false, cond, List, [], ◌∷◌, ◌++◌, map, Option, refl, sym, subst, ap, ◌∙◌, append-nil, arith}
+use Rattle.std.proofs.Common.{◌≡◌, ◌<◌, ◌≤◌, ℕ, nat_lt, Bool, true, false, cond, List, [], ◌∷◌, ◌++◌, map, refl, sym, subst, ap, ◌∙◌, append-nil, arith}
 use Rattle.std.proofs.lemmas.Bool.Decides.{nat_tests}
-use Rattle.node_lines.specs.simulator_event.layout.declared.ids.NodeId.{NodeId}
 use Rattle.node_drive.specs.Calls.{Arrival, AsksDatagram, Calls, CallsCut, Came, DatagramHeard, Empty, Failed, Reads, ThrowsAway, Told}
 use Rattle.node_drive.specs.Drives.{AreHeard, EndsDatagrams, full, silent, Performs, Stops, Timed, datagram_in}
 use Rattle.node_drive.specs.Inside.{OneDatagram}
@@ -14,6 +13,7 @@ use Rattle.node_drive.proofs.Calls.{calls_same, calls_then, cuts_same, cuts_then
 use Rattle.node_drive.proofs.Comings.{performs_one, performs_same, performs_then, stops_before, stops_one, stops_same, stops_then}
 use Rattle.node_drive.proofs.Lists.{map_push}
 use Rattle.node_drive.proofs.Stepped.{end_cut}
+use Rattle.node_drive.specs.declared.outside.Origin.{Origin}
 
 -- some end, whatever it is
 abbrev pub SomeEnd : SocketSeen → ℕ → Type 0
@@ -108,14 +108,14 @@ module _ {State In : Type 0} {kind : Kind State In} where
   pub none_known : {a : Standing State} {ta tb : Told} → Calls ta tb (AsksDatagram Failed ∷ []) → Performs kind ((0, FailedDatagram) ∷ []) a a ta tb
   none_known asks = performs_one 0 FailedDatagram refl asks
 
-  pub old_came : {state : State} {course read after : CourseState} {ta tb tc td : Told} (now : ℕ) (from : Option NodeId) (bytes : List ℕ) (thrown : ThrownAway) → read ≡ with_calls (Reads now ∷ []) course → is_heard now course.seen ≡ false
+  pub old_came : {state : State} {course read after : CourseState} {ta tb tc td : Told} (now : ℕ) (origin : Origin) (bytes : List ℕ) (thrown : ThrownAway) → read ≡ with_calls (Reads now ∷ []) course → is_heard now course.seen ≡ false
       → after ≡ record (with_calls (ThrowsAway thrown.count thrown.found_empty ∷ []) read) { too_old = many_more thrown.count (one_more read.too_old) }
-      → Calls ta tb (AsksDatagram (Came (from, bytes)) ∷ []) → Calls tb tc (Reads now ∷ []) → Calls tc td (ThrowsAway thrown.count thrown.found_empty ∷ [])
-      → Performs kind ((now, Datagram from bytes thrown 0) ∷ []) (record { state = state; course = course }) (record { state = state; course = after }) ta td
-  old_came {state} {course} {read} {after} now from bytes thrown noted late e asks reads throws =
+      → Calls ta tb (AsksDatagram (Came (origin, bytes)) ∷ []) → Calls tb tc (Reads now ∷ []) → Calls tc td (ThrowsAway thrown.count thrown.found_empty ∷ [])
+      → Performs kind ((now, Datagram origin bytes thrown 0) ∷ []) (record { state = state; course = course }) (record { state = state; course = after }) ta td
+  old_came {state} {course} {read} {after} now origin bytes thrown noted late e asks reads throws =
       let here : Standing State = having_called (Reads now ∷ []) (record { state = state; course = course }) in
-      let is : not_heard thrown here ≡ comes kind now (Datagram from bytes thrown 0) (record { state = state; course = course })
-      = ap (λ (v : Bool). cond v (then_released 0 (datagram kind now from bytes here)) (not_heard thrown here)) (sym late) in
-      performs_one now (Datagram from bytes thrown 0)
+      let is : not_heard thrown here ≡ comes kind now (Datagram origin bytes thrown 0) (record { state = state; course = course })
+      = ap (λ (v : Bool). cond v (then_released 0 (datagram kind now origin bytes here)) (not_heard thrown here)) (sym late) in
+      performs_one now (Datagram origin bytes thrown 0)
       (ap (λ (c : CourseState). record { state = state; course = c }) (e ∙ ap (thrown_behind thrown) noted) ∙ ap (λ d. d.1) is)
       (calls_then asks (calls_then reads (calls_same (ap (λ d. d.0) is) throws)))

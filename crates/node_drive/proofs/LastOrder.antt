@@ -10,10 +10,10 @@ use Rattle.node_drive.specs.Kinds.{Kind, Meaning, InForce, Comes, Faulty}
 use Rattle.node_drive.specs.Rounds.{Coming, RoundBegins, Listened, Line, NoLine, LinesEnd, Datagram, NoDatagram, FailedDatagram, Tick, CourseState, Done, Standing, all_come, comes, counted, datagram, having_called, heard_one, is_taken, last_order, later, new_order, not_heard, step, steps, then_released, told}
 use Rattle.node_drive.specs.Seen.{is_heard}
 use Rattle.node_drive.specs.declared.outside.ThrownAway.{ThrownAway}
-use Rattle.node_lines.specs.simulator_event.layout.declared.ids.NodeId.{NodeId}
 use Rattle.node_lines.specs.ixl_spec.Table.{is_same_side}
 use Rattle.node_drive.specs.Same.{is_same_order}
 use Rattle.node_lines.specs.replay_words.declared.fault.Fault.TheVariants.{Number}
+use Rattle.node_drive.specs.declared.outside.Origin.{Origin}
 
 same_side : (one other : Side) → is_same_side one other ≡ true → one ≡ other
 same_side side.Right side.Right e = refl
@@ -90,10 +90,10 @@ module _ {State In : Type 0} (kind : Kind State In) (some : (state : State) → 
   taken-stands now bytes standing true h = step-stands now (kind.datagram bytes) standing
   taken-stands now bytes standing false h = h
 
-  heard-stands : (now : ℕ) (from : Option NodeId) (bytes : List ℕ) (thrown : ThrownAway) (leaves : ℕ) (standing : Standing State) (heard : Bool) → Stands standing
-      → Stands (cond heard (then_released leaves (datagram kind now from bytes standing)) (not_heard thrown standing)).1
-  heard-stands now from bytes thrown leaves standing true h = taken-stands now bytes standing (is_taken kind from) h
-  heard-stands now from bytes thrown leaves standing false h = h
+  heard-stands : (now : ℕ) (origin : Origin) (bytes : List ℕ) (thrown : ThrownAway) (leaves : ℕ) (standing : Standing State) (heard : Bool) → Stands standing
+      → Stands (cond heard (then_released leaves (datagram kind now origin bytes standing)) (not_heard thrown standing)).1
+  heard-stands now origin bytes thrown leaves standing true h = taken-stands now bytes standing (is_taken kind origin.from) h
+  heard-stands now origin bytes thrown leaves standing false h = h
 
   comes-stands : (now : ℕ) (coming : Coming) (standing : Standing State) → Stands standing → Stands (comes kind now coming standing).1
   comes-stands now RoundBegins standing h = h
@@ -102,8 +102,8 @@ module _ {State In : Type 0} (kind : Kind State In) (some : (state : State) → 
   comes-stands now (Line text leaves) standing h = told-stands now (kind.meaning now text standing.state) (heard_one (having_called (Reads now ∷ []) standing)) h
   comes-stands now NoLine standing h = h
   comes-stands now LinesEnd standing h = h
-  comes-stands now (Datagram from bytes thrown leaves) standing h =
-      heard-stands now from bytes thrown leaves (having_called (Reads now ∷ []) standing) (is_heard now standing.course.seen) h
+  comes-stands now (Datagram origin bytes thrown leaves) standing h =
+      heard-stands now origin bytes thrown leaves (having_called (Reads now ∷ []) standing) (is_heard now standing.course.seen) h
   comes-stands now NoDatagram standing h = h
   comes-stands now FailedDatagram standing h = h
   comes-stands now (Tick leaves) standing h = step-stands now kind.tick (having_called (Reads now ∷ []) standing)

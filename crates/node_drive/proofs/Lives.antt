@@ -1,12 +1,12 @@
 -- A node by the inputs that came to it.
-use Rattle.std.proofs.Common.{◌≡◌, ◌∙◌, ◌&&◌, ℕ, List, [], ◌∷◌, ◌++◌, map, Option, Bool, true, false, cond, refl, sym, ap}
-use Rattle.node_lines.specs.simulator_event.layout.declared.ids.NodeId.{NodeId}
+use Rattle.std.proofs.Common.{◌≡◌, ◌∙◌, ◌&&◌, ℕ, List, [], ◌∷◌, ◌++◌, map, Bool, true, false, cond, refl, sym, ap}
 use Rattle.node_drive.specs.Kinds.{Kind, Meaning, InForce, Comes, Faulty}
 use Rattle.node_drive.specs.Lives.{came, inputs_of, inputs_told, state_after}
 use Rattle.node_drive.specs.Rounds.{Coming, RoundBegins, Listened, Line, NoLine, LinesEnd, Datagram, NoDatagram, FailedDatagram, Tick, Standing, all_come, comes, counted, having_called, is_taken, not_heard, step, steps, then_released, told}
 use Rattle.node_drive.specs.Calls.{Reads}
 use Rattle.node_drive.specs.Seen.{is_heard}
 use Rattle.node_drive.specs.declared.outside.ThrownAway.{ThrownAway}
+use Rattle.node_drive.specs.declared.outside.Origin.{Origin}
 
 module _ {State In : Type 0} (kind : Kind State In) where
   after-append : (some more : List (ℕ × In)) (state : State) → state_after kind (some ++ more) state ≡ state_after kind more (state_after kind some state)
@@ -24,9 +24,9 @@ module _ {State In : Type 0} (kind : Kind State In) where
   told-state now (Comes answer inputs) standing = steps-state now inputs standing
   told-state now (Faulty fault) standing = refl
 
-  datagram-state : (now : ℕ) (from : Option NodeId) (bytes : List ℕ) (thrown : ThrownAway) (leaves : ℕ) (standing : Standing State)
-      → (comes kind now (Datagram from bytes thrown leaves) standing).1.state ≡ state_after kind (inputs_of kind now (Datagram from bytes thrown leaves) standing) standing.state
-  datagram-state now from bytes thrown leaves standing = by (is_heard now standing.course.seen) (is_taken kind from)
+  datagram-state : (now : ℕ) (origin : Origin) (bytes : List ℕ) (thrown : ThrownAway) (leaves : ℕ) (standing : Standing State)
+      → (comes kind now (Datagram origin bytes thrown leaves) standing).1.state ≡ state_after kind (inputs_of kind now (Datagram origin bytes thrown leaves) standing) standing.state
+  datagram-state now origin bytes thrown leaves standing = by (is_heard now standing.course.seen) (is_taken kind origin.from)
     where
       by : (heard taken : Bool)
           → (cond heard (then_released leaves (cond taken (step kind now (kind.datagram bytes) (having_called (Reads now ∷ []) standing)) ([], counted (having_called (Reads now ∷ []) standing)))) (not_heard thrown (having_called (Reads now ∷ []) standing))).1.state
@@ -43,7 +43,7 @@ module _ {State In : Type 0} (kind : Kind State In) where
   comes-state now (Line text leaves) standing = told-state now (kind.meaning now text standing.state) _
   comes-state now NoLine standing = refl
   comes-state now LinesEnd standing = refl
-  comes-state now (Datagram from bytes thrown leaves) standing = datagram-state now from bytes thrown leaves standing
+  comes-state now (Datagram origin bytes thrown leaves) standing = datagram-state now origin bytes thrown leaves standing
   comes-state now NoDatagram standing = refl
   comes-state now FailedDatagram standing = refl
   comes-state now (Tick leaves) standing = refl

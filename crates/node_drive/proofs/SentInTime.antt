@@ -160,8 +160,8 @@ module _ (P InTime : ℕ → Addressed → Type 0) (in_time : (now since : ℕ) 
         record { sends = done.sends; waits = done.waits }
     comes_sound now NoLine standing seen waits handed = record { sends = tt; waits = waits }
     comes_sound now LinesEnd standing seen waits handed = record { sends = tt; waits = waits }
-    comes_sound now (Datagram from bytes thrown leaves) standing seen waits handed =
-        let done = heard_sound now bytes thrown leaves (having_called (Reads now ∷ []) standing) (record seen { latest = Some now }) (is_heard now standing.course.seen) (is_taken kind from) waits handed in
+    comes_sound now (Datagram origin bytes thrown leaves) standing seen waits handed =
+        let done = heard_sound now bytes thrown leaves (having_called (Reads now ∷ []) standing) (record seen { latest = Some now }) (is_heard now standing.course.seen) (is_taken kind origin.from) waits handed in
         record { sends = done.sends; waits = done.waits }
     comes_sound now NoDatagram standing seen waits handed = record { sends = tt; waits = waits }
     comes_sound now FailedDatagram standing seen waits handed = record { sends = tt; waits = waits }

@@ -1,12 +1,12 @@
 -- A step of the node, and what is performed after it.
-use Rattle.std.proofs.Common.{◌≡◌, ℕ, Bool, true, false, cond, List, [], ◌∷◌, Option, map, sym, ap, ◌∙◌, append-nil}
-use Rattle.node_lines.specs.simulator_event.layout.declared.ids.NodeId.{NodeId}
+use Rattle.std.proofs.Common.{◌≡◌, ℕ, Bool, true, false, cond, List, [], ◌∷◌, map, sym, ap, ◌∙◌, append-nil}
 use Rattle.node_drive.specs.Calls.{AsksListener, Call, Calls, CallsCut, Reads, Rests, Told, Writes}
 use Rattle.node_drive.specs.Drives.{Performs, Stops, opening}
 use Rattle.node_drive.specs.Inside.{standing_of}
 use Rattle.node_drive.specs.Kinds.{Kind, NodeState, node_after}
 use Rattle.node_drive.specs.Rounds.{CourseState, Standing, counted, datagram, is_taken, performed, released, step, then_released, with_calls}
 use Rattle.node_drive.proofs.Calls.{calls_same, calls_then, cuts_before, cuts_same, cuts_then}
+use Rattle.node_drive.specs.declared.outside.Origin.{Origin}
 
 module _ {State In : Type 0} (kind : Kind State In) where
   abbrev behind : ℕ → CourseState → NodeState State In → List Call × CourseState
@@ -33,11 +33,11 @@ module _ {State In : Type 0} (kind : Kind State In) where
 
   -- ---- a datagram
 
-  pub taken_is : (now : ℕ) (from : Option NodeId) (bytes : List ℕ) (standing : Standing State) → is_taken kind from ≡ true → step kind now (kind.datagram bytes) standing ≡ datagram kind now from bytes standing
-  taken_is now from bytes standing e = ap (λ (v : Bool). cond v (step kind now (kind.datagram bytes) standing) ([], counted standing)) (sym e)
+  pub taken_is : (now : ℕ) (origin : Origin) (bytes : List ℕ) (standing : Standing State) → is_taken kind origin.from ≡ true → step kind now (kind.datagram bytes) standing ≡ datagram kind now origin bytes standing
+  taken_is now origin bytes standing e = ap (λ (v : Bool). cond v (step kind now (kind.datagram bytes) standing) ([], counted standing)) (sym e)
 
-  pub dropped_is : (now : ℕ) (from : Option NodeId) (bytes : List ℕ) (standing : Standing State) → is_taken kind from ≡ false → ([], counted standing) ≡ datagram kind now from bytes standing
-  dropped_is now from bytes standing e = ap (λ (v : Bool). cond v (step kind now (kind.datagram bytes) standing) ([], counted standing)) (sym e)
+  pub dropped_is : (now : ℕ) (origin : Origin) (bytes : List ℕ) (standing : Standing State) → is_taken kind origin.from ≡ false → ([], counted standing) ≡ datagram kind now origin bytes standing
+  dropped_is now origin bytes standing e = ap (λ (v : Bool). cond v (step kind now (kind.datagram bytes) standing) ([], counted standing)) (sym e)
 
   -- ---- the end of what a coming does
 

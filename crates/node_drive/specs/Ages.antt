@@ -10,13 +10,13 @@ use Rattle.node_drive.specs.declared.socket_seen.SocketSeen.{SocketSeen}
 
 -- ---- what is heard
 
--- a call that found the socket empty
+-- a call after which none was seen to wait that came 90 ms before or more
 abbrev pub FindsEmpty : Call → Type 0
 FindsEmpty (AsksDatagram Empty) = Unit {0}
 FindsEmpty (ThrowsAway count true) = Unit {0}
 FindsEmpty call = ⊥
 
--- One of these calls found the socket empty, and stands after this reading.
+-- One of these calls saw none wait, and stands after this reading.
 pub record WasEmptyBehind (reading : ℕ) (calls : List Call) : Type 0 where
   pub before : List Call
   pub between : List Call
@@ -25,7 +25,8 @@ pub record WasEmptyBehind (reading : ℕ) (calls : List Call) : Type 0 where
   pub is_found : FindsEmpty found
   pub calls_are : calls ≡ before ++ Reads reading ∷ (between ++ found ∷ after)
 
--- A datagram of which the clock is read now, once it has come, has waited in the socket for at most 400 ms.
+-- A datagram of which the clock is read now, once it has come, has waited for at most 400 ms since one of these calls saw none wait,
+-- and came less than 90 ms before it if it waited then.
 pub record WaitedBriefly (now : ℕ) (calls : List Call) : Type 0 where
   pub empty : ℕ
   pub brief : now ≤ empty + 400

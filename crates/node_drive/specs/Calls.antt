@@ -6,6 +6,7 @@ use Rattle.node_drive.specs.declared.outside.NextLine.{NextLine}
 use Rattle.node_drive.specs.declared.outside.NextLine.TheVariants as next
 use Rattle.node_drive.specs.declared.outside.NextDatagram.{NextDatagram}
 use Rattle.node_drive.specs.declared.outside.NextDatagram.TheVariants as next_datagram
+use Rattle.node_drive.specs.declared.outside.Origin.{Origin}
 
 -- what was answered to the question for a line: its text without the line feed, none yet, or none any more
 pub data LineHeard : Type 0 where
@@ -18,18 +19,18 @@ line_heard (next.Text text) = Text (string_bytes text)
 line_heard next.Nothing = Nothing
 line_heard next.Closed = Closed
 
--- a datagram with the node from whose address it came, if it is that of one
+-- a datagram, and where it came from
 abbrev pub Arrival : Type 0
-Arrival = Option NodeId × List ℕ
+Arrival = Origin × List ℕ
 
--- what was answered to the question for a datagram: one, that the socket is empty, or nothing, since the call failed
+-- what was answered to the question for a datagram: one, that none waits that came 90 ms ago or more, or nothing, since the call failed
 pub data DatagramHeard : Type 0 where
   Came : (arrival : Arrival) → DatagramHeard
   Empty : DatagramHeard
   Failed : DatagramHeard
 
 abbrev pub datagram_heard : NextDatagram → DatagramHeard
-datagram_heard (next_datagram.Came arrived) = Came (arrived.from, arrived.bytes.items)
+datagram_heard (next_datagram.Came arrived) = Came (arrived.origin, arrived.bytes.items)
 datagram_heard next_datagram.Empty = Empty
 datagram_heard next_datagram.Failed = Failed
 
@@ -41,7 +42,7 @@ pub data Call : Type 0 where
   AsksListener : (began : Bool) → Call
   AsksLine : (heard : LineHeard) → Call
   AsksDatagram : (heard : DatagramHeard) → Call
-  -- so many datagrams that waited in the socket were thrown away, and then it was found empty or not
+  -- so many datagrams that waited were thrown away, and then none was seen to wait that came 90 ms ago or more, or it wasn't known
   ThrowsAway : (count : ℕ) (empty : Bool) → Call
   -- a line is written and handed on; or a beginning of it at most was written
   Writes : (text : List ℕ) → Call

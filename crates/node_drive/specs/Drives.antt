@@ -1,10 +1,10 @@
 -- A node's process that ran for some time.
 use Rattle.std.specs.Prelude.{◌≡◌, ◌<◌, ◌≤◌, ◌-◌, ℕ, nat_le, nat_lt, ◌&&◌, ◌||◌, if◌then◌else◌, Bool, true, false, List, [], ◌∷◌, ◌++◌, length, map, Option, Some, None}
-use Rattle.node_lines.specs.simulator_event.layout.declared.ids.NodeId.{NodeId}
 use Rattle.node_drive.specs.Calls.{Arrival, Calls, CallsCut, Told}
 use Rattle.node_drive.specs.Kinds.{Kind}
 use Rattle.node_drive.specs.Rounds.{Coming, RoundBegins, Listened, Line, NoLine, LinesEnd, Datagram, NoDatagram, FailedDatagram, Tick, CourseState, Standing, all_come, comes}
 use Rattle.node_drive.specs.Seen.{is_heard}
+use Rattle.node_drive.specs.declared.outside.Origin.{Origin}
 use Rattle.node_drive.specs.declared.outside.ThrownAway.{ThrownAway}
 use Rattle.node_drive.specs.declared.socket_seen.SocketSeen.{SocketSeen}
 
@@ -56,8 +56,8 @@ pub data EndsDatagrams (seen : SocketSeen) (taken : ℕ) : List (ℕ × Coming) 
   full : taken ≡ most_in_a_round → EndsDatagrams seen taken []
   silent : taken < most_in_a_round → EndsDatagrams seen taken ((0, NoDatagram) ∷ [])
   failed : taken < most_in_a_round → EndsDatagrams seen taken ((0, FailedDatagram) ∷ [])
-  too_old : {now : ℕ} {from : Option NodeId} {bytes : List ℕ} {thrown : ThrownAway} → taken < most_in_a_round → is_heard now seen ≡ false
-      → EndsDatagrams seen taken ((now, Datagram from bytes thrown 0) ∷ [])
+  too_old : {now : ℕ} {origin : Origin} {bytes : List ℕ} {thrown : ThrownAway} → taken < most_in_a_round → is_heard now seen ≡ false
+      → EndsDatagrams seen taken ((now, Datagram origin bytes thrown 0) ∷ [])
 
 abbrev pub opening : ℕ → Bool → List (ℕ × Coming)
 opening begins listened = (begins, RoundBegins) ∷ (begins, Listened listened) ∷ []

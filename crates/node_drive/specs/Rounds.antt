@@ -9,6 +9,7 @@ use Rattle.node_drive.specs.Waiting.{Addressed, Waiting, leaving, none_waits, wa
 use Rattle.node_drive.specs.Calls.{Call, Rests, Reads, AsksListener, AsksLine, AsksDatagram, ThrowsAway, Writes, Sends, Complains, Text, Nothing, Closed as ClosedLine, Came, Empty, Failed}
 use Rattle.node_drive.specs.Kinds.{Kind, Meaning, InForce, Comes, Faulty}
 use Rattle.node_drive.specs.Seen.{all_seen, is_heard}
+use Rattle.node_drive.specs.declared.outside.Origin.{Origin}
 use Rattle.node_drive.specs.declared.outside.ThrownAway.{ThrownAway}
 use Rattle.node_drive.specs.declared.socket_seen.SocketSeen.{SocketSeen}
 
@@ -121,8 +122,8 @@ pub data Coming : Type 0 where
   Line : (text : List ℕ) (leaves : ℕ) → Coming
   NoLine : Coming
   LinesEnd : Coming
-  -- A datagram, and what was thrown away after it where it isn't heard; that the socket was found empty; or that the call failed.
-  Datagram : (from : Option NodeId) (bytes : List ℕ) (thrown : ThrownAway) (leaves : ℕ) → Coming
+  -- A datagram, and what was thrown away after it where it isn't heard; that none was seen to wait; or that the call failed.
+  Datagram : (origin : Origin) (bytes : List ℕ) (thrown : ThrownAway) (leaves : ℕ) → Coming
   NoDatagram : Coming
   FailedDatagram : Coming
   Tick : (leaves : ℕ) → Coming
@@ -134,7 +135,7 @@ asked now (Listened began) = AsksListener began ∷ []
 asked now (Line text leaves) = AsksLine (Text text) ∷ Reads now ∷ []
 asked now NoLine = AsksLine Nothing ∷ []
 asked now LinesEnd = AsksLine ClosedLine ∷ []
-asked now (Datagram from bytes thrown leaves) = AsksDatagram (Came (from, bytes)) ∷ Reads now ∷ []
+asked now (Datagram origin bytes thrown leaves) = AsksDatagram (Came (origin, bytes)) ∷ Reads now ∷ []
 asked now NoDatagram = AsksDatagram Empty ∷ []
 asked now FailedDatagram = AsksDatagram Failed ∷ []
 asked now (Tick leaves) = Reads now ∷ []
@@ -204,16 +205,16 @@ module _ {State Input : Type 0} (kind : Kind State Input) where
   is_taken (Some node) = kind.is_partner node
 
   -- and all else is dropped, and counted
-  abbrev pub datagram : ℕ → Option NodeId → List ℕ → Standing State → Done (Standing State)
-  datagram now from bytes standing = if is_taken from then step now (kind.datagram bytes) standing else ([], counted standing)
+  abbrev pub datagram : ℕ → Origin → List ℕ → Standing State → Done (Standing State)
+  datagram now origin bytes standing = if is_taken origin.from then step now (kind.datagram bytes) standing else ([], counted standing)
 
   -- ---- all of it
 
   -- what is done once it was asked for
   abbrev pub acts : ℕ → Coming → Standing State → Done (Standing State)
   acts now (Line text leaves) standing = then_released leaves (line now text standing)
-  acts now (Datagram from bytes thrown leaves) standing =
-      if is_heard now standing.course.seen then then_released leaves (datagram now from bytes standing) else not_heard thrown standing
+  acts now (Datagram origin bytes thrown leaves) standing =
+      if is_heard now standing.course.seen then then_released leaves (datagram now origin bytes standing) else not_heard thrown standing
   acts now (Listened true) standing = (map Writes (kind.stands now standing.state), standing)
   acts now (Tick leaves) standing = then_released leaves (step now kind.tick standing)
   acts now coming standing = ([], standing)

@@ -1,5 +1,5 @@
 -- A small kind of node, and what its process does, worked by hand.
-use Rattle.std.specs.Prelude.{◌≡◌, ℕ, suc, ◌*◌, ◌==◌, if◌then◌else◌, Bool, true, false, List, [], ◌∷◌, map, replicate, codes, Some, None, Result, Ok, Err}
+use Rattle.std.specs.Prelude.{◌≡◌, ℕ, suc, ◌*◌, ◌==◌, if◌then◌else◌, Bool, true, false, List, [], ◌∷◌, map, replicate, codes, Option, Some, None, Result, Ok, Err}
 use Rattle.std.specs.List.{filter}
 use Rattle.node_lines.specs.replay_words.Read.{decimal}
 use Rattle.node_lines.specs.replay_words.declared.fault.Fault.{Fault}
@@ -9,6 +9,8 @@ use Rattle.node_lines.specs.simulator_event.layout.declared.ids.NodeId.{NodeId}
 use Rattle.node_drive.specs.Beginning.{first_course}
 use Rattle.node_drive.specs.Calls.{Arrival, Call, Rests, Reads, AsksListener, AsksLine, AsksDatagram, ThrowsAway, Writes, Sends, Complains, Nothing, Came, Empty}
 use Rattle.node_drive.specs.Drives.{Round, Timed, in_rounds}
+use Rattle.node_drive.specs.declared.outside.Network.TheVariants.{Alone}
+use Rattle.node_drive.specs.declared.outside.Origin.{Origin}
 use Rattle.node_drive.specs.declared.outside.ThrownAway.{ThrownAway}
 use Rattle.node_drive.specs.Kinds.{Kind, Meaning, InForce, Faulty}
 use Rattle.node_drive.specs.Rounds.{Datagram, FailedDatagram, NoDatagram, Standing, all_come}
@@ -35,6 +37,13 @@ in_force (Err fault) = Faulty fault
 -- its one partner
 abbrev pub partner : NodeId
 partner = record { 0 = 0 }
+
+-- over the only network
+abbrev pub from : Option NodeId → Origin
+from node = record { from = node; over = Alone }
+
+abbrev pub from_partner : Origin
+from_partner = from (Some partner)
 
 abbrev pub counting : Kind ℕ Heard
 counting = record {
@@ -84,7 +93,7 @@ abbrev pub quiet_at : ℕ → Round
 quiet_at time = record { begins = time; listened = false; lines = []; closed = false; datagrams = []; datagrams_end = (0, NoDatagram) ∷ []; ticks = time; leaves = time }
 
 abbrev pub one_at : ℕ → Timed Arrival
-one_at time = record { now = time; input = (Some partner, 7 ∷ []); leaves = time }
+one_at time = record { now = time; input = (from_partner, 7 ∷ []); leaves = time }
 
 abbrev pub hears_at : ℕ → Round
 hears_at time = record (quiet_at time) { datagrams = one_at time ∷ [] }
@@ -99,11 +108,11 @@ fails_at time = record (quiet_at time) { datagrams_end = (0, FailedDatagram) ∷
 
 -- a datagram from an address that is no node's, and one from a node that is no partner
 abbrev pub strange_at : ℕ → Round
-strange_at time = record (quiet_at time) { datagrams = (record { now = time; input = (None, 7 ∷ []); leaves = time }) ∷ (record { now = time; input = (Some (record { 0 = 1 }), 7 ∷ []); leaves = time }) ∷ [] }
+strange_at time = record (quiet_at time) { datagrams = (record { now = time; input = (from None, 7 ∷ []); leaves = time }) ∷ (record { now = time; input = (from (Some (record { 0 = 1 })), 7 ∷ []); leaves = time }) ∷ [] }
 
 -- one that isn't heard, with what is thrown away after it
 abbrev pub late_at : ℕ → ThrownAway → Round
-late_at time thrown = record (quiet_at time) { datagrams_end = (time, Datagram (Some partner) (7 ∷ []) thrown 0) ∷ [] }
+late_at time thrown = record (quiet_at time) { datagrams_end = (time, Datagram from_partner (7 ∷ []) thrown 0) ∷ [] }
 
 abbrev pub told_at : ℕ → List ℕ → Round
 told_at time text = record (quiet_at time) { lines = (record { now = time; input = text; leaves = time }) ∷ [] }
@@ -130,11 +139,11 @@ pub record Worked : Type 0 where
   pub quiet : calls (quiet_at 10 ∷ []) ≡ Rests ∷ Reads 10 ∷ AsksListener false ∷ AsksLine Nothing ∷ AsksDatagram Empty ∷ Reads 10 ∷ []
   -- the clock is read once a datagram has come, and once more before what waits leaves
   pub read : calls (hears_at 10 ∷ []) ≡ Rests ∷ Reads 10 ∷ AsksListener false ∷ AsksLine Nothing
-      ∷ AsksDatagram (Came (Some partner, 7 ∷ [])) ∷ Reads 10 ∷ Writes (codes "2 at 10 show proceed until 1000") ∷ Reads 10
+      ∷ AsksDatagram (Came (from_partner, 7 ∷ [])) ∷ Reads 10 ∷ Writes (codes "2 at 10 show proceed until 1000") ∷ Reads 10
       ∷ AsksDatagram Empty ∷ Reads 10 ∷ Reads 10 ∷ []
   -- what may be too old is thrown away, with all that wait
   pub late : calls (late_at 401 (record { count = 2; found_empty = true }) ∷ []) ≡ Rests ∷ Reads 401 ∷ AsksListener false ∷ AsksLine Nothing
-      ∷ AsksDatagram (Came (Some partner, 7 ∷ [])) ∷ Reads 401 ∷ ThrowsAway 2 true ∷ Reads 401 ∷ []
+      ∷ AsksDatagram (Came (from_partner, 7 ∷ [])) ∷ Reads 401 ∷ ThrowsAway 2 true ∷ Reads 401 ∷ []
   -- what came 400 ms after the reading before the socket was empty is heard, and later none is
   pub recent : heard_from at_first (hears_at 400 ∷ []) ≡ (1, 0)
   pub too_old : heard_from at_first (hears_at 401 ∷ []) ≡ (0, 1)

@@ -82,12 +82,12 @@ fn hear_datagram<N: NodeMachine, O: Outside>(
     arrived: &Arrived,
 ) -> Result<(), NodeFault>
     requires { (N.node node.old).reached ≤ reading }
-    ensures done { OnOk result (Calls (O.told outside.old) (O.told outside.new) (datagram N.does reading arrived.now.from arrived.now.bytes.items (standing_of (N.node node.old) course.old)).0) }
-    ensures standing { OnOk result (standing_of (N.node node.new) course.new ≡ (datagram N.does reading arrived.now.from arrived.now.bytes.items (standing_of (N.node node.old) course.old)).1) }
+    ensures done { OnOk result (Calls (O.told outside.old) (O.told outside.new) (datagram N.does reading arrived.now.origin arrived.now.bytes.items (standing_of (N.node node.old) course.old)).0) }
+    ensures standing { OnOk result (standing_of (N.node node.new) course.new ≡ (datagram N.does reading arrived.now.origin arrived.now.bytes.items (standing_of (N.node node.old) course.old)).1) }
     ensures reached { OnOk result ((N.node node.new).reached ≤ reading) }
-    ensures stopped { OnErr result (CallsCut (O.told outside.old) (O.told outside.new) (datagram N.does reading arrived.now.from arrived.now.bytes.items (standing_of (N.node node.old) course.old)).0) }
+    ensures stopped { OnErr result (CallsCut (O.told outside.old) (O.told outside.new) (datagram N.does reading arrived.now.origin arrived.now.bytes.items (standing_of (N.node node.old) course.old)).0) }
 {
-    if !is_taken(node, arrived.from) {
+    if !is_taken(node, arrived.origin.from) {
         course.note_stranger();
         return Ok(());
     }

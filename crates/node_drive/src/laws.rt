@@ -1,19 +1,19 @@
 //! What the rounds of a node's process come to.
 
-ghost use Rattle.std.specs.Prelude.{◌≡◌, ◌≤◌, ◌<◌, ◌+◌, ◌*◌, ◌∷◌, [], ◌++◌, ℕ, IsSome, List, Option};
+ghost use Rattle.std.specs.Prelude.{◌≡◌, ◌≤◌, ◌<◌, ◌+◌, ◌*◌, ◌∷◌, [], ◌++◌, ℕ, IsSome, List};
 ghost use Rattle.std.specs.List.{AllByRecursion};
 ghost use Rattle.node_drive.specs.Ages.{SendsBy, SentInTime, WaitedBriefly};
-ghost use Rattle.node_drive.specs.Budget.{at_receiver, at_sender, in_network, in_socket, oldest};
+ghost use Rattle.node_drive.specs.Budget.{at_receiver, at_sender, in_network, in_socket, oldest, unseen};
 ghost use Rattle.node_drive.specs.Calls.{Call};
 ghost use Rattle.node_drive.specs.Lives.{came, inputs_of, state_after};
 ghost use Rattle.node_drive.specs.Rounds.{Coming, Datagram, Standing, all_come};
 ghost use Rattle.node_drive.specs.Seen.{all_seen, nothing_seen};
 ghost use Rattle.node_drive.specs.Waiting.{Waiting, leaving};
 ghost use Rattle.node_drive.specs.Worked.{Worked};
+ghost use Rattle.node_drive.specs.declared.outside.Origin.{Origin};
 ghost use Rattle.node_drive.specs.declared.outside.ThrownAway.{ThrownAway};
 ghost use Rattle.node_lines.specs.ixl_spec.rasta_core.Bag.{lifetime};
 ghost use Rattle.node_lines.specs.ixl_spec.rasta_core.time.TheConstants.{LIFETIME};
-ghost use Rattle.node_lines.specs.simulator_event.layout.declared.ids.NodeId.{NodeId};
 
 /// How a kind of node behaves, for the laws. It has no code.
 pub trait Behaves {
@@ -56,11 +56,12 @@ pub fn what_was_seen_was_called<B: Behaves>()
     ensures { (comings : List (ℕ × Coming)) (standing : Standing B.State) → (all_come B.does comings standing).1.course.seen ≡ all_seen (all_come B.does comings standing).0 standing.course.seen }
 {}
 
-/// Each datagram that comes to a node has waited in its socket for at most 400 ms: the reading that was taken once it had come is at
-/// most so much later than one after which the socket was found empty, by the calls that the process made before.
+/// Each datagram that comes to a node has waited for at most 400 ms since none was seen to wait: the reading that was taken once it had
+/// come is at most so much later than one after which that was so, by the calls that the process made before. Unseen it may have come
+/// less than 90 ms before that.
 pub fn what_is_heard_waited_briefly<B: Behaves>()
     ensures { (earlier : List Call) (comings : List (ℕ × Coming)) (standing : Standing B.State) → standing.course.seen ≡ all_seen earlier nothing_seen
-        → (now : ℕ) (from : Option NodeId) (bytes : List ℕ) (thrown : ThrownAway) (leaves : ℕ) → inputs_of B.does now (Datagram from bytes thrown leaves) (all_come B.does comings standing).1 ≡ (now, B.does.datagram bytes) ∷ []
+        → (now : ℕ) (origin : Origin) (bytes : List ℕ) (thrown : ThrownAway) (leaves : ℕ) → inputs_of B.does now (Datagram origin bytes thrown leaves) (all_come B.does comings standing).1 ≡ (now, B.does.datagram bytes) ∷ []
         → WaitedBriefly now (earlier ++ (all_come B.does comings standing).0) }
 {}
 
@@ -77,7 +78,7 @@ pub fn what_is_sent_is_sent_in_time<B: Behaves>()
 pub fn the_ages_add_up()
     ensures sum { at_sender + in_network + at_receiver ≡ LIFETIME }
     ensures lifetime { 1000 * oldest ≡ lifetime }
-    ensures socket { in_socket ≤ at_receiver }
+    ensures socket { in_socket + unseen ≤ at_receiver }
 {}
 
 /// Rounds worked by hand.

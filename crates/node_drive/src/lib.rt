@@ -17,6 +17,7 @@ mod rounds;
 mod socket_seen;
 mod step;
 
+pub use budget::LONGEST_UNSEEN;
 pub use course::Course;
 pub use fault::NodeFault;
 pub use laws::{
@@ -26,7 +27,9 @@ pub use laws::{
 };
 pub use node::{LineMeaning, NodeMachine, Outgoing};
 pub use orders_written::finish;
-pub use outside::{Arrived, BrokenOff, NextDatagram, NextLine, Outside, ThrownAway};
+pub use outside::{
+    Arrived, BrokenOff, Network, NextDatagram, NextLine, Origin, Outside, ThrownAway,
+};
 pub use rounds::drive;
 
 // What crates above need of the crates below.

@@ -3,11 +3,30 @@
 use node_lines::{Fault, NodeId, Received};
 use std::alloc::{AllocError, Global};
 
+/// A network over which nodes send their datagrams.
+#[derive(Clone, Copy, Debug)]
+pub enum Network {
+    /// The only one.
+    Alone,
+    /// The first of two.
+    First,
+    /// The second of two.
+    Second,
+}
+
+/// Where a datagram came from.
+#[derive(Clone, Copy)]
+pub struct Origin {
+    /// The node from whose address it came, if it is that of one.
+    pub from: Option<NodeId>,
+    /// The network over which it came.
+    pub over: Network,
+}
+
 /// A datagram that has come.
 #[derive(Drop)]
 pub struct Arrived {
-    /// The node from whose address it came, if it is that of one.
-    pub from: Option<NodeId>,
+    pub origin: Origin,
     pub bytes: Received,
 }
 
@@ -16,7 +35,7 @@ pub struct Arrived {
 pub enum NextDatagram {
     /// One that waited.
     Came(Arrived),
-    /// None waits.
+    /// None waits that came 90 ms ago or more: not in a socket, and not in the hold before it.
     Empty,
     /// The call failed: whether one waits isn't known.
     Failed,
@@ -27,7 +46,7 @@ pub enum NextDatagram {
 pub struct ThrownAway {
     /// How many datagrams.
     pub count: u64,
-    /// Whether none waited any more.
+    /// Whether none waited any more that came 90 ms ago or more.
     pub found_empty: bool,
 }
 
@@ -76,7 +95,7 @@ pub trait Outside {
     fn next_datagram(&mut self) -> NextDatagram
         ensures { Calls (told self.old) (told self.new) (AsksDatagram (datagram_heard result) ∷ []) };
 
-    /// Throws away datagrams that wait, until none waits, or as many as are thrown away in one go.
+    /// Throws away datagrams that wait, until none waits that came 90 ms ago or more, or as many as are thrown away in one go.
     fn throw_away(&mut self) -> ThrownAway
         ensures { Calls (told self.old) (told self.new) (ThrowsAway result.count result.found_empty ∷ []) };
 

@@ -34,7 +34,9 @@ use Rattle.node_drive.specs.node_lines.declared.operator_line.Authority.{Authori
 use Rattle.node_drive.specs.node_lines.declared.operator_line.OperatorLine.TheVariants.{Accepted, Refused}
 use Rattle.node_drive.specs.Kinds.{Kind, Meaning, Comes, Faulty}
 use Rattle.node_drive.specs.Waiting.{Addressed}
+use Rattle.run_numbers.specs.Numbers.{NumbersState}
 use Rattle.node_kinds.specs.Controllers.{is_same_occupancy}
+use Rattle.node_kinds.specs.Counted.{is_question, number_lines, numbers_after}
 use Rattle.node_kinds.specs.declared.thing.Thing.{Thing}
 use Rattle.node_kinds.specs.declared.thing.Thing.TheVariants.{SignalLink, PointLink, DetectorLink, Section, Point, Signal, Indication, Route, Readiness}
 
@@ -222,12 +224,13 @@ asked site table now state (Err fault) = Faulty fault
 
 -- ---- the kind
 
--- an interlocking of this layout and control table, and what it told last, of each thing
+-- an interlocking of this layout and control table, what it told last, of each thing, and what it counted
 pub record InterlockingNode : Type 0 where
   pub site : Site
   pub table : Table
   pub ixl : IxlState
   pub told : List (Option Known)
+  pub numbers : NumbersState
 
 abbrev pub ixl_step : ℕ → ixl.Input → InterlockingNode → StepSoFar
 ixl_step now input node = ixl.stepped now node.table (key_of node.site) input (begun_with node.ixl empty_outbox)
@@ -245,17 +248,26 @@ to_controllers site datagrams = map (λ (bytes : List ℕ). (record { 0 = suc (l
 abbrev pub known_then : ℕ → ixl.Input → InterlockingNode → List (Option Known)
 known_then now input node = all_known node.site node.table now (ixl_step now input node).ixl
 
+-- what is counted then
+abbrev pub numbers_then : ℕ → ixl.Input → InterlockingNode → NumbersState
+numbers_then now input node = numbers_after input (ixl.reply now node.table (key_of node.site) input node.ixl) node.told (known_then now input node) node.numbers
+
+-- A line that asks for the numbers is answered by them, and nothing comes of it.
+abbrev pub meaning_in : ℕ → List ℕ → InterlockingNode → Meaning ixl.Input
+meaning_in now text node =
+    if is_question text then Comes (number_lines node.numbers) [] else asked node.site node.table now node.ixl (command_said node.site (words text))
+
 -- Who begins to listen is told what was told last, and so with what is told from then on all that is known.
 abbrev pub interlocking_kind : Kind InterlockingNode ixl.Input
 interlocking_kind = record {
-  after = λ now input node. record node { ixl = (ixl_step now input node).ixl; told = known_then now input node };
+  after = λ now input node. record node { ixl = (ixl_step now input node).ixl; told = known_then now input node; numbers = numbers_then now input node };
   hands = λ now input node. to_controllers node.site (ixl_step now input node).outbox.datagrams;
   says = λ now input node. answer now input node ++ changes node.site node.told (known_then now input node);
   tick = ixl.Tick;
   datagram = ixl.Datagram;
   is_partner = λ node. nat_le 1 node.0;
   order = λ node. None;
-  meaning = λ now text node. asked node.site node.table now node.ixl (command_said node.site (words text));
+  meaning = meaning_in;
   stands = λ now node. changes node.site [] node.told;
   is_done = λ node. false;
 }

@@ -1,5 +1,6 @@
 pub mod Controllers
 pub mod Openings
+pub mod Counted
 pub mod Interlockings
 pub mod Made
 pub mod MadeInterlocking
@@ -10,3 +11,4 @@ pub mod inside
 pub use Rattle.node_drive.specs as node_drive
 pub use Rattle.simulator_spec.specs as simulator_spec
 pub use Rattle.ixl_state.specs.ixl_table as ixl_table
+pub use Rattle.run_numbers.specs as run_numbers

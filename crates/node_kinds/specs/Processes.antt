@@ -19,6 +19,7 @@ use Rattle.node_drive.specs.Beginning.{first_course, last_line}
 use Rattle.node_drive.specs.Calls.{Calls, CallsCut, Reads, Told}
 use Rattle.node_drive.specs.Drives.{CutOff, Ran}
 use Rattle.node_drive.specs.Kinds.{Kind}
+use Rattle.run_numbers.specs.Numbers.{no_numbers}
 use Rattle.node_drive.specs.Rounds.{CourseState, Standing}
 use Rattle.node_kinds.specs.Controllers.{Controller, OwnSections, detector_kind, point_kind, signal_kind}
 use Rattle.node_kinds.specs.Interlockings.{InterlockingNode, interlocking_kind}
@@ -98,7 +99,7 @@ module _ (site : Site) (first : ℕ) where
 
   -- an interlocking has told nothing yet
   abbrev pub interlocking_made : Table → ℕ → InterlockingNode
-  interlocking_made table now = record { site = site; table = table; ixl = new_ixl site table (record { clock = now; first = first }); told = [] }
+  interlocking_made table now = record { site = site; table = table; ixl = new_ixl site table (record { clock = now; first = first }); told = []; numbers = no_numbers }
 
 -- ---- the whole of it
 

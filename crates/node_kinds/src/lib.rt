@@ -8,6 +8,7 @@ mod comparison;
 mod contacts;
 mod controller_node;
 mod controller_steps;
+mod counting;
 mod detector_node;
 mod equipment;
 mod interlocking_node;
@@ -33,6 +34,7 @@ pub use thing::Thing;
 
 // What crates above need of the crates below.
 pub use node_drive;
+pub use run_numbers;
 pub use simulator_spec;
 
 // The everyday items of the crates below.

@@ -1,2 +1,4 @@
 pub mod Cuts
 pub mod Senders
+pub mod Intakes
+pub mod NewsTold

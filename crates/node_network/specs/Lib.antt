@@ -5,3 +5,7 @@ pub mod Listeners
 pub mod Log
 pub mod Complaints
 pub mod Records
+pub mod Shares
+pub mod Intakes
+pub mod Sockets
+pub mod News

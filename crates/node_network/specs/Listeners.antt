@@ -14,6 +14,11 @@ is_there None = false
 abbrev pub first_lines : {I O : Type 0} → I → O → StreamLines I O
 first_lines input output = record { input = record { input = input; buffer = nothing_waits; ended = false }; output = output }
 
+-- lines of field equipment
+abbrev pub is_field : {R I O S L : Type 0} → Kind R I O S L → Bool
+is_field (Field lines) = true
+is_field lines = false
+
 -- an operator over a connection who isn't there
 abbrev pub IsForNobody : {R I O S L : Type 0} → Kind R I O S L → Type 0
 IsForNobody (Connection lines) = is_there lines.operator ≡ false

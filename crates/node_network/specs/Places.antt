@@ -2,6 +2,7 @@
 use Rattle.std.specs.Prelude.{◌≡◌, ◌<◌, ℕ, List, Option, Some, None, slice_get}
 use Rattle.std.specs.declared.net.socket_addr.SocketAddr.{SocketAddr}
 use Rattle.node_drive.specs.Calls.{DatagramHeard, Came}
+use Rattle.node_drive.specs.declared.outside.Network.{Network}
 use Rattle.node_drive.specs.simulator_event.layout.declared.ids.NodeId.{NodeId}
 
 -- it is the first whose address it is, or no node's
@@ -11,7 +12,7 @@ IsNodeOf addresses address (Some node) =
     × ((before : ℕ) → before < node.0 → ¬ (slice_get addresses before ≡ Some address))
 IsNodeOf addresses address None = (place : ℕ) → ¬ (slice_get addresses place ≡ Some address)
 
--- A datagram came from some address, and is told as that of the node that has it.
-abbrev pub IsFromNode : List SocketAddr → DatagramHeard → Type 0
-IsFromNode addresses (Came arrival) = (sender : SocketAddr) × IsNodeOf addresses sender arrival.0
-IsFromNode addresses heard = Unit {0}
+-- A datagram came from some address, and is told as that of the node that has it, over this network.
+abbrev pub IsFromNode : List SocketAddr → Network → DatagramHeard → Type 0
+IsFromNode addresses over (Came arrival) = (arrival.0.over ≡ over) × (sender : SocketAddr) × IsNodeOf addresses sender arrival.0.from
+IsFromNode addresses over heard = Unit {0}

@@ -6,6 +6,7 @@
 --     hears set R1                  a line came
 --     closed                        no line came any more
 --     from IXL1 3200..              a datagram came from a node's address, or from another: `-`
+--     from IXL1 over 2 3200..       the same with two networks: over the first, or over the second
 --     fails to receive              a datagram was asked for, and the call failed
 --     throws away all 12            all that waited in the socket, so many datagrams, were thrown away
 --     throws away 4096              the same, where more may wait
@@ -13,13 +14,15 @@
 --     breaks off 7 at 12000 show st a line wasn't written whole
 --     sends IXL1 3200..             a datagram was sent to a node
 --     complains 3 1                 a line was faulty, by its number and that of its fault
-use Rattle.std.specs.Prelude.{Bool, true, false, List, ◌∷◌, ◌++◌, ℕ, codes, Option, Some, None}
+use Rattle.std.specs.Prelude.{Bool, true, false, List, [], ◌∷◌, ◌++◌, ℕ, codes, Option, Some, None}
 use Rattle.std.specs.Fmt.{decimal as written}
 use Rattle.node_drive.specs.replay_words.Fault.{number_of}
 use Rattle.node_drive.specs.replay_words.Read.{hex_word}
 use Rattle.node_drive.specs.layout.Entries.{Site}
 use Rattle.node_drive.specs.simulator_event.layout.declared.ids.NodeId.{NodeId}
 use Rattle.node_drive.specs.Calls.{Call, Rests, Reads, AsksListener, AsksLine, AsksDatagram, ThrowsAway, Writes, BreaksOff, Sends, Complains, Text, Nothing, Closed, Came, Empty, Failed}
+use Rattle.node_drive.specs.declared.outside.Network.{Network}
+use Rattle.node_drive.specs.declared.outside.Network.TheVariants.{Alone, First, Second}
 use Rattle.node_drive.specs.node_lines.Known.{node_word}
 use Rattle.node_network.specs.declared.entry.Entry.{Entry}
 use Rattle.node_network.specs.declared.entry.Entry.TheVariants as entry
@@ -29,8 +32,14 @@ abbrev pub sender_word : Site → Option NodeId → List ℕ
 sender_word site None = codes "-"
 sender_word site (Some node) = node_word site node
 
-abbrev pub bytes_word : Site → List ℕ → List ℕ → List ℕ
-bytes_word site word bytes = word ++ 32 ∷ hex_word bytes
+-- the words for the network over which it came: none where there is one
+abbrev pub over_words : Network → List ℕ
+over_words Alone = []
+over_words First = codes " over 1"
+over_words Second = codes " over 2"
+
+abbrev pub bytes_words : List ℕ → List ℕ → List ℕ → List ℕ
+bytes_words node over bytes = node ++ (over ++ (32 ∷ hex_word bytes))
 
 abbrev pub thrown_words : ℕ → Bool → List ℕ
 thrown_words count true = codes "throws away all " ++ written count
@@ -47,11 +56,11 @@ call_line site (AsksLine Nothing) = None
 call_line site (AsksLine Closed) = Some (codes "closed")
 call_line site (AsksDatagram Empty) = None
 call_line site (AsksDatagram Failed) = Some (codes "fails to receive")
-call_line site (AsksDatagram (Came arrival)) = Some (codes "from " ++ bytes_word site (sender_word site arrival.0) arrival.1)
+call_line site (AsksDatagram (Came arrival)) = Some (codes "from " ++ bytes_words (sender_word site arrival.0.from) (over_words arrival.0.over) arrival.1)
 call_line site (ThrowsAway count empty) = Some (thrown_words count empty)
 call_line site (Writes text) = Some (codes "writes " ++ text)
 call_line site (BreaksOff text) = Some (codes "breaks off " ++ text)
-call_line site (Sends to bytes) = Some (codes "sends " ++ bytes_word site (node_word site to) bytes)
+call_line site (Sends to bytes) = Some (codes "sends " ++ bytes_words (node_word site to) [] bytes)
 call_line site (Complains line fault) = Some (codes "complains " ++ (written line ++ 32 ∷ written (number_of fault)))
 
 -- what the code has as such a call
@@ -60,7 +69,7 @@ call_with (entry.Reads reading) = Reads reading
 call_with entry.Listens = AsksListener true
 call_with (entry.Hears text) = AsksLine (Text text.now)
 call_with entry.Closed = AsksLine Closed
-call_with (entry.Comes from bytes) = AsksDatagram (Came (from, bytes.now))
+call_with (entry.Comes origin bytes) = AsksDatagram (Came (origin, bytes.now))
 call_with entry.FailsToReceive = AsksDatagram Failed
 call_with (entry.ThrowsAway thrown) = ThrowsAway thrown.count thrown.found_empty
 call_with (entry.Writes text) = Writes text.now

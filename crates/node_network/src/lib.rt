@@ -15,12 +15,15 @@ mod lines;
 mod log;
 mod machine;
 mod memory;
+mod network_socket;
+mod networks_seen;
 mod node_clock;
 mod node_socket;
 mod other_end;
 mod record_lines;
 mod recorded;
 mod replayed;
+mod shares;
 mod stream_lines;
 mod stream_waited;
 
@@ -32,8 +35,12 @@ pub use lines::Lines;
 pub use log::OutsideCall;
 pub use machine::Machine;
 pub use memory::MemoryOutside;
+pub use networks_seen::NetworksSeen;
 pub use node_clock::NodeClock;
-pub use node_socket::NodeSocket;
+pub use node_socket::{LONGEST_HOLD, NodeSocket};
 pub use recorded::Recorded;
 pub use replayed::Replayed;
 pub use stream_waited::WaitedStream;
+
+// What crates above need of the crates below.
+pub use network_watch::NetworkWatch;

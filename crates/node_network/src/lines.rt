@@ -3,7 +3,7 @@
 ghost use Rattle.std.specs.Prelude.{◌≡◌, Err, IfErr, IfOk, MatchResult, Ok, false};
 ghost use Rattle.node_drive.specs.declared.outside.NextLine.TheVariants.{Closed};
 ghost use Rattle.node_network.specs.Lines.{unless_closed};
-ghost use Rattle.node_network.specs.Listeners.{IsForNobody, began, first_lines};
+ghost use Rattle.node_network.specs.Listeners.{IsForNobody, began, first_lines, is_field};
 ghost use Rattle.node_network.specs.declared.fault.OpenFault.TheVariants.{NoListener};
 ghost use Rattle.node_network.specs.declared.lines.Kind.TheVariants.{Field, Operator};
 ghost use Rattle.node_network.specs.declared.stream_lines.StreamLines.{StreamLines};
@@ -82,6 +82,13 @@ impl<R: Net, I: Read, O: Write> Lines<R, I, O> {
         Ok(Lines {
             kind: Kind::Connection(lines),
         })
+    }
+
+    /// Whether they are those of field equipment.
+    pub(crate) fn are_of_field(&self) -> bool
+        ensures { result ≡ is_field self.now.kind }
+    {
+        matches!(&self.kind, Kind::Field(_))
     }
 
     pub(crate) fn has_listener(&mut self) -> bool

@@ -4,7 +4,7 @@ ghost use Rattle.std.specs.Prelude.{[], ◌∷◌};
 ghost use Rattle.node_drive.specs.Calls.{Grows};
 ghost use Rattle.node_network.specs.Log.{call_of, told_calls};
 
-use node_drive::{Fault, NodeId};
+use node_drive::{Fault, NodeId, Origin};
 
 /// A call of a node's process.
 #[derive(Drop)]
@@ -22,7 +22,7 @@ pub enum OutsideCall {
     /// It asked for a line, and none came any more.
     HeardEnd,
     /// It asked for a datagram, and was given one.
-    HeardDatagram(Option<NodeId>, Vec<u8>),
+    HeardDatagram(Origin, Vec<u8>),
     /// It asked for a datagram, and none waited.
     HeardNoDatagram,
     /// It asked for a datagram, and the call failed.

@@ -1,15 +1,17 @@
 //! What a node's process has outside, over memory.
 
-ghost use Rattle.std.specs.Prelude.{◌≡◌, ◌+◌, ◌-◌, ◌≤◌, [], ◌∷◌, ◌++◌, ℕ, List, None, OnOk, Some, map, min, string_bytes, true};
+ghost use Rattle.std.specs.Prelude.{◌≡◌, ◌+◌, ◌-◌, ◌≤◌, [], ◌∷◌, ◌++◌, ℕ, List, None, OnOk, Option, Some, map, min, string_bytes, true};
 ghost use Rattle.std.specs.Bool.{Decides};
 ghost use Rattle.std.specs.Option.{option_to_list};
-ghost use Rattle.node_drive.specs.Calls.{Arrival, Empty, Failed, datagram_heard};
+ghost use Rattle.node_drive.specs.Calls.{Empty, Failed, datagram_heard};
+ghost use Rattle.node_drive.specs.simulator_event.layout.declared.ids.NodeId.{NodeId as Node};
 ghost use Rattle.node_network.specs.Log.{told_calls};
 
 use crate::log::{Log, OutsideCall};
-use crate::node_socket::{MOST_THROWN_AWAY, arrived};
+use crate::network_socket::{MOST_THROWN_AWAY, arrived};
 use node_drive::{
-    BrokenOff, Fault, LONGEST_DATAGRAM, NextDatagram, NextLine, NodeId, Outside, ThrownAway,
+    BrokenOff, Fault, LONGEST_DATAGRAM, Network, NextDatagram, NextLine, NodeId, Origin, Outside,
+    ThrownAway,
 };
 use std::alloc::{AllocError, Global};
 use std::collections::VecDeque;
@@ -141,9 +143,9 @@ impl MemoryOutside {
         self.closed = true;
     }
 
-    /// A datagram comes from the address of a node, or from that of none.
+    /// A datagram comes from the address of a node, or from that of none, over the only network.
     pub fn bring(&mut self, from: Option<NodeId>, bytes: &[u8]) -> Result<(), AllocError>
-        ensures datagrams { OnOk result (map {B = Arrival} (λ d. (d.0, d.1.items)) self.new.datagrams.items ≡ map {B = Arrival} (λ d. (d.0, d.1.items)) self.old.datagrams.items ++ (from, bytes.now) ∷ []) }
+        ensures datagrams { OnOk result (map {B = Option Node × List ℕ} (λ d. (d.0, d.1.items)) self.new.datagrams.items ≡ map {B = Option Node × List ℕ} (λ d. (d.0, d.1.items)) self.old.datagrams.items ++ (from, bytes.now) ∷ []) }
         ensures log { self.new.log ≡ self.old.log }
         ensures latest { self.new.latest ≡ self.old.latest }
     {
@@ -213,7 +215,7 @@ impl Outside for MemoryOutside {
             NextDatagram::Came(arrived) => match Vec::from_slice(self.alloc, &arrived.bytes) {
                 Ok(bytes) => self
                     .log
-                    .add(OutsideCall::HeardDatagram(arrived.from, bytes)),
+                    .add(OutsideCall::HeardDatagram(arrived.origin, bytes)),
                 Err(_) => self.log.tells = false,
             },
             NextDatagram::Empty => self.log.add(OutsideCall::HeardNoDatagram),
@@ -301,7 +303,8 @@ fn take_datagram(
         return NextDatagram::Empty;
     };
     let (front, _) = bytes.split_at(bytes.len().min(LONGEST_DATAGRAM));
-    arrived(from, front)
+    let over = Network::Alone;
+    arrived(Origin { from, over }, front)
 }
 
 /// Throws away datagrams that wait, the oldest first, as a socket does.

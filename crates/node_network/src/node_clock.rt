@@ -63,6 +63,13 @@ impl<'a, T: Timer> NodeClock<'a, T> {
         }
     }
 
+    /// What it read last.
+    pub(crate) fn latest(&self) -> u64
+        ensures { result ≡ self.now.latest }
+    {
+        self.latest
+    }
+
     /// Reads it. Where the machine's clock goes back or can't be read, it stands.
     pub(crate) fn read(&mut self) -> u64
         ensures first { self.new.first ≡ self.old.first }

@@ -109,7 +109,7 @@ impl<'a, O: Outside, W: Write + Drop, E: Eprint> Outside for Recorded<'a, O, W, 
         let next = self.outside.next_datagram();
         match &next {
             NextDatagram::Came(arrived) => {
-                self.note(Entry::Comes(arrived.from, arrived.bytes.as_slice()));
+                self.note(Entry::Comes(arrived.origin, arrived.bytes.as_slice()));
             }
             NextDatagram::Empty => (),
             NextDatagram::Failed => self.note(Entry::FailsToReceive),

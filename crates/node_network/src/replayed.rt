@@ -5,8 +5,8 @@ ghost use Rattle.std.specs.Prelude.{◌≡◌, ◌≤◌};
 use crate::entry::{Entry, entry_line};
 use crate::record_lines::RecordLines;
 use node_drive::{
-    Arrived, BrokenOff, Fault, Layout, Lines, NextDatagram, NextLine, NodeId, Outside, ThrownAway,
-    decimal, hexadecimal_or_none, node_named,
+    Arrived, BrokenOff, Fault, Layout, Lines, Network, NextDatagram, NextLine, NodeId, Origin,
+    Outside, ThrownAway, decimal, hexadecimal_or_none, node_named,
 };
 use std::alloc::{AllocError, Global};
 
@@ -90,14 +90,29 @@ impl<'a> Replayed<'a> {
 
 /// A datagram as a line has it, after its first word.
 fn arrived(layout: &Layout, rest: &str) -> Option<Arrived> {
-    let Some((word, bytes)) = rest.split_once(' ') else {
+    let Some((word, rest)) = rest.split_once(' ') else {
         return None;
     };
+    let (over, bytes) = over_said(rest);
     let Ok(bytes) = hexadecimal_or_none(bytes) else {
         return None;
     };
     let from = node_named(layout, word).ok();
-    Some(Arrived { from, bytes })
+    Some(Arrived {
+        origin: Origin { from, over },
+        bytes,
+    })
+}
+
+/// The network over which a datagram came, as a line has it before the bytes, and what stands after it.
+fn over_said(rest: &str) -> (Network, &str) {
+    if let Some(bytes) = rest.strip_prefix("over 1 ") {
+        return (Network::First, bytes);
+    }
+    match rest.strip_prefix("over 2 ") {
+        Some(bytes) => (Network::Second, bytes),
+        None => (Network::Alone, rest),
+    }
 }
 
 /// What was thrown away, as a line has it after its first words.

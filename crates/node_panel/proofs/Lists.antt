@@ -5,13 +5,15 @@ use Rattle.std.specs.Vec.{with_items}
 use Rattle.std.proofs.lemmas.List.{with_items_is}
 use Rattle.panel_desk.specs.declared.panel_line.Mode.TheVariants.{Ready}
 use Rattle.panel_desk.specs.node_lines.layout.Entries.{Site}
+use Rattle.panel_desk.specs.node_lines.layout.Nodes.{links as link_count}
 use Rattle.panel_desk.specs.node_lines.sci_telegram.declared.message.Aspect.{Aspect}
 use Rattle.panel_desk.specs.node_lines.sci_telegram.declared.message.Occupancy.{Occupancy}
 use Rattle.panel_desk.specs.node_lines.sci_telegram.declared.message.Side.{Side}
 use Rattle.panel_desk.specs.node_lines.declared.operator_line.Authority.{Authority}
 use Rattle.panel_desk.specs.node_lines.declared.operator_command.OperatorCommand.{OperatorCommand}
 use Rattle.node_drive.specs.Calls.{AsksLine, Call, LineHeard}
-use Rattle.node_panel.specs.Heard.{HeardView, forgotten, heard_all, heard_by}
+use Rattle.panel_desk.specs.run_numbers.Metrics.{nothing_told}
+use Rattle.node_panel.specs.Heard.{HeardView, forgotten, heard_all, heard_by, unheard}
 use Rattle.node_panel.specs.Turns.{AsksEach, asks, breaks_off, none}
 
 set_next : {A : Type 0} (place : ℕ) (value : A) (all : List A) → place < length all
@@ -79,8 +81,10 @@ all_put vec old new value is put =
 
 -- what was heard has these lists, each of which is as if nothing had been told
 pub is_forgotten : (heard : HeardView) (links : List Bool) (sections : List (Option Occupancy)) (points : List (Option Side)) (authorities : List (Option Authority)) (indications : List (Option Aspect))
-    (routes : List Bool) (asked : List OperatorCommand) → links ≡ replicate (length heard.links) false → sections ≡ replicate (length heard.sections) None → points ≡ replicate (length heard.points) None
-    → authorities ≡ replicate (length heard.authorities) None → indications ≡ replicate (length heard.indications) None → routes ≡ replicate (length heard.routes) false → asked ≡ []
+    (routes : List Bool) (first_lost second_lost : List (Option Bool)) (asked : List OperatorCommand) (numbers : List (Option ℕ)) (questioned : Option ℕ) → links ≡ replicate (length heard.links) false → sections ≡ replicate (length heard.sections) None → points ≡ replicate (length heard.points) None
+    → authorities ≡ replicate (length heard.authorities) None → indications ≡ replicate (length heard.indications) None → routes ≡ replicate (length heard.routes) false
+    → first_lost ≡ replicate (length heard.first_lost) None → second_lost ≡ replicate (length heard.second_lost) None → asked ≡ []
+    → numbers ≡ replicate (length heard.numbers) None → questioned ≡ None
     → record {
       millis = heard.millis;
       joined = false;
@@ -91,9 +95,13 @@ pub is_forgotten : (heard : HeardView) (links : List Bool) (sections : List (Opt
       authorities = authorities;
       indications = indications;
       routes = routes;
+      first_lost = first_lost;
+      second_lost = second_lost;
       asked = asked;
+      numbers = numbers;
+      questioned = questioned;
     } ≡ forgotten heard
-is_forgotten heard links sections points authorities indications routes asked a b d e f h k =
+is_forgotten heard links sections points authorities indications routes first_lost second_lost asked numbers questioned a b d e f h m n k p q =
     λ i. record {
       millis = heard.millis;
       joined = false;
@@ -104,5 +112,48 @@ is_forgotten heard links sections points authorities indications routes asked a 
       authorities = e i;
       indications = f i;
       routes = h i;
+      first_lost = m i;
+      second_lost = n i;
       asked = k i;
+      numbers = p i;
+      questioned = q i;
+    }
+
+-- what was heard of a station with these lists, of which nothing was told
+pub is_unheard : (site : Site) (links : List Bool) (sections : List (Option Occupancy)) (points : List (Option Side)) (authorities : List (Option Authority)) (indications : List (Option Aspect))
+    (routes : List Bool) (first_lost second_lost : List (Option Bool)) (asked : List OperatorCommand) (numbers : List (Option ℕ)) → links ≡ replicate (link_count site) false → sections ≡ replicate (length site.sections) None
+    → points ≡ replicate (length site.points) None → authorities ≡ replicate (length site.signals) None → indications ≡ replicate (length site.signals) None → routes ≡ replicate (length site.routes) false
+    → first_lost ≡ replicate (link_count site) None → second_lost ≡ replicate (link_count site) None → asked ≡ [] → numbers ≡ nothing_told
+    → record {
+      millis = 0;
+      joined = false;
+      mode = Ready;
+      links = links;
+      sections = sections;
+      points = points;
+      authorities = authorities;
+      indications = indications;
+      routes = routes;
+      first_lost = first_lost;
+      second_lost = second_lost;
+      asked = asked;
+      numbers = numbers;
+      questioned = None;
+    } ≡ unheard site
+is_unheard site links sections points authorities indications routes first_lost second_lost asked numbers a b d e f h m n k p =
+    λ i. record {
+      millis = 0;
+      joined = false;
+      mode = Ready;
+      links = a i;
+      sections = b i;
+      points = d i;
+      authorities = e i;
+      indications = f i;
+      routes = h i;
+      first_lost = m i;
+      second_lost = n i;
+      asked = k i;
+      numbers = p i;
+      questioned = None;
     }

@@ -1,11 +1,13 @@
 -- What an interlocking's node has told since its operator's connection began, and what is shown of it.
-use Rattle.std.specs.Prelude.{ℕ, zero, suc, ◌+◌, nat_lt, Bool, true, false, if◌then◌else◌, List, [], ◌∷◌, ◌++◌, codes, length, replicate, slice_set, Option, Some, None, Result, Ok, Err}
+use Rattle.std.specs.Prelude.{ℕ, zero, suc, ◌+◌, ◌-◌, ◌&&◌, nat_le, nat_lt, Bool, true, false, if◌then◌else◌, List, [], ◌∷◌, ◌++◌, codes, length, replicate, slice_set, Option, Some, None, Result, Ok, Err}
 use Rattle.std.specs.Str.{bytes_eq}
 use Rattle.panel_desk.specs.declared.panel_line.Mode.{Mode}
 use Rattle.panel_desk.specs.declared.panel_line.Mode.TheVariants as mode
 use Rattle.panel_desk.specs.declared.panel_line.PanelLine.{PanelLine}
 use Rattle.panel_desk.specs.declared.panel_line.PanelLine.TheVariants.{Interlocking, Silent, Time}
 use Rattle.panel_desk.specs.declared.panel_line.PanelLine.TheVariants as shows
+use Rattle.panel_desk.specs.declared.panel_line.PanelNetwork.{PanelNetwork}
+use Rattle.panel_desk.specs.declared.panel_line.PanelNetwork.TheVariants.{A, B}
 use Rattle.panel_desk.specs.node_lines.ixl_spec.declared.command.Command.TheVariants.{Resume}
 use Rattle.panel_desk.specs.node_lines.layout.Entries.{Site}
 use Rattle.panel_desk.specs.node_lines.layout.Nodes.{links as link_count}
@@ -24,7 +26,8 @@ use Rattle.panel_desk.specs.node_lines.declared.operator_line.LinkState.TheVaria
 use Rattle.node_drive.specs.Calls.{LineHeard, Text, Nothing, Closed}
 use Rattle.node_panel.specs.Lines.{told_said}
 use Rattle.node_panel.specs.declared.told.Told.{Told}
-use Rattle.node_panel.specs.declared.told.Told.TheVariants.{Answer, Tells}
+use Rattle.panel_desk.specs.run_numbers.Metrics.{nothing_told, told}
+use Rattle.node_panel.specs.declared.told.Told.TheVariants.{Answer, Counts, Network, Tells}
 
 pub record HeardView : Type 0 where
   -- the operator's clock, in milliseconds
@@ -43,8 +46,14 @@ pub record HeardView : Type 0 where
   pub indications : List (Option Aspect)
   -- of each route, whether it is set
   pub routes : List Bool
+  -- of each controller, whether the first network is lost there, and the second, if that was told
+  pub first_lost : List (Option Bool)
+  pub second_lost : List (Option Bool)
   -- the commands that weren't answered yet, oldest first
   pub asked : List OperatorCommand
+  -- the numbers that it told, and when it was asked for them last
+  pub numbers : List (Option ℕ)
+  pub questioned : Option ℕ
 
 -- ---- nothing was told
 
@@ -59,7 +68,11 @@ unheard site = record {
   authorities = replicate (length site.signals) None;
   indications = replicate (length site.signals) None;
   routes = replicate (length site.routes) false;
+  first_lost = replicate (link_count site) None;
+  second_lost = replicate (link_count site) None;
   asked = [];
+  numbers = nothing_told;
+  questioned = None;
 }
 
 -- as if nothing had been told
@@ -73,7 +86,11 @@ forgotten heard = record heard {
   authorities = replicate (length heard.authorities) None;
   indications = replicate (length heard.indications) None;
   routes = replicate (length heard.routes) false;
+  first_lost = replicate (length heard.first_lost) None;
+  second_lost = replicate (length heard.second_lost) None;
   asked = [];
+  numbers = replicate (length heard.numbers) None;
+  questioned = None;
 }
 
 -- ---- something is told
@@ -98,6 +115,12 @@ put (Route route is_set) heard = record heard { routes = put_at route.0 is_set h
 put Holding heard = record heard { mode = mode.Holding }
 put WaitingForResume heard = record heard { mode = mode.WaitingForResume }
 
+-- a network is lost at a controller, or back
+abbrev pub put_network : PanelNetwork → ℕ → Bool → HeardView → HeardView
+put_network network zero is_lost heard = heard
+put_network A (suc place) is_lost heard = record heard { first_lost = put_at place (Some is_lost) heard.first_lost }
+put_network B (suc place) is_lost heard = record heard { second_lost = put_at place (Some is_lost) heard.second_lost }
+
 -- Commands are taken once *resume* was accepted: of that nothing else is told.
 abbrev pub mode_after : OperatorCommand → List ℕ → Mode → Mode
 mode_after (One Resume) text before = if bytes_eq text (codes "accepted") then mode.Ready else before
@@ -112,6 +135,8 @@ answered_by text (command ∷ more) heard = record heard { asked = more; mode = 
 abbrev pub told_by : List ℕ → Result Told Fault → HeardView → HeardView
 told_by text (Ok Answer) heard = answered_by text heard.asked heard
 told_by text (Ok (Tells known)) heard = put known (record heard { joined = true })
+told_by text (Ok (Network network node is_lost)) heard = put_network network node.0 is_lost (record heard { joined = true })
+told_by text (Ok (Counts row value)) heard = record heard { numbers = told row value heard.numbers }
 told_by text (Err fault) heard = heard
 
 -- what is known after the question for a line: what the line told; and nothing where the node has gone
@@ -123,6 +148,17 @@ heard_by site Closed heard = forgotten heard
 abbrev pub heard_all : Site → List LineHeard → HeardView → HeardView
 heard_all site [] heard = heard
 heard_all site (one ∷ more) heard = heard_all site more (heard_by site one heard)
+
+-- ---- the question for the numbers
+
+-- 10 s have passed since the last, if there was one
+abbrev pub is_due : Option ℕ → ℕ → Bool
+is_due None now = true
+is_due (Some questioned) now = nat_le 10000 (now - questioned)
+
+-- it is asked where it has told something
+abbrev pub wants_numbers : HeardView → Bool
+wants_numbers heard = heard.joined && is_due heard.questioned heard.millis
 
 -- ---- the picture
 
@@ -154,8 +190,12 @@ indication_line place None = Silent (record { 0 = place })
 abbrev pub route_line : ℕ → Bool → PanelLine
 route_line place is_set = shows.Known (Route (record { 0 = place }) is_set)
 
+abbrev pub network_line : PanelNetwork → ℕ → Option Bool → PanelLine
+network_line network node is_lost = shows.Network network (record { 0 = node }) is_lost
+
 -- A line of each thing. The node's own link is the operator's: it is ready where the node told anything.
 abbrev pub pictured : HeardView → List PanelLine
 pictured heard =
     Time heard.millis ∷ Interlocking heard.mode ∷ link_line 0 heard.joined ∷ (each link_line 1 heard.links ++ (each section_line 0 heard.sections
-    ++ (each point_line 0 heard.points ++ (each authority_line 0 heard.authorities ++ (each indication_line 0 heard.indications ++ each route_line 0 heard.routes)))))
+    ++ (each point_line 0 heard.points ++ (each authority_line 0 heard.authorities ++ (each indication_line 0 heard.indications ++ (each route_line 0 heard.routes
+    ++ (each (network_line A) 1 heard.first_lost ++ each (network_line B) 1 heard.second_lost)))))))

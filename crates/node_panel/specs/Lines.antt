@@ -1,5 +1,6 @@
--- What a line of an interlocking's node tells its operator, by its words: the answer to a command, or what the interlocking knows of
--- one thing. `node_lines` has these lines.
+-- What a line of an interlocking's node tells its operator, by its words: the answer to a command, what the interlocking knows of one
+-- thing, that a network is lost or back, or a number. `node_lines` has these lines, `node_network` those of networks, and `run_numbers`
+-- those of numbers.
 use Rattle.std.specs.Prelude.{◌≢◌, ◌<◌, ℕ, zero, suc, nat_lt, Bool, true, false, if◌then◌else◌, List, [], ◌∷◌, codes, length, Option, Some, None, Result, Ok, Err}
 use Rattle.std.specs.Option.{ok_or}
 use Rattle.std.specs.Str.{bytes_eq}
@@ -13,13 +14,17 @@ use Rattle.panel_desk.specs.node_lines.replay_words.declared.fault.Fault.{Fault}
 use Rattle.panel_desk.specs.node_lines.replay_words.declared.fault.Fault.TheVariants.{Name, Words}
 use Rattle.panel_desk.specs.node_lines.sci_telegram.declared.message.Aspect.TheVariants.{Stop}
 use Rattle.panel_desk.specs.node_lines.sci_telegram.Words.{aspect_of_word, occupancy_of_word, side_of_word}
+use Rattle.panel_desk.specs.declared.panel_line.PanelNetwork.{PanelNetwork}
+use Rattle.panel_desk.specs.declared.panel_line.PanelNetwork.TheVariants.{A, B}
 use Rattle.panel_desk.specs.node_lines.declared.operator_line.Authority.{Authority}
 use Rattle.panel_desk.specs.node_lines.declared.operator_line.Known.{Known}
 use Rattle.panel_desk.specs.node_lines.declared.operator_line.Known.TheVariants as known
 use Rattle.panel_desk.specs.node_lines.declared.operator_line.LinkState.{LinkState}
 use Rattle.panel_desk.specs.node_lines.declared.operator_line.LinkState.TheVariants.{Ready, Lost}
 use Rattle.node_panel.specs.declared.told.Told.{Told}
-use Rattle.node_panel.specs.declared.told.Told.TheVariants.{Answer, Tells}
+use Rattle.node_panel.specs.declared.told.Told.TheVariants.{Answer, Counts, Network, Tells}
+use Rattle.panel_desk.specs.run_numbers.Lines.{number_said}
+use Rattle.panel_desk.specs.run_numbers.declared.row.Row.{Row}
 
 -- ---- words
 
@@ -144,8 +149,37 @@ abbrev pub told_known : Result Known Fault → Result Told Fault
 told_known (Ok known) = Ok (Tells known)
 told_known (Err fault) = Err fault
 
+-- that a network is lost at a node, or back
+abbrev pub network_named : List ℕ → Result PanelNetwork Fault
+network_named word =
+    if bytes_eq word (codes "A") then Ok A
+    else if bytes_eq word (codes "B") then Ok B
+    else Err Words
+
+abbrev pub lost_said : List ℕ → Result Bool Fault
+lost_said word =
+    if bytes_eq word (codes "lost") then Ok true
+    else if bytes_eq word (codes "back") then Ok false
+    else Err Words
+
+abbrev pub network_told : Site → List (List ℕ) → Result Told Fault
+network_told site (letter ∷ word ∷ name ∷ []) = do
+  network ← network_named letter
+  is_lost ← lost_said word
+  node ← node_named site name
+  Ok (Network network node is_lost)
+network_told site other = Err Words
+
+abbrev pub told_number : Result (Row × ℕ) Fault → Result Told Fault
+told_number (Ok said) = Ok (Counts said.0 said.1)
+told_number (Err fault) = Err fault
+
 abbrev pub told_said : Site → List (List ℕ) → Result Told Fault
-told_said site (first ∷ rest) = if is_answer first then Ok Answer else told_known (known_said site (first ∷ rest))
+told_said site (first ∷ rest) =
+    if is_answer first then Ok Answer
+    else if bytes_eq first (codes "network") then network_told site rest
+    else if bytes_eq first (codes "number") then told_number (number_said (first ∷ rest))
+    else told_known (known_said site (first ∷ rest))
 told_said site [] = Err Words
 
 -- ---- what is told of a layout

@@ -6,6 +6,7 @@ use Rattle.node_drive.specs.Calls.{Call, Calls, Told}
 use Rattle.panel_desk.specs.Answers.{DeskView, access_at}
 use Rattle.panel_desk.specs.declared.desk_opened.PageAsked.{PageAsked}
 use Rattle.panel_desk.specs.node_lines.layout.Entries.{Site}
+use Rattle.panel_desk.specs.run_numbers.Metrics.{nothing_told}
 use Rattle.panel_desk.specs.Lines.{blank}
 use Rattle.panel_desk.specs.State.{about}
 use Rattle.station_check.specs.Failures.{ExplainsTable, Tells as TellsText}
@@ -30,10 +31,12 @@ pub record IsOpened (site : Site) (page : PageAsked) (desk : DeskView) : Type 0 
   pub page_is : desk.page ≡ page.page.now
   pub station : read desk.station ≡ Some (about page.kind.now page.layout.now site.station.name page.record.now page.plan.now desk.access.token page.version.now)
   pub board : desk.board ≡ blank (length (pictured (unheard site)))
+  pub numbers : desk.numbers ≡ nothing_told
   pub waiting : desk.waiting ≡ []
 
 -- A panel of a layout stood until its clock, which began at 0, had come to a moment: from a desk of this page on, and with nothing heard
--- yet, there were turns, and the calls by which they read the clock and spoke with the node.
+-- yet, there were turns, and the calls by which they read the clock and spoke with the node. (Where a file ends the panel, its clock comes
+-- to that moment at once.)
 pub record Stood (site : Site) (page : PageAsked) (until : ℕ) : Type 0 where
   pub opened : DeskView
   pub desk : IsOpened site page opened

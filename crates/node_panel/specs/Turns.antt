@@ -1,6 +1,6 @@
 -- The turns of a panel of an interlocking's node: requests are answered, what the node tells is heard, what was asked for is asked of
 -- the node, and the desk shows what is known then.
-use Rattle.std.specs.Prelude.{◌≡◌, ℕ, Bool, true, false, List, [], ◌∷◌, ◌++◌, map}
+use Rattle.std.specs.Prelude.{◌≡◌, ℕ, Bool, true, false, List, [], ◌∷◌, ◌++◌, codes, map, Some}
 use Rattle.std.specs.List.{flat_map}
 use Rattle.panel_connections.specs.Served.{Serves}
 use Rattle.panel_desk.specs.Answers.{Answered, DeskView}
@@ -15,7 +15,7 @@ use Rattle.panel_desk.specs.node_lines.Commands.{command_text}
 use Rattle.panel_desk.specs.node_lines.declared.operator_command.OperatorCommand.{OperatorCommand}
 use Rattle.panel_desk.specs.node_lines.declared.operator_command.OperatorCommand.TheVariants.{One, CancelAll}
 use Rattle.node_drive.specs.Calls.{AsksLine, AsksListener, BreaksOff, Call, LineHeard, Reads, Rests, Writes}
-use Rattle.node_panel.specs.Heard.{HeardView, forgotten, heard_all, pictured}
+use Rattle.node_panel.specs.Heard.{HeardView, forgotten, heard_all, pictured, wants_numbers}
 
 -- ---- commands
 
@@ -40,6 +40,29 @@ pub data AsksEach (site : Site) : List OperatorCommand → HeardView → List Ca
       → AsksEach site more heard calls last
       → AsksEach site (command ∷ more) heard (BreaksOff (command_text site command) ∷ calls) last
 
+-- ---- numbers
+
+abbrev pub question : List ℕ
+question = codes "numbers"
+
+-- the line of the question was written, or broken off
+pub data IsQuestion : List Call → Type 0 where
+  whole : IsQuestion (Writes question ∷ [])
+  broken : IsQuestion (BreaksOff question ∷ [])
+
+abbrev pub IsQuestionIf : Bool → List Call → Type 0
+IsQuestionIf true calls = IsQuestion calls
+IsQuestionIf false calls = calls ≡ []
+
+abbrev pub questioned_if : Bool → HeardView → HeardView
+questioned_if true heard = record heard { questioned = Some heard.millis }
+questioned_if false heard = heard
+
+-- The node is asked for its numbers once in 10 s, and otherwise nothing is called.
+pub record AsksNumbers (heard : HeardView) (calls : List Call) (new : HeardView) : Type 0 where
+  pub asks : IsQuestionIf (wants_numbers heard) calls
+  pub kept : new ≡ questioned_if (wants_numbers heard) heard
+
 -- ---- turns
 
 -- what the node told and wasn't answered yet, and the desk
@@ -60,17 +83,21 @@ timed reading heard = record heard { millis = reading }
 abbrev pub opened : DeskView → DeskView
 opened desk = record desk { waiting = []; board = numbered desk.board }
 
--- These were all calls of a turn after its reading, in their order: whether the node was joined anew; the lines that it told; and each
--- command that waited, once. Then the desk shows what is known, a line at each place.
+-- These were all calls of a turn after its reading, in their order: whether the node was joined anew; the lines that it told; each
+-- command that waited, once; and the question for the numbers, where it is due. Then the desk shows what is known, a line at each place,
+-- and has the numbers that were told.
 pub record IsLived (site : Site) (reading : ℕ) (calls : List Call) (old new : Moment) : Type 0 where
   pub began : Bool
   pub lines : List LineHeard
   pub asked : List Call
-  pub are : calls ≡ AsksListener began ∷ (map AsksLine lines ++ asked)
-  pub asks : AsksEach site (flat_map asked_by old.desk.waiting) (heard_all site lines (timed reading (begun began old.heard))) asked new.heard
+  pub questions : List Call
+  pub are : calls ≡ AsksListener began ∷ (map AsksLine lines ++ (asked ++ questions))
+  pub mid : HeardView
+  pub asks : AsksEach site (flat_map asked_by old.desk.waiting) (heard_all site lines (timed reading (begun began old.heard))) asked mid
+  pub numbers : AsksNumbers mid questions new.heard
   pub noted : DeskView
   pub notes : Notes (opened old.desk) noted
-  pub shows : new.desk ≡ record noted { board = shown_all site 0 (pictured new.heard) noted.board }
+  pub shows : new.desk ≡ record noted { board = shown_all site 0 (pictured new.heard) noted.board; numbers = new.heard.numbers }
 
 -- It waited, read the clock, answered requests one after another, and lived.
 pub record IsTurn (site : Site) (calls : List Call) (old new : Moment) : Type 0 where

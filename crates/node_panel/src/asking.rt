@@ -4,7 +4,7 @@ ghost use Rattle.std.specs.Prelude.{◌≡◌, [], ◌∷◌, List, OnOk};
 ghost use Rattle.std.specs.List.{flat_map};
 ghost use Rattle.std.specs.Option.{option_to_list};
 ghost use Rattle.node_drive.specs.Calls.{Call, Calls};
-ghost use Rattle.node_panel.specs.Turns.{AsksEach, asked_by};
+ghost use Rattle.node_panel.specs.Turns.{AsksEach, AsksNumbers, IsQuestion, IsQuestionIf, asked_by};
 ghost use Rattle.panel_desk.specs.Boards.{Notes};
 
 use crate::heard::Heard;
@@ -13,6 +13,9 @@ use node_drive::Outside;
 use panel_desk::node_lines::{CommandText, OperatorCommand};
 use panel_desk::{Desk, Event, Layout, PanelCommand};
 use std::alloc::{AllocError, Global};
+
+/// The word by which an operator asks for the numbers.
+const NUMBERS: &str = "numbers";
 
 /// Asks each command of the node, one after the other.
 pub(crate) fn ask_each<O: Outside>(
@@ -80,4 +83,31 @@ fn ask<O: Outside>(
         Ok(()) => heard.ask(command),
         Err(_) => note_command(alloc, layout, heard.millis, command, "lost", desk),
     }
+}
+
+/// Asks the node for its numbers, where that is due.
+pub(crate) fn ask_numbers<O: Outside>(outside: &mut O, heard: &mut Heard)
+    ensures { (calls : List Call) × Calls (O.told outside.old) (O.told outside.new) calls × AsksNumbers heard.old calls heard.new }
+{
+    let wants = heard.wants_numbers();
+    write_question(outside, wants);
+    heard.note_question(wants);
+}
+
+/// Writes the question for the numbers, if it is to be asked. Where its line can't be written whole, it is asked again when that is
+/// due.
+#[tactic(auto, using(crate::proofs::Questions::nothing_asked))]
+fn write_question<O: Outside>(outside: &mut O, wants: bool)
+    ensures { (calls : List Call) × Calls (O.told outside.old) (O.told outside.new) calls × IsQuestionIf wants calls }
+{
+    if wants {
+        write_numbers(outside);
+    }
+}
+
+/// Writes the question for the numbers, or a beginning of it.
+fn write_numbers<O: Outside>(outside: &mut O)
+    ensures { (calls : List Call) × Calls (O.told outside.old) (O.told outside.new) calls × IsQuestion calls }
+{
+    let _ = outside.write_line(NUMBERS);
 }

@@ -6,7 +6,7 @@ ghost use Rattle.node_panel.specs.Heard.{pictured};
 ghost use Rattle.node_panel.specs.Turns.{IsLived, Turns};
 ghost use Rattle.panel_desk.specs.Boards.{shown_all};
 
-use crate::asking::ask_each;
+use crate::asking::{ask_each, ask_numbers};
 use crate::heard::Heard;
 use crate::hearing::hear_lines;
 use node_drive::Outside;
@@ -24,8 +24,8 @@ pub struct Room<'a> {
 }
 
 /// Attends a panel of an interlocking's node until its clock reads `until`, in milliseconds. Each reading makes a turn: the requests
-/// that have come are answered, what the node has told is heard, each command is asked of it once and in order, and the desk shows
-/// what is known.
+/// that have come are answered, what the node has told is heard, each command is asked of it once and in order, its numbers are asked
+/// for where that is due, and the desk shows what is known.
 pub fn attend_node<O: Outside, R: RandomSource, L: Listens>(
     rt: &R,
     alloc: Global,
@@ -76,13 +76,16 @@ fn turn<O: Outside>(
     desk.count();
     hear_lines(alloc, layout, outside, reading, heard, desk)?;
     ask_each(alloc, layout, outside, &commands, heard, desk)?;
+    ask_numbers(outside, heard);
     show(alloc, layout, heard, desk)
 }
 
-/// Shows what is known.
+/// Shows what is known, and has the numbers that were told.
 fn show(alloc: Global, layout: &Layout, heard: &Heard, desk: &mut Desk) -> Result<(), AllocError>
-    ensures { OnOk result (desk.new ≡ record desk.old { board = shown_all layout.now 0 (pictured heard.now) desk.old.board }) }
+    ensures { OnOk result (desk.new ≡ record desk.old { board = shown_all layout.now 0 (pictured heard.now) desk.old.board; numbers = (heard.now).numbers }) }
 {
     let lines = heard.picture(alloc)?;
+    let numbers = heard.numbers.copy(alloc)?;
+    desk.tell_numbers(numbers);
     show_lines(alloc, layout, &lines, desk)
 }

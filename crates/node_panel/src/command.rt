@@ -9,11 +9,14 @@ ghost use Rattle.station_check.specs.Report.{IsSound};
 use crate::attendance::{Room, attend_node};
 use crate::failure::NodePanelFailure;
 use crate::heard::Heard;
+use crate::stoppable::Stoppable;
 use node_network::{Caller, NodeClock};
 use panel_connections::{Loopback, tell_address};
 use panel_desk::{Checked, Desk, PageAsked, Pictured, open_desk};
+use run_files::StopFile;
 use station_check::{table_of, tell};
 use std::alloc::Global;
+use std::fs::Files;
 use std::io::Write;
 use std::net::{Net, SocketAddr};
 use std::random::RandomSource;
@@ -29,12 +32,14 @@ pub struct NodePanelOptions<'a> {
     pub node: &'a str,
     /// For how many milliseconds it stands, if not for ever.
     pub for_ms: Option<u64>,
+    /// The path of the file that ends it by being there, if there is to be one.
+    pub stop_file: Option<&'a str>,
 }
 
 /// Attends a panel of an interlocking that runs as a process of its own. A browser of this machine gets a page, whose address is
-/// written to `out`. The node is called again where it doesn't answer. The status is 0, or 1 where anything failed; `err` is then told
-/// why.
-pub fn panel_of_node<R: Net + Timer + RandomSource + AllocGlobal, O: Write, E: Write>(
+/// written to `out`. The node is called again where it doesn't answer. It ends after its time, or where the file is there that ends it: its
+/// clock comes to its last moment then. The status is 0, or 1 where anything failed; `err` is then told why.
+pub fn panel_of_node<R: Files + Net + Timer + RandomSource + AllocGlobal, O: Write, E: Write>(
     rt: &R,
     asked: &NodePanelOptions<'_>,
     out: &mut O,
@@ -61,7 +66,7 @@ pub fn panel_of_node<R: Net + Timer + RandomSource + AllocGlobal, O: Write, E: W
 }
 
 /// Opens what the panel has outside.
-fn open<R: Net + Timer + RandomSource + AllocGlobal, O: Write>(
+fn open<R: Files + Net + Timer + RandomSource + AllocGlobal, O: Write>(
     rt: &R,
     asked: &NodePanelOptions<'_>,
     table: &Checked,
@@ -82,19 +87,21 @@ fn open<R: Net + Timer + RandomSource + AllocGlobal, O: Write>(
         return Err(NodePanelFailure::NoPort);
     };
     let caller = Caller::new(rt.alloc(), clock, rt, address);
-    attend_opened(rt, asked, table, caller, listener, out)
+    let stop = StopFile::new(rt, asked.stop_file);
+    let outside = Stoppable::new(caller, stop, asked.for_ms.unwrap_or(u64::MAX));
+    attend_opened(rt, asked, table, outside, listener, out)
 }
 
 /// Opens the desk, tells where the page is, and attends the panel.
-fn attend_opened<R: Net + Timer + RandomSource + AllocGlobal, O: Write>(
+fn attend_opened<R: Files + Net + Timer + RandomSource + AllocGlobal, O: Write>(
     rt: &R,
     asked: &NodePanelOptions<'_>,
     table: &Checked,
-    mut caller: Caller<'_, R>,
+    mut outside: Stoppable<'_, Caller<'_, R>, R>,
     mut listener: Loopback,
     out: &mut O,
 ) -> Result<(), NodePanelFailure>
-    requires { caller.clock.latest ≡ 0 }
+    requires { outside.latest ≡ 0 }
     ensures { OnOk result (Stood table.now asked.now.page (until asked.now.for_ms)) }
 {
     let mut room = open_room(rt, rt.alloc(), table, &asked.page)?;
@@ -102,7 +109,7 @@ fn attend_opened<R: Net + Timer + RandomSource + AllocGlobal, O: Write>(
     attend_node(
         rt,
         rt.alloc(),
-        &mut caller,
+        &mut outside,
         &mut listener,
         &mut room,
         asked.for_ms.unwrap_or(u64::MAX),

@@ -1,14 +1,18 @@
 //! What an interlocking's node has told.
 
 ghost use Rattle.std.specs.Prelude.{◌≡◌, ◌∷◌, ◌++◌, [], IfOk, OnOk, length, replicate};
-ghost use Rattle.node_panel.specs.Heard.{answered_by, forgotten, mode_after, put, put_at, put_link, told_by, unheard};
-ghost use Rattle.node_panel.specs.Turns.{begun, timed};
+ghost use Rattle.node_panel.specs.Heard.{answered_by, forgotten, is_due, mode_after, put, put_at, put_link, put_network, told_by, unheard, wants_numbers};
+ghost use Rattle.node_panel.specs.Turns.{begun, questioned_if, timed};
 
 use crate::told::Told;
 use panel_desk::node_lines::{Authority, Known, LinkState, OperatorCommand};
-use panel_desk::{Aspect, Command, Fault, Layout, Mode, Occupancy, Side};
+use panel_desk::run_numbers::NumbersTold;
+use panel_desk::{Aspect, Command, Fault, Layout, Mode, Occupancy, PanelNetwork, Side};
 use std::alloc::{AllocError, Global};
 use std::marker::Model;
+
+/// How many milliseconds pass between two questions for the numbers at least.
+const BETWEEN_QUESTIONS: u64 = 10_000;
 
 /// What an interlocking's node has told since its operator's connection began, of each thing the last, and the commands that it didn't
 /// answer yet.
@@ -23,7 +27,12 @@ pub struct Heard {
     pub(crate) authorities: Vec<Option<Authority>>,
     pub(crate) indications: Vec<Option<Aspect>>,
     pub(crate) routes: Vec<bool>,
+    pub(crate) first_lost: Vec<Option<bool>>,
+    pub(crate) second_lost: Vec<Option<bool>>,
     pub(crate) asked: Vec<OperatorCommand>,
+    pub(crate) numbers: NumbersTold,
+    /// When it was asked for its numbers last.
+    pub(crate) questioned: Option<u64>,
 }
 
 impl Model for Heard {
@@ -31,7 +40,7 @@ impl Model for Heard {
 
     ghost Value = { HeardView };
 
-    ghost view = { λ h. record { millis = h.millis; joined = h.joined; mode = h.mode; links = h.links.items; sections = h.sections.items; points = h.points.items; authorities = h.authorities.items; indications = h.indications.items; routes = h.routes.items; asked = h.asked.items } };
+    ghost view = { λ h. record { millis = h.millis; joined = h.joined; mode = h.mode; links = h.links.items; sections = h.sections.items; points = h.points.items; authorities = h.authorities.items; indications = h.indications.items; routes = h.routes.items; first_lost = h.first_lost.items; second_lost = h.second_lost.items; asked = h.asked.items; numbers = h.numbers; questioned = h.questioned } };
 }
 
 impl Heard {
@@ -51,7 +60,11 @@ impl Heard {
             authorities: vec![in alloc; None; signals]?,
             indications: vec![in alloc; None; signals]?,
             routes: vec![in alloc; false; layout.routes().len()]?,
+            first_lost: vec![in alloc; None; layout.links()]?,
+            second_lost: vec![in alloc; None; layout.links()]?,
             asked: Vec::new(alloc),
+            numbers: NumbersTold::nothing(alloc)?,
+            questioned: None,
         })
     }
 
@@ -67,7 +80,11 @@ impl Heard {
         put_all(&mut self.authorities, None);
         put_all(&mut self.indications, None);
         put_all(&mut self.routes, false);
+        put_all(&mut self.first_lost, None);
+        put_all(&mut self.second_lost, None);
         self.asked.clear();
+        self.numbers.forget();
+        self.questioned = None;
     }
 
     /// A turn begins at a reading. All that was told is forgotten where the node was joined anew.
@@ -88,6 +105,22 @@ impl Heard {
         Ok(())
     }
 
+    /// Whether the node is to be asked for its numbers: it has told something, and wasn't asked for 10 s.
+    pub(crate) fn wants_numbers(&self) -> bool
+        ensures { result ≡ wants_numbers self.now }
+    {
+        self.joined && is_due(self.questioned, self.millis)
+    }
+
+    /// It was asked for its numbers, or it wasn't.
+    pub(crate) fn note_question(&mut self, asked: bool)
+        ensures { self.new ≡ questioned_if asked self.old }
+    {
+        if asked {
+            self.questioned = Some(self.millis);
+        }
+    }
+
     /// A line tells something. It answers the command to which it is the answer, if it is one.
     pub(crate) fn hear(&mut self, told: Result<Told, Fault>, text: &str) -> Option<OperatorCommand>
         ensures { self.new ≡ told_by text.now told self.old }
@@ -97,6 +130,21 @@ impl Heard {
             Ok(Told::Tells(known)) => {
                 self.joined = true;
                 self.put(known);
+                None
+            }
+            Ok(
+                Told::Network {
+                    network,
+                    node,
+                    is_lost,
+                },
+            ) => {
+                self.joined = true;
+                self.put_network(network, node.0, is_lost);
+                None
+            }
+            Ok(Told::Counts(row, value)) => {
+                self.numbers.tell(row, value);
                 None
             }
             Err(_) => None,
@@ -137,6 +185,19 @@ impl Heard {
         }
     }
 
+    /// A network is lost at a node, or back.
+    fn put_network(&mut self, network: PanelNetwork, node: usize, is_lost: bool)
+        ensures { self.new ≡ put_network network node is_lost self.old }
+    {
+        let Some(place) = node.checked_sub(1) else {
+            return;
+        };
+        match network {
+            PanelNetwork::A => put_at(&mut self.first_lost, place, Some(is_lost)),
+            PanelNetwork::B => put_at(&mut self.second_lost, place, Some(is_lost)),
+        }
+    }
+
     /// The link of a node is told. What its controller indicated isn't known any more where it is lost.
     fn put_link(&mut self, node: usize, state: LinkState)
         ensures { self.new ≡ put_link node state self.old }
@@ -151,6 +212,16 @@ impl Heard {
                 put_at(&mut self.indications, place, None);
             }
         }
+    }
+}
+
+/// Whether 10 s have passed since a question, if there was one.
+fn is_due(questioned: Option<u64>, millis: u64) -> bool
+    ensures { result ≡ is_due questioned millis }
+{
+    match questioned {
+        Some(questioned) => millis.saturating_sub(questioned) >= BETWEEN_QUESTIONS,
+        None => true,
     }
 }
 

@@ -11,10 +11,11 @@ mod hearing;
 mod known_read;
 mod laws;
 mod pictured;
+mod stoppable;
 mod told;
 
 pub use attendance::{Room, attend_node};
 pub use command::{NodePanelOptions, panel_of_node};
 pub use heard::Heard;
-pub use laws::lines_are_read_again;
+pub use laws::{lines_are_read_again, numbers_are_heard};
 pub use told::{Told, read_told};

@@ -1,12 +1,13 @@
 //! The picture of what an interlocking's node has told.
 
 ghost use Rattle.std.specs.Prelude.{◌≡◌, ◌++◌, IfOk, OnOk};
-ghost use Rattle.node_panel.specs.Heard.{authority_line, each, indication_line, link_line, link_state, pictured, point_line, route_line, section_line};
+ghost use Rattle.node_panel.specs.Heard.{authority_line, each, indication_line, link_line, link_state, network_line, pictured, point_line, route_line, section_line};
 
 use crate::heard::Heard;
 use panel_desk::node_lines::{Authority, Known, LinkState};
 use panel_desk::{
-    Aspect, NodeId, Occupancy, PanelLine, Pictured, PointId, RouteId, SectionId, Side, SignalId,
+    Aspect, NodeId, Occupancy, PanelLine, PanelNetwork, Pictured, PointId, RouteId, SectionId,
+    Side, SignalId,
 };
 use std::alloc::{AllocError, Global};
 
@@ -27,6 +28,8 @@ impl Pictured for Heard {
         add_authorities(&mut lines, &self.authorities)?;
         add_indications(&mut lines, &self.indications)?;
         add_routes(&mut lines, &self.routes)?;
+        add_networks(&mut lines, PanelNetwork::A, &self.first_lost)?;
+        add_networks(&mut lines, PanelNetwork::B, &self.second_lost)?;
         Ok(lines)
     }
 }
@@ -128,6 +131,23 @@ fn add_routes(lines: &mut Vec<PanelLine>, routes: &[bool]) -> Result<(), AllocEr
             route: RouteId(place),
             is_set: *is_set,
         }))?;
+    }
+    Ok(())
+}
+
+fn add_networks(
+    lines: &mut Vec<PanelLine>,
+    network: PanelNetwork,
+    lost: &[Option<bool>],
+) -> Result<(), AllocError>
+    ensures { OnOk result (lines.new.items ≡ lines.old.items ++ each (network_line network) 1 lost.now) }
+{
+    for (place, is_lost) in lost.iter().enumerate() {
+        lines.push(PanelLine::Network {
+            network,
+            node: NodeId(place.saturating_add(1)),
+            is_lost: *is_lost,
+        })?;
     }
     Ok(())
 }

@@ -5,7 +5,6 @@ use Rattle.std.specs.Io.KnownBytes.{Appends}
 use Rattle.capture_file.specs.Faults.{IsOfFile}
 use Rattle.capture_file.specs.declared.fault.CaptureFault.{CaptureFault}
 use Rattle.capture_file.specs.declared.fault.CaptureFault.TheVariants.{TooLong, Exists, CannotWrite}
-use Rattle.capture_file.specs.declared.journey.Endpoint.{Endpoint}
 use Rattle.control_table.specs.layout.Entries.{Site}
 use Rattle.station_check.specs.Failures.{ExplainsTable, IsLate, LeavesParts}
 use Rattle.station_check.specs.Report.{IsSound}
@@ -13,6 +12,7 @@ use Rattle.station_check.specs.declared.failure.Failure.{Failure}
 use Rattle.station_check.specs.declared.failure.Failure.TheVariants.{Capture, OutOfMemory, NotWritten}
 use Rattle.node_record.specs.CapturedRecord.{Explains, HasCapture, IsCaptureOf, IsRecordCapture}
 use Rattle.node_record.specs.DecodedRecord.{CanRead, ExplainsRecord, IsDecoded}
+use Rattle.node_record.specs.NodeEnds.{Ends}
 use Rattle.node_record.specs.NodeLines.{lines_text}
 use Rattle.node_record.specs.NodeTraffic.{traffic}
 use Rattle.node_record.specs.RecordLines.{told}
@@ -63,7 +63,7 @@ decoded layout name text site drawn read before now (Err why) are same appended 
 -- ---- captures
 
 -- texts have a capture
-pub captured : {F E : Type 0} (bytes : F → List ℕ) (layout name text : List ℕ) (site : Site) (read : Record) (given : List Endpoint) (tried : Result F E) → AreTexts layout name text site read
+pub captured : {F E : Type 0} (bytes : F → List ℕ) (layout name text : List ℕ) (site : Site) (read : Record) (given : Ends) (tried : Result F E) → AreTexts layout name text site read
     → IfOk tried (λ file. IsCaptureOf given read.head.node (traffic read.head.node 0 (map told read.lines.items)) (bytes file)) → IfOk tried (λ file. IsRecordCapture layout name text given (bytes file))
 captured bytes layout name text site read given (Ok file) are is = record { site = site; sound = are.sound; head = read.head; lines = map told read.lines.items; says = are.says; is = is }
 captured bytes layout name text site read given (Err why) are is = tt
@@ -77,19 +77,19 @@ pub can_read : (layout name text : List ℕ) (site : Site) (read : Record) → A
 can_read layout name text site read are = record { site = site; sound = are.sound; says = subst IsOk (sym are.says) refl }
 
 -- or they have none
-pub no_capture : (layout name text : List ℕ) (site : Site) (read : Record) (given : List Endpoint) (why : Failure) → AreTexts layout name text site read
+pub no_capture : (layout name text : List ℕ) (site : Site) (read : Record) (given : Ends) (why : Failure) → AreTexts layout name text site read
     → IsNoCapture (traffic read.head.node 0 (map told read.lines.items)) why → Explains layout name text given why
 no_capture layout name text site read given OutOfMemory are so = can_read layout name text site read are
 no_capture layout name text site read given (Capture TooLong) are so = record { site = site; sound = are.sound; head = read.head; lines = map told read.lines.items; says = are.says; has = so }
 no_capture layout name text site read given other are so = absurd so
 
-pub none_told : {T : Type 0} (layout name text : List ℕ) (site : Site) (read : Record) (given : List Endpoint) (tried : Result T Failure) → AreTexts layout name text site read
+pub none_told : {T : Type 0} (layout name text : List ℕ) (site : Site) (read : Record) (given : Ends) (tried : Result T Failure) → AreTexts layout name text site read
     → IfErr tried (IsNoCapture (traffic read.head.node 0 (map told read.lines.items))) → IfErr tried (Explains layout name text given)
 none_told layout name text site read given (Ok file) are so = tt
 none_told layout name text site read given (Err why) are so = no_capture layout name text site read given why are so
 
 -- or the file of one is at fault
-pub file_at_fault : (layout name text : List ℕ) (given : List Endpoint) (fault : CaptureFault) → HasCapture layout name text given → IsOfFile fault → Explains layout name text given (Capture fault)
+pub file_at_fault : (layout name text : List ℕ) (given : Ends) (fault : CaptureFault) → HasCapture layout name text given → IsOfFile fault → Explains layout name text given (Capture fault)
 file_at_fault layout name text given TooLong has is = absurd is
 file_at_fault layout name text given Exists has is = has
 file_at_fault layout name text given CannotWrite has is = has

@@ -4,7 +4,9 @@ pub mod Captures
 pub mod Explained
 pub mod WorkedTraffic
 pub mod RecordsRead
-pub mod FoundEnds
+pub mod EndsFound
+pub mod CountedAddresses
+pub mod EndsLent
 pub mod FirstWord
 pub mod Charts
 pub mod Stories

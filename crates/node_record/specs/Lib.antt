@@ -2,6 +2,7 @@ pub mod RecordLines
 pub mod Records
 pub mod NodeTraffic
 pub mod NodeLines
+pub mod NodeEnds
 pub mod DecodedRecord
 pub mod CapturedRecord
 pub mod GivenEnds

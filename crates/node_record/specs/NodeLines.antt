@@ -4,6 +4,8 @@ use Rattle.std.specs.Fmt.{decimal}
 use Rattle.std.specs.List.{flat_map}
 use Rattle.control_table.specs.layout.Entries.{Site}
 use Rattle.replay_lines.specs.Names.{node_names}
+use Rattle.station_check.specs.node_addresses.declared.network.Network.{Network}
+use Rattle.station_check.specs.node_addresses.declared.network.Network.TheVariants.{Alone, First, Second}
 use Rattle.station_decode.specs.Datagrams.{datagram_text}
 use Rattle.node_record.specs.NodeTraffic.{Passed}
 use Rattle.node_record.specs.declared.passage.Reception.{Reception}
@@ -26,18 +28,24 @@ why_text FromNoPartner = codes "from no partner"
 why_text ThrownAway = codes "thrown away"
 why_text Unread = codes "not read"
 
+-- over which of two networks it came
+abbrev pub over_text : Network → List ℕ
+over_text Alone = []
+over_text First = codes " over 1"
+over_text Second = codes " over 2"
+
 -- to whom a datagram was sent, and what became of one that came
 abbrev pub sent_text : List ℕ → List ℕ → List ℕ
 sent_text own to = codes "sent by " ++ (own ++ (codes " to " ++ to))
 
-abbrev pub came_text : List ℕ → Reception → List ℕ
-came_text own Delivered = codes "delivered to " ++ own
-came_text own other = codes "not delivered to " ++ (own ++ (codes ", " ++ why_text other))
+abbrev pub came_text : List ℕ → Network → Reception → List ℕ
+came_text own over Delivered = codes "delivered to " ++ (own ++ over_text over)
+came_text own over other = codes "not delivered to " ++ (own ++ (over_text over ++ (codes ", " ++ why_text other)))
 
 -- what became of a datagram in the record of this node
 abbrev pub way_text : Site → ℕ → Way → List ℕ
 way_text site node (Sent to) = sent_text (node_text site node) (node_text site to)
-way_text site node (Came from reception) = came_text (node_text site node) reception
+way_text site node (Came from over reception) = came_text (node_text site node) over reception
 
 -- the reading, in milliseconds; what became of the datagram; and its words under the key and with the names of the layout
 abbrev pub line_text : Site → ℕ → Passed → List ℕ

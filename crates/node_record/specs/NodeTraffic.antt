@@ -39,8 +39,8 @@ reading_behind latest behind = latest
 
 -- the datagram of which a line tells, where the last reading before and the lines after it are these
 abbrev pub passed_at : ℕ → ℕ → Line → List Line → Option Passed
-passed_at node latest (Comes from bytes) behind =
-    Some (record { reading = reading_behind latest behind; way = Came from (became (is_partner node from) behind); bytes = bytes })
+passed_at node latest (Comes from over bytes) behind =
+    Some (record { reading = reading_behind latest behind; way = Came from over (became (is_partner node from) behind); bytes = bytes })
 passed_at node latest (Sends to bytes) behind = Some (record { reading = latest; way = Sent to; bytes = bytes })
 passed_at node latest line behind = None
 

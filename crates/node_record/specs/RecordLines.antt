@@ -2,6 +2,7 @@
 --
 --     at 12000                      the clock was read
 --     from IXL1 3200..              a datagram came from a node's address, or from another: `-`
+--     from IXL1 over 2 3200..       the same with two networks: over the first, or over the second
 --     throws away all 12            all that waited in the socket, so many datagrams, were thrown away
 --     throws away 4096              the same, where more may wait
 --     sends IXL1 3200..             a datagram was sent to a node
@@ -15,20 +16,22 @@ use Rattle.replay_words.specs.Fault.{◌>>=◌}
 use Rattle.replay_words.specs.Read.{decimal, hexadecimal_or_none}
 use Rattle.replay_words.specs.declared.fault.Fault.{Fault}
 use Rattle.replay_words.specs.declared.fault.Fault.TheVariants.{Words}
+use Rattle.station_check.specs.node_addresses.declared.network.Network.{Network}
+use Rattle.station_check.specs.node_addresses.declared.network.Network.TheVariants.{Alone, First, Second}
 use Rattle.node_record.specs.declared.record_line.RecordLine.{RecordLine}
 use Rattle.node_record.specs.declared.record_line.RecordLine.TheVariants as line
 
 -- what a line tells of; a node by its place
 pub data Line : Type 0 where
   Reads : (reading : ℕ) → Line
-  Comes : (from : Option ℕ) (bytes : List ℕ) → Line
+  Comes : (from : Option ℕ) (over : Network) (bytes : List ℕ) → Line
   ThrowsAway : Line
   Sends : (to : ℕ) (bytes : List ℕ) → Line
   Other : Line
 
 abbrev pub told : RecordLine → Line
 told (line.Reads reading) = Reads reading
-told (line.Comes from bytes) = Comes from bytes.items
+told (line.Comes from over bytes) = Comes from over bytes.items
 told line.ThrowsAway = ThrowsAway
 told (line.Sends to bytes) = Sends to bytes.items
 told line.Other = Other
@@ -55,11 +58,24 @@ reads (word ∷ []) = do
   Ok (Reads reading)
 reads more = Err Words
 
-abbrev pub comes : Site → List (List ℕ) → Result Line Fault
-comes site (word ∷ digits ∷ []) = do
+-- the network of a number
+abbrev pub network_said : List ℕ → Result Network Fault
+network_said word =
+    if bytes_eq word (codes "1") then Ok First
+    else if bytes_eq word (codes "2") then Ok Second
+    else Err Words
+
+-- over a network, if this is one
+abbrev pub comes_over : Site → Result Network Fault → List ℕ → List ℕ → Result Line Fault
+comes_over site network word digits = do
+  over ← network
   from ← sender_said site word
   bytes ← hexadecimal_or_none digits
-  Ok (Comes from bytes)
+  Ok (Comes from over bytes)
+
+abbrev pub comes : Site → List (List ℕ) → Result Line Fault
+comes site (word ∷ digits ∷ []) = comes_over site (Ok Alone) word digits
+comes site (word ∷ over ∷ number ∷ digits ∷ []) = if bytes_eq over (codes "over") then comes_over site (network_said number) word digits else Err Words
 comes site more = Err Words
 
 abbrev pub sends : Site → List (List ℕ) → Result Line Fault

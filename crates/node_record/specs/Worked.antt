@@ -9,12 +9,15 @@ use Rattle.lane_chart.specs.declared.lane.Kind.TheVariants as kind
 use Rattle.lane_chart.specs.declared.lane.Seen.{Seen}
 use Rattle.lane_chart.specs.declared.lane.Seen.TheVariants as seen
 use Rattle.replay_words.specs.Cut.{words}
+use Rattle.station_check.specs.node_addresses.declared.network.Network.TheVariants.{Alone, Second}
 use Rattle.replay_words.specs.declared.fault.Fault.TheVariants.{Number, Words}
 use Rattle.node_record.specs.CapturedRecord.{captured}
 use Rattle.node_record.specs.Courses.{first_course}
 use Rattle.node_record.specs.NodeChanges.{Mark, changes_from, marks_from}
+use Rattle.node_record.specs.NodeEnds.{Ends}
+use Rattle.node_record.specs.NodeLines.{came_text}
 use Rattle.node_record.specs.NodeTraffic.{Passed, traffic}
-use Rattle.node_record.specs.RecordLines.{Reads, Comes, ThrowsAway, Sends, Other, line_said}
+use Rattle.node_record.specs.RecordLines.{Reads, Comes, ThrowsAway, Sends, Other, comes_over, line_said}
 use Rattle.node_record.specs.Records.{time_said, whole_lines}
 use Rattle.node_record.specs.declared.passage.Reception.{Reception}
 use Rattle.node_record.specs.declared.passage.Reception.TheVariants.{Delivered, FromNoPartner, ThrownAway, Unread}
@@ -23,10 +26,14 @@ use Rattle.control_table.specs.layout.Nodes as nodes
 
 -- a datagram of one byte that came at a reading, and one that was sent
 abbrev pub came : ℕ → Option ℕ → Reception → ℕ → Passed
-came reading from became byte = record { reading = reading; way = Came from became; bytes = byte ∷ [] }
+came reading from became byte = record { reading = reading; way = Came from Alone became; bytes = byte ∷ [] }
 
 abbrev pub sent : ℕ → ℕ → ℕ → Passed
 sent reading to byte = record { reading = reading; way = Sent to; bytes = byte ∷ [] }
+
+-- the ends of no nodes
+abbrev pub nowhere : Ends
+nowhere = record { first = []; second = [] }
 
 -- that the lane of this kind at place 3 shows this, by a line
 abbrev pub shows : ℕ → ℕ → Kind → Seen → Change
@@ -42,6 +49,10 @@ pub record Worked (site : Site) : Type 0 where
   pub away : line_said site (words (codes "throws away all 12")) ≡ Ok ThrowsAway
   pub away_in_part : line_said site (words (codes "throws away 4096")) ≡ Ok ThrowsAway
   pub away_uncounted : line_said site (words (codes "throws away")) ≡ Err Words
+  pub over_one : line_said site (words (codes "from S1 0102")) ≡ comes_over site (Ok Alone) (codes "S1") (codes "0102")
+  pub over_second : line_said site (words (codes "from S1 over 2 0102")) ≡ comes_over site (Ok Second) (codes "S1") (codes "0102")
+  pub over_third : line_said site (words (codes "from S1 over 3 0102")) ≡ Err Words
+  pub over_none : line_said site (words (codes "from S1 over 0102")) ≡ Err Words
   pub failed : line_said site (words (codes "fails to receive")) ≡ Ok Other
   pub heard : line_said site (words (codes "hears set R1")) ≡ Ok Other
   pub heard_nothing : line_said site (words (codes "hears ")) ≡ Ok Other
@@ -55,22 +66,26 @@ pub record Worked (site : Site) : Type 0 where
   pub for_ever : time_said [] ≡ Ok None
   pub for_a_minute : time_said (words (codes "for 60000")) ≡ Ok (Some 60000)
   -- a datagram comes at the reading after it, and what it brings about is sent at that reading
-  pub answered : traffic 1 0 (Reads 10 ∷ Comes (Some 0) (7 ∷ []) ∷ Reads 12 ∷ Other ∷ Sends 0 (8 ∷ []) ∷ []) ≡ came 12 (Some 0) Delivered 7 ∷ sent 12 0 8 ∷ []
+  pub answered : traffic 1 0 (Reads 10 ∷ Comes (Some 0) Alone (7 ∷ []) ∷ Reads 12 ∷ Other ∷ Sends 0 (8 ∷ []) ∷ []) ≡ came 12 (Some 0) Delivered 7 ∷ sent 12 0 8 ∷ []
   -- a controller takes what comes from the address of the interlocking alone, and the interlocking what comes from those of the others
-  pub stranger : traffic 1 0 (Comes None (7 ∷ []) ∷ Reads 12 ∷ []) ≡ came 12 None FromNoPartner 7 ∷ []
-  pub another : traffic 1 0 (Comes (Some 2) (7 ∷ []) ∷ Reads 12 ∷ []) ≡ came 12 (Some 2) FromNoPartner 7 ∷ []
-  pub controller : traffic 0 0 (Comes (Some 2) (7 ∷ []) ∷ Reads 12 ∷ []) ≡ came 12 (Some 2) Delivered 7 ∷ []
+  pub stranger : traffic 1 0 (Comes None Alone (7 ∷ []) ∷ Reads 12 ∷ []) ≡ came 12 None FromNoPartner 7 ∷ []
+  pub another : traffic 1 0 (Comes (Some 2) Alone (7 ∷ []) ∷ Reads 12 ∷ []) ≡ came 12 (Some 2) FromNoPartner 7 ∷ []
+  pub controller : traffic 0 0 (Comes (Some 2) Alone (7 ∷ []) ∷ Reads 12 ∷ []) ≡ came 12 (Some 2) Delivered 7 ∷ []
   -- what is thrown away isn't delivered, from whomever it came
-  pub late : traffic 1 0 (Comes (Some 0) (7 ∷ []) ∷ Reads 1600 ∷ ThrowsAway ∷ Reads 1600 ∷ Comes (Some 0) (9 ∷ []) ∷ Reads 1610 ∷ [])
+  pub late : traffic 1 0 (Comes (Some 0) Alone (7 ∷ []) ∷ Reads 1600 ∷ ThrowsAway ∷ Reads 1600 ∷ Comes (Some 0) Alone (9 ∷ []) ∷ Reads 1610 ∷ [])
       ≡ came 1600 (Some 0) ThrownAway 7 ∷ came 1610 (Some 0) Delivered 9 ∷ []
   -- a record that is broken off after a datagram
-  pub unread : traffic 1 0 (Reads 10 ∷ Comes (Some 0) (7 ∷ []) ∷ []) ≡ came 10 (Some 0) Unread 7 ∷ []
+  pub unread : traffic 1 0 (Reads 10 ∷ Comes (Some 0) Alone (7 ∷ []) ∷ []) ≡ came 10 (Some 0) Unread 7 ∷ []
+  -- over which of two networks it came
+  pub told_over : came_text (codes "S1") Second Delivered ≡ codes "delivered to S1 over 2"
+  pub told_over_one : came_text (codes "S1") Alone Unread ≡ codes "not delivered to S1, not read"
   -- what was sent goes from the node, and what came goes to it
-  pub outward : (captured [] 1 (sent 12 0 8)).journey.sender.address ≡ 10 ∷ 0 ∷ 0 ∷ 2 ∷ []
-  pub inward : (captured [] 1 (came 12 (Some 0) Delivered 7)).journey.sender.address ≡ 10 ∷ 0 ∷ 0 ∷ 1 ∷ []
-  pub stamped : (captured [] 1 (came 12 (Some 0) Delivered 7)).journey.time ≡ 12000
-  pub unremarked : (captured [] 1 (came 12 (Some 0) Delivered 7)).comment ≡ []
-  pub remarked : (captured [] 1 (came 12 None FromNoPartner 7)).comment ≡ codes "from no partner"
+  pub outward : (captured nowhere 1 (sent 12 0 8)).journey.sender.address ≡ 10 ∷ 0 ∷ 0 ∷ 2 ∷ []
+  pub inward : (captured nowhere 1 (came 12 (Some 0) Delivered 7)).journey.sender.address ≡ 10 ∷ 0 ∷ 0 ∷ 1 ∷ []
+  pub inward_over_second : (captured nowhere 1 (record { reading = 12; way = Came (Some 0) Second Delivered; bytes = [] })).journey.sender.address ≡ 10 ∷ 1 ∷ 0 ∷ 1 ∷ []
+  pub stamped : (captured nowhere 1 (came 12 (Some 0) Delivered 7)).journey.time ≡ 12000
+  pub unremarked : (captured nowhere 1 (came 12 (Some 0) Delivered 7)).comment ≡ []
+  pub remarked : (captured nowhere 1 (came 12 None FromNoPartner 7)).comment ≡ codes "from no partner"
   -- an order that is renewed tells nothing new, and the lamp falls at the end of the last one, though no line is written then
   pub lamp : changes_from site (nodes.Signal 3) first_course ((2, codes "at 10") ∷ (3, codes "writes 1 at 10 show proceed until 50") ∷ (4, codes "at 40")
       ∷ (5, codes "writes 2 at 40 show proceed until 70") ∷ (6, codes "at 69") ∷ (7, codes "at 80") ∷ [])

@@ -10,6 +10,7 @@ mod ends;
 mod known_told;
 mod laws;
 mod node_chart;
+mod node_ends;
 mod node_rows;
 mod node_story;
 mod order_told;
@@ -27,7 +28,8 @@ mod word_table;
 
 pub use capture::node_capture;
 pub use decode::decode_node_text;
-pub use ends::ends_text;
+pub use ends::{FoundEnds, ends_text};
 pub use laws::traffic_is_as_worked_by_hand;
 pub use node_chart::{Cut, NodeRecord, chart_node_text};
+pub use node_ends::NodeEnds;
 pub use out_file::{NodeCaptureOptions, capture_node_to_file};

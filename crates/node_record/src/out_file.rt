@@ -4,9 +4,11 @@ ghost use Rattle.std.specs.Prelude.{◌≡◌, ◌≤◌};
 ghost use Rattle.station_check.specs.Failures.{Failed};
 ghost use Rattle.node_record.specs.CapturedRecord.{Explains, HasCapture};
 ghost use Rattle.node_record.specs.DecodedRecord.{CanRead};
+ghost use Rattle.node_record.specs.NodeEnds.{ends_of};
 
 use crate::capture::node_capture;
-use capture_file::{Endpoint, write_file};
+use crate::node_ends::NodeEnds;
+use capture_file::write_file;
 use station_check::{Failure, tell};
 use std::fs::Files;
 use std::io::Write;
@@ -18,8 +20,8 @@ pub struct NodeCaptureOptions<'a> {
     pub layout: &'a str,
     pub name: &'a str,
     pub recording: &'a str,
-    /// Where the first nodes are found; the end of each other is made of its place.
-    pub endpoints: &'a [Endpoint],
+    /// Where the nodes are found.
+    pub ends: NodeEnds<'a>,
     /// The path of the capture.
     pub out: &'a str,
     pub force: bool,
@@ -34,18 +36,18 @@ pub fn capture_node_to_file<R: Files + AllocGlobal, E: Write>(
     err: &mut E,
 ) -> u8
     ensures status { result ≤ 1 }
-    ensures done { result ≡ 0 → HasCapture asked.now.layout.now asked.now.name.now asked.now.recording.now asked.now.endpoints.now }
+    ensures done { result ≡ 0 → HasCapture asked.now.layout.now asked.now.name.now asked.now.recording.now (ends_of asked.now.ends) }
     ensures faulty { (CanRead asked.now.layout.now asked.now.name.now asked.now.recording.now → ⊥) → result ≡ 1 }
     ensures silent { result ≡ 0 → err.new ≡ err.old }
     // Only a beginning of the line was told where a write to `err` failed.
-    ensures explains { result ≡ 1 → Failed (Explains asked.now.layout.now asked.now.name.now asked.now.recording.now asked.now.endpoints.now) result (E.contents err.old) (E.contents err.new) }
+    ensures explains { result ≡ 1 → Failed (Explains asked.now.layout.now asked.now.name.now asked.now.recording.now (ends_of asked.now.ends)) result (E.contents err.old) (E.contents err.new) }
 {
     let capture = match node_capture(
         rt.alloc(),
         asked.layout,
         asked.name,
         asked.recording,
-        asked.endpoints,
+        asked.ends,
     ) {
         Ok(capture) => capture,
         Err(failure) => return tell(&failure, err),

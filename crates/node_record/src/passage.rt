@@ -7,6 +7,7 @@ ghost use Rattle.node_record.specs.RecordLines.{told};
 ghost use Rattle.node_record.specs.inside.Passing.{seen};
 
 use crate::record_line::RecordLine;
+use station_check::Network;
 use std::alloc::{AllocError, Global};
 
 /// What became of a datagram that came to a node.
@@ -29,9 +30,10 @@ pub(crate) enum Way {
     Sent {
         to: usize,
     },
-    /// It came from the address of a node, or from another.
+    /// It came from the address of a node, or from another, over a network.
     Came {
         from: Option<usize>,
+        over: Network,
         reception: Reception,
     },
 }
@@ -81,12 +83,16 @@ fn datagram_at<'a>(
     ensures { option_map seen result ≡ passed_at node latest (told line.now) (map told behind.now) }
 {
     match line {
-        RecordLine::Comes { from, bytes } => {
-            let from = *from;
+        RecordLine::Comes { from, over, bytes } => {
+            let (from, over) = (*from, *over);
             let (reading, reception) = received(latest, is_partner(node, from), behind);
             Some(Passed {
                 reading,
-                way: Way::Came { from, reception },
+                way: Way::Came {
+                    from,
+                    over,
+                    reception,
+                },
                 bytes: bytes.as_slice(),
             })
         }

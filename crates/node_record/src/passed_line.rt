@@ -2,12 +2,13 @@
 
 ghost use Rattle.std.specs.Prelude.{◌≡◌, IfOk, string_bytes};
 ghost use Rattle.node_record.specs.CapturedRecord.{comment};
-ghost use Rattle.node_record.specs.NodeLines.{line_text, name_or_none};
+ghost use Rattle.node_record.specs.NodeLines.{line_text, name_or_none, over_text};
 ghost use Rattle.node_record.specs.inside.Passing.{seen};
 
 use crate::passage::{Passed, Reception, Way};
 use control_table::{Layout, Name};
 use simulator_event::NodeId;
+use station_check::Network;
 use station_decode::datagram_words;
 use std::alloc::{AllocError, Global};
 
@@ -36,6 +37,17 @@ pub(crate) fn comment(way: Way) -> &'static str
     }
 }
 
+/// Over which of two networks a datagram came; nothing where there is one.
+fn over_text(over: Network) -> &'static str
+    ensures { result.now ≡ over_text over }
+{
+    match over {
+        Network::Alone => "",
+        Network::First => " over 1",
+        Network::Second => " over 2",
+    }
+}
+
 /// The line for a datagram in the record of the node of this place.
 pub(crate) fn line(
     alloc: Global,
@@ -55,14 +67,23 @@ pub(crate) fn line(
             let to = name_or_none(&to);
             format!(in alloc; "{reading}.000 sent by {own} to {to}: {words}\n")
         }
-        Way::Came { reception, .. } => match reception {
-            Reception::Delivered => format!(in alloc;
-                "{reading}.000 delivered to {own}: {words}\n"
-            ),
-            _ => {
-                let why = comment(one.way);
-                format!(in alloc; "{reading}.000 not delivered to {own}, {why}: {words}\n")
+        Way::Came {
+            over,
+            reception,
+            ..
+        } => {
+            let over = over_text(over);
+            match reception {
+                Reception::Delivered => format!(in alloc;
+                    "{reading}.000 delivered to {own}{over}: {words}\n"
+                ),
+                _ => {
+                    let why = comment(one.way);
+                    format!(in alloc;
+                        "{reading}.000 not delivered to {own}{over}, {why}: {words}\n"
+                    )
+                }
             }
-        },
+        }
     }
 }

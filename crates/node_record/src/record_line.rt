@@ -1,15 +1,16 @@
 //! What the lines of a node's record tell of datagrams.
 
-ghost use Rattle.std.specs.Prelude.{◌∷◌, []};
+ghost use Rattle.std.specs.Prelude.{◌≡◌, ◌∷◌, [], Ok};
 ghost use Rattle.replay_lines.specs.Given.{Gives};
 ghost use Rattle.replay_words.specs.Cut.{words};
-ghost use Rattle.node_record.specs.RecordLines.{complains, line_said, throws_away, told};
-ghost use Rattle.node_record.specs.inside.FormsSaid.{datagram, other_said};
+ghost use Rattle.node_record.specs.RecordLines.{comes, comes_over, complains, line_said, network_said, sender_said, sends, throws_away, told};
+ghost use Rattle.node_record.specs.inside.FormsSaid.{other_said};
 
 use crate::word_table::told_by;
 use control_table::Layout;
 use replay_lines::node_named;
 use replay_words::{Fault, Words, decimal, hexadecimal_or_none};
+use station_check::Network;
 use std::alloc::Global;
 
 /// What a line of a record tells of datagrams. Nodes are told by their places.
@@ -17,12 +18,19 @@ use std::alloc::Global;
 pub(crate) enum RecordLine {
     /// The clock was read.
     Reads(u64),
-    /// A datagram came from the address of a node, or from another.
-    Comes { from: Option<usize>, bytes: Vec<u8> },
+    /// A datagram came from the address of a node, or from another, over a network.
+    Comes {
+        from: Option<usize>,
+        over: Network,
+        bytes: Vec<u8>,
+    },
     /// What waited was thrown away.
     ThrowsAway,
     /// A datagram was sent to a node.
-    Sends { to: usize, bytes: Vec<u8> },
+    Sends {
+        to: usize,
+        bytes: Vec<u8>,
+    },
     /// It tells of none.
     Other,
 }
@@ -69,8 +77,8 @@ pub(crate) fn read_line(alloc: Global, layout: &Layout, line: &str) -> Result<Re
         return Err(Fault::Words);
     };
     match form {
-        Form::Comes => datagram(alloc, layout, true, words),
-        Form::Sends => datagram(alloc, layout, false, words),
+        Form::Comes => comes(alloc, layout, words),
+        Form::Sends => sends(alloc, layout, words),
         Form::ThrowsAway => throws_away(words),
         _ => other(form, words),
     }
@@ -126,30 +134,72 @@ fn throws_away(mut words: Words<'_>) -> Result<RecordLine, Fault>
     Ok(RecordLine::ThrowsAway)
 }
 
-/// What a line tells of a datagram that came, or of one that was sent, after its first word. Of one that came a hyphen that is
-/// no node's name stands for an address that is no node's.
-fn datagram(
+/// What a line tells of a datagram that came, after its first word.
+fn comes(alloc: Global, layout: &Layout, mut words: Words<'_>) -> Result<RecordLine, Fault>
+    ensures { Gives told (comes layout.now words.entry) result }
+{
+    let (Some(word), Some(second)) = (words.next(), words.next()) else {
+        return Err(Fault::Words);
+    };
+    match (words.next(), words.next(), words.next()) {
+        (None, _, _) => comes_over(alloc, layout, Network::Alone, word, second),
+        (Some(number), Some(digits), None) if second == "over" => {
+            let over = network_said(number)?;
+            comes_over(alloc, layout, over, word, digits)
+        }
+        _ => Err(Fault::Words),
+    }
+}
+
+/// What a line tells of a datagram that came over a network, by the words for its sender and its bytes.
+fn comes_over(
     alloc: Global,
     layout: &Layout,
-    came: bool,
-    mut words: Words<'_>,
+    over: Network,
+    word: &str,
+    digits: &str,
 ) -> Result<RecordLine, Fault>
-    ensures { Gives told (datagram layout.now came words.entry) result }
+    ensures { Gives told (comes_over layout.now (Ok over) word.now digits.now) result }
+{
+    let from = sender_said(layout, word)?;
+    let digits = hexadecimal_or_none(digits)?;
+    let bytes = Vec::from_slice(alloc, &digits)?;
+    Ok(RecordLine::Comes { from, over, bytes })
+}
+
+/// The network of a number.
+fn network_said(word: &str) -> Result<Network, Fault>
+    ensures { result ≡ network_said word.now }
+{
+    match word {
+        "1" => Ok(Network::First),
+        "2" => Ok(Network::Second),
+        _ => Err(Fault::Words),
+    }
+}
+
+/// From which node's address a datagram came. A hyphen that is no node's name stands for an address that is no node's.
+fn sender_said(layout: &Layout, word: &str) -> Result<Option<usize>, Fault>
+    ensures { result ≡ sender_said layout.now word.now }
+{
+    match node_named(layout, word) {
+        Ok(node) => Ok(Some(node.0)),
+        Err(_) if word == "-" => Ok(None),
+        Err(fault) => Err(fault),
+    }
+}
+
+/// What a line tells of a datagram that was sent, after its first word.
+fn sends(alloc: Global, layout: &Layout, mut words: Words<'_>) -> Result<RecordLine, Fault>
+    ensures { Gives told (sends layout.now words.entry) result }
 {
     let (Some(word), Some(digits), None) = (words.next(), words.next(), words.next()) else {
         return Err(Fault::Words);
     };
-    let node = match node_named(layout, word) {
-        Ok(node) => Some(node.0),
-        Err(_) if came && word == "-" => None,
-        Err(fault) => return Err(fault),
-    };
+    let to = node_named(layout, word)?.0;
     let digits = hexadecimal_or_none(digits)?;
     let bytes = Vec::from_slice(alloc, &digits)?;
-    match node {
-        Some(to) if !came => Ok(RecordLine::Sends { to, bytes }),
-        from => Ok(RecordLine::Comes { from, bytes }),
-    }
+    Ok(RecordLine::Sends { to, bytes })
 }
 
 /// A line of two numbers.

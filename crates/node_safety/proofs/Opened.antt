@@ -12,11 +12,12 @@ use Rattle.node_kinds.specs.node_drive.Beginning.{first_course}
 use Rattle.node_kinds.specs.node_drive.Calls.{Call, Complains, Told}
 use Rattle.node_kinds.specs.node_drive.Drives.{AreRounds, Ran, Round, behind_lines, datagrams_in, in_round, in_rounds, line_in, lines_end, opening}
 use Rattle.node_kinds.specs.node_drive.Kinds.{Meaning, InForce, Comes, Faulty}
-use Rattle.node_kinds.specs.node_drive.Rounds.{Coming, RoundBegins, Listened, Line, NoLine, LinesEnd, Datagram, NoDatagram, FailedDatagram, Tick, CourseState, Done, Standing, all_come, asked, comes, datagram, having_called, heard_one, last_order, later, line, new_order, not_heard, step, steps, then_released, told}
+use Rattle.node_kinds.specs.node_drive.Rounds.{Coming, RoundBegins, Listened, Line, NoLine, LinesEnd, Datagram, NoDatagram, FailedDatagram, Tick, CourseState, Done, Standing, all_come, asked, comes, counted, datagram, having_called, heard_one, is_taken, last_order, later, line, new_order, not_heard, step, steps, then_released, told}
 use Rattle.node_kinds.specs.node_drive.node_lines.ixl_spec.Table.{is_same_side}
 use Rattle.node_kinds.specs.node_drive.Same.{is_same_order}
 use Rattle.node_kinds.specs.node_drive.Seen.{is_heard}
 use Rattle.node_kinds.specs.node_drive.Waiting.{waiting_on}
+use Rattle.node_kinds.specs.node_drive.declared.outside.Origin.{Origin}
 use Rattle.node_kinds.specs.node_drive.declared.outside.ThrownAway.{ThrownAway}
 use Rattle.node_kinds.specs.Openings.{Equipment, Opening, Opens, Lies, Nothing, Stands, opened_by, opening_kind, rest_order, untold}
 use Rattle.node_kinds.specs.Processes.{standing}
@@ -137,14 +138,21 @@ module _ (equipment : Equipment) where
   released_waits leaves done waits = record { equipment_is = waits.equipment_is; order_is = waits.order_is; none_waits = ap (waiting_on leaves done.1.course.in_force) waits.none_waits }
 
   -- and datagrams aren't for it
-  dropped_waits : (now : ℕ) (from : Option NodeId) (bytes : List ℕ) (at : Standing Opening) → Waits equipment at → Waits equipment (datagram opening_kind now from bytes at).1
-  dropped_waits now None bytes at waits = record { equipment_is = waits.equipment_is; order_is = waits.order_is; none_waits = waits.none_waits }
-  dropped_waits now (Some from) bytes at waits = record { equipment_is = waits.equipment_is; order_is = waits.order_is; none_waits = waits.none_waits }
+  none_taken : (from : Option NodeId) → is_taken opening_kind from ≡ false
+  none_taken None = refl
+  none_taken (Some from) = refl
 
-  datagram_waits : (now leaves : ℕ) (from : Option NodeId) (bytes : List ℕ) (thrown : ThrownAway) (at : Standing Opening) (heard : Bool) → Waits equipment at
-      → Waits equipment (cond heard (then_released leaves (datagram opening_kind now from bytes at)) (not_heard thrown at)).1
-  datagram_waits now leaves from bytes thrown at true waits = released_waits leaves (datagram opening_kind now from bytes at) (dropped_waits now from bytes at waits)
-  datagram_waits now leaves from bytes thrown at false waits = record { equipment_is = waits.equipment_is; order_is = waits.order_is; none_waits = waits.none_waits }
+  dropped_waits : (now : ℕ) (origin : Origin) (bytes : List ℕ) (at : Standing Opening) → Waits equipment at → Waits equipment (datagram opening_kind now origin bytes at).1
+  dropped_waits now origin bytes at waits = by (is_taken opening_kind origin.from) (none_taken origin.from)
+    where
+      by : (taken : Bool) → taken ≡ false → Waits equipment (cond taken (step opening_kind now (opening_kind.datagram bytes) at) ([], counted at)).1
+      by true e = absurd (cc)
+      by false e = record { equipment_is = waits.equipment_is; order_is = waits.order_is; none_waits = waits.none_waits }
+
+  datagram_waits : (now leaves : ℕ) (origin : Origin) (bytes : List ℕ) (thrown : ThrownAway) (at : Standing Opening) (heard : Bool) → Waits equipment at
+      → Waits equipment (cond heard (then_released leaves (datagram opening_kind now origin bytes at)) (not_heard thrown at)).1
+  datagram_waits now leaves origin bytes thrown at true waits = released_waits leaves (datagram opening_kind now origin bytes at) (dropped_waits now origin bytes at waits)
+  datagram_waits now leaves origin bytes thrown at false waits = record { equipment_is = waits.equipment_is; order_is = waits.order_is; none_waits = waits.none_waits }
 
   comes_waits : (now : ℕ) (coming : Coming) (at : Standing Opening) → Waits equipment at → Waits equipment (comes opening_kind now coming at).1
   comes_waits now RoundBegins at waits = called_waits (asked now RoundBegins) at waits
@@ -156,9 +164,9 @@ module _ (equipment : Equipment) where
       (told_waits now (opening_kind.meaning now text at.state) (heard_one here) (record { equipment_is = waits.equipment_is; order_is = waits.order_is; none_waits = waits.none_waits }))
   comes_waits now NoLine at waits = called_waits (asked now NoLine) at waits
   comes_waits now LinesEnd at waits = called_waits (asked now LinesEnd) at waits
-  comes_waits now (Datagram from bytes thrown leaves) at waits =
-      let calls = asked now (Datagram from bytes thrown leaves) in
-      datagram_waits now leaves from bytes thrown (having_called calls at) (is_heard now at.course.seen) (called_waits calls at waits)
+  comes_waits now (Datagram origin bytes thrown leaves) at waits =
+      let calls = asked now (Datagram origin bytes thrown leaves) in
+      datagram_waits now leaves origin bytes thrown (having_called calls at) (is_heard now at.course.seen) (called_waits calls at waits)
   comes_waits now NoDatagram at waits = called_waits (asked now NoDatagram) at waits
   comes_waits now FailedDatagram at waits = called_waits (asked now FailedDatagram) at waits
   comes_waits now (Tick leaves) at waits =

@@ -44,7 +44,7 @@ module _ {State Input : Type 0} (kind : Kind State Input) where
   comes_first now (Line text leaves) at = tt
   comes_first now NoLine at = tt
   comes_first now LinesEnd at = tt
-  comes_first now (Datagram from bytes thrown leaves) at = tt
+  comes_first now (Datagram origin bytes thrown leaves) at = tt
   comes_first now NoDatagram at = tt
   comes_first now FailedDatagram at = tt
   comes_first now (Tick leaves) at = tt

@@ -53,7 +53,7 @@ none_asked now (Listened began) = refl
 none_asked now (Line text leaves) = refl
 none_asked now NoLine = refl
 none_asked now LinesEnd = refl
-none_asked now (Datagram from bytes thrown leaves) = refl
+none_asked now (Datagram origin bytes thrown leaves) = refl
 none_asked now NoDatagram = refl
 none_asked now FailedDatagram = refl
 none_asked now (Tick leaves) = refl
@@ -127,8 +127,8 @@ module _ {Object Contacts : Type 0} (does : Behaviour Object) (order : Object â†
       of_released leaves (line kind now text here) (inputs_told now means) here (of_told now means (heard_one here) (silent at.state.site text at.state.contacts)) others
   of_coming now NoLine at others = refl
   of_coming now LinesEnd at others = refl
-  of_coming now (Datagram from bytes thrown leaves) at others =
-      of_datagram now leaves bytes thrown (having_called (asked now (Datagram from bytes thrown leaves)) at) (is_heard now at.course.seen) (is_taken kind from) others
+  of_coming now (Datagram origin bytes thrown leaves) at others =
+      of_datagram now leaves bytes thrown (having_called (asked now (Datagram origin bytes thrown leaves)) at) (is_heard now at.course.seen) (is_taken kind origin.from) others
   of_coming now NoDatagram at others = refl
   of_coming now FailedDatagram at others = refl
   of_coming now (Tick leaves) at others =

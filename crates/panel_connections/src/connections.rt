@@ -14,24 +14,38 @@ use std::random::RandomSource;
 /// The most connections at once.
 const MOST: usize = 200;
 
+/// The most bytes of a body, where it isn't said: those of a command.
+const LONGEST_BODY: usize = 512;
+
 /// All connections.
 pub struct Connections<S> {
     peers: Vec<Peer<S>>,
+    /// The most bytes of a body.
+    longest: usize,
     ghost few: { length peers.items ≤ 200 },
 }
 
 // Written by hand, so that it is proved and compiled here alone.
 impl<S: Drop> Drop for Connections<S> {
     fn drop(self) {
-        let Self { peers: _ } = self;
+        let Self {
+            peers: _,
+            longest: _,
+        } = self;
     }
 }
 
 impl<S: Read + Write + Drop> Connections<S> {
-    /// No connection.
+    /// No connection. The bodies of requests are commands.
     pub fn new(alloc: Global) -> Connections<S> {
+        Connections::with_bodies(alloc, LONGEST_BODY)
+    }
+
+    /// No connection. The bodies of requests have at most so many bytes.
+    pub fn with_bodies(alloc: Global, longest: usize) -> Connections<S> {
         Connections {
             peers: Vec::new(alloc),
+            longest,
         }
     }
 
@@ -86,7 +100,7 @@ impl<S: Read + Write + Drop> Connections<S> {
         let Ok(keys) = RandomState::new(rt) else {
             return false;
         };
-        let peer = Peer::new(alloc, keys, stream, now);
+        let peer = Peer::new(alloc, keys, stream, self.longest, now);
         self.peers.push(peer).is_ok()
     }
 }

@@ -7,9 +7,6 @@ use std::alloc::Global;
 use std::hash::RandomState;
 use std::io::{ErrorKind, Read, Write};
 
-/// The most bytes of a body: those of a command.
-const LONGEST_BODY: usize = 512;
-
 /// For how many milliseconds a connection may be without a whole request.
 const PATIENCE: u64 = 5000;
 
@@ -24,10 +21,16 @@ pub(crate) struct Peer<S> {
 }
 
 impl<S: Read + Write + Drop> Peer<S> {
-    /// A connection that begins.
-    pub(crate) fn new(alloc: Global, keys: RandomState, stream: S, now: u64) -> Peer<S> {
+    /// A connection that begins. A body has at most so many bytes.
+    pub(crate) fn new(
+        alloc: Global,
+        keys: RandomState,
+        stream: S,
+        longest: usize,
+        now: u64,
+    ) -> Peer<S> {
         let mut config = Config::default();
-        config.max_body_len = LONGEST_BODY;
+        config.max_body_len = longest;
         Peer {
             stream,
             connection: Connection::new(alloc, keys, config),

@@ -13,7 +13,7 @@ use Rattle.panel_desk.specs.declared.panel_command.PanelCommand.{PanelCommand}
 use Rattle.panel_desk.specs.declared.refusal.Refusal.{Refusal}
 use Rattle.panel_desk.specs.declared.refusal.Refusal.TheVariants.{NoText}
 use Rattle.panel_desk.specs.declared.request.Request.{Request}
-use Rattle.panel_desk.specs.declared.request.Request.TheVariants.{Page, Station, State, Command}
+use Rattle.panel_desk.specs.declared.request.Request.TheVariants.{Page, Station, Metrics, State, Command}
 
 -- a test that would refuse didn't
 passed : {A : Type 0} (refuses : Bool) (why : Refusal) (next : Result A Refusal) (answer : A) → (if refuses then Err why else next) ≡ Ok answer → (refuses ≡ false) × (next ≡ Ok answer)
@@ -79,19 +79,20 @@ command_comes site access sent command host target h =
       said = line_comes site sent.body command (is_utf8 sent.body) few.1;
     }
 
-target_comes : (site : Site) (access : AccessView) (sent : SentView) (command : PanelCommand) (page station commands : Bool) → commands ≡ bytes_eq sent.target (codes "/command")
+target_comes : (site : Site) (access : AccessView) (sent : SentView) (command : PanelCommand) (page station metrics commands : Bool) → commands ≡ bytes_eq sent.target (codes "/command")
     → IsForPanel access sent
-    → (if page then shown sent.method Page else if station then shown sent.method Station else if commands then command_asked site access sent else state_asked sent.method sent.target) ≡ Ok (Command command)
+    → (if page then shown sent.method Page else if station then shown sent.method Station else if metrics then shown sent.method Metrics else if commands then command_asked site access sent else state_asked sent.method sent.target) ≡ Ok (Command command)
     → ComesFromThePage site access sent command
-target_comes site access sent command true station commands is host h = absurd (shown_none sent.method Page command (λ e. cc) h)
-target_comes site access sent command false true commands is host h = absurd (shown_none sent.method Station command (λ e. cc) h)
-target_comes site access sent command false false true is host h = command_comes site access sent command host (same_bytes sent.target (codes "/command") (sym is)) h
-target_comes site access sent command false false false is host h = absurd (state_of_none sent.method (name_and_number sent.target) command h)
+target_comes site access sent command true station metrics commands is host h = absurd (shown_none sent.method Page command (λ e. cc) h)
+target_comes site access sent command false true metrics commands is host h = absurd (shown_none sent.method Station command (λ e. cc) h)
+target_comes site access sent command false false true commands is host h = absurd (shown_none sent.method Metrics command (λ e. cc) h)
+target_comes site access sent command false false false true is host h = command_comes site access sent command host (same_bytes sent.target (codes "/command") (sym is)) h
+target_comes site access sent command false false false false is host h = absurd (state_of_none sent.method (name_and_number sent.target) command h)
 
 pub host_is : (site : Site) (access : AccessView) (sent : SentView) (wanted : Request) → asked site access sent ≡ Ok wanted → IsForPanel access sent
 host_is site access sent wanted h = given_says access.host sent.host (met _ (passed (not (is_given access.host sent.host)) _ _ wanted h).0)
 
 pub comes : (site : Site) (access : AccessView) (sent : SentView) (command : PanelCommand) → asked site access sent ≡ Ok (Command command) → ComesFromThePage site access sent command
 comes site access sent command h =
-    target_comes site access sent command (bytes_eq sent.target (codes "/")) (bytes_eq sent.target (codes "/station")) (bytes_eq sent.target (codes "/command")) refl
+    target_comes site access sent command (bytes_eq sent.target (codes "/")) (bytes_eq sent.target (codes "/station")) (bytes_eq sent.target (codes "/metrics")) (bytes_eq sent.target (codes "/command")) refl
     (host_is site access sent (Command command) h) (passed (not (is_given access.host sent.host)) _ _ (Command command) h).1

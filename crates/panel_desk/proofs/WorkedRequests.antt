@@ -7,6 +7,7 @@ pub worked : (site : Site) → Worked site
 worked site = record {
   page = refl;
   station = refl;
+  metrics = refl;
   state = refl;
   resume = refl;
   cancel_all = refl;
@@ -18,6 +19,8 @@ worked site = record {
   nothing = refl;
   other_name = refl;
   command_got = refl;
+  metrics_posted = refl;
+  metrics_elsewhere = refl;
   page_posted = refl;
   no_number = refl;
   other_origin = refl;

@@ -14,16 +14,17 @@ use Rattle.http_uri.specs.declared.uri.Uri.{Uri}
 use Rattle.http_server.specs.Response.{IsResponse}
 use Rattle.http_server.specs.declared.response.Response.{Response}
 use Rattle.serde_json.specs.Read.{read}
+use Rattle.run_numbers.specs.Metrics.{metrics_text}
 use Rattle.panel_desk.specs.Lines.{BoardView}
 use Rattle.panel_desk.specs.State.{state}
 use Rattle.panel_desk.specs.declared.answer.Kind.{Kind}
-use Rattle.panel_desk.specs.declared.answer.Kind.TheVariants.{Html, Json, Plain}
+use Rattle.panel_desk.specs.declared.answer.Kind.TheVariants.{Html, Json, Metrics as MetricsText, Plain}
 use Rattle.panel_desk.specs.Asked.{asked, refusal_text, status}
 use Rattle.panel_desk.specs.Seen.{AccessView, SentView}
 use Rattle.panel_desk.specs.declared.panel_command.PanelCommand.{PanelCommand}
 use Rattle.panel_desk.specs.declared.refusal.Refusal.{Refusal}
 use Rattle.panel_desk.specs.declared.request.Request.{Request}
-use Rattle.panel_desk.specs.declared.request.Request.TheVariants.{Page, Station, State, Command}
+use Rattle.panel_desk.specs.declared.request.Request.TheVariants.{Page, Station, Metrics, State, Command}
 
 -- ---- what of a request is looked at
 
@@ -62,6 +63,7 @@ access_at port token = record {
 abbrev pub kind_text : Kind → List ℕ
 kind_text Html = codes "text/html; charset=utf-8"
 kind_text Json = codes "application/json"
+kind_text MetricsText = codes "text/plain; version=0.0.4"
 kind_text Plain = codes "text/plain; charset=utf-8"
 
 -- the fields of an answer of a kind: no other page shows it in a frame, and nothing keeps it
@@ -70,13 +72,15 @@ fields_with kind =
     (codes "content-type", kind_text kind) ∷ (codes "cache-control", codes "no-store") ∷ (codes "x-frame-options", codes "DENY")
     ∷ (codes "x-content-type-options", codes "nosniff") ∷ []
 
--- a desk: whose panel it is, what doesn't change, the board that it shows, and the commands that wait for the next round
+-- a desk: whose panel it is, what doesn't change, the board that it shows, the numbers that were told, and the commands that wait for
+-- the next round
 pub record DeskView : Type 0 where
   pub site : Site
   pub access : AccessView
   pub page : List ℕ
   pub station : List ℕ
   pub board : BoardView
+  pub numbers : List (Option ℕ)
   pub waiting : List PanelCommand
 
 -- the body of an answer reads as the state after a number
@@ -96,6 +100,7 @@ Taken command old response new = TakenIf (nat_lt (length old.waiting) 64) comman
 abbrev pub AnsweredTo : Result Request Refusal → DeskView → Response → DeskView → Type 0
 AnsweredTo (Ok Page) old response new = IsResponse 200 (fields_with Html) old.page response × (new ≡ old)
 AnsweredTo (Ok Station) old response new = IsResponse 200 (fields_with Json) old.station response × (new ≡ old)
+AnsweredTo (Ok Metrics) old response new = IsResponse 200 (fields_with MetricsText) (metrics_text old.numbers) response × (new ≡ old)
 AnsweredTo (Ok (State after)) old response new = ShowsState after old.board response × (new ≡ old)
 AnsweredTo (Ok (Command command)) old response new = Taken command old response new
 AnsweredTo (Err refusal) old response new = IsResponse (status refusal) (fields_with Plain) (refusal_text refusal) response × (new ≡ old)

@@ -2,6 +2,7 @@
 --
 --     GET /                  the page
 --     GET /station           what doesn't change while the panel runs
+--     GET /metrics           the numbers, as Prometheus reads them
 --     GET /state?after=N     what was told after a number
 --     POST /command          a command: a line, from the panel's own page, with its token
 --
@@ -28,7 +29,7 @@ use Rattle.panel_desk.specs.declared.panel_command.PanelCommand.{PanelCommand}
 use Rattle.panel_desk.specs.declared.refusal.Refusal.{Refusal}
 use Rattle.panel_desk.specs.declared.refusal.Refusal.TheVariants.{ForeignHost, NoSuchTarget, WrongMethod, NoNumber, ForeignOrigin, NoToken, TooLong, NoText, Line}
 use Rattle.panel_desk.specs.declared.request.Request.{Request}
-use Rattle.panel_desk.specs.declared.request.Request.TheVariants.{Page, Station, State, Command}
+use Rattle.panel_desk.specs.declared.request.Request.TheVariants.{Page, Station, Metrics, State, Command}
 
 -- ---- fields and methods
 
@@ -81,6 +82,7 @@ abbrev pub target_asked : Site → AccessView → SentView → List ℕ → Resu
 target_asked site access sent target =
     if bytes_eq target (codes "/") then shown sent.method Page
     else if bytes_eq target (codes "/station") then shown sent.method Station
+    else if bytes_eq target (codes "/metrics") then shown sent.method Metrics
     else if bytes_eq target (codes "/command") then command_asked site access sent
     else state_asked sent.method target
 

@@ -11,3 +11,4 @@ pub mod Answers
 pub mod Boards
 -- what crates above need of the crates below
 pub use Rattle.node_lines.specs as node_lines
+pub use Rattle.run_numbers.specs as run_numbers

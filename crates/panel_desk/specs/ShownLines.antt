@@ -10,6 +10,7 @@
 --     stands SECTION clear|occupied
 --     locked SECTION ROUTE                   for which route; a hyphen for none
 --     cut NODE yes|no
+--     network-a NODE lost|back, network-b .. nothing until it was lost for the first time
 --     jam POINT yes|no
 --     drop N, delay MS, memory BYTES LIMIT
 use Rattle.std.specs.Prelude.{ℕ, Bool, true, false, List, [], ◌∷◌, ◌++◌, codes, Option, Some, None}
@@ -27,7 +28,9 @@ use Rattle.panel_desk.specs.declared.panel_command.Disturbance.TheVariants as as
 use Rattle.panel_desk.specs.declared.panel_line.Mode.{Mode}
 use Rattle.panel_desk.specs.declared.panel_line.Mode.TheVariants.{Ready, Holding, WaitingForResume}
 use Rattle.panel_desk.specs.declared.panel_line.PanelLine.{PanelLine}
-use Rattle.panel_desk.specs.declared.panel_line.PanelLine.TheVariants.{Time, Interlocking, Known, Shows, Silent, Lies, Stands, Locked, Cut, Jam, Drop, Delay, Memory}
+use Rattle.panel_desk.specs.declared.panel_line.PanelLine.TheVariants.{Time, Interlocking, Known, Shows, Silent, Lies, Stands, Locked, Cut, Network, Jam, Drop, Delay, Memory}
+use Rattle.panel_desk.specs.declared.panel_line.PanelNetwork.{PanelNetwork}
+use Rattle.panel_desk.specs.declared.panel_line.PanelNetwork.TheVariants.{A, B}
 
 -- ---- words
 
@@ -45,6 +48,14 @@ abbrev pub yes_or_no : Bool → List ℕ
 yes_or_no true = codes "yes"
 yes_or_no false = codes "no"
 
+abbrev pub network_letter : PanelNetwork → List ℕ
+network_letter A = codes "a"
+network_letter B = codes "b"
+
+abbrev pub lost_word : Bool → List ℕ
+lost_word true = codes "lost"
+lost_word false = codes "back"
+
 abbrev pub route_or_none : Site → Option RouteId → List ℕ
 route_or_none site (Some route) = route_word site route
 route_or_none site None = codes "-"
@@ -54,6 +65,10 @@ route_or_none site None = codes "-"
 abbrev pub cut_text : Site → NodeId → Bool → List ℕ
 cut_text site node is_cut = codes "cut " ++ (node_word site node ++ 32 ∷ yes_or_no is_cut)
 
+abbrev pub network_text : Site → PanelNetwork → NodeId → Option Bool → List ℕ
+network_text site network node None = []
+network_text site network node (Some is_lost) = codes "network-" ++ (network_letter network ++ 32 ∷ (node_word site node ++ 32 ∷ lost_word is_lost))
+
 -- what is told of a thing of the layout
 abbrev pub thing_text : Site → PanelLine → List ℕ
 thing_text site (Shows signal aspect) = codes "shows " ++ (signal_word site signal ++ 32 ∷ aspect_word aspect)
@@ -62,6 +77,7 @@ thing_text site (Lies point position driven) = codes "lies " ++ (point_word site
 thing_text site (Stands section occupancy) = codes "stands " ++ (section_word site section ++ 32 ∷ occupancy_word occupancy)
 thing_text site (Locked section route) = codes "locked " ++ (section_word site section ++ 32 ∷ route_or_none site route)
 thing_text site (Cut node is_cut) = cut_text site node is_cut
+thing_text site (Network network node is_lost) = network_text site network node is_lost
 thing_text site (Jam point is_jammed) = codes "jam " ++ (point_word site point ++ 32 ∷ yes_or_no is_jammed)
 thing_text site other = []
 

@@ -12,7 +12,7 @@ use Rattle.panel_desk.specs.Seen.{AccessView, SentView}
 use Rattle.panel_desk.specs.declared.panel_command.Disturbance.TheVariants.{Drop}
 use Rattle.panel_desk.specs.declared.panel_command.PanelCommand.TheVariants.{Event, CancelAll, Disturb}
 use Rattle.panel_desk.specs.declared.refusal.Refusal.TheVariants.{ForeignHost, NoSuchTarget, WrongMethod, NoNumber, ForeignOrigin, NoToken, TooLong, NoText}
-use Rattle.panel_desk.specs.declared.request.Request.TheVariants.{Page, Station, State}
+use Rattle.panel_desk.specs.declared.request.Request.TheVariants.{Metrics, Page, Station, State}
 
 -- a panel at port 8080, with a token
 abbrev pub access : AccessView
@@ -36,6 +36,8 @@ posted body = record {
 pub record Worked (site : Site) : Type 0 where
   pub page : asked site access (got (codes "/")) ≡ Ok Page
   pub station : asked site access (got (codes "/station")) ≡ Ok Station
+  -- the numbers are read without the token
+  pub metrics : asked site access (got (codes "/metrics")) ≡ Ok Metrics
   pub state : asked site access (got (codes "/state?after=17")) ≡ Ok (State 17)
   pub resume : panel_said site (words (codes "resume")) ≡ Ok (Event (event.Request Resume))
   pub cancel_all : panel_said site (words (codes "cancel all")) ≡ Ok CancelAll
@@ -49,6 +51,8 @@ pub record Worked (site : Site) : Type 0 where
   pub nothing : asked site access (got (codes "/favicon.ico")) ≡ Err NoSuchTarget
   pub other_name : asked site access (got (codes "/state?before=17")) ≡ Err NoSuchTarget
   pub command_got : asked site access (got (codes "/command")) ≡ Err WrongMethod
+  pub metrics_posted : asked site access (record (posted (codes "resume")) { target = codes "/metrics" }) ≡ Err WrongMethod
+  pub metrics_elsewhere : asked site access (record (got (codes "/metrics")) { host = Some (codes "evil.example") }) ≡ Err ForeignHost
   pub page_posted : asked site access (record (posted (codes "resume")) { target = codes "/" }) ≡ Err WrongMethod
   pub no_number : asked site access (got (codes "/state?after=x")) ≡ Err NoNumber
   pub other_origin : asked site access (record (posted (codes "resume")) { origin = Some (codes "http://evil.example") }) ≡ Err ForeignOrigin

@@ -16,6 +16,8 @@ use std::alloc::AllocError;
 pub(crate) enum Kind {
     Html,
     Json,
+    /// The text of Prometheus, in its version 0.0.4.
+    Metrics,
     Plain,
 }
 
@@ -27,6 +29,7 @@ impl Kind {
         match self {
             Kind::Html => HeaderValue::from_static("text/html; charset=utf-8"),
             Kind::Json => HeaderValue::from_static("application/json"),
+            Kind::Metrics => HeaderValue::from_static("text/plain; version=0.0.4"),
             Kind::Plain => HeaderValue::from_static("text/plain; charset=utf-8"),
         }
     }

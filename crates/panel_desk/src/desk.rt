@@ -1,7 +1,8 @@
 //! The desk at which requests are answered.
 
-ghost use Rattle.std.specs.Prelude.{◌≡◌, ◌<◌, [], OnErr, OnOk, length};
+ghost use Rattle.std.specs.Prelude.{◌≡◌, ◌<◌, [], IfOk, OnErr, OnOk, length};
 ghost use Rattle.http_server.specs.Response.{IsBlank, IsResponse};
+ghost use Rattle.run_numbers.specs.Metrics.{nothing_told};
 ghost use Rattle.panel_desk.specs.Lines.{noted_at, numbered, told};
 ghost use Rattle.panel_desk.specs.Asked.{asked, refusal_text, status};
 ghost use Rattle.panel_desk.specs.Answers.{AnsweredTo, Taken, fields_with, sent_of};
@@ -17,6 +18,7 @@ use bytes::Bytes;
 use http::{Request as Incoming, StatusCode};
 use http_server::{Response, Service};
 use node_lines::Checked;
+use run_numbers::{NumbersTold, metrics_text};
 use std::alloc::{AllocError, Global};
 use std::marker::Model;
 use std::mem;
@@ -65,6 +67,7 @@ pub struct Desk {
     page: Bytes,
     station: Bytes,
     board: Board,
+    numbers: NumbersTold,
     waiting: Vec<PanelCommand>,
 }
 
@@ -78,6 +81,7 @@ impl Drop for Desk {
             page: _,
             station: _,
             board: _,
+            numbers: _,
             waiting: _,
         } = self;
     }
@@ -88,11 +92,11 @@ impl Model for Desk {
 
     ghost Value = { DeskView };
 
-    ghost view = { λ d. record { site = d.table; access = d.access; page = d.page; station = d.station; board = d.board; waiting = d.waiting.items } };
+    ghost view = { λ d. record { site = d.table; access = d.access; page = d.page; station = d.station; board = d.board; numbers = d.numbers; waiting = d.waiting.items } };
 }
 
 impl Desk {
-    /// A desk of a panel. No command waits on it.
+    /// A desk of a panel. No command waits on it, and no number was told.
     pub fn new(
         alloc: Global,
         table: Checked,
@@ -100,18 +104,19 @@ impl Desk {
         page: Bytes,
         station: Bytes,
         board: Board,
-    ) -> Desk
-        ensures { result ≡ record { site = table; access = access; page = page; station = station; board = board; waiting = [] } }
+    ) -> Result<Desk, AllocError>
+        ensures { IfOk result (λ desk. desk ≡ record { site = table; access = access; page = page; station = station; board = board; numbers = nothing_told; waiting = [] }) }
     {
-        Desk {
+        Ok(Desk {
             alloc,
             table,
             access,
             page,
             station,
             board,
+            numbers: NumbersTold::nothing(alloc)?,
             waiting: Vec::new(alloc),
-        }
+        })
     }
 
     /// How many places for lines there are.
@@ -143,6 +148,13 @@ impl Desk {
         ensures failed { OnErr result (self.new ≡ self.old) }
     {
         self.board.note(self.alloc, line)
+    }
+
+    /// These numbers were told.
+    pub fn tell_numbers(&mut self, numbers: NumbersTold)
+        ensures { self.new ≡ record self.old { numbers = numbers } }
+    {
+        self.numbers = numbers;
     }
 
     /// Hands out the commands that wait, in the order in which they came.
@@ -178,14 +190,15 @@ impl Desk {
                 Kind::Json,
                 self.station.clone()?,
             ),
+            Ok(Request::Metrics) => {
+                let text = metrics_text(self.alloc, &self.numbers)?;
+                let body = Bytes::from_string(text)?;
+                fill(response, StatusCode::OK, Kind::Metrics, body)
+            }
             Ok(Request::State { after }) => {
                 let text = self.board.state(self.alloc, after)?;
-                fill(
-                    response,
-                    StatusCode::OK,
-                    Kind::Json,
-                    Bytes::from_string(text)?,
-                )
+                let body = Bytes::from_string(text)?;
+                fill(response, StatusCode::OK, Kind::Json, body)
             }
             Ok(Request::Command(command)) => self.queue(command, response),
             Err(refusal) => refuse(refusal, response),

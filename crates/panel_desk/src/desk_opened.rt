@@ -4,6 +4,7 @@ ghost use Rattle.std.specs.Prelude.{◌≡◌, ◌++◌, [], IfOk, Some, codes, 
 ghost use Rattle.std.specs.Fmt.{decimal};
 ghost use Rattle.serde_json.specs.Read.{read};
 ghost use Rattle.panel_desk.specs.Abouts.{told_once};
+ghost use Rattle.run_numbers.specs.Metrics.{nothing_told};
 ghost use Rattle.panel_desk.specs.Lines.{blank};
 ghost use Rattle.panel_desk.specs.Answers.{access_at};
 
@@ -47,6 +48,7 @@ pub fn open_desk<R: RandomSource>(
     ensures page { IfOk result (λ desk. desk.page ≡ asked.now.page.now) }
     ensures station { IfOk result (λ desk. read desk.station ≡ Some (told_once asked.now table.station.name desk.access.token)) }
     ensures board { IfOk result (λ desk. desk.board ≡ blank places) }
+    ensures numbers { IfOk result (λ desk. desk.numbers ≡ nothing_told) }
     ensures waiting { IfOk result (λ desk. desk.waiting ≡ []) }
 {
     let token = draw_token(rt, alloc)?;
@@ -62,7 +64,7 @@ pub fn open_desk<R: RandomSource>(
         origin,
         token,
     };
-    Ok(Desk::new(alloc, table, access, page, station, board))
+    Ok(Desk::new(alloc, table, access, page, station, board)?)
 }
 
 /// A token that nobody guesses.

@@ -34,13 +34,14 @@ pub use laws::{
 pub use lines_shown::show_lines;
 pub use noted::Noted;
 pub use panel_command::{Disturbance, DisturbanceText, PanelCommand};
-pub use panel_line::{Mode, PanelLine, PanelText};
+pub use panel_line::{Mode, PanelLine, PanelNetwork, PanelText};
 pub use pictured::Pictured;
 pub use refusal::Refusal;
 pub use request::{Access, Request, Sent, read_request};
 
 // What crates above need of the crates below.
 pub use node_lines;
+pub use run_numbers;
 
 // The everyday items of the crates below.
 pub use node_lines::{

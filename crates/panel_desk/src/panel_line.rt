@@ -3,7 +3,9 @@
 ghost use Rattle.std.specs.Prelude.{◌≡◌};
 ghost use Rattle.panel_desk.specs.ShownLines.{route_or_none};
 
-use crate::word_table::{driven_words, mode_word, signal_word, yes_or_no};
+use crate::word_table::{
+    driven_words, lost_word, mode_word, network_letter, signal_word, yes_or_no,
+};
 use node_lines::replay_lines::{point_word, route_word, section_word};
 use node_lines::{
     Aspect, Known, Layout, NodeId, Occupancy, OperatorLine, OperatorText, PointId, Position,
@@ -20,6 +22,13 @@ pub enum Mode {
     Holding,
     /// A resume alone: it wasn't told to since it was made.
     WaitingForResume,
+}
+
+/// One of the two networks over which the nodes of a station send.
+#[derive(Clone, Copy, Debug, PartialEq, Eq)]
+pub enum PanelNetwork {
+    A,
+    B,
 }
 
 /// What is told of one thing.
@@ -62,6 +71,12 @@ pub enum PanelLine {
     Cut {
         node: NodeId,
         is_cut: bool,
+    },
+    /// Whether a network is lost at a node, if that was ever told.
+    Network {
+        network: PanelNetwork,
+        node: NodeId,
+        is_lost: Option<bool>,
     },
     /// Whether a point doesn't reach an end position.
     Jam {
@@ -173,6 +188,19 @@ impl<'a> fmt::Display for ThingText<'a> {
                 };
                 write!(f, "{cut}")
             }
+            PanelLine::Network {
+                network,
+                node,
+                is_lost,
+            } => {
+                let text = NetworkText {
+                    layout,
+                    network,
+                    node,
+                    is_lost,
+                };
+                write!(f, "{text}")
+            }
             PanelLine::Jam { point, is_jammed } => {
                 let point = point_word(layout, point);
                 let word = yes_or_no(is_jammed);
@@ -215,6 +243,37 @@ impl<'a> fmt::Display for CutText<'a> {
                 write!(f, "cut {name} {word}")
             }
             None => write!(f, "cut _ {word}"),
+        }
+    }
+}
+
+/// Whether a network is lost at a node.
+#[derive(Clone, Copy)]
+struct NetworkText<'a> {
+    layout: &'a Layout,
+    network: PanelNetwork,
+    node: NodeId,
+    is_lost: Option<bool>,
+}
+
+impl<'a> fmt::Display for NetworkText<'a> {
+    ghost use Rattle.std.specs.Prelude.{Some};
+    ghost use Rattle.panel_desk.specs.ShownLines.{network_text};
+
+    ghost output = { λ text. Some (network_text text.layout.now text.network text.node text.is_lost) };
+
+    fn fmt<W: fmt::Write>(&self, f: &mut fmt::Formatter<W>) -> fmt::Result {
+        let Some(is_lost) = self.is_lost else {
+            return Ok(());
+        };
+        let letter = network_letter(self.network);
+        let word = lost_word(is_lost);
+        match self.layout.node_name(self.node) {
+            Some(name) => {
+                let name = name.as_str();
+                write!(f, "network-{letter} {name} {word}")
+            }
+            None => write!(f, "network-{letter} _ {word}"),
         }
     }
 }

@@ -62,6 +62,8 @@ pub enum Request {
     Page,
     /// What doesn't change while the panel runs: the plan, the layout, and the page's token.
     Station,
+    /// The numbers, as Prometheus reads them.
+    Metrics,
     /// What was told after a number.
     State { after: u64 },
     Command(PanelCommand),
@@ -81,6 +83,7 @@ pub fn read_request(
     match sent.target {
         "/" => shown(sent.method, Request::Page),
         "/station" => shown(sent.method, Request::Station),
+        "/metrics" => shown(sent.method, Request::Metrics),
         "/command" => command(layout, access, sent),
         target => state(sent.method, target),
     }

@@ -2,9 +2,9 @@
 
 ghost use Rattle.std.specs.Prelude.{◌≡◌};
 ghost use Rattle.node_lines.specs.Known.{signal_word};
-ghost use Rattle.panel_desk.specs.ShownLines.{driven_words, mode_word, yes_or_no};
+ghost use Rattle.panel_desk.specs.ShownLines.{driven_words, lost_word, mode_word, network_letter, yes_or_no};
 
-use crate::panel_line::Mode;
+use crate::panel_line::{Mode, PanelNetwork};
 use node_lines::{Layout, Side, SignalId};
 
 /// What stands after the position of a point that is driven.
@@ -26,6 +26,21 @@ pub(crate) fn mode_word(mode: Mode) -> &'static str
         Mode::Holding => "holding",
         Mode::WaitingForResume => "resume",
     }
+}
+
+pub(crate) fn network_letter(network: PanelNetwork) -> &'static str
+    ensures { result.now ≡ network_letter network }
+{
+    match network {
+        PanelNetwork::A => "a",
+        PanelNetwork::B => "b",
+    }
+}
+
+pub(crate) fn lost_word(is_lost: bool) -> &'static str
+    ensures { result.now ≡ lost_word is_lost }
+{
+    if is_lost { "lost" } else { "back" }
 }
 
 pub(crate) fn yes_or_no(is_so: bool) -> &'static str

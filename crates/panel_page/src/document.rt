@@ -96,7 +96,7 @@ dialog td:first-child{white-space:nowrap}
 #p-plan .stop .bar.of-stop,#p-plan .proceed .bar.of-proceed,#p-plan .slow .bar.of-slow{visibility:visible}
 #p-plan .slow .bar.of-slow{stroke:#111}
 #p-plan .sign{display:none;fill:#b5009b;font-weight:bold}
-#p-plan .lost .sign.of-lost,#p-plan .stuck .sign.of-stuck,#p-plan .unlike .sign.of-unlike{display:inline}
+#p-plan .lost .sign.of-lost,#p-plan .stuck .sign.of-stuck,#p-plan .unlike .sign.of-unlike,#p-plan .network-a .sign.of-network-a,#p-plan .network-b .sign.of-network-b{display:inline}
 #p-plan .train{pointer-events:none}
 #p-plan .train rect{fill:#111;stroke:#fff;stroke-width:1}
 #p-plan .train text{font-weight:700;font-size:8.5px;fill:#fff}
@@ -434,18 +434,28 @@ function markSignal(name) {
   for (const {x, y, r} of [one, other]) element(of, "line", {class: "bar of-slow", x1: x - r / 1.5, y1: y + r / 1.5, x2: x + r / 1.5, y2: y - r / 1.5});
 }
 
-// Signs behind a name: a lost link, a jammed point, an indication that isn't what was given.
+// Signs behind a name: a lost link, a jammed point, an indication that isn't what was given, a network that brings nothing.
 function markSigns(kind, name) {
   const label = group(kind, name)?.querySelector("text.name");
   if (!label) return;
   element(label, "tspan", {class: "sign of-lost"}, "\u2715");
   element(label, "tspan", {class: "sign of-stuck"}, "\u25b2");
   element(label, "tspan", {class: "sign of-unlike"}, "\u2260");
+  element(label, "tspan", {class: "sign of-network-a"}, "\u24b6");
+  element(label, "tspan", {class: "sign of-network-b"}, "\u24b7");
 }
 
 function setClasses(of, all, now) {
   if (!of) return;
   for (const name of all) of.classList.toggle(name, now.includes(name));
+}
+
+// One of two networks, where it brings nothing from a node.
+const NETWORKS = ["a", "b"];
+const isSilent = (network, name) => first("network-" + network, name) === "lost";
+
+function paintNetworks(of, name) {
+  for (const network of NETWORKS) of?.classList.toggle("network-" + network, isSilent(network, name));
 }
 
 function paintSignal(name) {
@@ -454,7 +464,9 @@ function paintSignal(name) {
   setClasses(of, [...ASPECTS, "unknown"], [aspect(name)]);
   of?.classList.toggle("unlike", !isWorld() && !["", "unknown"].includes(indicated) && given !== indicated);
   of?.classList.toggle("lost", first("link", name) === "lost");
-  of?.setAttribute("aria-label", "signal " + name + " shows " + aspect(name) + (way === null ? "" : ", route " + way) + (first("link", name) === "lost" ? ", its link is down" : ""));
+  paintNetworks(of, name);
+  const silent = NETWORKS.filter(network => isSilent(network, name)).map(network => ", network " + network.toUpperCase() + " is lost");
+  of?.setAttribute("aria-label", "signal " + name + " shows " + aspect(name) + (way === null ? "" : ", route " + way) + (first("link", name) === "lost" ? ", its link is down" : "") + silent.join(""));
 }
 
 function paintPoint(name) {
@@ -464,6 +476,7 @@ function paintPoint(name) {
     setClasses(group(side, name), ["lies", "off", "moving"], lies ? [state] : []);
   }
   group("point", name)?.classList.toggle("lost", first("link", name) === "lost");
+  paintNetworks(group("point", name), name);
   group("point", name)?.classList.toggle("stuck", first("jam", name) === "yes");
 }
 
@@ -691,10 +704,13 @@ const REPORTS = {
   point: (name, said) => "point " + name + " is known " + (said === "unknown" ? "at no side" : said),
   route: (name, said) => "route " + name + " is " + said,
   link: (name, said) => "the link of " + name + " is " + said,
+  "network-a": (name, said) => silence("A", name, said),
+  "network-b": (name, said) => silence("B", name, said),
   jam: (name, said) => "point " + name + (said === "yes" ? " doesn't arrive any more" : " arrives again"),
   cut: (name, said) => name + (said === "yes" ? " is cut off" : " isn't cut off any more"),
   ixl: (name, said) => MODES[said],
 };
+const silence = (network, name, said) => "network " + network + (said === "lost" ? " brings nothing from " : " is back at ") + name;
 const MODES = {ready: "the interlocking takes commands", holding: "the interlocking holds", resume: "the interlocking waits for resume"};
 
 function report(key, said) {
@@ -1030,13 +1046,17 @@ function paintHeader() {
   by("p-mode").dataset.mode = mode;
   by("p-resume").hidden = mode !== "resume";
   by("p-time").textContent = clock(first("time", "") || now());
-  const lost = lostLinks();
-  by("p-links").textContent = lost.length === 0 ? "all links up" : "\u2715 down: " + lost.slice(0, 3).join(", ") + (lost.length > 3 ? " and " + (lost.length - 3) + " more" : "");
-  by("p-links").dataset.bad = lost.length === 0 ? "no" : "yes";
+  const lost = lostLinks(), silent = NETWORKS.map(network => [network, layout.nodes.filter(name => isSilent(network, name))]).filter(([, names]) => names.length > 0);
+  const links = lost.length === 0 ? "all links up" : "\u2715 down: " + firstOf(lost);
+  by("p-links").textContent = [links, ...silent.map(([network, names]) => "network " + network.toUpperCase() + " lost: " + firstOf(names))].join("; ");
+  by("p-links").dataset.bad = lost.length + silent.length === 0 ? "no" : "yes";
   const [bytes, limit] = words("memory", "").map(Number);
   by("p-memory").textContent = limit ? (bytes / 1048576).toFixed(1) + " of " + Math.round(limit / 1048576) + " MiB" : "";
   by("p-memory").dataset.bad = bytes > limit * 0.9 ? "yes" : "no";
 }
+
+// The first three names, and how many more there are.
+const firstOf = names => names.slice(0, 3).join(", ") + (names.length > 3 ? " and " + (names.length - 3) + " more" : "");
 
 function paintApart() {
   by("p-mode").textContent = "the node " + layout.nodes[0] + " doesn't answer";
@@ -1049,9 +1069,14 @@ function paintApart() {
 // A line is a kind and its words; the kinds of one thing alone have no name.
 const ALONE = ["time", "ixl", "memory", "drop", "delay", "lost"];
 
-function take(line, isFirst) {
+// The thing of which the line at a place tells.
+const placed = new Map();
+
+function take(place, line, isFirst) {
+  if (line === "") return forget(place);
   const [kind, name, ...rest] = line.split(" ");
   const key = ALONE.includes(kind) ? kind + " " : kind + " " + name;
+  placed.set(place, key);
   const said = (ALONE.includes(kind) ? [name, ...rest] : rest).join(" ");
   if (known.get(key) === said) return kind;
   known.set(key, said);
@@ -1062,6 +1087,13 @@ function take(line, isFirst) {
   return kind;
 }
 
+// Nothing is told there any more.
+function forget(place) {
+  const key = placed.get(place) || "";
+  known.delete(key);
+  return key.split(" ")[0];
+}
+
 // Time first: what else changed is told with it.
 function takeTime(changed) {
   const line = changed.map(([, line]) => line).find(line => line.startsWith("time "));
@@ -1070,8 +1102,8 @@ function takeTime(changed) {
 
 function paint(kinds) {
   const any = (...some) => some.some(kind => kinds.has(kind));
-  if (any("shows", "indicates", "signal", "link")) [...layout.signals.keys()].forEach(paintSignal);
-  if (any("lies", "point", "jam", "link")) layout.points.forEach(paintPoint);
+  if (any("shows", "indicates", "signal", "link", "network-a", "network-b")) [...layout.signals.keys()].forEach(paintSignal);
+  if (any("lies", "point", "jam", "link", "network-a", "network-b")) layout.points.forEach(paintPoint);
   if (any("stands", "section", "link")) layout.sections.forEach(paintSection);
   if (any("route", "locked", "signal")) { paintRoutes(); paintList(); }
   if (any("cut", "jam", "link", "drop", "delay")) paintFaults();
@@ -1087,7 +1119,7 @@ async function ask() {
   const kinds = new Set(), isFirst = number === 0;
   takeTime(state.changed);
   for (const line of state.log) log(line);
-  for (const [, line] of state.changed) kinds.add(take(line, isFirst));
+  for (const [place, line] of state.changed) kinds.add(take(place, line, isFirst));
   number = state.number;
   paint(kinds);
 }
@@ -1197,6 +1229,7 @@ const SAMPLES = [
   [LAMPS("#fff", "#1a8f3c", "M31 4v10"), "proceed"],
   [LAMPS("#f0b400", "#f0b400", "M14 12l6-6M28 12l6-6"), "slow"],
   ["<text x='2' y='14' style='fill:#b5009b;font:bold 14px monospace'>\u2715 \u25b2 \u2260</text>", "link down; point doesn't arrive; shows other than given"],
+  ["<text x='2' y='14' style='fill:#b5009b;font:bold 14px monospace'>\u24b6 \u24b7</text>", "network A, network B brings nothing from there"],
 ];
 
 function drawSigns() {

@@ -1,13 +1,11 @@
 -- The ports that are reached backward from a signal are those by which a train comes to it.
-use Rattle.std.proofs.Common.{◌≡◌, ◌≢◌, ◌≤◌, ◌<◌, ◌+◌, ◌*◌, ◌∙◌, ◌⊎◌, ◌↔◌, Bool, true, false, not, ◌&&◌, ◌==◌, ℕ, zero, suc, List, [], ◌∷◌, ◌++◌, length, map, get_or, Ok, Err, Option, Some, None, refl, sym, ap, subst, inl, inr, ⊎_elim, arith, length-append}
+use Rattle.std.proofs.Common.{◌≡◌, ◌≢◌, ◌≤◌, ◌<◌, ◌+◌, ◌*◌, ◌∙◌, ◌⊎◌, Bool, true, false, not, ◌&&◌, ◌==◌, ℕ, zero, suc, List, [], ◌∷◌, ◌++◌, length, get_or, Ok, Err, Option, Some, None, refl, sym, ap, subst, inl, inr, ⊎_elim, arith, length-append}
 use Rattle.std.specs.Prelude.{Result, IfOk, slice_get, is_some, if◌then◌else◌}
 use Rattle.std.specs.Bool.{Decides}
-use Rattle.std.specs.Option.{option_map}
-use Rattle.std.specs.List.{All, AllPairs, Contains, list_any}
+use Rattle.std.specs.List.{AllPairs, Contains}
 use Rattle.std.proofs.lemmas.Bool.{false≢true}
 use Rattle.std.proofs.lemmas.Bool.Decides.{Decides-and, Decides-not, Decides-like, Decides-eqb}
 use Rattle.std.proofs.lemmas.List.Elements.{All-contains, Contains-append_left}
-use Rattle.control_table.specs.layout.declared.ids.PointId.{PointId}
 use Rattle.control_table.specs.layout.declared.ids.SectionId.{SectionId}
 use Rattle.control_table.specs.layout.declared.ids.SignalId.{SignalId}
 use Rattle.control_table.specs.layout.declared.port.Port.{Port}
@@ -19,12 +17,12 @@ use Rattle.control_table.specs.layout.declared.entries.Track.{Track}
 use Rattle.control_table.specs.layout.Entries.{Site}
 use Rattle.control_table.specs.layout.Once.{Once, Distinct, joined_ports}
 use Rattle.control_table.specs.layout.Station.{HasPort, HasSection, IsStation}
-use Rattle.control_table.specs.Topology.{Joined, Joins, StandsAt, port_of, section_of}
+use Rattle.control_table.specs.Topology.{Joined, StandsAt, port_of, section_of}
 use Rattle.control_table.specs.Path.{Passage, Passes}
 use Rattle.route_derivation.specs.declared.rule.ApproachRule.{ApproachRule}
 use Rattle.route_derivation.specs.declared.rule.ApproachRule.TheVariants as rule
 use Rattle.route_derivation.specs.Approach.{IsTrack, GoesBack, ComesTo, Approaches, Comes, IsApproach}
-use Rattle.route_derivation.specs.inside.WaySearch.{is_port, joined_to, some_and, signal_from, first_out, second_out}
+use Rattle.route_derivation.specs.inside.WaySearch.{is_port, joined_to, signal_from, first_out, second_out}
 use Rattle.route_derivation.specs.inside.ApproachSearch.{is_track, goes_back, holds_port, may_come, port_from, port_back, with_port, with_ports, AreReached, lies_in, leads_over, sections_below}
 use Rattle.route_derivation.proofs.Joints.{OneBeyond, one-beyond, joined-found, stands-in}
 use Rattle.route_derivation.proofs.Members.{contains-none, contains-here, contains-there, contains-cases, contains-get, get-contains, has-decides, any-decides, none-some, some-injective}

@@ -1,12 +1,11 @@
 -- A derived route is slow exactly where it uses a slow leg.
-use Rattle.std.proofs.Common.{◌≡◌, ◌∙◌, ◌↔◌, Bool, true, false, List, length, get_or, Option, Some, None, refl, sym, ap, subst}
+use Rattle.std.proofs.Common.{◌≡◌, ◌∙◌, Bool, true, false, List, get_or, Option, Some, None, refl, sym, subst}
 use Rattle.std.specs.Prelude.{slice_get, if◌then◌else◌}
 use Rattle.std.specs.Bool.{Decides}
 use Rattle.std.specs.List.{All, Contains, list_any}
 use Rattle.std.proofs.lemmas.List.{get_or_default}
 use Rattle.std.proofs.lemmas.Bool.{false≢true}
 use Rattle.std.proofs.lemmas.Bool.Decides.{Decides-like}
-use Rattle.control_table.specs.sci_telegram.declared.message.Aspect.{Aspect}
 use Rattle.control_table.specs.sci_telegram.declared.message.Aspect.TheVariants.{Proceed, Slow}
 use Rattle.control_table.specs.sci_telegram.declared.message.Side.{Side}
 use Rattle.control_table.specs.sci_telegram.declared.message.Side.TheVariants as side
@@ -17,7 +16,7 @@ use Rattle.route_derivation.specs.declared.slow.SlowLegs.{SlowLegs}
 use Rattle.route_derivation.specs.declared.slow.SlowLegs.TheVariants as legs
 use Rattle.route_derivation.specs.Ways.{Way}
 use Rattle.route_derivation.specs.Derived.{Marks, IsSlowLeg, UsesSlowLeg, HasDerivedAspect}
-use Rattle.route_derivation.specs.inside.RouteParts.{is_slow_leg, is_slow_at, aspect_of, IsAlong, AreAlong}
+use Rattle.route_derivation.specs.inside.RouteParts.{is_slow_leg, is_slow_at, aspect_of, AreAlong}
 use Rattle.route_derivation.proofs.Members.{any-decides, none-some, some-injective}
 use Rattle.route_derivation.proofs.Same.{never}
 use Rattle.route_derivation.proofs.DerivedLaws.{zip-from}

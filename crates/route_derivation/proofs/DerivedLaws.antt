@@ -1,24 +1,21 @@
 -- The routes along all ways are those that follow from the layout.
-use Rattle.std.proofs.Common.{◌≡◌, ◌≢◌, ◌≤◌, ◌<◌, ◌+◌, ◌∙◌, ◌⊎◌, ◌↔◌, ℕ, suc, List, [], ◌∷◌, ◌++◌, length, map, take, get_or, refl, sym, ap, subst, inl, inr, ⊎_elim, arith}
-use Rattle.std.specs.List.{All, AllPairs, AllZip, Contains}
+use Rattle.std.proofs.Common.{◌≡◌, ◌≤◌, ◌<◌, ◌+◌, ◌∙◌, ℕ, suc, List, [], ◌∷◌, ◌++◌, length, map, take, get_or, refl, sym, ap, subst, inl, inr, ⊎_elim, arith}
+use Rattle.std.specs.List.{All, AllPairs, Contains}
 use Rattle.std.proofs.lemmas.List.{get_or_default, take_all, take_more}
-use Rattle.control_table.specs.sci_telegram.declared.message.Side.{Side}
-use Rattle.control_table.specs.layout.declared.ids.PointId.{PointId}
 use Rattle.control_table.specs.layout.declared.ids.SignalId.{SignalId}
 use Rattle.control_table.specs.layout.declared.port.Port.{Port}
 use Rattle.control_table.specs.layout.declared.entries.Exit.{Exit}
 use Rattle.control_table.specs.layout.declared.entries.Exit.TheVariants as exit
 use Rattle.control_table.specs.layout.Entries.{RouteEntry, Site}
 use Rattle.control_table.specs.layout.Once.{Once}
-use Rattle.control_table.specs.Topology.{Joined, StandsAt}
-use Rattle.control_table.specs.Path.{Passage, Leads, Follows, ComesOnce, EndsAt, ExitAt, SignalsPlaced, Path}
-use Rattle.control_table.specs.Sides.{Requires, OnPath, WritesRequired}
+use Rattle.control_table.specs.Topology.{StandsAt}
+use Rattle.control_table.specs.Path.{Passage, Leads, EndsAt, Path}
 use Rattle.route_derivation.specs.declared.rule.ApproachRule.{ApproachRule}
 use Rattle.route_derivation.specs.declared.slow.SlowLegs.{SlowLegs}
 use Rattle.route_derivation.specs.Approach.{IsApproach}
-use Rattle.route_derivation.specs.Ways.{Way, IsWay, IsPassable, IsRouteWay, PartsLeft, ports, ComesBefore, AreRouteWays}
+use Rattle.route_derivation.specs.Ways.{Way, IsPassable, IsRouteWay, PartsLeft, ports, ComesBefore, AreRouteWays}
 use Rattle.route_derivation.specs.Derived.{IsGiven, IsAsked, SameRoute, IsBefore, IsDerived}
-use Rattle.route_derivation.specs.inside.RouteParts.{path_of, points_of, flank_of, IsAlong, AreAlong}
+use Rattle.route_derivation.specs.inside.RouteParts.{path_of, IsAlong, AreAlong}
 use Rattle.route_derivation.proofs.Joints.{OneBeyond, one-beyond}
 use Rattle.route_derivation.proofs.Members.{contains-none, contains-here, contains-there, contains-cases}
 use Rattle.route_derivation.proofs.Lists.{pairs-nil, pairs-first, pairs-rest, pairs-cons}

@@ -1,8 +1,9 @@
 -- A way may go on by a passage just where it then is one of which nothing comes twice, and which is passable so far.
-use Rattle.std.proofs.Common.{◌≡◌, ◌∙◌, ◌⊎◌, Bool, true, false, not, ◌&&◌, ◌==◌, List, [], ◌∷◌, ◌++◌, map, Option, Some, None, refl, sym, ap, subst, inl, inr, ⊎_elim}
+use Rattle.std.proofs.Common.{◌≡◌, ◌∙◌, ◌⊎◌, Bool, true, false, not, ◌&&◌, ◌||◌, List, [], ◌∷◌, ◌++◌, Option, Some, None, refl, sym, ap, subst, inl, inr, ⊎_elim}
 use Rattle.std.specs.Bool.{Decides}
-use Rattle.std.specs.List.{Contains, list_any}
-use Rattle.std.proofs.lemmas.List.Elements.{Contains-append_left, Contains-append_right}
+use Rattle.std.specs.List.{Contains}
+use Rattle.std.proofs.lemmas.List.Elements.{Contains-append_left}
+use Rattle.std.proofs.lemmas.Bool.{false≢true}
 use Rattle.std.proofs.lemmas.Bool.Decides.{Decides-and, Decides-not, Decides-like, Decides-at}
 use Rattle.control_table.specs.sci_telegram.declared.message.Side.{Side}
 use Rattle.control_table.specs.sci_telegram.declared.message.Side.TheVariants as side
@@ -71,17 +72,25 @@ pub record Faithful (l : Site) (p : Partial) : Type 0 where
   pub needed : (n : PointId × Side) → Contains p.needs n → Requires l p.passages n.0 n.1
   pub needs : (n : PointId × Side) → Requires l p.passages n.0 n.1 → Contains p.needs n
 
+pub longer-judged : (l : Site) (p : Partial) (g : Passage) → (longer l p g).judged ≡ p.judged
+unfolding longer
+longer-judged l p g = refl
+
+pub start-judged : (judged : Bool) → (start judged).judged ≡ judged
+unfolding start
+start-judged judged = refl
+
 pub longer-passages : (l : Site) (p : Partial) (g : Passage) → (longer l p g).passages ≡ p.passages ++ g ∷ []
 unfolding longer
 longer-passages l p g = refl
 
-pub start-passages : start.passages ≡ []
+pub start-passages : (judged : Bool) → (start judged).passages ≡ []
 unfolding start
-start-passages = refl
+start-passages judged = refl
 
-pub faithful-start : (l : Site) → Faithful l start
+pub faithful-start : (judged : Bool) (l : Site) → Faithful l (start judged)
 unfolding start
-faithful-start l = record {
+faithful-start judged l = record {
   sections_are = refl;
   needed = λ n c. absurd (contains-none n c);
   needs = λ n h. absurd (contains-none h.0 h.1);
@@ -98,29 +107,29 @@ faithful-longer l one p g f = record {
       (requires-cases l one p.passages g n h);
 }
 
--- ---- nothing comes twice, and what has been passed is passable
+-- ---- nothing comes twice, and what has been passed is passable, where that is asked
 
-pub record Fits (l : Site) (path : List Passage) : Type 0 where
+pub record Fits (judged : Bool) (l : Site) (path : List Passage) : Type 0 where
   pub elements : Distinct (elements path)
   pub sections : Distinct (sections l path)
-  pub consistent : NoneAtBothSides l path
-  pub guarded : FlanksGuarded l path
+  pub consistent : judged ≡ true → NoneAtBothSides l path
+  pub guarded : judged ≡ true → FlanksGuarded l path
 
-pub fits-prefix : (l : Site) (path rest : List Passage) → Fits l (path ++ rest) → Fits l path
-fits-prefix l path rest f =
+pub fits-prefix : (judged : Bool) (l : Site) (path rest : List Passage) → Fits judged l (path ++ rest) → Fits judged l path
+fits-prefix judged l path rest f =
     let D : List Element → Type 0 = λ es. Distinct es in record {
       elements = pairs-prefix (λ (a : Element) (b : Element). a ≡ b → ⊥) (elements path) (elements rest) (subst D (map-append (λ (h : Passage). h.left.element) path rest) f.elements);
       sections = sections-prefix l path rest f.sections;
-      consistent = λ q a b. f.consistent q (requires-before l path rest q side.Left a) (requires-before l path rest q side.Right b);
-      guarded = λ g p s c u. f.guarded g p s (Contains-append_left path rest g c) u;
+      consistent = λ j q a b. f.consistent j q (requires-before l path rest q side.Left a) (requires-before l path rest q side.Right b);
+      guarded = λ j g p s c u. f.guarded j g p s (Contains-append_left path rest g c) u;
     }
 
-pub fits-start : (l : Site) → Fits l []
-fits-start l = record {
+pub fits-start : (judged : Bool) (l : Site) → Fits judged l []
+fits-start judged l = record {
   elements = pairs-nil (λ (a : Element) (b : Element). a ≡ b → ⊥);
   sections = pairs-nil (λ (a : SectionId) (b : SectionId). a ≡ b → ⊥);
-  consistent = λ q a b. contains-none a.0 a.1;
-  guarded = λ g p s c u. absurd (contains-none g c);
+  consistent = λ j q a b. contains-none a.0 a.1;
+  guarded = λ j g p s c u. absurd (contains-none g c);
 }
 
 -- ---- the tests
@@ -157,7 +166,12 @@ pub at_both : (l : Site) (path : List Passage) → NoneAtBothSides l path → (p
 at_both l path h p side.Left a b = h p a b
 at_both l path h p side.Right a b = h p b a
 
-module _ (l : Site) (one : OneBeyond l) (p : Partial) (g : Passage) (f : Faithful l p) (fits : Fits l p.passages) where
+-- a test that is made only where it is asked
+if-decides : {P : Type 0} (asked b : Bool) → Decides b P → Decides (not asked || b) (asked ≡ true → P)
+if-decides true b d = (λ e j. d.0 e, λ h. d.1 (h refl))
+if-decides false b d = (λ e j. absurd (false≢true j), λ h. refl)
+
+module _ (l : Site) (one : OneBeyond l) (p : Partial) (g : Passage) (f : Faithful l p) (fits : Fits p.judged l p.passages) where
   abbrev Free : Option (PointId × Side) → Type 0
   Free o = (n : PointId × Side) → o ≡ Some n → Contains p.needs (n.0, other n.1) → ⊥
 
@@ -179,39 +193,47 @@ module _ (l : Site) (one : OneBeyond l) (p : Partial) (g : Passage) (f : Faithfu
   new-new : (q : PointId) (s : Side) (o : Option (PointId × Side)) → o ≡ Some (q, s) → o ≡ Some (q, other s) → ⊥
   new-new q s o a b = other-differs s (sym (ap (λ (x : PointId × Side). x.1) (some-injective (q, s) (q, other s) (sym a ∙ b))))
 
-  clash : Free (used g) → Free (flank_at l (used g)) → (q : PointId) (s : Side) → Grown l p.passages g (q, s) → Grown l p.passages g (q, other s) → ⊥
-  clash own flank q s (inl a) (inl b) = at_both l p.passages fits.consistent q s a b
-  clash own flank q s (inl a) (inr (inl b)) = old-new q s (used g) own a b
-  clash own flank q s (inl a) (inr (inr b)) = old-new q s (flank_at l (used g)) flank a b
-  clash own flank q s (inr (inl a)) (inl b) = new-old q s (used g) own a b
-  clash own flank q s (inr (inr a)) (inl b) = new-old q s (flank_at l (used g)) flank a b
-  clash own flank q s (inr (inl a)) (inr (inl b)) = new-new q s (used g) a b
-  clash own flank q s (inr (inr a)) (inr (inr b)) = new-new q s (flank_at l (used g)) a b
-  clash own flank q s (inr (inl a)) (inr (inr b)) = apart q s (other s) a b
-  clash own flank q s (inr (inr a)) (inr (inl b)) = apart q (other s) s b a
+  clash : NoneAtBothSides l p.passages → Free (used g) → Free (flank_at l (used g)) → (q : PointId) (s : Side) → Grown l p.passages g (q, s) → Grown l p.passages g (q, other s) → ⊥
+  clash before own flank q s (inl a) (inl b) = at_both l p.passages before q s a b
+  clash before own flank q s (inl a) (inr (inl b)) = old-new q s (used g) own a b
+  clash before own flank q s (inl a) (inr (inr b)) = old-new q s (flank_at l (used g)) flank a b
+  clash before own flank q s (inr (inl a)) (inl b) = new-old q s (used g) own a b
+  clash before own flank q s (inr (inr a)) (inl b) = new-old q s (flank_at l (used g)) flank a b
+  clash before own flank q s (inr (inl a)) (inr (inl b)) = new-new q s (used g) a b
+  clash before own flank q s (inr (inr a)) (inr (inr b)) = new-new q s (flank_at l (used g)) a b
+  clash before own flank q s (inr (inl a)) (inr (inr b)) = apart q s (other s) a b
+  clash before own flank q s (inr (inr a)) (inr (inl b)) = apart q (other s) s b a
 
   abbrev path : List Passage
   path = p.passages ++ g ∷ []
 
-  abbrev Tests : Type 0
-  Tests = (((Distinct (elements path) × Distinct (sections l path)) × ((q : PointId) (s : Side) → Uses g q s → IsGuarded l q s)) × Free (used g)) × Free (flank_at l (used g))
+  abbrev Sides : Type 0
+  Sides = (((q : PointId) (s : Side) → Uses g q s → IsGuarded l q s) × Free (used g)) × Free (flank_at l (used g))
 
-  tests-fit : Tests → Fits l path
+  abbrev Tests : Type 0
+  Tests = (Distinct (elements path) × Distinct (sections l path)) × (p.judged ≡ true → Sides)
+
+  tests-fit : Tests → Fits p.judged l path
   tests-fit h = record {
-    elements = h.0.0.0.0;
-    sections = h.0.0.0.1;
-    consistent = λ q a b. clash h.0.1 h.1 q side.Left (requires-cases l one p.passages g (q, side.Left) a) (requires-cases l one p.passages g (q, side.Right) b);
-    guarded = λ k q s c u. ⊎_elim (λ old. fits.guarded k q s old u) (λ same. let U : Passage → Type 0 = λ x. Uses x q s in h.0.0.1 q s (subst U (sym same) u)) (contains-grown p.passages g k c);
+    elements = h.0.0;
+    sections = h.0.1;
+    consistent = λ j q a b. clash (fits.consistent j) (h.1 j).0.1 (h.1 j).1 q side.Left (requires-cases l one p.passages g (q, side.Left) a) (requires-cases l one p.passages g (q, side.Right) b);
+    guarded = λ j k q s c u. ⊎_elim (λ old. fits.guarded j k q s old u) (λ same. let U : Passage → Type 0 = λ x. Uses x q s in (h.1 j).0.0 q s (subst U (sym same) u)) (contains-grown p.passages g k c);
   }
 
-  fits-free : Fits l path → (o : Option (PointId × Side)) → ((n : PointId × Side) → o ≡ Some n → Requires l path n.0 n.1) → Free o
-  fits-free h o new n e c = at_both l path h.consistent n.0 n.1 (new n e) (requires-before l p.passages (g ∷ []) n.0 (other n.1) (f.needed (n.0, other n.1) c))
+  fits-free : NoneAtBothSides l path → (o : Option (PointId × Side)) → ((n : PointId × Side) → o ≡ Some n → Requires l path n.0 n.1) → Free o
+  fits-free h o new n e c = at_both l path h n.0 n.1 (new n e) (requires-before l p.passages (g ∷ []) n.0 (other n.1) (f.needed (n.0, other n.1) c))
 
-  fits-test : Fits l path → Tests
-  fits-test h =
-      ((((h.elements, h.sections), λ q s u. h.guarded g q s (contains-last p.passages g) u), fits-free h (used g) (λ n e. requires-own l p.passages g n e)), fits-free h (flank_at l (used g)) (λ n e. requires-flank l p.passages g n e))
+  fits-test : Fits p.judged l path → Tests
+  fits-test h = (
+    (h.elements, h.sections),
+    λ j. (
+      (λ q s u. h.guarded j g q s (contains-last p.passages g) u, fits-free (h.consistent j) (used g) (λ n e. requires-own l p.passages g n e)),
+      fits-free (h.consistent j) (flank_at l (used g)) (λ n e. requires-flank l p.passages g n e),
+    ),
+  )
 
-  pub may_go-decides : Decides (may_go l p g) (Fits l path)
+  pub may_go-decides : Decides (may_go l p g) (Fits p.judged l path)
   unfolding may_go
   may_go-decides =
       let a = not (holds_element p.passages g.left.element) in
@@ -220,6 +242,7 @@ module _ (l : Site) (one : OneBeyond l) (p : Partial) (g : Passage) (f : Faithfu
       let d = not (opposed p.needs (used g)) in
       let e = not (opposed p.needs (flank_at l (used g))) in
       let ab = Decides-and a b (new-element-decides p.passages g fits.elements) (new-section-decides l p.sections p.passages g f.sections_are fits.sections) in
-      let abc = Decides-and (a && b) c ab (passage_guarded-decides l one g) in
-      let abcd = Decides-and (a && b && c) d abc (unopposed-decides p.needs (used g)) in
-      Decides-like (a && b && c && d && e) tests-fit fits-test (Decides-and (a && b && c && d) e abcd (unopposed-decides p.needs (flank_at l (used g))))
+      let cd = Decides-and c d (passage_guarded-decides l one g) (unopposed-decides p.needs (used g)) in
+      let cde = Decides-and (c && d) e cd (unopposed-decides p.needs (flank_at l (used g))) in
+      let sides = if-decides p.judged (c && d && e) cde in
+      Decides-like (a && b && (not p.judged || (c && d && e))) tests-fit fits-test (Decides-and (a && b) (not p.judged || (c && d && e)) ab sides)

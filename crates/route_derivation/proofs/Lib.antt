@@ -17,3 +17,5 @@ pub mod AspectLaws
 pub mod Counting
 pub mod ApproachLaws
 pub mod TopologyLaws
+pub mod ImpossibleLaws
+pub mod LackingLaws

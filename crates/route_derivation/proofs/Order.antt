@@ -1,5 +1,5 @@
 -- Ways are found in order: by their signals, and to the left before to the right where they part.
-use Rattle.std.proofs.Common.{◌≡◌, ◌≢◌, ◌<◌, ◌∙◌, ◌⊎◌, Bool, true, false, ℕ, zero, suc, List, [], ◌∷◌, ◌++◌, length, map, Option, Some, None, refl, sym, ap, subst, inl, inr, ⊎_elim, arith}
+use Rattle.std.proofs.Common.{◌≡◌, ◌∙◌, Bool, true, false, ℕ, zero, suc, List, [], ◌∷◌, ◌++◌, map, Option, Some, None, refl, sym, ap, subst, inr, ⊎_elim}
 use Rattle.std.specs.List.{AllPairs, Contains}
 use Rattle.std.proofs.lemmas.List.{map-append}
 use Rattle.std.proofs.lemmas.List.Elements.{Contains-append_cases}
@@ -7,18 +7,15 @@ use Rattle.control_table.specs.sci_telegram.declared.message.Side.TheVariants as
 use Rattle.control_table.specs.layout.declared.ids.PointId.{PointId}
 use Rattle.control_table.specs.layout.declared.ids.SignalId.{SignalId}
 use Rattle.control_table.specs.layout.declared.port.Port.{Port}
-use Rattle.control_table.specs.layout.declared.port.Element.{Element}
 use Rattle.control_table.specs.layout.declared.port.Element.TheVariants as of
-use Rattle.layout_text.specs.declared.entries.End.{End}
 use Rattle.layout_text.specs.declared.entries.End.TheVariants as end
-use Rattle.control_table.specs.layout.declared.entries.Exit.{Exit}
 use Rattle.control_table.specs.layout.Entries.{Site}
 use Rattle.control_table.specs.Topology.{port_of}
 use Rattle.control_table.specs.Path.{Passage}
 use Rattle.control_table.specs.Sides.{leg}
 use Rattle.route_derivation.specs.declared.search.Beyond.{Beyond}
 use Rattle.route_derivation.specs.declared.search.Beyond.TheVariants as comes
-use Rattle.route_derivation.specs.Ways.{Way, PartsLeft, ports, ComesBefore}
+use Rattle.route_derivation.specs.Ways.{Way, ports, ComesBefore}
 use Rattle.route_derivation.specs.inside.WaySearch.{Partial, start, joined_to, first_end, second_end, out, first_out, second_out, may_go, longer, comes_to, ways_on, ways_over, ways_behind, ways_at, ways_from}
 use Rattle.route_derivation.proofs.Members.{contains-none, contains-cases, some-injective}
 use Rattle.route_derivation.proofs.SideLaws.{option_map-some}
@@ -137,14 +134,14 @@ module _ (l : Site) (s : SignalId) where
   ordered zero p (Some g) = let O : List Way → Type 0 = λ ws. InOrder ws in subst O (sym (over_full l s p g)) (pairs-nil ComesBefore)
   ordered (suc n) p (Some g) = ordered-step n (ordered n) p g
 
-  ordered-behind : (o : Option Port) → InOrder (ways_behind l s o)
-  ordered-behind None = pairs-nil ComesBefore
-  ordered-behind (Some entered) = both-ordered 64 (ordered 64) start entered
+  ordered-behind : (judged : Bool) (o : Option Port) → InOrder (ways_behind judged l s o)
+  ordered-behind judged None = pairs-nil ComesBefore
+  ordered-behind judged (Some entered) = both-ordered 64 (ordered 64) (start judged) entered
 
-  ordered-at : (o : Option Port) → InOrder (ways_at l s o)
-  ordered-at None = pairs-nil ComesBefore
-  ordered-at (Some from) = ordered-behind (joined_to l.joints from)
+  ordered-at : (judged : Bool) (o : Option Port) → InOrder (ways_at judged l s o)
+  ordered-at judged None = pairs-nil ComesBefore
+  ordered-at judged (Some from) = ordered-behind judged (joined_to l.joints from)
 
-  pub from-ordered : InOrder (ways_from l s)
+  pub from-ordered : (judged : Bool) → InOrder (ways_from judged l s)
   unfolding ways_from
-  from-ordered = ordered-at (port_of l.signals s)
+  from-ordered judged = ordered-at judged (port_of l.signals s)

@@ -1,8 +1,8 @@
 -- What a way comes to after an element, as it is computed and as it is defined.
-use Rattle.std.proofs.Common.{◌≡◌, ◌≢◌, ◌∙◌, ◌⊎◌, Bool, true, false, ◌==◌, ℕ, zero, suc, List, [], ◌∷◌, ◌++◌, map, Option, Some, None, refl, sym, ap, subst, inl, inr, ⊎_elim}
+use Rattle.std.proofs.Common.{◌≡◌, ◌≢◌, ◌∙◌, ◌⊎◌, Bool, true, false, ◌==◌, ℕ, zero, suc, List, [], ◌∷◌, map, Option, Some, None, refl, sym, ap, subst, inl, inr, ⊎_elim}
 use Rattle.std.specs.Prelude.{IsTrue, slice_get, if◌then◌else◌}
 use Rattle.std.specs.Option.{option_map}
-use Rattle.std.specs.List.{All, Contains}
+use Rattle.std.specs.List.{Contains}
 use Rattle.std.proofs.lemmas.Bool.{false≢true}
 use Rattle.std.proofs.lemmas.List.Elements.{All-contains}
 use Rattle.control_table.specs.layout.declared.ids.PointId.{PointId}
@@ -22,15 +22,14 @@ use Rattle.control_table.specs.layout.Entries.{Site}
 use Rattle.control_table.specs.layout.NamesResolved.{has_port}
 use Rattle.control_table.specs.layout.Once.{Once, Distinct}
 use Rattle.control_table.specs.layout.Station.{HasPort, IsStation}
-use Rattle.control_table.specs.Topology.{Joined, Joins, StandsAt}
+use Rattle.control_table.specs.Topology.{Joined, StandsAt}
 use Rattle.control_table.specs.Path.{Passage, Passes, ExitAt}
-use Rattle.route_derivation.specs.declared.search.Beyond.{Beyond}
 use Rattle.route_derivation.specs.declared.search.Beyond.TheVariants as comes
 use Rattle.route_derivation.specs.inside.WaySearch.{joined_to, signal_from, first_end, second_end, out, first_out, second_out, beyond_element, beyond_joint, beyond_signal, comes_to}
 use Rattle.route_derivation.proofs.Joints.{OneBeyond, joined-found}
-use Rattle.route_derivation.proofs.Members.{contains-none, contains-here, contains-there, none-some, false-from, some-injective, get-contains, distinct-first, distinct-rest}
+use Rattle.route_derivation.proofs.Members.{contains-here, contains-there, none-some, false-from, some-injective, get-contains, distinct-first, distinct-rest}
 use Rattle.route_derivation.proofs.Same.{signal-decides}
-use Rattle.route_derivation.proofs.SideLaws.{option_map-some, signal-stands, signal-missing, option_cases}
+use Rattle.route_derivation.proofs.SideLaws.{option_map-some, signal-stands, signal-missing}
 
 -- ---- one signal at a port
 

@@ -1,13 +1,12 @@
 -- What is found from all signals of a list.
-use Rattle.std.proofs.Common.{◌≡◌, ◌≢◌, ◌<◌, ◌≤◌, ◌+◌, ◌-◌, ◌∙◌, ◌⊎◌, Bool, true, false, ◌==◌, ℕ, zero, suc, List, [], ◌∷◌, ◌++◌, length, map, Option, Some, None, Ok, Err, refl, sym, ap, subst, inl, inr, ⊎_elim, arith, length-append}
+use Rattle.std.proofs.Common.{◌≡◌, ◌≢◌, ◌<◌, ◌≤◌, ◌+◌, ◌-◌, ◌∙◌, Bool, true, false, ◌==◌, ℕ, zero, suc, List, [], ◌∷◌, ◌++◌, length, Some, Ok, Err, refl, sym, ap, subst, inl, inr, ⊎_elim, arith, length-append}
 use Rattle.std.specs.Prelude.{Result, IfOk, slice_get, if◌then◌else◌}
 use Rattle.std.specs.Bool.{Decides}
-use Rattle.std.specs.List.{AllPairs, Contains, list_any}
+use Rattle.std.specs.List.{AllPairs, Contains}
 use Rattle.std.proofs.lemmas.Bool.{false≢true}
 use Rattle.std.proofs.lemmas.Bool.Decides.{Decides-like, Decides-eqb}
 use Rattle.std.proofs.lemmas.List.Elements.{Contains-append_left, Contains-append_right, Contains-append_cases}
 use Rattle.control_table.specs.sci_telegram.declared.message.Side.TheVariants as side
-use Rattle.control_table.specs.layout.declared.ids.PointId.{PointId}
 use Rattle.control_table.specs.layout.declared.ids.SignalId.{SignalId}
 use Rattle.control_table.specs.layout.declared.port.Port.{Port}
 use Rattle.control_table.specs.layout.declared.entries.Signal.{Signal}
@@ -21,7 +20,7 @@ use Rattle.route_derivation.specs.declared.fault.Underived.TheVariants.{TooMany,
 use Rattle.route_derivation.specs.Ways.{Way, IsRouteWay, PartsLeft, ports, ComesBefore, AreRouteWays, TooManyWays}
 use Rattle.route_derivation.specs.inside.WaySearch.{is_asked, ways_from, ways_asked, ways_below, Adds, Stops, Finds}
 use Rattle.route_derivation.proofs.Members.{contains-none, any-decides, none-some}
-use Rattle.route_derivation.proofs.Same.{signal-decides, is_left}
+use Rattle.route_derivation.proofs.Same.{signal-decides}
 use Rattle.route_derivation.proofs.SideLaws.{option_map-some}
 use Rattle.route_derivation.proofs.Lists.{contains-last, pairs-nil, pairs-append}
 use Rattle.route_derivation.proofs.Sound.{found-fine}
@@ -38,19 +37,19 @@ abbrev signal : ℕ → SignalId
 signal n = record { 0 = n }
 
 -- what is found comes from a signal of the list, and the other way round
-asked-from : (l : Site) (entries : List SignalId) (s : SignalId) (w : Way) → Contains (ways_asked l entries s) w → Contains entries s × Contains (ways_from l s) w
+asked-from : (l : Site) (entries : List SignalId) (s : SignalId) (w : Way) → Contains (ways_asked l entries s) w → Contains entries s × Contains (ways_from true l s) w
 asked-from l entries s w c = at (is_asked entries s) refl c where
-  at : (b : Bool) → is_asked entries s ≡ b → Contains (if b then ways_from l s else []) w → Contains entries s × Contains (ways_from l s) w
+  at : (b : Bool) → is_asked entries s ≡ b → Contains (if b then ways_from true l s else []) w → Contains entries s × Contains (ways_from true l s) w
   at true e c = ((asked-decides entries s).0 e, c)
   at false e c = absurd (contains-none w c)
 
-asked-to : (l : Site) (entries : List SignalId) (s : SignalId) (w : Way) → Contains entries s → Contains (ways_from l s) w → Contains (ways_asked l entries s) w
+asked-to : (l : Site) (entries : List SignalId) (s : SignalId) (w : Way) → Contains entries s → Contains (ways_from true l s) w → Contains (ways_asked l entries s) w
 asked-to l entries s w asked c =
-    let C : Bool → Type 0 = λ b. Contains (if b then ways_from l s else []) w in
+    let C : Bool → Type 0 = λ b. Contains (if b then ways_from true l s else []) w in
     subst C (sym ((asked-decides entries s).1 asked)) c
 
 abbrev Below : Site → List SignalId → ℕ → Way → Type 0
-Below l entries n w = (s : SignalId) × (s.0 < n) × Contains entries s × Contains (ways_from l s) w
+Below l entries n w = (s : SignalId) × (s.0 < n) × Contains entries s × Contains (ways_from true l s) w
 
 below-from : (l : Site) (entries : List SignalId) (n : ℕ) (w : Way) → Contains (ways_below l entries n) w → Below l entries n w
 unfolding ways_below
@@ -60,11 +59,11 @@ below-from l entries (suc n) w c =
     (λ here. let on = asked-from l entries (signal n) w here in (signal n, omega arith, on.0, on.1))
     (Contains-append_cases (ways_below l entries n) (ways_asked l entries (signal n)) w c)
 
-below-to : (l : Site) (entries : List SignalId) (n : ℕ) (s : SignalId) (w : Way) → s.0 < n → Contains entries s → Contains (ways_from l s) w → Contains (ways_below l entries n) w
+below-to : (l : Site) (entries : List SignalId) (n : ℕ) (s : SignalId) (w : Way) → s.0 < n → Contains entries s → Contains (ways_from true l s) w → Contains (ways_below l entries n) w
 unfolding ways_below
 below-to l entries zero s w lt asked c = absurd (omega (arith, lt))
 below-to l entries (suc n) s w lt asked c = at (below-to l entries n s w) (s.0 == n) refl where
-  at : (s.0 < n → Contains entries s → Contains (ways_from l s) w → Contains (ways_below l entries n) w) → (b : Bool) → (s.0 == n) ≡ b → Contains (ways_below l entries n ++ ways_asked l entries (signal n)) w
+  at : (s.0 < n → Contains entries s → Contains (ways_from true l s) w → Contains (ways_below l entries n) w) → (b : Bool) → (s.0 == n) ≡ b → Contains (ways_below l entries n ++ ways_asked l entries (signal n)) w
   at before true e =
       let same : s.0 ≡ n = (Decides-eqb s.0 n).0 e in
       let is : s ≡ signal n = λ i. record { 0 = same i } in
@@ -78,7 +77,7 @@ below-to l entries (suc n) s w lt asked c = at (below-to l entries n s w) (s.0 =
 
 asked-ordered : (l : Site) (entries : List SignalId) (s : SignalId) → AllPairs ComesBefore (ways_asked l entries s)
 asked-ordered l entries s =
-    elim (is_asked entries s) as (λ b. AllPairs ComesBefore (if b then ways_from l s else [])) [ true ↦ from-ordered l s | false ↦ pairs-nil ComesBefore ]
+    elim (is_asked entries s) as (λ b. AllPairs ComesBefore (if b then ways_from true l s else [])) [ true ↦ from-ordered l s true | false ↦ pairs-nil ComesBefore ]
 
 below-ordered : (l : Site) → Once l → (entries : List SignalId) (n : ℕ) → AllPairs ComesBefore (ways_below l entries n)
 unfolding ways_below
@@ -107,7 +106,7 @@ pub before-differs : (w v : Way) → ComesBefore w v → w ≡ v → ⊥
 before-differs w v (inl lt) e = let same = ap (λ (x : Way). x.entry.0) e in absurd (omega (arith, lt, same))
 before-differs w v (inr h) e = parts-differ (ports w) (ports v) h.1 (ap ports e)
 
-ordered-distinct : (ws : List Way) → AllPairs ComesBefore ws → Distinct ws
+pub ordered-distinct : (ws : List Way) → AllPairs ComesBefore ws → Distinct ws
 ordered-distinct ws h i j d lt within e = before-differs _ _ (h i j d lt within) e
 
 -- ---- together

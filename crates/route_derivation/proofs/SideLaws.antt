@@ -1,11 +1,11 @@
 -- What a passage uses and what guards it, as it is computed and as it is defined.
-use Rattle.std.proofs.Common.{◌≡◌, ◌⊎◌, Bool, true, false, not, ◌&&◌, ◌||◌, ◌==◌, ℕ, zero, suc, ◌+◌, List, [], ◌∷◌, map, Option, Some, None, refl, sym, ap, subst, ◌∙◌, inl, inr, ⊎_elim, arith}
+use Rattle.std.proofs.Common.{◌≡◌, ◌⊎◌, Bool, true, false, not, ◌==◌, ℕ, zero, suc, ◌+◌, List, [], ◌∷◌, Option, Some, None, refl, sym, ap, subst, ◌∙◌, inl, inr, ⊎_elim, arith}
 use Rattle.std.proofs.lemmas.Bool.{false≢true}
-use Rattle.std.proofs.lemmas.Bool.Decides.{Decides-and, Decides-or, Decides-not, Decides-like, Decides-at}
+use Rattle.std.proofs.lemmas.Bool.Decides.{Decides-like, Decides-at}
 use Rattle.std.specs.Bool.{Decides}
 use Rattle.std.specs.Prelude.{slice_get, is_some, if◌then◌else◌}
 use Rattle.std.specs.Option.{option_map}
-use Rattle.std.specs.List.{Contains, list_any, list_all}
+use Rattle.std.specs.List.{list_any}
 use Rattle.control_table.specs.sci_telegram.declared.message.Side.{Side}
 use Rattle.control_table.specs.sci_telegram.declared.message.Side.TheVariants as side
 use Rattle.control_table.specs.layout.declared.ids.PointId.{PointId}
@@ -18,10 +18,8 @@ use Rattle.layout_text.specs.declared.entries.End.TheVariants as end
 use Rattle.control_table.specs.layout.declared.entries.Signal.{Signal}
 use Rattle.control_table.specs.layout.Entries.{Site}
 use Rattle.control_table.specs.Path.{Passage}
-use Rattle.control_table.specs.Topology.{Joined, StandsAt, port_of}
+use Rattle.control_table.specs.Topology.{Joined, StandsAt}
 use Rattle.control_table.specs.Sides.{leg_at, leg, other, Uses, OnPath, Guards, IsGuarded}
-use Rattle.route_derivation.specs.declared.sides.Protection.{Protection}
-use Rattle.route_derivation.specs.declared.sides.Protection.TheVariants as protection
 use Rattle.route_derivation.specs.inside.WaySearch.{is_port, is_end, joined_to, signal_from, some_and, side_of, leg_used, point_of, used_of, used, leg_at_port, leg_of_another, guarded_by, protection_by, protection_from, protection_behind, protection_of, flank_need, flank_at, is_open_leg, is_open_at}
 use Rattle.route_derivation.specs.inside.RouteParts.{is_over, on_path}
 use Rattle.route_derivation.proofs.Joints.{OneBeyond, joined-found}

@@ -1,5 +1,5 @@
--- Each way that is found is passable.
-use Rattle.std.proofs.Common.{◌≡◌, ◌≢◌, ◌≤◌, ◌+◌, ◌∙◌, ◌⊎◌, Bool, true, false, ℕ, zero, suc, List, [], ◌∷◌, ◌++◌, length, map, Option, Some, None, refl, sym, ap, subst, inl, inr, ⊎_elim, arith, length-append}
+-- Each way that is found is one, and is passable where that is asked.
+use Rattle.std.proofs.Common.{◌≡◌, ◌≤◌, ◌+◌, ◌∙◌, Bool, true, false, ℕ, zero, suc, List, [], ◌∷◌, ◌++◌, length, Option, Some, None, refl, sym, ap, subst, ⊎_elim, arith, length-append}
 use Rattle.std.specs.List.{Contains}
 use Rattle.std.proofs.lemmas.List.Elements.{Contains-append_cases}
 use Rattle.control_table.specs.layout.declared.ids.SignalId.{SignalId}
@@ -10,16 +10,16 @@ use Rattle.control_table.specs.layout.Entries.{Site}
 use Rattle.control_table.specs.layout.Once.{Once}
 use Rattle.control_table.specs.Topology.{Joined, StandsAt, port_of}
 use Rattle.control_table.specs.Path.{Passage, Passes, Leads, ExitAt, EndsAt}
+use Rattle.control_table.specs.Sides.{FlanksGuarded, NoneAtBothSides}
 use Rattle.route_derivation.specs.declared.search.Beyond.{Beyond}
 use Rattle.route_derivation.specs.declared.search.Beyond.TheVariants as comes
 use Rattle.route_derivation.specs.Ways.{Way, IsWay, IsPassable, IsShort}
 use Rattle.route_derivation.specs.inside.WaySearch.{Partial, start, joined_to, first_out, second_out, may_go, longer, comes_to, ways_on, ways_over, ways_behind, ways_at, ways_from}
 use Rattle.route_derivation.proofs.Joints.{OneBeyond, one-beyond, joined-found}
 use Rattle.route_derivation.proofs.Members.{contains-none, contains-cases}
-use Rattle.route_derivation.proofs.SideLaws.{option_cases}
-use Rattle.route_derivation.proofs.Lists.{contains-last, contains-grown}
+use Rattle.route_derivation.proofs.Lists.{contains-grown}
 use Rattle.route_derivation.proofs.Adding.{over_none, over_full, over_stopped, over_on}
-use Rattle.route_derivation.proofs.Grow.{Faithful, Fits, longer-passages, start-passages, faithful-start, faithful-longer, fits-start, may_go-decides}
+use Rattle.route_derivation.proofs.Grow.{Faithful, Fits, longer-judged, start-judged, longer-passages, start-passages, faithful-start, faithful-longer, fits-start, may_go-decides}
 use Rattle.route_derivation.proofs.Reach.{first-passes, second-passes, end-found, on-found}
 
 -- ---- passages in a row
@@ -50,28 +50,34 @@ some-last (h ∷ path) g e = let n = ap length e in absurd (omega (arith, n))
 
 -- ---- the way so far
 
+-- a way, which is passable where that is asked
+pub record IsWayIf (judged : Bool) (l : Site) (w : Way) : Type 0 where
+  pub way : IsWay l w
+  pub consistent : judged ≡ true → NoneAtBothSides l w.passages
+  pub guarded : judged ≡ true → FlanksGuarded l w.passages
+
 module _ (l : Site) (once : Once l) (s : SignalId) (from : Port) (stands : StandsAt l s from) where
   abbrev one : OneBeyond l
   one = one-beyond l once
 
   pub record Good (p : Partial) : Type 0 where
     pub faithful : Faithful l p
-    pub fits : Fits l p.passages
+    pub fits : Fits p.judged l p.passages
     pub leads : Leads l from p.passages
     pub clear : (g : Passage) (t : SignalId) → Contains p.passages g → StandsAt l t g.left → ⊥
 
-  abbrev IsFine : ℕ → Way → Type 0
-  IsFine most w = (w.entry ≡ s) × IsPassable l w × (length w.passages ≤ most)
+  abbrev IsFine : Bool → ℕ → Way → Type 0
+  IsFine judged most w = (w.entry ≡ s) × IsWayIf judged l w × (length w.passages ≤ most)
 
   abbrev SoundAt : ℕ → Type 0
   SoundAt n = (p : Partial) (g : Passage) → Good p → Joined l (port_after from p.passages) g.entered → Passes g
-      → (w : Way) → Contains (ways_over l s n p (Some g)) w → IsFine (length p.passages + n) w
+      → (w : Way) → Contains (ways_over l s n p (Some g)) w → IsFine p.judged (length p.passages + n) w
 
   module _ (p : Partial) (g : Passage) (good : Good p) (joined : Joined l (port_after from p.passages) g.entered) (passes : Passes g) (go : may_go l p g ≡ true) where
     abbrev path : List Passage
     path = p.passages ++ g ∷ []
 
-    fits : Fits l path
+    fits : Fits p.judged l path
     fits = (may_go-decides l one p g good.faithful good.fits).0 go
 
     leads : Leads l from path
@@ -80,13 +86,14 @@ module _ (l : Site) (once : Once l) (s : SignalId) (from : Port) (stands : Stand
     grown-good : ((t : SignalId) → StandsAt l t g.left → ⊥) → Good (longer l p g)
     grown-good none =
         let same = sym (longer-passages l p g) in
-        let F : List Passage → Type 0 = λ ps. Fits l ps in
+        let F : List Passage → Type 0 = λ ps. Fits (longer l p g).judged l ps in
+        let B : Bool → Type 0 = λ b. Fits b l path in
         let L : List Passage → Type 0 = λ ps. Leads l from ps in
         let C : List Passage → Type 0 = λ ps. (k : Passage) (t : SignalId) → Contains ps k → StandsAt l t k.left → ⊥ in
         let clear : C path = λ k t c at. ⊎_elim (λ old. good.clear k t old at) (λ e. let S : Passage → Type 0 = λ x. StandsAt l t x.left in none t (subst S (sym e) at)) (contains-grown p.passages g k c) in
         record {
           faithful = faithful-longer l one p g good.faithful;
-          fits = subst F same fits;
+          fits = subst F same (subst B (sym (longer-judged l p g)) fits);
           leads = subst L same leads;
           clear = subst C same clear;
         }
@@ -99,7 +106,7 @@ module _ (l : Site) (once : Once l) (s : SignalId) (from : Port) (stands : Stand
     grown-length : (n : ℕ) → length (longer l p g).passages + n ≡ length p.passages + suc n
     grown-length n = let e : length (longer l p g).passages ≡ length p.passages + length (g ∷ []) = ap length (longer-passages l p g) ∙ length-append p.passages (g ∷ []) in omega (arith, e)
 
-    ended : (n : ℕ) (x : Exit) → comes_to l s g.left ≡ comes.Exit x → IsFine (length p.passages + suc n) (record { entry = s; exit = x; passages = path })
+    ended : (n : ℕ) (x : Exit) → comes_to l s g.left ≡ comes.Exit x → IsFine p.judged (length p.passages + suc n) (record { entry = s; exit = x; passages = path })
     ended n x h =
         let is = end-found l once s g.left x h in
         let between : (k : Passage) (t : SignalId) → Contains path k → StandsAt l t k.left → x ≡ exit.Signal t = λ k t c at.
@@ -120,7 +127,7 @@ module _ (l : Site) (once : Once l) (s : SignalId) (from : Port) (stands : Stand
       GoesFrom next entered = (h : Passage) → next ≡ Some h → (entered ≡ h.entered) × Passes h
 
       further : (next : Option Passage) (entered : Port) → GoesFrom next entered → comes_to l s g.left ≡ comes.On entered
-          → Contains (ways_over l s n (longer l p g) next) w → IsFine (length p.passages + suc n) w
+          → Contains (ways_over l s n (longer l p g) next) w → IsFine p.judged (length p.passages + suc n) w
       further None entered from_there to c =
           let C : List Way → Type 0 = λ ws. Contains ws w in
           absurd (contains-none w (subst C (over_none l s n (longer l p g)) c))
@@ -130,12 +137,13 @@ module _ (l : Site) (once : Once l) (s : SignalId) (from : Port) (stands : Stand
           let J : Port → Type 0 = λ q. Joined l (port_after from (longer l p g).passages) q in
           let fine = before (longer l p g) h (grown-good on.1) (subst J ok.0 (grown-after entered on.0)) ok.1 w c in
           let N : ℕ → Type 0 = λ m. length w.passages ≤ m in
-          (fine.0, fine.1, subst N (grown-length n) fine.2)
+          let W : Bool → Type 0 = λ b. IsWayIf b l w in
+          (fine.0, subst W (longer-judged l p g) fine.1, subst N (grown-length n) fine.2)
 
-      by-end : (b : Beyond) → comes_to l s g.left ≡ b → Contains (ways_on (λ next. ways_over l s n (longer l p g) next) s (longer l p g).passages b) w → IsFine (length p.passages + suc n) w
+      by-end : (b : Beyond) → comes_to l s g.left ≡ b → Contains (ways_on (λ next. ways_over l s n (longer l p g) next) s (longer l p g).passages b) w → IsFine p.judged (length p.passages + suc n) w
       by-end comes.Nowhere to c = absurd (contains-none w c)
       by-end (comes.Exit x) to c =
-          let F : Way → Type 0 = λ v. IsFine (length p.passages + suc n) v in
+          let F : Way → Type 0 = λ v. IsFine p.judged (length p.passages + suc n) v in
           let same : record { entry = s; exit = x; passages = path } ≡ w = ⊎_elim
           (λ e. ap (λ ps. record { entry = s; exit = x; passages = ps }) (sym (longer-passages l p g)) ∙ e)
           (λ none. absurd (contains-none w none)) (contains-cases (record { entry = s; exit = x; passages = (longer l p g).passages }) w [] c) in
@@ -147,7 +155,7 @@ module _ (l : Site) (once : Once l) (s : SignalId) (from : Port) (stands : Stand
 
   sound-step : (n : ℕ) → SoundAt n → SoundAt (suc n)
   sound-step n before p g good joined passes w c = at (may_go l p g) refl where
-    at : (b : Bool) → may_go l p g ≡ b → IsFine (length p.passages + suc n) w
+    at : (b : Bool) → may_go l p g ≡ b → IsFine p.judged (length p.passages + suc n) w
     at false stop =
         let C : List Way → Type 0 = λ ws. Contains ws w in
         absurd (contains-none w (subst C (over_stopped l s (suc n) p g stop) c))
@@ -161,16 +169,16 @@ module _ (l : Site) (once : Once l) (s : SignalId) (from : Port) (stands : Stand
       absurd (contains-none w (subst C (over_full l s p g) c))
   sound (suc n) p g good joined passes w c = sound-step n (sound n) p g good joined passes w c
 
-  good-start : Good start
-  good-start =
-      let none = sym start-passages in
-      let F : List Passage → Type 0 = λ ps. Fits l ps in
+  good-start : (judged : Bool) → Good (start judged)
+  good-start judged =
+      let none = sym (start-passages judged) in
+      let F : List Passage → Type 0 = λ ps. Fits (start judged).judged l ps in
       let L : List Passage → Type 0 = λ ps. Leads l from ps in
       let C : List Passage → Type 0 = λ ps. (k : Passage) (t : SignalId) → Contains ps k → StandsAt l t k.left → ⊥ in
       let clear : C [] = λ k t c at. contains-none k c in
       record {
-        faithful = faithful-start l;
-        fits = subst F none (fits-start l);
+        faithful = faithful-start judged l;
+        fits = subst F none (fits-start (start judged).judged l);
         leads = subst L none tt;
         clear = subst C none clear;
       }
@@ -179,31 +187,37 @@ module _ (l : Site) (once : Once l) (s : SignalId) (from : Port) (stands : Stand
   unfolding port_after
   at-start q j = j
 
-  sound-next : (next : Option Passage) (entered : Port) → Joined l from entered → ((h : Passage) → next ≡ Some h → (entered ≡ h.entered) × Passes h)
-      → (w : Way) → Contains (ways_over l s 64 start next) w → IsFine 64 w
-  sound-next None entered joined from_there w c =
+  sound-next : (judged : Bool) (next : Option Passage) (entered : Port) → Joined l from entered → ((h : Passage) → next ≡ Some h → (entered ≡ h.entered) × Passes h)
+      → (w : Way) → Contains (ways_over l s 64 (start judged) next) w → IsFine judged 64 w
+  sound-next judged None entered joined from_there w c =
       let C : List Way → Type 0 = λ ws. Contains ws w in
-      absurd (contains-none w (subst C (over_none l s 64 start) c))
-  sound-next (Some h) entered joined from_there w c =
+      absurd (contains-none w (subst C (over_none l s 64 (start judged)) c))
+  sound-next judged (Some h) entered joined from_there w c =
       let ok = from_there h refl in
       let J : Port → Type 0 = λ q. Joined l from q in
       let K : List Passage → Type 0 = λ ps. Joined l (port_after from ps) h.entered in
-      let fine = sound 64 start h good-start (subst K (sym start-passages) (at-start h.entered (subst J ok.0 joined))) ok.1 w c in
+      let fine = sound 64 (start judged) h (good-start judged) (subst K (sym (start-passages judged)) (at-start h.entered (subst J ok.0 joined))) ok.1 w c in
       let N : ℕ → Type 0 = λ m. length w.passages ≤ m in
-      let long : length start.passages + 64 ≡ 64 = ap (λ ps. length ps + 64) start-passages in
-      (fine.0, fine.1, subst N long fine.2)
+      let W : Bool → Type 0 = λ b. IsWayIf b l w in
+      let long : length (start judged).passages + 64 ≡ 64 = ap (λ ps. length ps + 64) (start-passages judged) in
+      (fine.0, subst W (start-judged judged) fine.1, subst N long fine.2)
 
-  pub sound-behind : (o : Option Port) → joined_to l.joints from ≡ o → (w : Way) → Contains (ways_behind l s o) w → IsFine 64 w
-  sound-behind None e w c = absurd (contains-none w c)
-  sound-behind (Some entered) e w c =
+  pub sound-behind : (judged : Bool) (o : Option Port) → joined_to l.joints from ≡ o → (w : Way) → Contains (ways_behind judged l s o) w → IsFine judged 64 w
+  sound-behind judged None e w c = absurd (contains-none w c)
+  sound-behind judged (Some entered) e w c =
       let joined = joined-found l from entered e in
-      ⊎_elim (λ first. sound-next (first_out entered) entered joined (λ h e. first-passes entered h e) w first)
-      (λ second. sound-next (second_out entered) entered joined (λ h e. second-passes entered h e) w second)
-      (Contains-append_cases (ways_over l s 64 start (first_out entered)) (ways_over l s 64 start (second_out entered)) w c)
+      ⊎_elim (λ first. sound-next judged (first_out entered) entered joined (λ h e. first-passes entered h e) w first)
+      (λ second. sound-next judged (second_out entered) entered joined (λ h e. second-passes entered h e) w second)
+      (Contains-append_cases (ways_over l s 64 (start judged) (first_out entered)) (ways_over l s 64 (start judged) (second_out entered)) w c)
 
-pub found-fine : (l : Site) → Once l → (s : SignalId) (w : Way) → Contains (ways_from l s) w → (w.entry ≡ s) × IsPassable l w × IsShort w
+pub found-way : (judged : Bool) (l : Site) → Once l → (s : SignalId) (w : Way) → Contains (ways_from judged l s) w → (w.entry ≡ s) × IsWayIf judged l w × IsShort w
 unfolding ways_from
-found-fine l once s w c = at (port_of l.signals s) refl c where
-  at : (o : Option Port) → port_of l.signals s ≡ o → Contains (ways_at l s o) w → (w.entry ≡ s) × IsPassable l w × IsShort w
+found-way judged l once s w c = at (port_of l.signals s) refl c where
+  at : (o : Option Port) → port_of l.signals s ≡ o → Contains (ways_at judged l s o) w → (w.entry ≡ s) × IsWayIf judged l w × IsShort w
   at None e c = absurd (contains-none w c)
-  at (Some from) e c = sound-behind l once s from e (joined_to l.joints from) refl w c
+  at (Some from) e c = sound-behind l once s from e judged (joined_to l.joints from) refl w c
+
+pub found-fine : (l : Site) → Once l → (s : SignalId) (w : Way) → Contains (ways_from true l s) w → (w.entry ≡ s) × IsPassable l w × IsShort w
+found-fine l once s w c =
+    let fine = found-way true l once s w c in
+    (fine.0, record { way = fine.1.way; consistent = fine.1.consistent refl; guarded = fine.1.guarded refl }, fine.2)

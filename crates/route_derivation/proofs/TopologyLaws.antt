@@ -1,8 +1,8 @@
 -- What is said of a route depends on the topology alone.
-use Rattle.std.proofs.Common.{◌≡◌, ◌≢◌, ◌≤◌, ◌∙◌, ◌⊎◌, ◌↔◌, ℕ, List, [], ◌∷◌, ◌++◌, length, map, Option, Some, None, refl, sym, ap, subst, inl, inr, ⊎_elim, arith}
+use Rattle.std.proofs.Common.{◌≡◌, ◌∙◌, List, [], ◌∷◌, Option, Some, refl, sym, ap, subst, inl, inr, ⊎_elim, arith}
 use Rattle.std.specs.Prelude.{slice_get}
 use Rattle.std.specs.Option.{option_map}
-use Rattle.std.specs.List.{All, Contains, cons_option, dedup, filter_map}
+use Rattle.std.specs.List.{Contains, cons_option, dedup, filter_map}
 use Rattle.std.proofs.lemmas.List.Elements.{All-contains}
 use Rattle.control_table.specs.sci_telegram.declared.message.Side.{Side}
 use Rattle.control_table.specs.sci_telegram.declared.message.Side.TheVariants as side
@@ -23,10 +23,9 @@ use Rattle.control_table.specs.layout.Entries.{RouteEntry, Site}
 use Rattle.control_table.specs.layout.Once.{Distinct}
 use Rattle.control_table.specs.layout.Station.{HasSignal, IsRouteOf, IsStation}
 use Rattle.control_table.specs.Topology.{IsRoute, Joined, Joins, StandsAt, port_of, section_of}
-use Rattle.control_table.specs.Path.{Passage, Leads, Follows, ComesOnce, elements, same_section, sections, EndsAt, ExitAt, SignalsPlaced, Path}
-use Rattle.control_table.specs.Sides.{leg, other, Uses, OnPath, Guards, Requires, IsGuarded, FlanksGuarded, NoneAtBothSides, WritesRequired}
+use Rattle.control_table.specs.Path.{Passage, Leads, elements, same_section, sections, EndsAt, ExitAt, Path}
+use Rattle.control_table.specs.Sides.{leg, other, Requires, IsGuarded, WritesRequired}
 use Rattle.control_table.specs.Table.{Sound, SoundRoute, ExtrasListed}
-use Rattle.route_derivation.specs.Ways.{PartsLeft}
 use Rattle.route_derivation.specs.Derived.{IsGiven, IsAsked, IsBefore, IsDerived, SameRoute, SameTopology, SameWay}
 use Rattle.route_derivation.proofs.Members.{contains-none, get-contains}
 use Rattle.route_derivation.proofs.RouteWays.{parts-differ}

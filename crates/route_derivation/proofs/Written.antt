@@ -1,15 +1,14 @@
 -- What a route writes that leads along a way is what the way requires.
-use Rattle.std.proofs.Common.{◌≡◌, ◌≢◌, ◌∙◌, ◌⊎◌, ◌↔◌, Bool, true, false, ◌==◌, List, [], ◌∷◌, ◌++◌, map, Option, Some, None, refl, sym, ap, subst, inl, inr, ⊎_elim}
+use Rattle.std.proofs.Common.{◌≡◌, ◌∙◌, ◌↔◌, Bool, true, false, List, [], ◌∷◌, Option, Some, None, refl, sym, ap, subst, inl, inr, ⊎_elim}
 use Rattle.std.specs.Prelude.{if◌then◌else◌}
 use Rattle.std.specs.Bool.{Decides}
 use Rattle.std.specs.List.{Contains, cons_option, filter_map}
 use Rattle.std.proofs.lemmas.Bool.{false≢true}
 use Rattle.control_table.specs.sci_telegram.declared.message.Side.{Side}
-use Rattle.control_table.specs.sci_telegram.declared.message.Side.TheVariants as side
 use Rattle.control_table.specs.layout.declared.ids.PointId.{PointId}
 use Rattle.control_table.specs.layout.Entries.{RouteEntry, Site}
 use Rattle.control_table.specs.Path.{Passage}
-use Rattle.control_table.specs.Sides.{other, Uses, OnPath, Guards, Requires, NoneAtBothSides, WritesRequired}
+use Rattle.control_table.specs.Sides.{OnPath, Requires, NoneAtBothSides, WritesRequired}
 use Rattle.route_derivation.specs.inside.WaySearch.{used, flank_at}
 use Rattle.route_derivation.specs.inside.RouteParts.{on_path, off_path, points_of, flank_of}
 use Rattle.route_derivation.proofs.Joints.{OneBeyond}

@@ -2,3 +2,5 @@
 pub mod WaySearch
 pub mod RouteParts
 pub mod ApproachSearch
+pub mod HindranceSearch
+pub mod WaysKept

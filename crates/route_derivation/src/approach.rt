@@ -160,7 +160,7 @@ fn sections_over(
 }
 
 /// The sections on which a train comes to a signal, in layout order.
-pub(crate) fn approach_of(
+pub fn approach_of(
     alloc: Global,
     layout: &Layout,
     rule: ApproachRule,

@@ -196,10 +196,9 @@ pub fn derive(
 }
 
 /// All signals of a layout, in its order.
-pub fn all_signals(
-    alloc: Global,
-    layout: &Layout,
-) -> Result<Vec<SignalId>, std::alloc::AllocError> {
+pub fn all_signals(alloc: Global, layout: &Layout) -> Result<Vec<SignalId>, AllocError>
+    ensures { IfOk result (λ v. (s : SignalId) → HasSignal layout.now s → Contains v.items s) }
+{
     let mut signals = Vec::new(alloc);
     for place in 0..layout.signals().len() {
         signals.push(SignalId(place))?;

@@ -1,6 +1,6 @@
 //! What holds of the search in every layout, and of the routes that follow from it.
 
-ghost use Rattle.std.specs.Prelude.{◌≡◌, ◌≢◌, ◌<◌, List, length};
+ghost use Rattle.std.specs.Prelude.{◌≡◌, ◌≢◌, ◌<◌, List, length, true};
 ghost use Rattle.std.specs.List.{Contains};
 ghost use Rattle.control_table.specs.layout.declared.ids.RouteId.{RouteId};
 ghost use Rattle.control_table.specs.layout.declared.ids.SignalId.{SignalId};
@@ -9,18 +9,20 @@ ghost use Rattle.control_table.specs.layout.Once.{Once};
 ghost use Rattle.control_table.specs.layout.Station.{HasSignal, IsStation};
 ghost use Rattle.control_table.specs.Table.{Sound};
 ghost use Rattle.control_table.specs.Topology.{IsRoute};
+ghost use Rattle.route_derivation.specs.Impossible.{Hinders};
+ghost use Rattle.route_derivation.specs.declared.impossible.Hindrance.{Hindrance};
 ghost use Rattle.route_derivation.specs.Ways.{Way, IsPassable, IsShort};
 ghost use Rattle.route_derivation.specs.Derived.{IsBefore, IsDerived, SameRoute, SameTopology, SameWay};
 ghost use Rattle.route_derivation.specs.inside.WaySearch.{ways_from};
 
 /// Each way that is found from a signal begins there, is passable, and has at most 64 elements.
 pub(crate) fn found_are_passable()
-    ensures { (l : Site) → Once l → (s : SignalId) (w : Way) → Contains (ways_from l s) w → (w.entry ≡ s) × IsPassable l w × IsShort w }
+    ensures { (l : Site) → Once l → (s : SignalId) (w : Way) → Contains (ways_from true l s) w → (w.entry ≡ s) × IsPassable l w × IsShort w }
 {}
 
 /// Each passable way of at most 64 elements is found from its signal.
 pub(crate) fn passable_are_found()
-    ensures { (l : Site) → Once l → IsStation l → (w : Way) → IsPassable l w → IsShort w → Contains (ways_from l w.entry) w }
+    ensures { (l : Site) → Once l → IsStation l → (w : Way) → IsPassable l w → IsShort w → Contains (ways_from true l w.entry) w }
 {}
 
 /// A layout of the same topology, whose table is the derived one, is sound: `check` accepts it.
@@ -38,4 +40,9 @@ pub fn sound_routes_are_derived()
 /// Of two derived routes that stand in order, the second leads another way than the first.
 pub fn derived_routes_lead_different_ways()
     ensures { (r q : RouteEntry) → IsBefore r q → SameWay r q → ⊥ }
+{}
+
+/// A way that something hinders isn't passable.
+pub fn hindered_ways_are_impossible()
+    ensures { (l : Site) → Once l → (w : Way) (h : Hindrance) → Hinders l w.passages h → IsPassable l w → ⊥ }
 {}

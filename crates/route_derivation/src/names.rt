@@ -1,10 +1,8 @@
 //! The names of routes.
 
 use crate::fault::NameFault;
-use control_table::layout::{
-    Detector, Element, Exit, Layout, Point, PointId, Port, Route, SectionId, Signal, SignalId,
-    Track,
-};
+use crate::lacking::same_path;
+use control_table::layout::{Detector, Exit, Layout, Point, Port, Route, Signal, SignalId, Track};
 use control_table::sci_telegram::Name;
 use std::alloc::{AllocError, Global};
 
@@ -128,34 +126,15 @@ pub(crate) fn free_name(
 }
 
 /// The name of a signal.
-pub(crate) fn signal_name(layout: &Layout, signal: SignalId) -> Option<Name> {
+fn signal_name(layout: &Layout, signal: SignalId) -> Option<Name> {
     layout.signals().get(signal.0).map(|entry| entry.name)
 }
 
 /// The name of an exit.
-pub(crate) fn exit_name(layout: &Layout, exit: Exit) -> Option<Name> {
+fn exit_name(layout: &Layout, exit: Exit) -> Option<Name> {
     match exit {
         Exit::Signal(signal) => signal_name(layout, signal),
         Exit::Border(border) => layout.borders().get(border.0).copied(),
-    }
-}
-
-/// The name of a point.
-pub(crate) fn point_name(layout: &Layout, point: PointId) -> Option<Name> {
-    layout.points().get(point.0).map(|entry| entry.name)
-}
-
-/// The name of a section.
-pub(crate) fn section_name(layout: &Layout, section: SectionId) -> Option<Name> {
-    layout.sections().get(section.0).copied()
-}
-
-/// The name of an element.
-pub(crate) fn element_name(layout: &Layout, element: Element) -> Option<Name> {
-    match element {
-        Element::Track(track) => layout.tracks().get(track.0).map(|entry| entry.name),
-        Element::Point(point) => point_name(layout, point),
-        Element::Border(border) => layout.borders().get(border.0).copied(),
     }
 }
 
@@ -164,11 +143,6 @@ pub(crate) fn end_names(layout: &Layout, entry: SignalId, exit: Exit) -> Option<
     let entry = signal_name(layout, entry)?;
     let exit = exit_name(layout, exit)?;
     Some((entry, exit))
-}
-
-/// Whether two paths are the same.
-fn same_path(one: &[Port], other: &[Port]) -> bool {
-    one == other
 }
 
 /// The name that the table has for a route of this way, if it has one.

@@ -2,7 +2,7 @@
 
 ghost use Rattle.std.specs.Prelude.{◌≡◌, IfOk, OnOk, ◌++◌, ◌∷◌, []};
 ghost use Rattle.control_table.specs.Path.{same_section};
-ghost use Rattle.route_derivation.specs.inside.WaySearch.{holds_section, is_last, used, flank_at, holds_element, section_may_come, with_section, with_need, may_go, longer, start};
+ghost use Rattle.route_derivation.specs.inside.WaySearch.{holds_section, is_last, used, flank_at, holds_element, section_may_come, with_section, with_need, sides_go, may_go, longer, start};
 
 use crate::passage::Passage;
 use crate::sides::{flank_at, is_open, is_opposed, used};
@@ -12,10 +12,11 @@ use control_table::sci_telegram::Side;
 use std::alloc::{AllocError, Global};
 use std::marker::Model;
 
-/// The passages of a way so far, its sections, of which neighbours that are equal count once, and the
-/// points that it requires, each with its side.
+/// Whether a way is judged by what it requires, its passages so far, its sections, of which neighbours
+/// that are equal count once, and the points that it requires, each with its side.
 #[derive(Debug, Drop)]
 pub(crate) struct Partial {
+    pub(crate) judged: bool,
     pub(crate) passages: Vec<Passage>,
     pub(crate) sections: Vec<SectionId>,
     pub(crate) needs: Vec<(PointId, Side)>,
@@ -26,7 +27,7 @@ impl Model for Partial {
 
     ghost Value = { search.Partial };
 
-    ghost view = { λ p. record { passages = p.passages.items; sections = p.sections.items; needs = p.needs.items } };
+    ghost view = { λ p. record { judged = p.judged; passages = p.passages.items; sections = p.sections.items; needs = p.needs.items } };
 }
 
 /// Whether two sections are the same.
@@ -72,8 +73,17 @@ fn section_may_come(sections: &[SectionId], section: Option<SectionId>) -> bool
     }
 }
 
-/// Whether a way may go on by a passage: over no element again, into no section again that it has left,
-/// with no open leg, and with no point that it requires at the other side.
+/// Whether a passage leaves no leg open, and requires no point that is required at the other side.
+fn sides_go(layout: &Layout, needs: &[(PointId, Side)], passage: &Passage) -> bool
+    ensures { result ≡ sides_go layout.now needs.now passage.now }
+{
+    !is_open(layout, passage)
+        && !is_opposed(needs, used(passage))
+        && !is_opposed(needs, flank_at(layout, passage))
+}
+
+/// Whether a way may go on by a passage: over no element again, and into no section again that it has
+/// left. One that is judged leaves no leg open, and requires no point at both sides.
 #[tactic(auto, unfolding(crate::specs::inside::WaySearch::may_go))]
 pub(crate) fn may_go(layout: &Layout, before: &Partial, passage: &Passage) -> bool
     ensures { result ≡ may_go layout.now before.now passage.now }
@@ -81,9 +91,7 @@ pub(crate) fn may_go(layout: &Layout, before: &Partial, passage: &Passage) -> bo
     let element = passage.left.element;
     !holds_element(&before.passages, element)
         && section_may_come(&before.sections, section_of(layout, element))
-        && !is_open(layout, passage)
-        && !is_opposed(&before.needs, used(passage))
-        && !is_opposed(&before.needs, flank_at(layout, passage))
+        && (!before.judged || sides_go(layout, &before.needs, passage))
 }
 
 /// The passages with one more.
@@ -147,10 +155,11 @@ fn with_needs(
 impl Partial {
     /// A way that hasn't begun.
     #[tactic(auto, unfolding(crate::specs::inside::WaySearch::start))]
-    pub(crate) fn new(alloc: Global) -> Partial
-        ensures { result ≡ start }
+    pub(crate) fn new(alloc: Global, judged: bool) -> Partial
+        ensures { result ≡ start judged }
     {
         Partial {
+            judged,
             passages: Vec::new(alloc),
             sections: Vec::new(alloc),
             needs: Vec::new(alloc),
@@ -172,6 +181,7 @@ impl Partial {
         let sections = with_section(alloc, &self.sections, section)?;
         let needs = with_needs(alloc, layout, &self.needs, &passage)?;
         Ok(Partial {
+            judged: self.judged,
             passages,
             sections,
             needs,

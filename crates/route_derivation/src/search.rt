@@ -1,8 +1,9 @@
 //! The search for all ways that begin at a signal.
 
-ghost use Rattle.std.specs.Prelude.{◌≡◌, ◌++◌, ◌∷◌, [], length, IfOk, Err};
+ghost use Rattle.std.specs.Prelude.{◌≡◌, ◌++◌, ◌∷◌, [], length, false, IfOk, Err};
 ghost use Rattle.control_table.specs.layout.Once.{Once};
 ghost use Rattle.control_table.specs.layout.Station.{IsStation};
+ghost use Rattle.route_derivation.specs.Impossible.{ManyWaysFrom};
 ghost use Rattle.route_derivation.specs.Ways.{AreRouteWays, TooManyWays};
 ghost use Rattle.route_derivation.specs.declared.fault.Underived.TheVariants.{TooMany};
 ghost use Rattle.route_derivation.specs.inside.WaySearch.{Adds, Finds, comes_to, beyond_joint, ways_over, ways_behind, ways_from, is_asked, ways_asked, ways_below};
@@ -95,12 +96,13 @@ fn ended(way: Partial, entry: SignalId, exit: Exit) -> Way
     }
 }
 
-/// Where ways are looked for, and from which signal.
+/// Where ways are looked for, from which signal, and whether they are judged by what they require.
 #[derive(Clone, Copy)]
 struct Search<'a> {
     alloc: Global,
     layout: &'a Layout,
     signal: SignalId,
+    judged: bool,
 }
 
 /// Adds all ways that go on by a passage, if it is one, and have at most so many elements more.
@@ -140,37 +142,60 @@ fn add_ways_behind(
     entered: Option<Port>,
     found: &mut Vec<Way>,
 ) -> Result<(), Underived>
-    ensures { Adds result found.old.items found.new.items (ways_behind search.entry.layout.now search.entry.signal entered) }
+    ensures { Adds result found.old.items found.new.items (ways_behind search.entry.judged search.entry.layout.now search.entry.signal entered) }
 {
     let entered = match entered {
         Some(entered) => entered,
         None => return Ok(()),
     };
-    let start = Partial::new(search.alloc);
+    let start = Partial::new(search.alloc, search.judged);
     add_ways_over(search, &start, first_out(entered), MOST_ELEMENTS, found)?;
     add_ways_over(search, &start, second_out(entered), MOST_ELEMENTS, found)
 }
 
-/// Adds all ways that begin at a signal.
+/// Adds all ways that begin at the signal of a search.
 #[tactic(auto, unfolding(crate::specs::inside::WaySearch::ways_from))]
-fn add_ways_from(
-    alloc: Global,
-    layout: &Layout,
-    entry: SignalId,
-    found: &mut Vec<Way>,
-) -> Result<(), Underived>
-    ensures { Adds result found.old.items found.new.items (ways_from layout.now entry) }
+fn add_ways_from(search: Search<'_>, found: &mut Vec<Way>) -> Result<(), Underived>
+    ensures { Adds result found.old.items found.new.items (ways_from search.entry.judged search.entry.layout.now search.entry.signal) }
 {
-    let at = match port_of(layout.signals(), entry) {
+    let at = match port_of(search.layout.signals(), search.signal) {
         Some(at) => at,
         None => return Ok(()),
     };
-    let search = Search {
+    add_ways_behind(search, joined_to(search.layout.joints(), at), found)
+}
+
+/// All ways that begin at the signal of a search.
+#[tactic(auto, using(crate::proofs::ImpossibleLaws::finds_alone, crate::proofs::ImpossibleLaws::stops_alone))]
+fn ways_alone(search: Search<'_>) -> Result<Vec<Way>, Underived>
+    ensures { Finds (λ v. v.items) result (ways_from search.entry.judged search.entry.layout.now search.entry.signal) }
+{
+    let mut found = Vec::new(search.alloc);
+    match add_ways_from(search, &mut found) {
+        Ok(()) => Ok(found),
+        Err(fault) => Err(fault),
+    }
+}
+
+/// All ways of at most 64 elements that begin at a signal, be they passable or not, or `TooMany` where
+/// there are more than 64.
+pub(crate) fn all_ways_from(
+    alloc: Global,
+    layout: &Layout,
+    signal: SignalId,
+) -> Result<Vec<Way>, Underived>
+    ensures found { IfOk result (λ v. v.items ≡ ways_from false layout.now signal) }
+    ensures many { result ≡ Err TooMany → ManyWaysFrom layout.now signal }
+    ensures once { Once layout.now }
+    ensures station { IsStation layout.now }
+{
+    layout.joints();
+    ways_alone(Search {
         alloc,
         layout,
-        signal: entry,
-    };
-    add_ways_behind(search, joined_to(layout.joints(), at), found)
+        signal,
+        judged: false,
+    })
 }
 
 /// Whether a signal stands in a list.
@@ -180,7 +205,7 @@ fn is_asked(entries: &[SignalId], signal: SignalId) -> bool
     entries.iter().any(|entry| entry.0 == signal.0)
 }
 
-/// Adds all ways that begin at a signal, if it stands in a list.
+/// Adds all passable ways that begin at a signal, if it stands in a list.
 fn add_ways_asked(
     alloc: Global,
     layout: &Layout,
@@ -193,10 +218,16 @@ fn add_ways_asked(
     if !is_asked(entries, signal) {
         return Ok(());
     }
-    add_ways_from(alloc, layout, signal, found)
+    let search = Search {
+        alloc,
+        layout,
+        signal,
+        judged: true,
+    };
+    add_ways_from(search, found)
 }
 
-/// All ways that begin at signals of a list, in layout order.
+/// All passable ways that begin at signals of a list, in layout order.
 fn ways_asked(alloc: Global, layout: &Layout, entries: &[SignalId]) -> Result<Vec<Way>, Underived>
     ensures { Finds (λ v. v.items) result (ways_below layout.now entries.now (length layout.now.signals)) }
 {

@@ -1,6 +1,6 @@
 //! At which sides a passage requires points: its own, and the one that protects its flank.
 
-ghost use Rattle.std.specs.Prelude.{◌≡◌};
+ghost use Rattle.std.specs.Prelude.{◌≡◌, Some};
 ghost use Rattle.control_table.specs.Sides.{leg_at, other};
 ghost use Rattle.route_derivation.specs.inside.WaySearch.{side_of, leg_used, used, leg_of_another, protection_from, protection_of, flank_need, flank_at, is_open_at, same_side, has_need, opposed};
 
@@ -21,7 +21,7 @@ fn side_of(end: End) -> Option<Side>
 }
 
 /// The leg to which a point leads at a side.
-fn leg_at(side: Side) -> End
+pub(crate) fn leg_at(side: Side) -> End
     ensures { result ≡ leg_at side }
 {
     match side {
@@ -31,7 +31,7 @@ fn leg_at(side: Side) -> End
 }
 
 /// The other side.
-fn other(side: Side) -> Side
+pub(crate) fn other(side: Side) -> Side
     ensures { result ≡ other side }
 {
     match side {
@@ -101,7 +101,7 @@ fn protection_from(layout: &Layout, point: PointId, from: Port) -> Protection
 
 /// What protects the way at the unused leg of a point that it passes at a side.
 #[tactic(auto, unfolding(crate::specs::inside::WaySearch::protection_of))]
-fn protection_of(layout: &Layout, point: PointId, side: Side) -> Protection
+pub(crate) fn protection_of(layout: &Layout, point: PointId, side: Side) -> Protection
     ensures { result ≡ protection_of layout.now point side }
 {
     let unused = Port {
@@ -124,12 +124,22 @@ fn flank_need(protection: Protection) -> Option<(PointId, Side)>
     }
 }
 
+/// The point that guards the other leg of a point that is passed at a side, and its side.
+pub(crate) fn protection_by_point(
+    layout: &Layout,
+    passed: (PointId, Side),
+) -> Option<(PointId, Side)>
+    ensures { result ≡ flank_at layout.now (Some passed) }
+{
+    flank_need(protection_of(layout, passed.0, passed.1))
+}
+
 /// The point that guards the unused leg of a passage, and its side.
 pub(crate) fn flank_at(layout: &Layout, passage: &Passage) -> Option<(PointId, Side)>
     ensures { result ≡ flank_at layout.now (used passage.now) }
 {
     match used(passage) {
-        Some((point, side)) => flank_need(protection_of(layout, point, side)),
+        Some(passed) => protection_by_point(layout, passed),
         None => None,
     }
 }

@@ -6,6 +6,8 @@
 #[cfg(test)]
 mod bench;
 #[cfg(test)]
+mod command_line;
+#[cfg(test)]
 mod events;
 #[cfg(test)]
 mod hostile;

@@ -1,5 +1,5 @@
-//! The program `station`. `station check FILE` tells whether the layout in FILE is sound, `station plan FILE` draws its
-//! track plan, and `station table FILE` prints its control table; `station sim FILE EVENTS` applies lines of events to a
+//! The program `station`. `station check FILE` tells whether the layout in FILE is sound, `station routes FILE` prints the
+//! routes that its table lacks, `station plan FILE` draws its track plan, and `station table FILE` prints its control table; `station sim FILE EVENTS` applies lines of events to a
 //! station of it, `station run FILE --script S --record R --for MS` runs one over sockets, `station panel FILE` has one operated
 //! from a browser, `station replay FILE RECORD` applies a recorded session, and `station chart FILE RECORD` draws it; `station decode --hex HEX` puts a datagram into
 //! words, and `station decode FILE RECORD` those of a session, which `station capture FILE RECORD OUT` writes to a file for
@@ -9,21 +9,21 @@
 
 use node_panel::{NodePanelOptions, panel_of_node};
 use node_record::{
-    Cut as NodeCut, NodeCaptureOptions, NodeRecord, capture_node_to_file, chart_node_text,
-    decode_node_text, ends_text,
+    Cut as NodeCut, FoundEnds, NodeCaptureOptions, NodeRecord, capture_node_to_file,
+    chart_node_text, decode_node_text, ends_text,
 };
 use panel_page::PAGE;
 use station_command::{
-    CaptureArguments, ChartArguments, CheckArguments, DatagramArguments, Error, Failure,
-    NodeArguments, PanelArguments, PlanArguments, Request, RunArguments, SessionArguments,
-    SimArguments, TableArguments, input_once, is_memory, lines_of, read_words, text_of, texts_of,
-    words,
+    Approach, CaptureArguments, ChartArguments, CheckArguments, DatagramArguments, Error, Failure,
+    NodeArguments, PanelArguments, PlanArguments, Request, RoutesArguments, RunArguments, RunFiles,
+    SessionArguments, SimArguments, TableArguments, files_of, input_once, is_memory, lines_of,
+    read_words, record_texts_of, text_of, texts_of, words,
 };
 use station_layout::{Form, explain_text, plan_text, table_text};
 use station_node::node_network::WaitedStream;
 use station_node::{self, NodeOptions, layout_digest, replay_node_text};
 use station_run::station_record::{
-    CaptureOptions, Cut, Endpoint, capture_to_file, chart_text, decode_session_text,
+    CaptureOptions, Cut, capture_to_file, chart_text, decode_session_text,
 };
 use station_run::{
     self, Limits, PageAsked, PanelOptions, RunOptions, check_text, decode_text, replay_text,
@@ -31,6 +31,10 @@ use station_run::{
 };
 use std::io::{BufWriter, IsTerminal, Write};
 use std::process::ExitCode;
+use table_review::{
+    ApproachRule, Asked, Completed, ReviewFault, completed_text, lacking_text, review_text,
+};
+use whole_file::{DiskPlace, keep};
 
 fn main(rt: HostRuntime) -> ExitCode {
     let status = match answer(&rt) {
@@ -71,6 +75,7 @@ fn refuse(rt: &HostRuntime, error: &Error) -> Result<u8, Failure> {
 fn carry_out<W: Write>(rt: &HostRuntime, request: Request<'_>, out: &mut W) -> Result<u8, Failure> {
     match request {
         Request::Check(arguments) => check(rt, arguments, out),
+        Request::Routes(arguments) => routes(rt, arguments, out),
         Request::Plan(arguments) => plan(rt, arguments, out),
         Request::Table(arguments) => table(rt, arguments, out),
         Request::Sim(arguments) => sim(rt, arguments, out),
@@ -85,22 +90,92 @@ fn carry_out<W: Write>(rt: &HostRuntime, request: Request<'_>, out: &mut W) -> R
     }
 }
 
-/// `check FILE [--explain] [--digest]`.
+/// `check FILE [--explain] [--complete] [--digest]`.
 fn check<W: Write>(
     rt: &HostRuntime,
     arguments: CheckArguments<'_>,
     out: &mut W,
 ) -> Result<u8, Failure> {
     let text = text_of(rt, arguments.layout)?;
-    let status = if arguments.explained {
+    let mut status = if arguments.explained {
         explain_text(rt.alloc(), text.as_str(), out, &mut rt.stderr())
     } else {
         check_text(rt.alloc(), text.as_str(), out, &mut rt.stderr())
     };
+    if status == 0 && arguments.complete {
+        status = tell_found(rt, review_text(rt.alloc(), text.as_str()), out);
+    }
     if status == 0 && arguments.digest {
         return tell_digest(rt, text.as_str());
     }
     Ok(status)
+}
+
+/// Writes what was found of a table, or why nothing was.
+fn tell_found<W: Write>(rt: &HostRuntime, found: Result<Vec<u8>, ReviewFault>, out: &mut W) -> u8 {
+    match found {
+        Ok(text) => match out.write_all(&text).and_then(|()| out.flush()) {
+            Ok(()) => 0,
+            Err(_) => 1,
+        },
+        Err(fault) => tell_fault(rt, &fault),
+    }
+}
+
+/// Tells why nothing is said of a table.
+fn tell_fault(rt: &HostRuntime, fault: &ReviewFault) -> u8 {
+    // Where this can't be written, the status has to do.
+    let _ = eprintln!(rt; "{fault}");
+    1
+}
+
+/// The rule of approach that is asked for.
+fn approach_rule(asked: Option<Approach>) -> ApproachRule {
+    match asked {
+        Some(Approach::Berth) => ApproachRule::Berth,
+        _ => ApproachRule::Signal,
+    }
+}
+
+/// `routes FILE [--from SIGNALS] [--approach RULE] [--write]`.
+fn routes<W: Write>(
+    rt: &HostRuntime,
+    arguments: RoutesArguments<'_>,
+    out: &mut W,
+) -> Result<u8, Failure> {
+    let text = text_of(rt, arguments.layout)?;
+    let asked = Asked {
+        text: text.as_str(),
+        from: arguments.from,
+        rule: approach_rule(arguments.approach),
+    };
+    if !arguments.write {
+        return Ok(tell_found(rt, lacking_text(rt.alloc(), &asked), out));
+    }
+    match completed_text(rt.alloc(), &asked) {
+        Ok(Some(completed)) => write_routes(rt, arguments.layout, &completed),
+        Ok(None) => Ok(0),
+        Err(fault) => Ok(tell_fault(rt, &fault)),
+    }
+}
+
+/// The word for standard input, which can't be written.
+const INPUT: &str = "-";
+
+/// Puts a text with routes in the place of a layout, whole.
+fn write_routes(rt: &HostRuntime, file: &str, completed: &Completed) -> Result<u8, Failure> {
+    let Ok(mut place) = DiskPlace::new(rt, file) else {
+        return Err(Failure::OutOfMemory);
+    };
+    if file == INPUT || keep(&mut place, &completed.text).is_err() {
+        let _ = eprintln!(rt; "can't write {file}");
+        return Ok(1);
+    }
+    let routes = completed.routes;
+    match println!(rt; "{routes} routes written") {
+        Ok(()) => Ok(0),
+        Err(_) => Ok(1),
+    }
 }
 
 /// Prints the digest of a layout.
@@ -167,18 +242,24 @@ fn sim<W: Write>(
     ))
 }
 
-/// `run FILE --script S --record R --for MS`. How far it has come is shown where standard error is a terminal.
+/// `run FILE --script S --record R [--record-size N] --for MS [--stop-file F]`. How far it has come is shown where standard error
+/// is a terminal.
 fn run<W: Write>(
     rt: &HostRuntime,
     arguments: RunArguments<'_>,
     out: &mut W,
 ) -> Result<u8, Failure> {
     let (layout, script) = texts_of(rt, arguments.layout, arguments.script)?;
+    let files = RunFiles {
+        record_size: arguments.record_size,
+        stop_file: arguments.stop_file,
+    };
     let asked = RunOptions {
         layout: layout.as_str(),
         script: script.as_str(),
         record: arguments.record,
         for_ms: arguments.for_ms,
+        files: files_of(rt, Some(arguments.record), files)?,
     };
     let progress = rt.stderr().is_terminal();
     Ok(station_run::run(rt, &asked, out, &mut rt.stderr(), progress))
@@ -204,7 +285,7 @@ const RECORD: &str = "panel.session";
 /// Up to how many bytes of datagrams a panel stands: 1 GiB.
 const MEMORY: u64 = 1 << 30;
 
-/// `panel FILE [--port P] [--record R] [--for MS] [--node ADDRESS]`. The track plan is drawn first.
+/// `panel FILE [--port P] [--record R] [--for MS] [--stop-file F] [--node ADDRESS]`. The track plan is drawn first.
 fn panel(rt: &HostRuntime, arguments: PanelArguments<'_>) -> Result<u8, Failure> {
     let text = text_of(rt, arguments.layout)?;
     let layout = text.as_str();
@@ -213,6 +294,12 @@ fn panel(rt: &HostRuntime, arguments: PanelArguments<'_>) -> Result<u8, Failure>
     if status != 0 {
         return Ok(status);
     }
+    let record = arguments.record.unwrap_or(RECORD);
+    let files = RunFiles {
+        record_size: None,
+        stop_file: arguments.stop_file,
+    };
+    let files = files_of(rt, Some(record), files)?;
     let page = PageAsked {
         layout,
         plan: str::from_utf8(&plan).unwrap_or(""),
@@ -220,22 +307,27 @@ fn panel(rt: &HostRuntime, arguments: PanelArguments<'_>) -> Result<u8, Failure>
         version: VERSION,
         port: port_of(arguments.port),
         kind: "world",
-        record: arguments.record.unwrap_or(RECORD),
+        record,
     };
     Ok(match arguments.node {
         Some(node) => panel_node(rt, page, node, arguments),
-        None => panel_station(rt, page, arguments.for_ms),
+        None => panel_station(rt, page, arguments.for_ms, files.stop_file),
     })
 }
 
 /// Has a station operated from a browser.
-fn panel_station(rt: &HostRuntime, page: PageAsked<'_>, for_ms: Option<u64>) -> u8 {
+fn panel_station(
+    rt: &HostRuntime,
+    page: PageAsked<'_>,
+    for_ms: Option<u64>,
+    stop_file: Option<&str>,
+) -> u8 {
     let limits = Limits {
         for_ms: for_ms.unwrap_or(u64::MAX),
         memory: MEMORY,
     };
     let asked = PanelOptions { page, limits };
-    station_run::panel(rt, &asked, &mut rt.stdout(), &mut rt.stderr())
+    station_run::panel(rt, &asked, stop_file, &mut rt.stdout(), &mut rt.stderr())
 }
 
 /// Has the node of an interlocking operated from a browser.
@@ -254,6 +346,7 @@ fn panel_node(
         record: arguments.record,
         node,
         for_ms: arguments.for_ms,
+        stop_file: arguments.stop_file,
     };
     panel_of_node(rt, &asked, &mut rt.stdout(), &mut rt.stderr())
 }
@@ -264,7 +357,7 @@ fn replay<W: Write>(
     arguments: SessionArguments<'_>,
     out: &mut W,
 ) -> Result<u8, Failure> {
-    let (layout, recording) = texts_of(rt, arguments.layout, arguments.recording)?;
+    let (layout, recording) = record_texts_of(rt, arguments.layout, arguments.recording)?;
     let (layout, recording) = (layout.as_str(), recording.as_str());
     Ok(match arguments.node {
         Some(name) => {
@@ -280,7 +373,7 @@ fn chart<W: Write>(
     arguments: ChartArguments<'_>,
     out: &mut W,
 ) -> Result<u8, Failure> {
-    let (layout, recording) = texts_of(rt, arguments.layout, arguments.recording)?;
+    let (layout, recording) = record_texts_of(rt, arguments.layout, arguments.recording)?;
     let (layout, recording) = (layout.as_str(), recording.as_str());
     let ChartArguments { from, to, .. } = arguments;
     Ok(match arguments.node {
@@ -325,7 +418,7 @@ fn decode_session<W: Write>(
     arguments: SessionArguments<'_>,
     out: &mut W,
 ) -> Result<u8, Failure> {
-    let (layout, recording) = texts_of(rt, arguments.layout, arguments.recording)?;
+    let (layout, recording) = record_texts_of(rt, arguments.layout, arguments.recording)?;
     let (layout, recording) = (layout.as_str(), recording.as_str());
     Ok(match arguments.node {
         Some(name) => {
@@ -339,19 +432,19 @@ fn decode_session<W: Write>(
 fn capture(rt: &HostRuntime, arguments: CaptureArguments<'_>) -> Result<u8, Failure> {
     let addresses = arguments.addresses.unwrap_or("");
     input_once(&[arguments.layout, arguments.recording, addresses])?;
-    let (layout, recording) = texts_of(rt, arguments.layout, arguments.recording)?;
+    let (layout, recording) = record_texts_of(rt, arguments.layout, arguments.recording)?;
     let Some(ends) = ends_of(rt, layout.as_str(), arguments.addresses)? else {
         return Ok(1);
     };
     let asked = CaptureOptions {
         layout: layout.as_str(),
         recording: recording.as_str(),
-        endpoints: &ends,
+        endpoints: &ends.first,
         out: arguments.out,
         force: arguments.force,
     };
     Ok(match arguments.node {
-        Some(name) => capture_node(rt, &asked, name),
+        Some(name) => capture_node(rt, &asked, name, &ends),
         None => capture_to_file(rt, &asked, &mut rt.stderr()),
     })
 }
@@ -361,23 +454,23 @@ fn ends_of(
     rt: &HostRuntime,
     layout: &str,
     addresses: Option<&str>,
-) -> Result<Option<Vec<Endpoint>>, Failure> {
+) -> Result<Option<FoundEnds>, Failure> {
     match addresses {
         Some(file) => {
             let text = lines_of(rt, file)?;
             Ok(ends_text(rt.alloc(), layout, text.as_str(), &mut rt.stderr()))
         }
-        None => Ok(Some(Vec::new(rt.alloc()))),
+        None => Ok(Some(FoundEnds::none(rt.alloc()))),
     }
 }
 
 /// Writes the capture of the record of a node.
-fn capture_node(rt: &HostRuntime, asked: &CaptureOptions<'_>, name: &str) -> u8 {
+fn capture_node(rt: &HostRuntime, asked: &CaptureOptions<'_>, name: &str, ends: &FoundEnds) -> u8 {
     let asked = NodeCaptureOptions {
         layout: asked.layout,
         name,
         recording: asked.recording,
-        endpoints: asked.endpoints,
+        ends: ends.as_ends(),
         out: asked.out,
         force: asked.force,
     };
@@ -387,16 +480,22 @@ fn capture_node(rt: &HostRuntime, asked: &CaptureOptions<'_>, name: &str) -> u8 
 /// How many milliseconds a line may wait until it can be written.
 const PATIENCE: u16 = 50;
 
-/// `node FILE NAME --addresses ADDRESSES [--operator ADDRESS] [--record R] [--clock MS] [--for MS]`. The lines of the node go
-/// over standard input and output.
+/// `node FILE NAME --addresses ADDRESSES [--operator ADDRESS] [--record R] [--record-size N] [--clock MS] [--hold MS] [--for MS]
+/// [--stop-file F]`. The lines of the node go over standard input and output.
 fn node(rt: &HostRuntime, arguments: NodeArguments<'_>) -> Result<u8, Failure> {
     let (layout, addresses) = texts_of(rt, arguments.layout, arguments.addresses)?;
+    let files = RunFiles {
+        record_size: arguments.record_size,
+        stop_file: arguments.stop_file,
+    };
     let asked = NodeOptions {
         layout: layout.as_str(),
         name: arguments.name,
         addresses: addresses.as_str(),
         operator: arguments.operator,
         record: arguments.record,
+        files: files_of(rt, arguments.record, files)?,
+        hold: arguments.longest_wait(),
         clock: arguments.first_reading(),
         for_ms: arguments.for_ms,
     };

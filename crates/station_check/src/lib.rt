@@ -12,4 +12,4 @@ pub use failure::{Failure, tell};
 pub use table::table_of;
 
 // What crates above need of the crates below.
-pub use node_addresses::{AddressesFault, read_addresses};
+pub use node_addresses::{AddressesFault, Network, Networks, read_addresses, read_networks};

@@ -1,5 +1,6 @@
 -- The commands of `station`: the word of each, and what it takes.
-use Rattle.std.specs.Prelude.{ℕ, Bool, true, false, List, [], ◌∷◌, Option, Some, None, codes}
+use Rattle.std.specs.Prelude.{ℕ, Bool, ◌||◌, true, false, List, [], ◌∷◌, Option, Some, None, codes}
+use Rattle.std.specs.Str.{bytes_eq}
 
 -- How an argument is given: a file, by its place; an option, with a word, or with a number from a lowest to a highest one;
 -- a switch.
@@ -47,6 +48,12 @@ asks_to_decode (Worded (Some hex) ∷ Worded layout ∷ Worded None ∷ Worded N
 asks_to_decode (Worded None ∷ Worded None ∷ Worded (Some file) ∷ Worded (Some recording) ∷ Worded name ∷ []) = true
 asks_to_decode _ = false
 
+-- `routes` takes one of two rules of approach, or none
+abbrev pub asks_for_routes : List Value → Bool
+asks_for_routes (layout ∷ signals ∷ Worded None ∷ more) = true
+asks_for_routes (layout ∷ signals ∷ Worded (Some rule) ∷ more) = bytes_eq rule (codes "signal") || bytes_eq rule (codes "berth")
+asks_for_routes _ = false
+
 -- the file of a layout, a second file, and the name or the address of a node
 abbrev pub layout : Argument
 layout = must File (codes "FILE")
@@ -64,19 +71,27 @@ time = Number 1000 600000
 abbrev pub moment : Kind
 moment = Number 0 18446744073709551
 
+-- how many bytes a part of a record has, and the file that ends a run
+abbrev pub record_size : Argument
+record_size = may (Number 4096 4294967296) (codes "record-size")
+
+abbrev pub stop_file : Argument
+stop_file = may Word (codes "stop-file")
+
 -- the commands, in the order in which the help has them
 abbrev pub commands : List Command
 commands =
-    command (codes "check") (layout ∷ may Switch (codes "explain") ∷ may Switch (codes "digest") ∷ [])
+    command (codes "check") (layout ∷ may Switch (codes "explain") ∷ may Switch (codes "complete") ∷ may Switch (codes "digest") ∷ [])
+    ∷ record (command (codes "routes") (layout ∷ may Word (codes "from") ∷ may Word (codes "approach") ∷ may Switch (codes "write") ∷ [])) { asks = asks_for_routes }
     ∷ command (codes "plan") (layout ∷ may Word (codes "route") ∷ may Word (codes "picture") ∷ [])
     ∷ command (codes "table") (layout ∷ may Switch (codes "csv") ∷ [])
     ∷ command (codes "sim") (layout ∷ second ∷ [])
-    ∷ command (codes "run") (layout ∷ must Word (codes "script") ∷ must Word (codes "record") ∷ must time (codes "for") ∷ [])
-    ∷ command (codes "panel") (layout ∷ may (Number 1 65535) (codes "port") ∷ may Word (codes "record") ∷ may time (codes "for") ∷ node ∷ [])
+    ∷ command (codes "run") (layout ∷ must Word (codes "script") ∷ must Word (codes "record") ∷ record_size ∷ must time (codes "for") ∷ stop_file ∷ [])
+    ∷ command (codes "panel") (layout ∷ may (Number 1 65535) (codes "port") ∷ may Word (codes "record") ∷ may time (codes "for") ∷ stop_file ∷ node ∷ [])
     ∷ command (codes "replay") (layout ∷ second ∷ node ∷ [])
     ∷ command (codes "chart") (layout ∷ second ∷ node ∷ may moment (codes "from") ∷ may moment (codes "to") ∷ [])
     ∷ record (command (codes "decode") (may Word (codes "hex") ∷ may Word (codes "layout") ∷ may File (codes "FILE") ∷ may File (codes "SECOND") ∷ node ∷ [])) { asks = asks_to_decode }
     ∷ command (codes "capture") (layout ∷ second ∷ must File (codes "OUT") ∷ may Word (codes "addresses") ∷ node ∷ may Switch (codes "force") ∷ [])
-    ∷ command (codes "node") (layout ∷ must File (codes "NAME") ∷ must Word (codes "addresses") ∷ may Word (codes "operator") ∷ may Word (codes "record")
-    ∷ may (Number 0 9000000000000) (codes "clock") ∷ may time (codes "for") ∷ [])
+    ∷ command (codes "node") (layout ∷ must File (codes "NAME") ∷ must Word (codes "addresses") ∷ may Word (codes "operator") ∷ may Word (codes "record") ∷ record_size
+    ∷ may (Number 0 9000000000000) (codes "clock") ∷ may (Number 0 80) (codes "hold") ∷ may time (codes "for") ∷ stop_file ∷ [])
     ∷ []

@@ -7,5 +7,9 @@ use Rattle.station_command.specs.declared.failure.Failure.TheVariants as failure
 abbrev pub status_of : Failure → ℕ
 status_of (failures.Word place) = 2
 status_of failures.SecondInput = 2
+status_of failures.NoRecord = 2
 status_of (failures.File name) = 1
+status_of (failures.StopFile name) = 1
+status_of (failures.PartThere name) = 1
+status_of (failures.Parts fault) = 1
 status_of failures.OutOfMemory = 1

@@ -1,6 +1,9 @@
 -- What each request says: the word of its command, and a value for each of its arguments, in the order of the table.
 use Rattle.std.specs.Prelude.{ℕ, List, [], ◌∷◌, Some, None, codes, option_copied}
+use Rattle.std.specs.Option.{option_map}
 use Rattle.station_command.specs.Commands.{Counted, Said, Switched, Value, Worded}
+use Rattle.station_command.specs.declared.request.Approach.{Approach}
+use Rattle.station_command.specs.declared.request.Approach.TheVariants as approaches
 use Rattle.station_command.specs.declared.request.Request.{Request}
 use Rattle.station_command.specs.declared.request.Request.TheVariants as requests
 
@@ -11,14 +14,27 @@ one word = Worded (Some word)
 abbrev pub none : Value
 none = Worded None
 
+-- the word of a rule of approach
+abbrev pub word_of : Approach → List ℕ
+word_of approaches.Signal = codes "signal"
+word_of approaches.Berth = codes "berth"
+
 abbrev pub says : Request → Said
-says (requests.Check o) = (codes "check", one o.layout.now ∷ Switched o.explained ∷ Switched o.digest ∷ [])
+says (requests.Check o) = (codes "check", one o.layout.now ∷ Switched o.explained ∷ Switched o.complete ∷ Switched o.digest ∷ [])
+says (requests.Routes o) =
+    (codes "routes", one o.layout.now ∷ Worded (option_copied o.from) ∷ Worded (option_map word_of o.approach) ∷ Switched o.write ∷ [])
 says (requests.Plan o) = (codes "plan", one o.layout.now ∷ Worded (option_copied o.route) ∷ Worded (option_copied o.picture) ∷ [])
 says (requests.Table o) = (codes "table", one o.layout.now ∷ Switched o.csv ∷ [])
 says (requests.Sim o) = (codes "sim", one o.layout.now ∷ one o.events.now ∷ [])
-says (requests.Run o) = (codes "run", one o.layout.now ∷ one o.script.now ∷ one o.record.now ∷ Counted (Some o.for_ms) ∷ [])
-says (requests.Panel o) =
-    (codes "panel", one o.layout.now ∷ Counted o.port ∷ Worded (option_copied o.record) ∷ Counted o.for_ms ∷ Worded (option_copied o.node) ∷ [])
+says (requests.Run o) = (
+  codes "run",
+  one o.layout.now ∷ one o.script.now ∷ one o.record.now ∷ Counted o.record_size ∷ Counted (Some o.for_ms) ∷ Worded (option_copied o.stop_file) ∷ [],
+)
+says (requests.Panel o) = (
+  codes "panel",
+  one o.layout.now ∷ Counted o.port ∷ Worded (option_copied o.record) ∷ Counted o.for_ms
+      ∷ Worded (option_copied o.stop_file) ∷ Worded (option_copied o.node) ∷ [],
+)
 says (requests.Replay o) = (codes "replay", one o.layout.now ∷ one o.recording.now ∷ Worded (option_copied o.node) ∷ [])
 says (requests.Chart o) =
     (codes "chart", one o.layout.now ∷ one o.recording.now ∷ Worded (option_copied o.node) ∷ Counted o.from ∷ Counted o.to ∷ [])
@@ -32,5 +48,5 @@ says (requests.Capture o) = (
 says (requests.Node o) = (
   codes "node",
   one o.layout.now ∷ one o.name.now ∷ one o.addresses.now ∷ Worded (option_copied o.operator) ∷ Worded (option_copied o.record)
-      ∷ Counted o.clock ∷ Counted o.for_ms ∷ [],
+      ∷ Counted o.record_size ∷ Counted o.clock ∷ Counted o.hold ∷ Counted o.for_ms ∷ Worded (option_copied o.stop_file) ∷ [],
 )

@@ -1,34 +1,43 @@
 //! What the words of a command line ask for.
 
-ghost use Rattle.std.specs.Prelude.{◌≡◌, ◌↔◌, ◌⊎◌, IsTrue, IfOk, IfErr, None, codes, map, option_and_then, option_copied};
+ghost use Rattle.std.specs.Prelude.{◌≡◌, ◌↔◌, ◌⊎◌, ◌||◌, IsTrue, IfOk, IfErr, None, Some, codes, if◌then◌else◌, map, option_and_then, option_copied};
 ghost use Rattle.std.specs.Option.{option_map};
+ghost use Rattle.std.specs.Str.{bytes_eq};
 ghost use Rattle.clap.specs.Words.{FailsBy, app_of, kind_of, subcommand_rows_of};
 ghost use Rattle.station_command.specs.CommandWords.{Asks, asked_by, asked_in, faults_in, is_on, number_of};
 ghost use Rattle.station_command.specs.Line.{station_line};
-ghost use Rattle.station_command.specs.Requests.{says};
+ghost use Rattle.station_command.specs.Requests.{says, word_of};
 ghost use Rattle.station_command.specs.inside.Answers.{Answers, AnswersWords};
 ghost use Rattle.station_command.specs.inside.Matches.{asked_of_rows, value_in};
 ghost use Rattle.clap.specs.declared.error.kind.ErrorKind.TheVariants as kind;
 
 use crate::command_table::{
-    ADDRESSES, CAPTURE, CHART, CHECK, CLOCK, CSV, DECODE, DIGEST, EXPLAIN, FILE, FOR, FORCE, FROM,
-    HEX, LAYOUT, NAME, NODE, OPERATOR, OUT, PANEL, PICTURE, PLAN, PORT, RECORD, REPLAY, ROUTE, RUN,
-    SCRIPT, SECOND, SIM, TABLE, TO,
+    ADDRESSES, APPROACH, CAPTURE, CHART, CHECK, CLOCK, COMPLETE, CSV, DECODE, DIGEST, EXPLAIN,
+    FILE, FOR, FORCE, FROM, HEX, HOLD, LAYOUT, NAME, NODE, OPERATOR, OUT, PANEL, PICTURE, PLAN,
+    PORT, RECORD, RECORD_SIZE, REPLAY, ROUTE, ROUTES, RUN, SCRIPT, SECOND, SIM, STOP_FILE, TABLE,
+    TO, WRITE,
 };
 use crate::line::station;
 use crate::request::{
-    CaptureArguments, ChartArguments, CheckArguments, DatagramArguments, NodeArguments,
-    PanelArguments, PlanArguments, Request, RunArguments, SessionArguments, SimArguments,
-    TableArguments,
+    Approach, CaptureArguments, ChartArguments, CheckArguments, DatagramArguments, NodeArguments,
+    PanelArguments, PlanArguments, Request, RoutesArguments, RunArguments, SessionArguments,
+    SimArguments, TableArguments,
 };
 use clap::error::ErrorKind;
 use clap::{ArgMatches, Command, Error};
 use std::alloc::Global;
 use std::convert::AsStr;
 
-/// What is told of words that are read and ask for nothing.
-const ASKS_NOTHING: &str =
+/// What is told of words that are read and ask for nothing, by the command.
+const NOTHING_TO_DECODE: &str =
     "decode takes either --hex HEX, with or without --layout FILE, or FILE and RECORD, with or without --node NAME";
+
+const NO_RULE: &str = "routes takes --approach signal or --approach berth";
+
+/// The words of the two rules of approach.
+const SIGNAL: &str = "signal";
+
+const BERTH: &str = "berth";
 
 /// The value of a switch that is on.
 const ON: &str = "true";
@@ -78,7 +87,38 @@ fn check<'a>(matches: &ArgMatches<'a>) -> Option<Request<'a>>
     Some(Request::Check(CheckArguments {
         layout: word(matches, FILE)?,
         explained: is_on(matches, EXPLAIN),
+        complete: is_on(matches, COMPLETE),
         digest: is_on(matches, DIGEST),
+    }))
+}
+
+/// The rule of approach of a word, if it is the word of one.
+fn approach_of(word: &str) -> Option<Approach>
+    ensures { option_map word_of result ≡ (if bytes_eq word.now (codes "signal") || bytes_eq word.now (codes "berth") then Some word.now else None) }
+{
+    match word {
+        SIGNAL => Some(Approach::Signal),
+        BERTH => Some(Approach::Berth),
+        _ => None,
+    }
+}
+
+/// The routes that are asked for.
+fn routes<'a>(matches: &ArgMatches<'a>) -> Option<Request<'a>>
+    ensures { option_map says result ≡ asked_by (value_in matches.now) (codes "routes") }
+{
+    let layout = word(matches, FILE)?;
+    let from = word(matches, FROM);
+    let write = is_on(matches, WRITE);
+    let approach = match word(matches, APPROACH) {
+        Some(rule) => Some(approach_of(rule)?),
+        None => None,
+    };
+    Some(Request::Routes(RoutesArguments {
+        layout,
+        from,
+        approach,
+        write,
     }))
 }
 
@@ -121,7 +161,9 @@ fn run<'a>(matches: &ArgMatches<'a>) -> Option<Request<'a>>
         layout: word(matches, FILE)?,
         script: word(matches, SCRIPT)?,
         record: word(matches, RECORD)?,
+        record_size: number_given(matches, RECORD_SIZE),
         for_ms: number_given(matches, FOR)?,
+        stop_file: word(matches, STOP_FILE),
     }))
 }
 
@@ -134,6 +176,7 @@ fn panel<'a>(matches: &ArgMatches<'a>) -> Option<Request<'a>>
         port: number_given(matches, PORT),
         record: word(matches, RECORD),
         for_ms: number_given(matches, FOR),
+        stop_file: word(matches, STOP_FILE),
         node: word(matches, NODE),
     }))
 }
@@ -210,8 +253,11 @@ fn node<'a>(matches: &ArgMatches<'a>) -> Option<Request<'a>>
         addresses: word(matches, ADDRESSES)?,
         operator: word(matches, OPERATOR),
         record: word(matches, RECORD),
+        record_size: number_given(matches, RECORD_SIZE),
         clock: number_given(matches, CLOCK),
+        hold: number_given(matches, HOLD),
         for_ms: number_given(matches, FOR),
+        stop_file: word(matches, STOP_FILE),
     }))
 }
 
@@ -221,6 +267,7 @@ fn request_by<'a>(name: &str, matches: &ArgMatches<'a>) -> Option<Request<'a>>
 {
     match name {
         CHECK => check(matches),
+        ROUTES => routes(matches),
         PLAN => plan(matches),
         TABLE => table(matches),
         SIM => sim(matches),
@@ -243,13 +290,24 @@ fn request_in<'a>(matches: &ArgMatches<'a>) -> Option<Request<'a>>
     request_by(name, matches)
 }
 
+/// What is told where a command was found that asks for nothing.
+fn told_of_nothing(matches: &ArgMatches<'_>) -> &'static str {
+    match matches.subcommand() {
+        Some((ROUTES, _)) => NO_RULE,
+        _ => NOTHING_TO_DECODE,
+    }
+}
+
 /// What was found on a command line asks for. Where it asks for nothing, the command tells what it takes.
 fn answer<'a>(command: &mut Command<'a>, matches: &ArgMatches<'a>) -> Result<Request<'a>, Error>
     ensures { Answers (asked_of_rows (subcommand_rows_of matches.now)) result }
 {
     match request_in(matches) {
         Some(request) => Ok(request),
-        None => Err(command.error(ErrorKind::MissingRequiredArgument, ASKS_NOTHING)?),
+        None => {
+            let told = told_of_nothing(matches);
+            Err(command.error(ErrorKind::MissingRequiredArgument, told)?)
+        }
     }
 }
 

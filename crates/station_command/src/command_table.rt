@@ -27,6 +27,8 @@ pub(crate) const CAPTURE: &str = "capture";
 /// This is also the word of an option for records.
 pub(crate) const NODE: &str = "node";
 
+pub(crate) const ROUTES: &str = "routes";
+
 /// The file of the layout, and the one that is applied to it.
 pub(crate) const FILE: &str = "FILE";
 
@@ -40,7 +42,14 @@ pub(crate) const PICTURE: &str = "picture";
 /// The switches of a check.
 pub(crate) const EXPLAIN: &str = "explain";
 
+pub(crate) const COMPLETE: &str = "complete";
+
 pub(crate) const DIGEST: &str = "digest";
+
+/// The option and the switch of derived routes, beside `from`.
+pub(crate) const APPROACH: &str = "approach";
+
+pub(crate) const WRITE: &str = "write";
 
 /// The switch of a table.
 pub(crate) const CSV: &str = "csv";
@@ -52,12 +61,17 @@ pub(crate) const RECORD: &str = "record";
 
 pub(crate) const FOR: &str = "for";
 
+/// The options of each long run: how long a part of its record is, and the file that ends it.
+pub(crate) const RECORD_SIZE: &str = "record-size";
+
+pub(crate) const STOP_FILE: &str = "stop-file";
+
 /// The options of a datagram.
 pub(crate) const HEX: &str = "hex";
 
 pub(crate) const LAYOUT: &str = "layout";
 
-/// The options of a chart.
+/// The options of a chart. The first is also one of derived routes.
 pub(crate) const FROM: &str = "from";
 
 pub(crate) const TO: &str = "to";
@@ -67,7 +81,7 @@ pub(crate) const OUT: &str = "OUT";
 
 pub(crate) const FORCE: &str = "force";
 
-/// The name of a node, where nodes and an operator are reached, and the first reading of a clock.
+/// The name of a node, where nodes and an operator are reached, the first reading of a clock, and how long a datagram waits.
 pub(crate) const NAME: &str = "NAME";
 
 pub(crate) const ADDRESSES: &str = "addresses";
@@ -75,6 +89,8 @@ pub(crate) const ADDRESSES: &str = "addresses";
 pub(crate) const OPERATOR: &str = "operator";
 
 pub(crate) const CLOCK: &str = "clock";
+
+pub(crate) const HOLD: &str = "hold";
 
 /// The port of a page, the lowest and the highest.
 pub(crate) const PORT: &str = "port";
@@ -88,8 +104,16 @@ const SHORTEST: u64 = 1000;
 
 const LONGEST: u64 = 600_000;
 
+/// The shortest and the longest part of a record, in bytes: a file of more isn't read.
+const SMALLEST: u64 = 4096;
+
+const LARGEST: u64 = 4_294_967_296;
+
 /// The last moment of a chart, in milliseconds.
 const LATEST: u64 = 18_446_744_073_709_551;
+
+/// The longest time for which a datagram waits for those before it, in milliseconds.
+const LONGEST_HOLD: u64 = 80;
 
 /// How an argument is given, and what the help calls its value.
 #[derive(Clone, Copy)]
@@ -126,14 +150,26 @@ pub(crate) struct Entry {
 
 /// The commands, in the order in which the help has them.
 pub(crate) const COMMANDS: &[Entry] = &[
-    // `check FILE [--explain] [--digest]`
+    // `check FILE [--explain] [--complete] [--digest]`
     Entry {
         word: CHECK,
         help: CommandHelp::Check,
         arguments: &[
             Argument(FILE, Kind::File("FILE"), NEEDED, Help::File),
             Argument(EXPLAIN, Kind::Switch, OPTIONAL, Help::Explain),
+            Argument(COMPLETE, Kind::Switch, OPTIONAL, Help::Complete),
             Argument(DIGEST, Kind::Switch, OPTIONAL, Help::Digest),
+        ],
+    },
+    // `routes FILE [--from SIGNALS] [--approach RULE] [--write]`
+    Entry {
+        word: ROUTES,
+        help: CommandHelp::Routes,
+        arguments: &[
+            Argument(FILE, Kind::File("FILE"), NEEDED, Help::File),
+            Argument(FROM, Kind::Word("SIGNALS"), OPTIONAL, Help::FromSignals),
+            Argument(APPROACH, Kind::Word("RULE"), OPTIONAL, Help::Approach),
+            Argument(WRITE, Kind::Switch, OPTIONAL, Help::Write),
         ],
     },
     // `plan FILE [--route R] [--picture PICTURE]`
@@ -164,7 +200,7 @@ pub(crate) const COMMANDS: &[Entry] = &[
             Argument(SECOND, Kind::File("EVENTS"), NEEDED, Help::Events),
         ],
     },
-    // `run FILE --script S --record R --for MS`
+    // `run FILE --script S --record R [--record-size N] --for MS [--stop-file F]`
     Entry {
         word: RUN,
         help: CommandHelp::Run,
@@ -173,14 +209,21 @@ pub(crate) const COMMANDS: &[Entry] = &[
             Argument(SCRIPT, Kind::Word("S"), NEEDED, Help::Script),
             Argument(RECORD, Kind::Word("R"), NEEDED, Help::RecordOfRun),
             Argument(
+                RECORD_SIZE,
+                Kind::Number("N", SMALLEST, LARGEST),
+                OPTIONAL,
+                Help::RecordSize,
+            ),
+            Argument(
                 FOR,
                 Kind::Number("MS", SHORTEST, LONGEST),
                 NEEDED,
                 Help::For,
             ),
+            Argument(STOP_FILE, Kind::Word("F"), OPTIONAL, Help::StopFile),
         ],
     },
-    // `panel FILE [--port P] [--record R] [--for MS] [--node ADDRESS]`
+    // `panel FILE [--port P] [--record R] [--for MS] [--stop-file F] [--node ADDRESS]`
     Entry {
         word: PANEL,
         help: CommandHelp::Panel,
@@ -199,6 +242,7 @@ pub(crate) const COMMANDS: &[Entry] = &[
                 OPTIONAL,
                 Help::ForOfPanel,
             ),
+            Argument(STOP_FILE, Kind::Word("F"), OPTIONAL, Help::StopFile),
             Argument(NODE, Kind::Word("ADDRESS"), OPTIONAL, Help::NodeOfPanel),
         ],
     },
@@ -254,7 +298,8 @@ pub(crate) const COMMANDS: &[Entry] = &[
             Argument(FORCE, Kind::Switch, OPTIONAL, Help::Force),
         ],
     },
-    // `node FILE NAME --addresses ADDRESSES [--operator ADDRESS] [--record R] [--clock MS] [--for MS]`
+    // `node FILE NAME --addresses ADDRESSES [--operator ADDRESS] [--record R] [--record-size N] [--clock MS] [--hold MS]
+    // [--for MS] [--stop-file F]`
     Entry {
         word: NODE,
         help: CommandHelp::Node,
@@ -265,10 +310,22 @@ pub(crate) const COMMANDS: &[Entry] = &[
             Argument(OPERATOR, Kind::Word("ADDRESS"), OPTIONAL, Help::Operator),
             Argument(RECORD, Kind::Word("R"), OPTIONAL, Help::RecordOfNode),
             Argument(
+                RECORD_SIZE,
+                Kind::Number("N", SMALLEST, LARGEST),
+                OPTIONAL,
+                Help::RecordSize,
+            ),
+            Argument(
                 CLOCK,
                 Kind::Number("MS", 0, LATEST_CLOCK),
                 OPTIONAL,
                 Help::Clock,
+            ),
+            Argument(
+                HOLD,
+                Kind::Number("MS", 0, LONGEST_HOLD),
+                OPTIONAL,
+                Help::Hold,
             ),
             Argument(
                 FOR,
@@ -276,6 +333,7 @@ pub(crate) const COMMANDS: &[Entry] = &[
                 OPTIONAL,
                 Help::ForOfNode,
             ),
+            Argument(STOP_FILE, Kind::Word("F"), OPTIONAL, Help::StopFile),
         ],
     },
 ];

@@ -3,6 +3,7 @@
 ghost use Rattle.std.specs.Prelude.{◌≡◌};
 ghost use Rattle.station_command.specs.Failures.{status_of};
 
+use run_files::PartsFault;
 use thiserror::Error;
 
 /// Why a command isn't carried out.
@@ -12,8 +13,16 @@ pub enum Failure {
     Word(usize),
     #[error("standard input can be read for one file alone")]
     SecondInput,
+    #[error("a size of the record's parts needs a record")]
+    NoRecord,
     #[error("cannot read {0}")]
     File(String),
+    #[error("the file {0}, which is to end the run, is there already")]
+    StopFile(String),
+    #[error("the file {0} of the record is there already")]
+    PartThere(String),
+    #[error("{0}")]
+    Parts(PartsFault),
     #[error("out of memory")]
     OutOfMemory,
 }
@@ -24,7 +33,7 @@ impl Failure {
         ensures { result ≡ status_of self.now }
     {
         match self {
-            Failure::Word(_) | Failure::SecondInput => 2,
+            Failure::Word(_) | Failure::SecondInput | Failure::NoRecord => 2,
             _ => 1,
         }
     }

@@ -6,6 +6,7 @@ ghost use Rattle.station_command.specs.declared.failure.Failure.TheVariants as f
 
 use crate::Failure;
 use limited_text::{Content, TextFault, file_text, input_text};
+use run_files::{PartsFault, RunFiles, StopFile, file_there, with_further_parts};
 
 /// The word for standard input.
 const INPUT: &str = "-";
@@ -52,6 +53,60 @@ pub fn text_of(rt: &HostRuntime, file: &str) -> Result<String, Failure> {
 /// The text of a file of lines: events, a session, a script or addresses.
 pub fn lines_of(rt: &HostRuntime, file: &str) -> Result<String, Failure> {
     read(rt, file, Content::Lines)
+}
+
+/// The texts of the file of a layout, which is read first, and of a record with all its parts.
+pub fn record_texts_of(
+    rt: &HostRuntime,
+    layout: &str,
+    record: &str,
+) -> Result<(String, String), Failure> {
+    let (layout, first) = texts_of(rt, layout, record)?;
+    if is_input(record) {
+        return Ok((layout, first));
+    }
+    match with_further_parts(rt, record, first) {
+        Ok(text) => Ok((layout, text)),
+        Err(PartsFault::OutOfMemory) => Err(Failure::OutOfMemory),
+        Err(fault) => Err(Failure::Parts(fault)),
+    }
+}
+
+/// What a long run is asked of its files, where it may begin: the file that ends it isn't there, and where its record is to stand in
+/// parts, neither is one of these.
+pub fn files_of<'a>(
+    rt: &HostRuntime,
+    record: Option<&str>,
+    files: RunFiles<'a>,
+) -> Result<RunFiles<'a>, Failure> {
+    if let Some(path) = files.stop_file {
+        if StopFile::new(rt, Some(path)).is_there() {
+            return Err(ends_at_once(rt, path));
+        }
+    }
+    match (record, files.record_size) {
+        (Some(record), Some(_)) => none_there(rt, record)?,
+        (None, Some(_)) => return Err(Failure::NoRecord),
+        _ => (),
+    }
+    Ok(files)
+}
+
+/// The file of this name would end a run at once.
+fn ends_at_once(rt: &HostRuntime, name: &str) -> Failure {
+    match String::from_str(rt.alloc(), name) {
+        Ok(name) => Failure::StopFile(name),
+        Err(_) => Failure::OutOfMemory,
+    }
+}
+
+/// None of the parts of a record that begins may be there.
+fn none_there(rt: &HostRuntime, record: &str) -> Result<(), Failure> {
+    match file_there(rt, record) {
+        Ok(None) => Ok(()),
+        Ok(Some(name)) => Err(Failure::PartThere(name)),
+        Err(_) => Err(Failure::OutOfMemory),
+    }
 }
 
 /// The text of a file, if it isn't too long.

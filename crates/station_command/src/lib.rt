@@ -13,10 +13,13 @@ mod texts;
 pub use clap::Error;
 pub use command::{is_memory, read_words};
 pub use failure::Failure;
-pub use files::{input_once, lines_of, text_of, texts_of};
+pub use files::{files_of, input_once, lines_of, record_texts_of, text_of, texts_of};
 pub use line_words::words;
 pub use request::{
-    CaptureArguments, ChartArguments, CheckArguments, DatagramArguments, NodeArguments,
-    PanelArguments, PlanArguments, Request, RunArguments, SessionArguments, SimArguments,
-    TableArguments,
+    Approach, CaptureArguments, ChartArguments, CheckArguments, DatagramArguments, NodeArguments,
+    PanelArguments, PlanArguments, Request, RoutesArguments, RunArguments, SessionArguments,
+    SimArguments, TableArguments,
 };
+
+// What crates above need of the crates below.
+pub use run_files::RunFiles;

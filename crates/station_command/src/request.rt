@@ -6,17 +6,21 @@ ghost use Rattle.std.specs.Option.{unwrap_or};
 /// What a command line asks for.
 #[derive(Clone, Copy)]
 pub enum Request<'a> {
-    /// `check FILE [--explain] [--digest]`: whether the layout in a file is sound.
+    /// `check FILE [--explain] [--complete] [--digest]`: whether the layout in a file is sound.
     Check(CheckArguments<'a>),
+    /// `routes FILE [--from SIGNALS] [--approach RULE] [--write]`: the routes that the layout in a file lacks.
+    Routes(RoutesArguments<'a>),
     /// `plan FILE [--route R] [--picture PICTURE]`: the track plan of the layout in a file.
     Plan(PlanArguments<'a>),
     /// `table FILE [--csv]`: the control table of the layout in a file.
     Table(TableArguments<'a>),
     /// `sim FILE EVENTS`: what the lines of a file of events do to a station of the layout in another.
     Sim(SimArguments<'a>),
-    /// `run FILE --script S --record R --for MS`: a station of the layout in a file over sockets.
+    /// `run FILE --script S --record R [--record-size N] --for MS [--stop-file F]`: a station of the layout in a file over
+    /// sockets.
     Run(RunArguments<'a>),
-    /// `panel FILE [--port P] [--record R] [--for MS] [--node ADDRESS]`: a panel of a station of the layout in a file.
+    /// `panel FILE [--port P] [--record R] [--for MS] [--stop-file F] [--node ADDRESS]`: a panel of a station of
+    /// the layout in a file.
     Panel(PanelArguments<'a>),
     /// `replay FILE RECORD [--node NAME]`: whether a recorded session answers the same again.
     Replay(SessionArguments<'a>),
@@ -28,17 +32,37 @@ pub enum Request<'a> {
     DecodeSession(SessionArguments<'a>),
     /// `capture FILE RECORD OUT [--addresses ADDRESSES] [--node NAME] [--force]`: the same datagrams as a capture in a third file.
     Capture(CaptureArguments<'a>),
-    /// `node FILE NAME --addresses ADDRESSES [--operator ADDRESS] [--record R] [--clock MS] [--for MS]`: one node of a station
-    /// of the layout in a file, as a process of its own.
+    /// `node FILE NAME --addresses ADDRESSES [--operator ADDRESS] [--record R] [--record-size N] [--clock MS] [--hold MS] [--for MS]
+    /// [--stop-file F]`: one node of a station of the layout in a file, as a process of its own.
     Node(NodeArguments<'a>),
 }
 
-/// The file of a layout, whether what is wrong is told in words, and whether a digest of its text is told.
+/// The file of a layout, whether what is wrong is told in words, whether what its table lacks is told, and whether a digest of
+/// its text is told.
 #[derive(Clone, Copy)]
 pub struct CheckArguments<'a> {
     pub layout: &'a str,
     pub explained: bool,
+    pub complete: bool,
     pub digest: bool,
+}
+
+/// By which rule the approach of a derived route is found: back to the signal before its own, or over the tracks behind its
+/// signal alone.
+#[derive(Clone, Copy)]
+pub enum Approach {
+    Signal,
+    Berth,
+}
+
+/// The file of a layout, the names of the signals at which routes begin, with commas between, where it isn't all, the rule of
+/// approach, and whether the routes are written into the file.
+#[derive(Clone, Copy)]
+pub struct RoutesArguments<'a> {
+    pub layout: &'a str,
+    pub from: Option<&'a str>,
+    pub approach: Option<Approach>,
+    pub write: bool,
 }
 
 /// The file of a layout, the route that is drawn thick, and the file with what is seen.
@@ -63,23 +87,28 @@ pub struct SimArguments<'a> {
     pub events: &'a str,
 }
 
-/// The files of a layout, of a script and of the record, and how many milliseconds the station runs.
+/// The files of a layout, of a script and of the record, how many bytes a part of the record has, where it stands in parts, how many
+/// milliseconds the station runs, and the file that ends it before.
 #[derive(Clone, Copy)]
 pub struct RunArguments<'a> {
     pub layout: &'a str,
     pub script: &'a str,
     pub record: &'a str,
+    pub record_size: Option<u64>,
     pub for_ms: u64,
+    pub stop_file: Option<&'a str>,
 }
 
-/// The file of a layout, the port of the page, the file of the record, for how many milliseconds the panel stands, and the
-/// address of the node of an interlocking to which it is joined, if it is.
+/// The file of a layout, the port of the page, the file of the record, how many bytes a part of it has, where it stands in parts, for
+/// how many milliseconds the panel stands, the file that ends it before, and the address of the node of an interlocking to which it is
+/// joined, if it is.
 #[derive(Clone, Copy)]
 pub struct PanelArguments<'a> {
     pub layout: &'a str,
     pub port: Option<u64>,
     pub record: Option<&'a str>,
     pub for_ms: Option<u64>,
+    pub stop_file: Option<&'a str>,
     pub node: Option<&'a str>,
 }
 
@@ -121,8 +150,9 @@ pub struct CaptureArguments<'a> {
 }
 
 /// The file of a layout, the name of the node, the file with the addresses of the nodes, the address for the operator, where it
-/// isn't standard input and output, the file to which what came and what was done is written, where the clock begins, and for
-/// how many milliseconds the node runs, where it isn't until it is ended.
+/// isn't standard input and output, the file to which what came and what was done is written, how many bytes a part of it has, where
+/// it stands in parts, where the clock begins, how long a datagram waits for those before it, for how many milliseconds the node runs,
+/// where it isn't until it is ended, and the file that ends it.
 #[derive(Clone, Copy)]
 pub struct NodeArguments<'a> {
     pub layout: &'a str,
@@ -130,8 +160,11 @@ pub struct NodeArguments<'a> {
     pub addresses: &'a str,
     pub operator: Option<&'a str>,
     pub record: Option<&'a str>,
+    pub record_size: Option<u64>,
     pub clock: Option<u64>,
+    pub hold: Option<u64>,
     pub for_ms: Option<u64>,
+    pub stop_file: Option<&'a str>,
 }
 
 impl NodeArguments<'_> {
@@ -140,5 +173,12 @@ impl NodeArguments<'_> {
         ensures { result ≡ unwrap_or self.now.clock 0 }
     {
         self.clock.unwrap_or(0)
+    }
+
+    /// How many milliseconds a datagram waits for those before it: 60 where the words say nothing.
+    pub fn longest_wait(&self) -> u64
+        ensures { result ≡ unwrap_or self.now.hold 60 }
+    {
+        self.hold.unwrap_or(60)
     }
 }

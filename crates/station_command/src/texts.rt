@@ -6,6 +6,7 @@ pub(crate) const ABOUT: &str = "The interlocking of a railway station";
 #[derive(Clone, Copy)]
 pub(crate) enum CommandHelp {
     Check,
+    Routes,
     Plan,
     Table,
     Sim,
@@ -23,6 +24,7 @@ impl CommandHelp {
     pub(crate) fn about(self) -> &'static str {
         match self {
             CommandHelp::Check => CHECK,
+            CommandHelp::Routes => ROUTES,
             CommandHelp::Plan => PLAN,
             CommandHelp::Table => TABLE,
             CommandHelp::Sim => SIM,
@@ -40,6 +42,7 @@ impl CommandHelp {
     pub(crate) fn details(self) -> &'static str {
         match self {
             CommandHelp::Check => CHECK_DETAILS,
+            CommandHelp::Routes => ROUTES_DETAILS,
             CommandHelp::Plan => PLAN_DETAILS,
             CommandHelp::Table => TABLE_DETAILS,
             CommandHelp::Sim => SIM_DETAILS,
@@ -59,13 +62,19 @@ impl CommandHelp {
 pub(crate) enum Help {
     File,
     Explain,
+    Complete,
     Digest,
+    FromSignals,
+    Approach,
+    Write,
     Route,
     Picture,
     Csv,
     Events,
     Script,
     RecordOfRun,
+    RecordSize,
+    StopFile,
     For,
     Port,
     RecordOfPanel,
@@ -85,6 +94,7 @@ pub(crate) enum Help {
     Operator,
     RecordOfNode,
     Clock,
+    Hold,
     ForOfNode,
 }
 
@@ -93,13 +103,19 @@ impl Help {
         match self {
             Help::File => FILE,
             Help::Explain => EXPLAIN,
+            Help::Complete => COMPLETE,
             Help::Digest => DIGEST,
+            Help::FromSignals => FROM_SIGNALS,
+            Help::Approach => APPROACH,
+            Help::Write => WRITE,
             Help::Route => ROUTE,
             Help::Picture => PICTURE,
             Help::Csv => CSV,
             Help::Events => EVENTS,
             Help::Script => SCRIPT,
             Help::RecordOfRun => RECORD_OF_RUN,
+            Help::RecordSize => RECORD_SIZE,
+            Help::StopFile => STOP_FILE,
             Help::For => FOR,
             Help::Port => PORT,
             Help::RecordOfPanel => RECORD_OF_PANEL,
@@ -119,6 +135,7 @@ impl Help {
             Help::Operator => OPERATOR,
             Help::RecordOfNode => RECORD_OF_NODE,
             Help::Clock => CLOCK,
+            Help::Hold => HOLD,
             Help::ForOfNode => FOR_OF_NODE,
         }
     }
@@ -128,7 +145,17 @@ const FILE: &str = "The layout, a TOML file (- for a file that is read is standa
 
 const EXPLAIN: &str = "Tells a fault in a second line, in words";
 
+const COMPLETE: &str = "Tells what the table of routes lacks";
+
 const DIGEST: &str = "Prints a SHA-256 of the layout's text in one line more";
+
+const FROM_SIGNALS: &str =
+    "The signals at which the routes begin, with commas between their names, else all";
+
+const APPROACH: &str =
+    "How far the approach of a route leads back: signal, to the signal before, or berth, over the tracks behind its signal; else signal";
+
+const WRITE: &str = "Writes the routes into the file in place of printing them";
 
 const ROUTE: &str = "The route that is drawn thick, with its flank points and approach";
 
@@ -141,6 +168,11 @@ const EVENTS: &str = "The lines of events";
 const SCRIPT: &str = "The lines that are applied, each at its time";
 
 const RECORD_OF_RUN: &str = "The file to which the session is written";
+
+const RECORD_SIZE: &str =
+    "How many bytes a part of the record has, from 4096 to 4294967296, else it stands in one file";
+
+const STOP_FILE: &str = "A file that isn't there yet, and ends the run as soon as it is";
 
 const FOR: &str = "How long the station runs, from 1000 to 600000 milliseconds";
 
@@ -160,11 +192,32 @@ that it needs on its path and at its flanks, and has its signals at the right pl
 
 For a sound layout it prints how many signals, points, sections and routes the station has, and each
 pair of routes that can't be set at the same time. Otherwise it prints the first fault, and ends with
-status 1. With --explain a second line says what is wrong, in words. With --digest one line more has a
-SHA-256 of the layout's text, which is the same on two machines where the text is.
+status 1. With --explain a second line says what is wrong, in words. With --complete further lines tell
+of a sound layout which routes its table lacks, which ways can't be routes and why, at which signals and
+borders no route begins or ends, and which sections the approach lists lack. With --digest one line more
+has a SHA-256 of the layout's text, which is the same on two machines where the text is.
 docs/INTERLOCKING.md has the keys of the file and all faults, examples/ has stations.
 
 Example: station check examples/junction.toml";
+
+const ROUTES: &str = "Prints the routes that the table of a layout lacks";
+
+const ROUTES_DETAILS: &str =
+    "Prints the routes that the table of a layout lacks, as [[route]] blocks.
+
+Which routes there are follows from tracks, points, joints and signals: each way from a signal to the
+next signal or to a border that needs no point at both sides, and whose unused legs are all guarded.
+The layout may have no routes yet. Nothing is printed where its table lacks none. Where there are more
+than 64 routes, --from tells at which signals they begin: it stands once, with all their names.
+
+A route is slow where it leads over a leg that the key slow of its point names (left, right or both).
+Its approach has the sections by which a train comes to its signal. Its name is made of its signal and
+its exit.
+
+With --write the routes are written into the file, behind those that stand there, and nothing else of
+it changes. The file is written only where the new text is a sound layout, as for check.
+
+Example: station routes examples/small.toml --from S1,S2";
 
 const PLAN: &str = "Draws the track plan of a layout";
 
@@ -229,6 +282,10 @@ order of MS.
 Each event is recorded with what it answered; the record of a run that was stopped is good as far as
 it goes. At the end it prints what is seen of the station.
 
+With --stop-file it ends where that file is there, as it does after --for. With --record-size the record
+stands in parts, R, R.2, R.3 and so on: a part ends with the first line at whose end it has N bytes. None
+of them may be there already. replay, chart, decode and capture take R, and find the others.
+
 Example: station run examples/small.toml --script examples/proceed.script --record run.session --for 12000";
 
 const PORT: &str = "The port of the page, from 1 to 65535, else 8080";
@@ -250,7 +307,7 @@ at left and each section clear. The address of a page is printed, for a browser 
 page shows the track plan as the station stands. On it a person sets and cancels routes, drives trains,
 and disturbs the station: cuts links, loses and delays datagrams, makes nodes anew, jams points.
 
-It runs until it is stopped, or until the datagrams that were sent take 1 GiB.
+It runs until it is stopped, or until the datagrams that were sent take 1 GiB. --stop-file is as for run.
 
 With --node the station isn't run here: its interlocking runs as node runs one with --operator, and the
 panel is joined to it as its operator. The page then shows what the interlocking knows, and sets and
@@ -268,6 +325,8 @@ const REPLAY_DETAILS: &str = "Applies a recorded session to a station of a layou
 The station begins with each point at left and each section clear. Each line of a session is an event
 and what it answered, as EVENT = ANSWER. Where each event answers the same, it prints `same`. Otherwise
 it prints the first line that differs, and ends with status 3.
+
+Where a session stands in parts, RECORD is the first: RECORD.2, RECORD.3 and so on are read behind it.
 
 With --node the record is that of one node, as node writes it with --record. It is applied to a node of
 this name that is made anew.
@@ -348,6 +407,9 @@ const RECORD_OF_NODE: &str = "The file to which what came and what was done is w
 const CLOCK: &str =
     "Where the node's clock begins, from 0 to 9000000000000 milliseconds, else at 0";
 
+const HOLD: &str =
+    "How long a datagram waits for those that were sent before it, from 0 to 80 milliseconds, else 60";
+
 const FOR_OF_NODE: &str =
     "How long the node runs, from 1000 to 600000 milliseconds, else without end";
 
@@ -394,6 +456,9 @@ It answers `accepted`, or `refused N` with the cause, and tells what it knows wh
   route R set|free                        whether a route is set
   holding                                 it was made anew, and takes no command yet
   waiting for resume                      it takes no command but `resume`
+
+With --stop-file it ends where that file is there, as it does after --for: what it drives is told to rest.
+With --record-size its record stands in parts, as for run.
 
 docs/DEPLOYMENT.md tells how a station is put on machines.
 

@@ -98,6 +98,11 @@ pub all-push : {A : Type 0} (P : A → Type 0) (xs : List A) (x : A) → AllByRe
 all-push P [] x h p = (p, tt)
 all-push P (y ∷ ys) x h p = (h.0, all-push P ys x h.1 p)
 
+-- what holds of each holds of each where it leads to that
+pub all-lead : {A : Type 0} (P Q : A → Type 0) → ((x : A) → P x → Q x) → (xs : List A) → AllByRecursion P xs → AllByRecursion Q xs
+all-lead P Q leads [] h = tt
+all-lead P Q leads (x ∷ xs) h = (leads x h.0, all-lead P Q leads xs h.1)
+
 pub length-drives_after : (reading : ℕ) (driven : ℕ → Option Side) (place : ℕ) (drives : List (Option Drive)) → length (drives_after reading driven place drives) ≡ length drives
 length-drives_after reading driven place [] = refl
 length-drives_after reading driven place (drive ∷ more) = ap (λ n. suc n) (length-drives_after reading driven (suc place) more)

@@ -16,4 +16,9 @@ pub trait Clock {
         ensures rises { latest self.old ≤ result }
         ensures latest { latest self.new ≡ result }
         ensures told { Grows (readings self.old) (readings self.new) (result ∷ []) };
+
+    /// Whether the run is to end before its time. It is asked after a round.
+    fn is_stopped(&self) -> bool {
+        false
+    }
 }

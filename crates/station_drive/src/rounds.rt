@@ -1,6 +1,6 @@
 //! The rounds by which a station is driven.
 
-ghost use Rattle.std.specs.Prelude.{◌≡◌, IfOk, OnErr, OnOk, length};
+ghost use Rattle.std.specs.Prelude.{◌≡◌, ◌≤◌, IfOk, OnErr, OnOk, length};
 ghost use Rattle.station_drive.specs.Drives.{beginning};
 ghost use Rattle.station_drive.specs.Engines.{EngineBreaksRound, EngineCutOff, EngineDriven, EngineMakesRound};
 ghost use Rattle.station_drive.specs.Rounds.{run_after};
@@ -37,25 +37,33 @@ impl<S: Station, N, W: Write> Engine<S, N, W> {
 impl<S: Station, N: Datagrams, W: Write> Engine<S, N, W> {
     /// Drives the station for so many milliseconds by a clock. After a first reading of the clock each further one makes a round,
     /// up to and with the first that is so much later. The script's times are milliseconds since the first reading. A line that
-    /// isn't due holds up none after it.
+    /// isn't due holds up none after it. Where the clock tells that the run is to end, it ends with a round, and answers for how many
+    /// milliseconds it went on: it is then the same as one that was to go on for so long.
     pub fn drive<C: Clock>(
         &mut self,
         clock: &mut C,
         script: &[(u64, Event)],
         for_ms: u64,
-    ) -> Result<(), DriveFault>
-        ensures done { OnOk result (EngineDriven S.Station N.Datagrams script.now for_ms (C.readings clock.old) (C.readings clock.new) self.old self.new) }
+    ) -> Result<u64, DriveFault>
+        ensures time { IfOk result (λ passed. passed ≤ for_ms) }
+        ensures done { IfOk result (λ passed. EngineDriven S.Station N.Datagrams script.now passed (C.readings clock.old) (C.readings clock.new) self.old self.new) }
         // It ends with a fault exactly as it would have ended without, but cut off.
         ensures stopped { OnErr result (EngineCutOff S.Station N.Datagrams script.now for_ms (C.readings clock.old) (C.readings clock.new) self.old self.new) }
     {
         let first = clock.read();
         let mut course = self.begin(script, first)?;
+        let mut most = 0;
         for _ in 0..u64::MAX {
             let reading = clock.read();
             self.round(&mut course, reading, &[], &[])?;
-            if course.passed(reading) >= for_ms {
-                return Ok(());
+            let passed = course.passed(reading);
+            if passed >= for_ms {
+                return Ok(for_ms);
             }
+            if passed > most && clock.is_stopped() {
+                return Ok(passed);
+            }
+            most = later(most, passed);
         }
         // No record is so long.
         Err(DriveFault::WriteFailed)
@@ -86,4 +94,12 @@ impl<S: Station, N: Datagrams, W: Write> Engine<S, N, W> {
         course.go_on(&self.station, reading);
         Ok(())
     }
+}
+
+/// The later of two moments.
+fn later(one: u64, other: u64) -> u64
+    ensures one { one ≤ result }
+    ensures other { other ≤ result }
+{
+    if one < other { other } else { one }
 }

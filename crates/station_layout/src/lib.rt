@@ -3,6 +3,7 @@
 #![tactic(auto)]
 
 // The track plan, with a route or with what is seen in a picture.
+mod drawn_lines;
 mod named_entries;
 mod picture_text;
 mod request;

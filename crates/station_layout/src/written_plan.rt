@@ -2,16 +2,18 @@
 
 ghost use Rattle.std.specs.Prelude.{◌≡◌, ◌≤◌, IfErr, IfOk, IsErr, OnOk, option_copied};
 ghost use Rattle.station_check.specs.Failures.{Explained, Leaves};
+ghost use Rattle.station_plan.specs.Plan.{IsPlanOf};
 ghost use Rattle.station_layout.specs.PlanText.{CanPlan, Explains, ExplainsDrawn, IsDrawn, IsPlanned};
 ghost use Rattle.station_layout.specs.inside.Drawn.{ExplainsDrawnOf, IsDrawnOf};
 
+use crate::drawn_lines::lines_in;
 use crate::request::route_asked;
 use crate::seen::seen_in;
 use control_table::Checked;
-use drawing::svg;
+use drawing::{Picture, svg};
 use station_check::{Failure, table_of, tell};
-use station_plan::{Shown, plan};
-use std::alloc::Global;
+use station_plan::{Shown, plan_by_hand};
+use std::alloc::{AllocError, Global};
 use std::io::Write;
 
 /// Writes the track plan of the text of a layout, as SVG. With the name of a route, its path is drawn thick, and its flank
@@ -71,7 +73,7 @@ fn drawn(
     ensures explains { IfErr result (ExplainsDrawn layout.now (option_copied route.entry) (option_copied picture.entry)) }
 {
     let table = table_of(alloc, layout)?;
-    let drawn = drawn_of(alloc, &table, route, picture);
+    let drawn = drawn_of(alloc, layout, &table, route, picture);
     drop(table);
     drawn
 }
@@ -79,6 +81,7 @@ fn drawn(
 /// The plan of a layout, as SVG.
 fn drawn_of(
     alloc: Global,
+    text: &str,
     table: &Checked,
     route: Option<&str>,
     picture: Option<&str>,
@@ -90,8 +93,16 @@ fn drawn_of(
         return Err(Failure::Route);
     };
     let seen = seen_in(alloc, table, picture)?;
-    let plan = plan(alloc, table, &Shown { route, seen })?;
+    let plan = plan_in(alloc, text, table, &Shown { route, seen })?;
     let text = svg(alloc, &plan);
     drop(plan);
     Ok(text?)
+}
+
+/// The plan of a layout, as its text says that it is drawn.
+fn plan_in(alloc: Global, text: &str, table: &Checked, shown: &Shown) -> Result<Picture, AllocError>
+    ensures { IfOk result (IsPlanOf table.now shown.now.seen) }
+{
+    let lines = lines_in(alloc, text)?;
+    plan_by_hand(alloc, table, shown, &lines)
 }

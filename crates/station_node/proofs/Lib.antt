@@ -1,2 +1,3 @@
 pub mod Lived
 pub mod Places
+pub mod Silent

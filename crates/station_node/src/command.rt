@@ -5,14 +5,19 @@ ghost use Rattle.node_kinds.specs.node_drive.replay_lines.Names.{node_names};
 
 use crate::digest::layout_digest;
 use crate::failure::NodeFailure;
+use crate::numbered::Numbered;
 use crate::process::run_node;
+use crate::stoppable::Stoppable;
 use node_kinds::node_drive::{NodeFault, Outside};
 use node_kinds::node_named;
 use node_kinds::simulator_spec::{Checked, Layout, NodeId};
-use node_network::{Lines, Machine, NodeClock, NodeSocket, OpenFault, Recorded};
-use station_check::{read_addresses, table_of, tell};
+use node_network::{
+    LONGEST_HOLD, Lines, Machine, NetworkWatch, NetworksSeen, NodeClock, NodeSocket, OpenFault,
+    Recorded,
+};
+use run_files::{RecordFile, RunFiles, StopFile, record_file};
+use station_check::{Networks, read_networks, table_of, tell};
 use std::alloc::Global;
-use std::fs;
 use std::fs::Files;
 use std::io::{self, Eprint, Read, Write};
 use std::net::{Net, SocketAddr};
@@ -32,6 +37,10 @@ pub struct NodeOptions<'a> {
     pub operator: Option<&'a str>,
     /// The path of the record, if there is to be one.
     pub record: Option<&'a str>,
+    /// What is asked of the record's parts, and of the file that ends the process.
+    pub files: RunFiles<'a>,
+    /// For how many milliseconds a datagram that came ahead of its turn waits for those before it, 80 at most.
+    pub hold: u64,
     /// The first reading of the clock, in milliseconds.
     pub clock: u64,
     /// For how many milliseconds it runs, if not for ever.
@@ -40,7 +49,7 @@ pub struct NodeOptions<'a> {
 
 /// Runs a node of a station as a process of its own. Its lines go over `input` and `output`, those about faulty ones to `complaints`.
 /// The texts are judged before the socket is bound. On standard error the digest of the layout is told as the node begins, and why it
-/// ended before its time. The status is 0 where it ran to its end, and otherwise 1.
+/// ended before its time. The status is 0 where it ran to its end, or until the file that ends it was there, and otherwise 1.
 pub fn run<
     R: Files + Net + Timer + RandomSource + Eprint + AllocGlobal,
     I: Read + Drop,
@@ -82,11 +91,11 @@ fn begin<
     run_own(rt, asked, table, &own, lines, complaints)
 }
 
-/// What a process is of its own: which node it is, where all nodes are, and the number of its first PDU.
+/// What a process is of its own: which node it is, where all nodes are in each network, and the number of its first PDU.
 #[derive(Drop)]
 struct Own {
     node: NodeId,
-    addresses: Vec<SocketAddr>,
+    networks: Networks,
     first: u32,
 }
 
@@ -99,8 +108,8 @@ fn own_of<R: RandomSource + AllocGlobal>(
     let Ok(node) = node_named(layout, asked.name) else {
         return Err(NodeFailure::NoNode);
     };
-    let addresses = match read_addresses(rt.alloc(), layout, asked.addresses) {
-        Ok(addresses) => addresses,
+    let networks = match read_networks(rt.alloc(), layout, asked.addresses) {
+        Ok(networks) => networks,
         Err(fault) => return Err(NodeFailure::Addresses(fault)),
     };
     let mut bytes = [0u8; 4];
@@ -109,7 +118,7 @@ fn own_of<R: RandomSource + AllocGlobal>(
     }
     Ok(Own {
         node,
-        addresses,
+        networks,
         first: u32::from_le_bytes(bytes),
     })
 }
@@ -130,10 +139,26 @@ fn run_own<
 ) -> Result<(), NodeFailure> {
     match open_socket(rt, asked, own) {
         Ok((socket, clock)) => {
-            let machine = Machine::new(rt.alloc(), clock, socket, lines, complaints);
-            run_over(rt, asked, table, own, machine)
+            let networks = networks_seen(rt, table.layout(), own)?;
+            let machine = Machine::new(rt.alloc(), clock, socket, lines, complaints, networks);
+            run_on(rt, asked, table, own, machine)
         }
         Err(fault) => Err(NodeFailure::Open(fault)),
+    }
+}
+
+/// What is seen of the networks of a node, where there are two.
+fn networks_seen<'a, R: AllocGlobal>(
+    rt: &R,
+    layout: &'a Layout,
+    own: &Own,
+) -> Result<Option<NetworksSeen<'a>>, NodeFailure> {
+    if own.networks.second().is_none() {
+        return Ok(None);
+    }
+    match NetworkWatch::new(rt.alloc(), own.networks.first().len()) {
+        Ok(watch) => Ok(Some(NetworksSeen::new(layout, watch))),
+        Err(_) => Err(NodeFailure::Open(OpenFault::OutOfMemory)),
     }
 }
 
@@ -143,7 +168,9 @@ fn open_socket<'a, R: Net + Timer + Eprint + AllocGlobal>(
     asked: &NodeOptions<'_>,
     own: &Own,
 ) -> Result<(NodeSocket, NodeClock<'a, R>), OpenFault> {
-    let socket = NodeSocket::open(rt, rt.alloc(), &own.addresses, own.node)?;
+    let (first, second) = (own.networks.first(), own.networks.second());
+    let hold = asked.hold.min(LONGEST_HOLD);
+    let socket = NodeSocket::open(rt, rt.alloc(), first, second, own.node, hold)?;
     let clock = start_clock(rt, asked)?;
     Ok((socket, clock))
 }
@@ -162,8 +189,25 @@ fn start_clock<'a, R: Timer + Eprint + AllocGlobal>(
     Ok(clock)
 }
 
-/// Runs a node over what it has outside, for so many milliseconds, or for ever, and records what comes to it and what it does, if that is
-/// asked for.
+/// Runs a node over what it has outside. That of the interlocking is counted, and told to an operator who asks for it.
+fn run_on<R: Files + Eprint + AllocGlobal, O: Outside + Drop>(
+    rt: &R,
+    asked: &NodeOptions<'_>,
+    table: &Checked,
+    own: &Own,
+    outside: O,
+) -> Result<(), NodeFailure> {
+    if own.node.0 != 0 {
+        return run_over(rt, asked, table, own, outside);
+    }
+    match Numbered::new(rt, outside) {
+        Ok(numbered) => run_over(rt, asked, table, own, numbered),
+        Err(_) => Err(NodeFailure::Ended(NodeFault::OutOfMemory)),
+    }
+}
+
+/// Runs a node over what it has outside, for so many milliseconds, or for ever, or until a file ends it, and records what comes to it and
+/// what it does, if that is asked for.
 fn run_over<R: Files + Eprint + AllocGlobal, O: Outside + Drop>(
     rt: &R,
     asked: &NodeOptions<'_>,
@@ -173,7 +217,9 @@ fn run_over<R: Files + Eprint + AllocGlobal, O: Outside + Drop>(
 ) -> Result<(), NodeFailure> {
     let recorder = recorder_for(rt, asked, own.first)?;
     let alloc = rt.alloc();
-    let mut recorded = Recorded::new(alloc, table.layout(), outside, recorder, rt);
+    let stop = StopFile::new(rt, asked.files.stop_file);
+    let stoppable = Stoppable::new(outside, StopFile::new(rt, asked.files.stop_file));
+    let mut recorded = Recorded::new(alloc, table.layout(), stoppable, recorder, rt);
     let for_ms = asked.for_ms.unwrap_or(u64::MAX);
     let ran = match table.copy(alloc) {
         Ok(copy) => run_node(alloc, copy, own.node, own.first, for_ms, &mut recorded),
@@ -181,20 +227,21 @@ fn run_over<R: Files + Eprint + AllocGlobal, O: Outside + Drop>(
     };
     match ran {
         Ok(()) => Ok(()),
+        Err(NodeFault::LinesEnded) if stop.is_there() => Ok(()),
         Err(fault) => Err(NodeFailure::Ended(fault)),
     }
 }
 
 /// The record that is asked for, if one is, with its first line.
-fn recorder_for<R: Files>(
-    rt: &R,
+fn recorder_for<'a, R: Files + AllocGlobal>(
+    rt: &'a R,
     asked: &NodeOptions<'_>,
     first: u32,
-) -> Result<Option<R::File>, NodeFailure> {
+) -> Result<Option<RecordFile<'a, R>>, NodeFailure> {
     let Some(path) = asked.record else {
         return Ok(None);
     };
-    let Ok(mut recorder) = fs::create(rt, path) else {
+    let Ok(mut recorder) = record_file(rt, path, asked.files.record_size) else {
         return Err(NodeFailure::NoRecord);
     };
     match write_head(asked, first, &mut recorder) {

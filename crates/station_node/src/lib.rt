@@ -7,8 +7,11 @@ mod controllers;
 mod digest;
 mod failure;
 mod lives;
+mod numbered;
 mod process;
 mod replay;
+mod resident;
+mod stoppable;
 
 pub use command::{NodeOptions, run};
 pub use digest::layout_digest;

@@ -14,7 +14,7 @@ use Rattle.station_panel.specs.DisturbedNetwork.{DisturbedView, Passes, Released
 use Rattle.station_panel.specs.Shown.{fault_lines}
 use Rattle.station_panel.specs.declared.ending.Ending.{Ending}
 use Rattle.station_panel.specs.declared.ending.Ending.TheVariants as ends
-use Rattle.station_panel.specs.Turns.{HasPartOfRound, HasRound, IsLived, IsOver, Moment, asked_at, engine_of, wanted}
+use Rattle.station_panel.specs.Turns.{HasPartOfRound, HasRound, IsLived, IsOver, Moment, asked_at, engine_of, wanted, with_numbers}
 use Rattle.station_panel.proofs.Readings.{as_many}
 
 pub stopped : {T E : Type 0} {A : Type 0} (result : Result T E) → A → OnErr result A
@@ -44,6 +44,7 @@ nothing_noted desk = none
 pub over : (for_ms first now last : ℕ) (ending : Ending) → now ≡ first → (Some ending ≡ Some ends.TimeIsOver → for_ms ≤ (last - now) / 1000) → IsOver for_ms first last ending
 over for_ms first now last ends.TimeIsOver is late = subst (λ (n : ℕ). for_ms ≤ (last - n) / 1000) is (late refl)
 over for_ms first now last ends.MemoryIsFull is late = tt
+over for_ms first now last ends.Stopped is late = tt
 
 -- after a round, made or given up, a run has a drive for each point as before
 pub drives_kept : {Station T E : Type 0} (s : stations.Ghosts Station) (result : Result T E) (reading : ℕ) (state : s.State) (old new : RunSoFar) (before after : Site) → length old.drives ≡ length before.points
@@ -104,13 +105,14 @@ module _ {Station Network : Type 0} (s : stations.Ghosts Station) (n : networks.
 
 module _ {Station Network : Type 0} (s : stations.Ghosts Station) (n : networks.Ghosts Network) (p : pictures.Ghosts Station) where
   -- a turn, by its round and by what the desk shows after it
-  pub lived : (limit reading : ℕ) (old mid : Moment Station Network) (desk : DeskView) (bytes : ℕ)
+  pub lived : (limit reading : ℕ) (old mid : Moment Station Network) (desk : DeskView) (bytes : ℕ) (numbers : List (Option ℕ))
       → HasRound s n reading (asked_at s old) (wanted old) mid → mid.run ≡ run_after s.does (s.state mid.station) old.run reading → mid.desk ≡ (wanted old).desk → mid.faults ≡ (wanted old).faults
-      → Notes (shown_anew (s.site mid.station) (p.lines mid.station ++ fault_lines mid.faults bytes limit) mid.desk) desk → IsLived s n p limit reading old (record mid { desk = desk })
-  lived limit reading old mid desk bytes round run desk_is faults notes = record {
+      → Notes (shown_anew (s.site mid.station) (p.lines mid.station ++ fault_lines mid.faults bytes limit) (with_numbers numbers mid.desk)) desk → IsLived s n p limit reading old (record mid { desk = desk })
+  lived limit reading old mid desk bytes numbers round run desk_is faults notes = record {
     round = at_another_desk s n desk round;
     run = run;
     faults = faults;
     bytes = bytes;
-    notes = subst (λ (d : DeskView). Notes (shown_anew (s.site mid.station) (p.lines mid.station ++ fault_lines mid.faults bytes limit) d) desk) desk_is notes;
+    numbers = numbers;
+    notes = subst (λ (d : DeskView). Notes (shown_anew (s.site mid.station) (p.lines mid.station ++ fault_lines mid.faults bytes limit) (with_numbers numbers d)) desk) desk_is notes;
   }

@@ -5,6 +5,7 @@ use Rattle.panel_desk.specs.declared.desk_opened.PageAsked.{PageAsked}
 use Rattle.panel_desk.specs.declared.panel_line.PanelLine.{PanelLine}
 use Rattle.panel_desk.specs.node_lines.layout.Entries.{Site}
 use Rattle.panel_desk.specs.node_lines.replay_lines.Names.{node_names}
+use Rattle.panel_desk.specs.run_numbers.Metrics.{nothing_told}
 use Rattle.panel_desk.specs.Lines.{blank}
 use Rattle.panel_desk.specs.State.{about}
 use Rattle.serde_json.specs.Read.{read}
@@ -45,4 +46,5 @@ pub record IsOpened (site : Site) (lines : List PanelLine) (page : PageView) (de
   pub page_is : desk.page ≡ page.page
   pub station : read desk.station ≡ Some (about page.kind page.layout site.station.name page.path page.plan desk.access.token page.version)
   pub board : desk.board ≡ blank (place_count site lines)
+  pub numbers : desk.numbers ≡ nothing_told
   pub waiting : desk.waiting ≡ []

@@ -18,7 +18,7 @@ use Rattle.station_panel.specs.Asked.{events_asked, faults_after}
 use Rattle.station_panel.specs.DisturbedNetwork.{DisturbedView, Passes, Released, heeded}
 use Rattle.station_panel.specs.Faults.{FaultsView, no_faults}
 use Rattle.station_panel.specs.declared.ending.Ending.{Ending}
-use Rattle.station_panel.specs.declared.ending.Ending.TheVariants.{TimeIsOver, MemoryIsFull}
+use Rattle.station_panel.specs.declared.ending.Ending.TheVariants.{TimeIsOver, MemoryIsFull, Stopped}
 use Rattle.panel_desk.specs.Boards.{Notes, shown_anew}
 use Rattle.station_panel.specs.Shown.{fault_lines}
 
@@ -26,6 +26,7 @@ use Rattle.station_panel.specs.Shown.{fault_lines}
 abbrev pub IsOver : ℕ → ℕ → ℕ → Ending → Type 0
 IsOver for_ms first last TimeIsOver = for_ms ≤ (last - first) / 1000
 IsOver for_ms first last MemoryIsFull = Unit {0}
+IsOver for_ms first last Stopped = Unit {0}
 
 -- so the last of these readings
 abbrev pub EndsSo : ℕ → ℕ → List ℕ → Ending → Type 0
@@ -44,6 +45,10 @@ pub record Moment (Station Network : Type 0) : Type 0 where
 -- the commands were taken from the desk
 abbrev pub emptied : DeskView → DeskView
 emptied desk = record desk { waiting = [] }
+
+-- these numbers were told
+abbrev pub with_numbers : List (Option ℕ) → DeskView → DeskView
+with_numbers numbers desk = record desk { numbers = numbers }
 
 -- the commands were taken, and what they disturb is disturbed
 abbrev pub wanted : {Station Network : Type 0} → Moment Station Network → Moment Station Network
@@ -98,13 +103,14 @@ module _ {Station Network : Type 0} (s : stations.Ghosts Station) (n : networks.
 
 module _ {Station Network : Type 0} (s : stations.Ghosts Station) (n : networks.Ghosts Network) (p : pictures.Ghosts Station) where
   -- There was a round, in which each command that waited at the desk was taken once, in the order in which they came. The desk shows
-  -- the picture of the station after it, and what is disturbed; then it noted lines in its log.
+  -- the picture of the station after it, what is disturbed, and some numbers; then it noted lines in its log.
   pub record IsLived (limit reading : ℕ) (old new : Moment Station Network) : Type 0 where
     pub round : HasRound s n reading (asked_at s old) (wanted old) new
     pub run : new.run ≡ run_after s.does (s.state new.station) old.run reading
     pub faults : new.faults ≡ (wanted old).faults
     pub bytes : ℕ
-    pub notes : Notes (shown_anew (s.site new.station) (p.lines new.station ++ fault_lines new.faults bytes limit) (emptied old.desk)) new.desk
+    pub numbers : List (Option ℕ)
+    pub notes : Notes (shown_anew (s.site new.station) (p.lines new.station ++ fault_lines new.faults bytes limit) (with_numbers numbers (emptied old.desk))) new.desk
 
   -- Requests were answered, one after another, and by nothing else was the desk changed; then there was such a round.
   pub record IsTurn (limit reading : ℕ) (old new : Moment Station Network) : Type 0 where

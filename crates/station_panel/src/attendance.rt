@@ -13,7 +13,7 @@ use std::io::Write;
 use std::random::RandomSource;
 
 impl<S: Station + Pictured, N: Datagrams, W: Write> Panel<'_, S, N, W> {
-    /// Attends the panel up to its limits. Each reading of the clock makes a turn: the requests that have come are answered, what
+    /// Attends the panel up to its limits, or until its clock tells that it is to end. Each reading of the clock makes a turn: the requests that have come are answered, what
     /// the commands ask for happens in a round of the station, each once and in order, and the desk shows the picture after it.
     pub(crate) fn attend<R: RandomSource, C: Clock, L: Listens>(
         &mut self,
@@ -32,6 +32,9 @@ impl<S: Station + Pictured, N: Datagrams, W: Write> Panel<'_, S, N, W> {
             self.turn(reading, limits.memory)?;
             if let Some(ending) = self.ending(reading, limits) {
                 return Ok(ending);
+            }
+            if clock.is_stopped() {
+                return Ok(Ending::Stopped);
             }
         }
         // No record is so long.

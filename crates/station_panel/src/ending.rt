@@ -23,6 +23,8 @@ pub enum Ending {
     TimeIsOver,
     /// The datagrams that were sent take almost as much memory as they may.
     MemoryIsFull,
+    /// Its clock told that it is to end.
+    Stopped,
 }
 
 /// Why a panel didn't begin, or was broken off.

@@ -4,6 +4,7 @@
 
 mod asked;
 mod attendance;
+mod counted;
 mod disturbed;
 mod ending;
 mod faults;

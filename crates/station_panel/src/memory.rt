@@ -1,5 +1,6 @@
 //! How much memory the datagrams take that were sent.
 
+use panel_desk::run_numbers::Numbers;
 use station_drive::Station;
 
 /// What is kept of a datagram beside its bytes, in the network and in the index of its copies.
@@ -25,11 +26,12 @@ impl Memory {
         }
     }
 
-    /// Counts those that were sent since.
-    pub(crate) fn count<S: Station>(&mut self, station: &S) {
+    /// Counts those that were sent since, and in the numbers what they say.
+    pub(crate) fn count<S: Station>(&mut self, station: &S, numbers: &mut Numbers) {
         for place in self.counted..station.sent_count() {
             if let Some(one) = station.sent_at(place) {
                 self.add(one.bytes.len());
+                numbers.note_sent(one.bytes);
             }
         }
         self.counted = station.sent_count();

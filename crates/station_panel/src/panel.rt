@@ -1,16 +1,17 @@
 //! A panel between its turns.
 
-ghost use Rattle.std.specs.Prelude.{◌≡◌, ◌++◌, ◌-◌, ◌/◌, ◌≤◌, ℕ, Some, IfOk, OnErr, OnOk, length};
+ghost use Rattle.std.specs.Prelude.{◌≡◌, ◌++◌, ◌-◌, ◌/◌, ◌≤◌, ℕ, List, Option, Some, IfOk, OnErr, OnOk, length};
 ghost use Rattle.panel_connections.specs.Served.{Serves};
 ghost use Rattle.panel_desk.specs.Answers.{Answered};
 ghost use Rattle.panel_desk.specs.Boards.{Notes, shown_anew};
 ghost use Rattle.station_drive.specs.Rounds.{run_after};
 ghost use Rattle.station_panel.specs.DisturbedNetwork.{Released, disturbance, heeded};
 ghost use Rattle.station_panel.specs.Shown.{fault_lines};
-ghost use Rattle.station_panel.specs.Turns.{HasPartOfRound, HasRound, asked_at, emptied, wanted};
+ghost use Rattle.station_panel.specs.Turns.{HasPartOfRound, HasRound, asked_at, emptied, wanted, with_numbers};
 ghost use Rattle.station_panel.specs.declared.ending.Ending.TheVariants as ends;
 
 use crate::asked::{add_events, disturb_by};
+use crate::counted::{count_answers, told};
 use crate::disturbed::Disturbed;
 use crate::ending::{Ending, Limits};
 use crate::faults::Faults;
@@ -19,6 +20,7 @@ use crate::memory::Memory;
 use crate::noting::Noting;
 use crate::picture_shown::show_picture;
 use panel_connections::{Connections, Listens};
+use panel_desk::run_numbers::{Numbers, Row};
 use panel_desk::{Desk, Event, MICROS, PanelCommand, Pictured};
 use station_drive::{Course, Datagrams, DriveFault, Engine, Station};
 use std::alloc::AllocError;
@@ -35,6 +37,7 @@ pub(crate) struct Panel<'a, S: Station, N, W: Write> {
     /// The commands of the turn.
     pub(crate) commands: Vec<PanelCommand>,
     pub(crate) memory: Memory,
+    pub(crate) numbers: Numbers,
 }
 
 impl<'a, S: Station, N, W: Write> Model for Panel<'a, S, N, W> {
@@ -101,19 +104,19 @@ impl<S: Station, N: Datagrams, W: Write> Panel<'_, S, N, W> {
 }
 
 impl<S: Station + Pictured, N, W: Write> Panel<'_, S, N, W> {
-    /// What is seen after a round is shown, and what was asked for in it is noted in the log.
+    /// What is seen after a round is shown, with what was counted, and what was asked for in it is noted in the log.
     pub(crate) fn show(
         &mut self,
         events: &[Event],
         reading: u64,
         limit: u64,
     ) -> Result<(), AllocError>
-        ensures shown { OnOk result ((bytes : ℕ) × Notes (shown_anew (S.site self.old.station) (S.lines self.old.station ++ fault_lines self.old.faults bytes limit) self.old.desk) self.new.desk) }
+        ensures shown { OnOk result ((bytes : ℕ) × (numbers : List (Option ℕ)) × Notes (shown_anew (S.site self.old.station) (S.lines self.old.station ++ fault_lines self.old.faults bytes limit) (with_numbers numbers self.old.desk)) self.new.desk) }
         ensures kept { self.new ≡ record self.old { desk = self.new.desk } }
     {
         let engine = &self.engine;
-        self.memory.count(&engine.station);
-        show_picture(
+        self.memory.count(&engine.station, &mut self.numbers);
+        let ready = show_picture(
             engine.alloc,
             &engine.station,
             &self.faults,
@@ -121,6 +124,12 @@ impl<S: Station + Pictured, N, W: Write> Panel<'_, S, N, W> {
             limit,
             &mut self.desk,
         )?;
+        self.numbers.begin(reading / MICROS);
+        self.numbers.put(Row::LinksUp, ready);
+        self.numbers.put(Row::SentMemory, self.memory.bytes);
+        count_answers(&mut self.numbers, &engine.station.answers);
+        let numbers = told(engine.alloc, &self.numbers)?;
+        self.desk.tell_numbers(numbers);
         let log = LogLines {
             alloc: engine.alloc,
             millis: self.course.passed(reading),
@@ -141,6 +150,7 @@ impl<S: Station + Drop, N: Drop, W: Write> Panel<'_, S, N, W> {
             faults: _,
             commands: _,
             memory: _,
+            numbers: _,
         } = self;
         let (_, recorder) = engine.into_outside();
         recorder

@@ -5,6 +5,7 @@ ghost use Rattle.panel_desk.specs.Boards.{shown_anew};
 ghost use Rattle.station_panel.specs.Opened.{place_count};
 ghost use Rattle.station_panel.specs.Shown.{cut_lines, fault_lines, jam_lines};
 
+use crate::counted::ready_links;
 use crate::faults::Faults;
 use panel_desk::{Desk, NodeId, PanelLine, Pictured, PointId, show_lines};
 use station_drive::Station;
@@ -21,7 +22,7 @@ pub fn places<S: Station + Pictured>(alloc: Global, station: &S) -> Result<usize
     Ok(lines.len())
 }
 
-/// Shows the picture of a station anew, with what is disturbed, and how much memory is taken.
+/// Shows the picture of a station anew, with what is disturbed, and how much memory is taken. It answers how many links are ready.
 pub(crate) fn show_picture<S: Station + Pictured>(
     alloc: Global,
     station: &S,
@@ -29,13 +30,15 @@ pub(crate) fn show_picture<S: Station + Pictured>(
     bytes: u64,
     limit: u64,
     desk: &mut Desk,
-) -> Result<(), AllocError>
+) -> Result<u64, AllocError>
     ensures { OnOk result (desk.new ≡ shown_anew (S.site station.now) (S.lines station.now ++ fault_lines faults.now bytes limit) desk.old) }
 {
     let mut lines = station.picture(alloc)?;
+    let ready = ready_links(&lines);
     add_fault_lines(&mut lines, faults, bytes, limit)?;
     desk.count();
-    show_lines(alloc, station.table().layout(), &lines, desk)
+    show_lines(alloc, station.table().layout(), &lines, desk)?;
+    Ok(ready)
 }
 
 /// Adds what is disturbed, and how much memory is taken.

@@ -16,6 +16,7 @@ use crate::noting::Noting;
 use crate::panel::Panel;
 use crate::picture_shown::places;
 use panel_connections::{Listens, tell_address};
+use panel_desk::run_numbers::Numbers;
 use panel_desk::{Desk, PageAsked, Pictured, open_desk};
 use station_drive::{Clock, Course, Datagrams, Engine, Station};
 use std::alloc::{AllocError, Global};
@@ -115,8 +116,8 @@ fn attend_engine<
     ensures stopped { OnErr result.ended (IsBroken S.Station N.Datagrams S.Pictured limits (seen_engine engine) desk (C.readings clock.old) (W.contents result.recorder)) }
 {
     let first = clock.read();
-    let (course, faults) = match begin(&engine, first) {
-        Ok(both) => both,
+    let (course, faults, numbers) = match begin(&engine, first) {
+        Ok(all) => all,
         Err(_) => {
             let (_, recorder) = engine.into_outside();
             return not_begun(PanelFault::OutOfMemory, recorder);
@@ -130,6 +131,7 @@ fn attend_engine<
         faults,
         commands,
         memory: Memory::new(),
+        numbers,
     };
     let ended = match panel.attend(rt, clock, listener, limits) {
         Ok(ending) => Ok(ending),
@@ -141,17 +143,18 @@ fn attend_engine<
     }
 }
 
-/// How a run of a panel begins at a first reading of the clock: nothing is disturbed.
+/// How a run of a panel begins at a first reading of the clock: nothing is disturbed, and nothing was counted.
 fn begin<'a, S: Station, N, W: Write>(
     engine: &Engine<S, N, W>,
     first: u64,
-) -> Result<(Course<'a>, Faults), AllocError>
-    ensures course { IfOk result (λ both. both.0 ≡ beginning (S.site engine.now.station) [] first) }
-    ensures faults { IfOk result (λ both. both.1 ≡ no_faults (length (node_names (S.site engine.now.station))) (length (S.site engine.now.station).points)) }
+) -> Result<(Course<'a>, Faults, Numbers), AllocError>
+    ensures course { IfOk result (λ all. all.0 ≡ beginning (S.site engine.now.station) [] first) }
+    ensures faults { IfOk result (λ all. all.1 ≡ no_faults (length (node_names (S.site engine.now.station))) (length (S.site engine.now.station).points)) }
 {
     let layout = engine.station.table().layout();
     let faults = Faults::none(engine.alloc, layout.nodes(), layout.points().len())?;
-    Ok((engine.begin(&[], first)?, faults))
+    let numbers = Numbers::none(engine.alloc)?;
+    Ok((engine.begin(&[], first)?, faults, numbers))
 }
 
 /// Makes the desk of a station, and its network.

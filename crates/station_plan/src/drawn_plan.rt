@@ -4,6 +4,7 @@ ghost use Rattle.std.specs.Prelude.{◌≡◌, [], IfOk, OnOk};
 ghost use Rattle.drawing.specs.declared.picture.Picture.{Picture as Plan};
 ghost use Rattle.station_plan.specs.Plan.{IsPlanOf};
 
+use crate::drawn_lines::DrawnLine;
 use crate::extent::{EVERYWHERE, reach_of_things};
 use crate::groups::add_all;
 use crate::marks::Marks;
@@ -13,7 +14,7 @@ use crate::shown::Shown;
 use crate::sketch::spot;
 use crate::style::STYLE;
 use crate::thing::Thing;
-use crate::thing_list::things;
+use crate::thing_list::things_by_hand;
 use crate::units::Units;
 use control_table::{Checked, Layout};
 use drawing::{Anchor, Frame, Group, Picture, Strip};
@@ -48,11 +49,12 @@ fn draw(
     alloc: Global,
     table: &Checked,
     shown: &Shown,
+    lines: &[DrawnLine],
 ) -> Result<Frame, AllocError>
     requires { groups.old.items ≡ [] }
     ensures { OnOk result ((picture : Plan) → picture.groups ≡ groups.new → IsPlanOf table.now shown.now.seen picture) }
 {
-    let things = things(alloc, table, shown)?;
+    let things = things_by_hand(alloc, table, shown, lines)?;
     let mut notes = Marks::new(alloc);
     let paper = lay_out(&mut notes, strips, table.layout(), &things, shown)?;
     add_all(groups, alloc, things, notes.marks)?;
@@ -64,11 +66,24 @@ fn draw(
 pub fn plan(alloc: Global, table: &Checked, shown: &Shown) -> Result<Picture, AllocError>
     ensures { IfOk result (IsPlanOf table.now shown.now.seen) }
 {
+    plan_by_hand(alloc, table, shown, &[])
+}
+
+/// The same, laid as these lines say, where they say of each track, point and border where it lies, along lines that are
+/// level, upright or by 45 degrees, and what is joined meets.
+pub fn plan_by_hand(
+    alloc: Global,
+    table: &Checked,
+    shown: &Shown,
+    lines: &[DrawnLine],
+) -> Result<Picture, AllocError>
+    ensures { IfOk result (IsPlanOf table.now shown.now.seen) }
+{
     let title = String::from_str(alloc, table.layout().station().name.as_str())?;
     let style = String::from_str(alloc, STYLE)?;
     let mut strips = Vec::new(alloc);
     let mut groups = Vec::new(alloc);
-    let paper = draw(&mut strips, &mut groups, alloc, table, shown)?;
+    let paper = draw(&mut strips, &mut groups, alloc, table, shown, lines)?;
     Ok(Picture {
         title,
         style,

@@ -5,6 +5,7 @@ mod chains;
 mod columns;
 mod courses;
 mod directions;
+mod drawn_lines;
 mod drawn_plan;
 mod element_marks;
 mod extent;
@@ -38,7 +39,8 @@ mod units;
 mod widths;
 mod yard;
 
-pub use drawn_plan::plan;
+pub use drawn_lines::DrawnLine;
+pub use drawn_plan::{plan, plan_by_hand};
 pub use laws::{identities_differ, subjects_stand_once};
 pub use places::{route_place, signal_place};
 pub use shown::{Seen, Shown};

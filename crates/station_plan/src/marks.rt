@@ -63,6 +63,14 @@ impl Marks {
         self.add(class, Shape::Polyline(spots))
     }
 
+    /// Adds lines over spots.
+    pub(crate) fn path(&mut self, class: &str, spots: Vec<Spot>) -> Result<(), AllocError>
+        ensures drawn { OnOk result (strokes self.new.marks.items ≡ strokes self.old.marks.items ++ line class.now ∷ []) }
+        ensures named { OnOk result (written self.new.marks.items ≡ written self.old.marks.items) }
+    {
+        self.add(class, Shape::Polyline(spots))
+    }
+
     /// Adds a triangle.
     pub(crate) fn triangle(
         &mut self,

@@ -5,7 +5,7 @@ ghost use Rattle.std.specs.List.{flat_map};
 ghost use Rattle.station_plan.specs.Faces.{band, is_named, point_bands, section_strokes, track_bands};
 ghost use Rattle.station_plan.specs.Strokes.{strokes, written};
 
-use crate::element_marks::{draw_band, draw_point_band, moved};
+use crate::element_marks::{draw_band, draw_point_band, hand_text, moved};
 use crate::labels::{LETTER, LINE, lines};
 use crate::marks::Marks;
 use crate::sketch::{Sketch, spot};
@@ -113,10 +113,18 @@ fn draw_track_label(
     if sketch.section_letters(element) == 0 {
         return Ok(());
     }
+    let (at, anchor) = track_label_spot(sketch, element);
+    more.name("label", at, anchor, *name, false)
+}
+
+/// Where the name of a track's section stands.
+fn track_label_spot(sketch: &Sketch, element: usize) -> (Spot, Anchor) {
+    if sketch.is_by_hand() {
+        return hand_text(sketch, element, false);
+    }
     let (left, right) = sketch.row_line(element);
     let x = (Units(left.x) + Units(right.x) - sketch.signal_room(element, true)).half();
-    let at = spot(x, Units(left.y) + Units(15));
-    more.name("label", at, Anchor::Middle, *name, false)
+    (spot(x, Units(left.y) + Units(15)), Anchor::Middle)
 }
 
 /// Names the section of a point beyond the point's own name, where it is to be named.
@@ -129,7 +137,7 @@ fn draw_point_label(
     if sketch.section_letters(element) == 0 {
         return Ok(());
     }
-    let up = sketch.is_drawn_up(element);
+    let up = sketch.parts_up(element);
     let beyond = LINE.times(count(lines(sketch.facts(element).label.name_letters)));
     let down = if up {
         Units(16) + beyond

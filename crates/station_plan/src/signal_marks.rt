@@ -4,6 +4,7 @@ ghost use Rattle.std.specs.Prelude.{◌≡◌, ◌++◌, ◌∷◌, [], OnOk, co
 ghost use Rattle.station_plan.specs.Faces.{signal_strokes};
 ghost use Rattle.station_plan.specs.Strokes.{circle, line, strokes, written};
 
+use crate::drawn_lines::Heading;
 use crate::element_marks::{along, moved};
 use crate::marks::Marks;
 use crate::sketch::{Sketch, sign};
@@ -118,6 +119,58 @@ fn slanted_symbol(sketch: &Sketch, place: Place) -> Symbol {
     }
 }
 
+/// A signal beside a line that is drawn by hand, at the right hand of a train that leaves by the port.
+fn hand_symbol(sketch: &Sketch, place: Place) -> Symbol {
+    let heading = sketch.heading(place);
+    let right = heading.right();
+    let (back, beside, half): (i32, i32, i32) = if heading.is_slanted() {
+        (23, 8, 3)
+    } else {
+        (31, 11, 4)
+    };
+    let start = heading.along(sketch.hand_port(place), back.saturating_neg());
+    let foot = right.along(start, beside);
+    let (top, near, distant) = if heading.is_slanted() {
+        (8, 11, 17)
+    } else {
+        (12, 16, 24)
+    };
+    let mast = Mast {
+        foot,
+        side: heading.side,
+        slope: heading.slope,
+        top,
+        near,
+        distant,
+    };
+    let (anchor, across, down) = hand_name(heading);
+    Symbol {
+        mast,
+        ends: (
+            right.along(foot, half),
+            right.along(foot, half.saturating_neg()),
+        ),
+        name: moved(mast.at(near), across, down),
+        anchor,
+        upward: right.slope < 0,
+    }
+}
+
+/// Where the name of a signal stands beside its lower lamp, by the way in which its trains go.
+fn hand_name(heading: Heading) -> (Anchor, i32, i32) {
+    let right = heading.right();
+    if heading.slope == 0 {
+        let down = if right.slope > 0 { 14 } else { -7 };
+        return (Anchor::Middle, 0, down);
+    }
+    let down = right.slope.saturating_mul(6).saturating_add(3);
+    if right.side > 0 {
+        (Anchor::Start, 9, down)
+    } else {
+        (Anchor::End, -9, down)
+    }
+}
+
 /// Draws a signal that stands at a port.
 pub(crate) fn draw_signal(
     marks: &mut Marks,
@@ -128,7 +181,9 @@ pub(crate) fn draw_signal(
     ensures drawn { OnOk result (strokes marks.new.marks.items ≡ strokes marks.old.marks.items ++ signal_strokes) }
     ensures named { OnOk result (written marks.new.marks.items ≡ written marks.old.marks.items ++ name) }
 {
-    let symbol = if sketch.is_level(place) {
+    let symbol = if sketch.is_by_hand() {
+        hand_symbol(sketch, place)
+    } else if sketch.is_level(place) {
         level_symbol(sketch, place)
     } else {
         slanted_symbol(sketch, place)

@@ -1,5 +1,6 @@
 //! Where everything lies in a plan.
 
+use crate::drawn_lines::DrawnLine;
 use crate::heights::{EMPTY, Room};
 use crate::links::Link;
 use crate::numbers::Numbers;
@@ -40,6 +41,8 @@ pub(crate) struct Sketch {
     pub(crate) row_count: usize,
     /// What is known of each row.
     pub(crate) rows: Vec<Room>,
+    /// The line of each port, in `port_number`'s order, where the layout is drawn by hand.
+    pub(crate) drawn: Vec<Vec<Spot>>,
 }
 
 /// A spot by its two places.
@@ -69,12 +72,17 @@ impl Sketch {
             links: Vec::new(alloc),
             row_count: 0,
             rows: Vec::new(alloc),
+            drawn: Vec::new(alloc),
         }
     }
 
-    /// Lays out a layout, one thing after the other. Nobody else has what is being made, so an error drops it in one place.
-    pub(crate) fn lay(&mut self, layout: &Layout) -> Result<(), AllocError> {
+    /// Lays out a layout as these lines say, or by itself, one thing after the other. Nobody else has what is being made, so
+    /// an error drops it in one place.
+    pub(crate) fn lay(&mut self, layout: &Layout, lines: &[DrawnLine]) -> Result<(), AllocError> {
         self.take_up(layout)?;
+        if self.draw_by_hand(layout, lines)? {
+            return Ok(());
+        }
         self.lay_elements(layout);
         self.lay_chains();
         self.lay_links()?;
@@ -129,6 +137,9 @@ impl Sketch {
 
     /// Where an element lies.
     pub(crate) fn spot(&self, element: usize) -> Spot {
+        if self.is_by_hand() {
+            return self.hand_spot(element);
+        }
         spot(self.x(element), self.y(element))
     }
 
@@ -231,7 +242,9 @@ impl Sketch {
 
     /// Where a port lies.
     pub(crate) fn port_spot(&self, place: Place) -> Spot {
-        if self.is_level(place) {
+        if self.is_by_hand() {
+            self.hand_port(place)
+        } else if self.is_level(place) {
             let x = self.edge(place.element, self.is_right(place));
             spot(x, self.y(place.element))
         } else {

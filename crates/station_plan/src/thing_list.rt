@@ -6,6 +6,7 @@ ghost use Rattle.station_plan.specs.Faces.{AreDrawn, strokes_for, words_for};
 ghost use Rattle.station_plan.specs.Strokes.{strokes, written};
 ghost use Rattle.station_plan.specs.inside.Placing.{subjects_at};
 
+use crate::drawn_lines::DrawnLine;
 use crate::element_marks::{draw_border, draw_branch, draw_joint, draw_point, draw_track};
 use crate::extent::{EVERYWHERE, Extent, reach_of_things};
 use crate::marks::Marks;
@@ -154,12 +155,13 @@ fn add_all(
     sketch: &mut Sketch,
     layout: &Layout,
     shown: &Shown,
+    lines: &[DrawnLine],
 ) -> Result<(), AllocError>
     requires { things.old.items ≡ [] }
     ensures listed { OnOk result (subjects_of things.new.items ≡ subjects layout.now) }
     ensures drawn { OnOk result (AreDrawn layout.now shown.now.seen things.new.items) }
 {
-    sketch.lay(layout)?;
+    sketch.lay(layout, lines)?;
     let scene = Scene {
         layout,
         sketch,
@@ -177,10 +179,23 @@ pub fn things(alloc: Global, table: &Checked, shown: &Shown) -> Result<Vec<Thing
     ensures listed { IfOk result (λ things. subjects_of things.items ≡ subjects table.now) }
     ensures drawn { IfOk result (λ things. AreDrawn table.now shown.now.seen things.items) }
 {
+    things_by_hand(alloc, table, shown, &[])
+}
+
+/// The same, laid as these lines say.
+pub(crate) fn things_by_hand(
+    alloc: Global,
+    table: &Checked,
+    shown: &Shown,
+    lines: &[DrawnLine],
+) -> Result<Vec<Thing>, AllocError>
+    ensures listed { IfOk result (λ things. subjects_of things.items ≡ subjects table.now) }
+    ensures drawn { IfOk result (λ things. AreDrawn table.now shown.now.seen things.items) }
+{
     let layout = table.layout();
     let mut sketch = Sketch::new(alloc, Numbers::of(layout));
     let mut things = Vec::new(alloc);
-    let listed = add_all(&mut things, &mut sketch, layout, shown);
+    let listed = add_all(&mut things, &mut sketch, layout, shown, lines);
     drop(sketch);
     listed?;
     Ok(things)

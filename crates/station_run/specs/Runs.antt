@@ -1,5 +1,5 @@
 -- What comes of a station that runs for some time.
-use Rattle.std.specs.Prelude.{◌≡◌, ℕ, List, ◌++◌, codes, Option, Ok}
+use Rattle.std.specs.Prelude.{◌≡◌, ◌≤◌, ℕ, List, ◌++◌, codes, Option, Ok}
 use Rattle.std.specs.Io.KnownBytes.{Appends}
 use Rattle.station_record.specs.replay.layout.Entries.{Site}
 use Rattle.station_record.specs.replay.replay_lines.Script.{script}
@@ -56,9 +56,9 @@ pub data EndsEarly {Net : Type 0} (carries : Net → Call → Net → Type 0) (l
   -- It was driven as for its time, but cut off, with a beginning of the record.
   cannot_run : CutOff worlds carries lines for_ms readings_old readings_new old new → EndsEarly carries lines for_ms readings_old readings_new old new CannotRun
   lacks_memory : CutOff worlds carries lines for_ms readings_old readings_new old new → EndsEarly carries lines for_ms readings_old readings_new old new OutOfMemory
-  -- It was driven for its time, but has no picture.
-  lacks_memory_at_its_end : Driven worlds carries lines for_ms readings_old readings_new old new → EndsEarly carries lines for_ms readings_old readings_new old new OutOfMemory
-  not_told : Driven worlds carries lines for_ms readings_old readings_new old new → EndsEarly carries lines for_ms readings_old readings_new old new NotWritten
+  -- It was driven for its time, or until it was stopped, but has no picture.
+  lacks_memory_at_its_end : {passed : ℕ} → passed ≤ for_ms → Driven worlds carries lines passed readings_old readings_new old new → EndsEarly carries lines for_ms readings_old readings_new old new OutOfMemory
+  not_told : {passed : ℕ} → passed ≤ for_ms → Driven worlds carries lines passed readings_old readings_new old new → EndsEarly carries lines for_ms readings_old readings_new old new NotWritten
 
 -- ---- the whole
 

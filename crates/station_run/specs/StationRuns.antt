@@ -1,5 +1,5 @@
 -- What comes of a station that runs over a network.
-use Rattle.std.specs.Prelude.{ℕ, List, Option}
+use Rattle.std.specs.Prelude.{◌≤◌, ℕ, List, Option}
 use Rattle.station_panel.specs.station_drive.Engines.{EngineView}
 use Rattle.station_panel.specs.station_drive.declared.datagrams.Datagrams as networks
 use Rattle.station_record.specs.replay.simulator.World.{View}
@@ -13,9 +13,10 @@ pub record StationRunView (Network : Type 0) : Type 0 where
   pub script : List (ℕ × Event)
 
 module _ {Network : Type 0} (n : networks.Ghosts Network) where
-  -- It ran for its time.
+  -- It ran for its time, or was stopped before: then it ran for the time that had passed.
   abbrev pub HasRun : (for_ms : ℕ) (readings_old readings_new : Option (List ℕ)) (old new : StationRunView Network) (out_old out_new : Option (List ℕ)) → Type 0
-  HasRun for_ms readings_old readings_new old new out_old out_new = IsRun n.carries old.script for_ms readings_old readings_new (state_of n old.engine) (state_of n new.engine) out_old out_new
+  HasRun for_ms readings_old readings_new old new out_old out_new =
+      (passed : ℕ) × (passed ≤ for_ms) × IsRun n.carries old.script passed readings_old readings_new (state_of n old.engine) (state_of n new.engine) out_old out_new
 
   -- It ended early.
   abbrev pub HasEnded : (for_ms : ℕ) (readings_old readings_new : Option (List ℕ)) (old new : StationRunView Network) → Failure → Type 0

@@ -7,12 +7,14 @@ mod machine;
 mod panel_machine;
 mod pictured_world;
 mod prepared;
+mod stoppable;
 mod thing;
 mod watched;
 
 pub use machine::{RunOptions, run};
 pub use panel_machine::{Attended, panel};
 pub use prepared::{Prepared, StationRun, prepare};
+pub use run_files::RunFiles;
 pub use station_panel::{Limits, PageAsked, PanelOptions};
 
 // What crates above need of the crates below.

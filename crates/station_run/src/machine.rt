@@ -1,15 +1,17 @@
 //! What `station run` does.
 
 ghost use Rattle.std.specs.IoError.{error_kind};
-ghost use Rattle.std.specs.Prelude.{◌≡◌, ◌≤◌, IfErr, IfOk};
+ghost use Rattle.std.specs.Prelude.{◌≡◌, ◌≤◌, ℕ, IfErr, IfOk};
 ghost use Rattle.station_record.specs.replay.World.{played};
 ghost use Rattle.station_record.specs.replay.station_check.Failures.{Explained};
 ghost use Rattle.station_run.specs.Inside.{IsOfMachine, IsOfRun, IsOfSystem, of_opening};
 ghost use Rattle.station_run.specs.Runs.{CanRun, Explains, IsWhole, RunsSomehow};
 
 use crate::prepared::{StationRun, prepare};
+use crate::stoppable::Stoppable;
 use crate::watched::Watched;
-use station_panel::station_drive::{Clock, OpenFault, RoundClock, Sockets};
+use run_files::{RecordFile, RunFiles, record_file};
+use station_panel::station_drive::{Clock, OpenFault, Sockets};
 use station_record::{Failure, tell};
 use std::fs::Files;
 use std::io::{BufWriter, Eprint, Write};
@@ -17,7 +19,8 @@ use std::net::Net;
 use std::time::Clock as Timer;
 use std::{fs, io};
 
-/// What `station run` is asked: the texts of the layout and the script, where the record goes, and for how many milliseconds.
+/// What `station run` is asked: the texts of the layout and the script, where the record goes and in which parts, for how many
+/// milliseconds, and which file ends it before.
 #[derive(Clone, Copy, Debug)]
 pub struct RunOptions<'a> {
     pub layout: &'a str,
@@ -25,19 +28,20 @@ pub struct RunOptions<'a> {
     /// The path of the record.
     pub record: &'a str,
     pub for_ms: u64,
+    pub files: RunFiles<'a>,
 }
 
 /// What a run uses of the machine.
 #[derive(Drop)]
-pub(crate) struct Machine<'a, R: Files> {
+pub(crate) struct Machine<'a, R: Files + AllocGlobal> {
     pub(crate) sockets: Sockets,
-    pub(crate) recorder: BufWriter<R::File>,
-    pub(crate) clock: RoundClock<'a, R>,
+    pub(crate) recorder: BufWriter<RecordFile<'a, R>>,
+    pub(crate) clock: Stoppable<'a, R>,
 }
 
 /// Drives a new station of a layout over sockets for some time, by a script, records its events, and writes its last picture
-/// to `out`. The texts are judged before the sockets are opened, and the sockets are opened before the record is made. The
-/// status is 0, or 1 where anything failed; `err` is then told why, unless the picture couldn't be written. Where it is
+/// to `out`. A file that is there ends it before its time; it is then the same as one that was to run for so long. The texts are
+/// judged before the sockets are opened, and the sockets are opened before the record is made. The status is 0, or 1 where anything failed; `err` is then told why, unless the picture couldn't be written. Where it is
 /// wanted, the seconds that have passed are shown on standard error.
 pub fn run<R: Files + Net + Timer + Eprint + AllocGlobal, O: Write, E: Write>(
     rt: &R,
@@ -47,7 +51,7 @@ pub fn run<R: Files + Net + Timer + Eprint + AllocGlobal, O: Write, E: Write>(
     progress: bool,
 ) -> u8
     ensures status { result ≤ 1 }
-    ensures done { result ≡ 0 → IsWhole asked.now.layout.now asked.now.script.now asked.now.for_ms (O.contents out.old) (O.contents out.new) }
+    ensures done { result ≡ 0 → (passed : ℕ) × (passed ≤ asked.now.for_ms) × IsWhole asked.now.layout.now asked.now.script.now passed (O.contents out.old) (O.contents out.new) }
     ensures faulty { (CanRun asked.now.layout.now asked.now.script.now → ⊥) → (result ≡ 1) × (out.new ≡ out.old) }
     ensures silent { result ≡ 0 → err.new ≡ err.old }
     // Only a beginning of the line was told where a write to `err` failed.
@@ -57,7 +61,7 @@ pub fn run<R: Files + Net + Timer + Eprint + AllocGlobal, O: Write, E: Write>(
         Ok(prepared) => prepared,
         Err(failure) => return tell(&failure, err),
     };
-    match open(rt, prepared.nodes(), asked.record) {
+    match open(rt, prepared.nodes(), asked.record, asked.files) {
         Ok(
             Machine {
                 sockets,
@@ -102,11 +106,12 @@ pub(crate) fn open<'a, R: Files + Net + Timer + AllocGlobal>(
     rt: &'a R,
     nodes: usize,
     record: &str,
+    files: RunFiles<'a>,
 ) -> Result<Machine<'a, R>, Failure>
     ensures { IfErr result IsOfMachine }
 {
     let sockets = Sockets::open(rt, rt.alloc(), nodes).map_err(of_opening)?;
-    let (recorder, clock) = begin(rt, record).map_err(of_system)?;
+    let (recorder, clock) = begin(rt, record, files).map_err(of_system)?;
     Ok(Machine {
         sockets,
         recorder,
@@ -114,13 +119,55 @@ pub(crate) fn open<'a, R: Files + Net + Timer + AllocGlobal>(
     })
 }
 
+/// What a panel uses of the machine. Its record stands in one file.
+#[derive(Drop)]
+pub(crate) struct PanelMachine<'a, R: Files> {
+    pub(crate) sockets: Sockets,
+    pub(crate) recorder: BufWriter<R::File>,
+    pub(crate) clock: Stoppable<'a, R>,
+}
+
+/// Opens the sockets of a panel, makes its record and starts its clock, which a file may stop.
+pub(crate) fn open_panel<'a, R: Files + Net + Timer + AllocGlobal>(
+    rt: &'a R,
+    nodes: usize,
+    record: &str,
+    stop_file: Option<&'a str>,
+) -> Result<PanelMachine<'a, R>, Failure>
+    ensures { IfErr result IsOfMachine }
+{
+    let sockets = Sockets::open(rt, rt.alloc(), nodes).map_err(of_opening)?;
+    let (recorder, clock) = begin_panel(rt, record, stop_file).map_err(of_system)?;
+    Ok(PanelMachine {
+        sockets,
+        recorder,
+        clock,
+    })
+}
+
+/// Makes the record of a panel, and starts its clock.
+fn begin_panel<'a, R: Files + Timer + AllocGlobal>(
+    rt: &'a R,
+    record: &str,
+    stop_file: Option<&'a str>,
+) -> io::Result<(BufWriter<R::File>, Stoppable<'a, R>)> {
+    let recorder = BufWriter::new(rt.alloc(), fs::create(rt, record)?)?;
+    let clock = Stoppable::start(rt, stop_file)?;
+    Ok((recorder, clock))
+}
+
+/// A record, and a clock that a file stops.
+type Begun<'a, R> = (BufWriter<RecordFile<'a, R>>, Stoppable<'a, R>);
+
 /// Makes the record, and starts a clock.
 fn begin<'a, R: Files + Timer + AllocGlobal>(
     rt: &'a R,
     record: &str,
-) -> io::Result<(BufWriter<R::File>, RoundClock<'a, R>)> {
-    let recorder = BufWriter::new(rt.alloc(), fs::create(rt, record)?)?;
-    let clock = RoundClock::start(rt)?;
+    files: RunFiles<'a>,
+) -> io::Result<Begun<'a, R>> {
+    let file = record_file(rt, record, files.record_size)?;
+    let recorder = BufWriter::new(rt.alloc(), file)?;
+    let clock = Stoppable::start(rt, files.stop_file)?;
     Ok((recorder, clock))
 }
 
@@ -133,7 +180,7 @@ fn run_watched<W: Write + Drop, C: Clock + Drop, P: Eprint, O: Write, E: Write>(
     err: &mut E,
 ) -> u8
     ensures status { result ≤ 1 }
-    ensures done { result ≡ 0 → RunsSomehow (played station.engine.station) station.script for_ms (O.contents out.old) (O.contents out.new) }
+    ensures done { result ≡ 0 → (passed : ℕ) × (passed ≤ for_ms) × RunsSomehow (played station.engine.station) station.script passed (O.contents out.old) (O.contents out.new) }
     ensures silent { result ≡ 0 → err.new ≡ err.old }
     ensures told { result ≡ 1 → Explained IsOfRun result out.old out.new (E.contents err.old) (E.contents err.new) }
 {

@@ -7,9 +7,10 @@ ghost use Rattle.station_run.specs.Inside.{IsOfRun};
 ghost use Rattle.station_run.specs.Panels.{IsAttended, IsAttendedSomehow, IsPanel};
 ghost use Rattle.station_run.specs.Runs.{CanRun, Explains};
 
-use crate::machine::{Machine, open};
+use crate::machine::{PanelMachine, open_panel};
 use crate::pictured_world::PicturedWorld;
 use crate::prepared::{StationRun, prepare};
+use crate::stoppable::Stoppable;
 use station_panel::station_drive::{Clock, Datagrams, Engine, Sockets};
 use station_panel::{Ending, Listens, Loopback, PanelFault, PanelOptions, serve};
 use station_record::{Failure, tell};
@@ -20,12 +21,13 @@ use std::random::RandomSource;
 use std::time::Clock as Timer;
 
 /// Attends a panel of a new station of a layout: its nodes run over sockets, as `run` has them, each event is recorded, and a
-/// browser of this machine gets a page with which the station is operated. The address of the page is written to `out`, and
-/// at the end a word of why, if it isn't that the time is over. The status is 0, or 1 where anything failed; `err` is then
+/// browser of this machine gets a page with which the station is operated. It ends with its time, or where a file is there that ends
+/// it. The address of the page is written to `out`, and at the end a word of why, if it is neither of these. The status is 0, or 1 where anything failed; `err` is then
 /// told why.
-pub fn panel<R: Files + Net + Timer + RandomSource + AllocGlobal, O: Write, E: Write>(
-    rt: &R,
+pub fn panel<'a, R: Files + Net + Timer + RandomSource + AllocGlobal, O: Write, E: Write>(
+    rt: &'a R,
     asked: &PanelOptions<'_>,
+    stop_file: Option<&'a str>,
     out: &mut O,
     err: &mut E,
 ) -> u8
@@ -40,9 +42,9 @@ pub fn panel<R: Files + Net + Timer + RandomSource + AllocGlobal, O: Write, E: W
         Ok(prepared) => prepared,
         Err(failure) => return tell(&failure, err),
     };
-    match open(rt, prepared.nodes(), asked.page.record) {
+    match open_panel(rt, prepared.nodes(), asked.page.record, stop_file) {
         Ok(
-            Machine {
+            PanelMachine {
                 sockets,
                 recorder,
                 clock,
@@ -59,10 +61,10 @@ pub fn panel<R: Files + Net + Timer + RandomSource + AllocGlobal, O: Write, E: W
 }
 
 /// Attends a panel of a station over sockets, and listens for browsers of this machine.
-fn attend_browsers<R: Net + RandomSource, C: Clock + Drop, W: Write + Drop, O: Write, E: Write>(
+fn attend_browsers<'a, R: Files + Net + Timer + RandomSource, W: Write + Drop, O: Write, E: Write>(
     rt: &R,
     station: StationRun<Sockets, W>,
-    clock: C,
+    clock: Stoppable<'a, R>,
     asked: &PanelOptions<'_>,
     out: &mut O,
     err: &mut E,
@@ -132,13 +134,13 @@ impl<N: Datagrams + Drop, W: Write> StationRun<N, W> {
     }
 }
 
-/// Tells why a panel ended, unless it is that its time is over.
+/// Tells why a panel ended, unless it is that its time is over, or that it was stopped.
 fn tell_ending<O: Write>(ended: Result<Ending, PanelFault>, out: &mut O) -> Result<(), Failure>
     ensures well { IsOk result → IsOk ended }
     ensures why { IfErr result IsOfRun }
 {
     let told = match ended {
-        Ok(Ending::TimeIsOver) => Ok(()),
+        Ok(Ending::TimeIsOver | Ending::Stopped) => Ok(()),
         Ok(Ending::MemoryIsFull) => {
             out.writeln("stopped: the datagrams take all memory that they may")
         }

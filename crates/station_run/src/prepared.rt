@@ -91,8 +91,8 @@ impl<N, W: Write> StationRun<N, W> {
 }
 
 impl<N: Datagrams, W: Write> StationRun<N, W> {
-    /// Drives the station for so many milliseconds of the clock, records its events, and writes its last picture to `out`. The
-    /// status is 0, or 1 where anything failed; `err` is then told why, unless the picture couldn't be written.
+    /// Drives the station for so many milliseconds of the clock, or until the clock tells that it is to end, records its events, and
+    /// writes its last picture to `out`. The status is 0, or 1 where anything failed; `err` is then told why, unless the picture couldn't be written.
     pub fn run<C: Clock, O: Write, E: Write>(
         &mut self,
         clock: &mut C,
@@ -122,7 +122,7 @@ impl<N: Datagrams, W: Write> StationRun<N, W> {
         ensures failed { IfErr result (λ failure. HasEnded N.Datagrams for_ms (C.readings clock.old) (C.readings clock.new) self.old self.new failure × Leaves failure out.old out.new) }
     {
         match self.engine.drive(clock, &self.script, for_ms) {
-            Ok(()) => {}
+            Ok(_) => {}
             Err(fault) => return Err(of_drive(fault)),
         }
         write_picture(&self.engine, out)

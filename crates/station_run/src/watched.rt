@@ -69,4 +69,8 @@ impl<'a, C: Clock, P: Eprint> Clock for Watched<'a, C, P> {
         self.show(reading);
         reading
     }
+
+    fn is_stopped(&self) -> bool {
+        self.clock.is_stopped()
+    }
 }

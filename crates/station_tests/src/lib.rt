@@ -1,7 +1,9 @@
-//! Tests of what the programs `station` and `pair` do: reports, files, want of memory, runs over memory and sockets, captures,
-//! command lines, links that a client closes, and all nodes of a station in one process.
+//! Tests of what the program `station` does: reports, files, want of memory, runs over memory and sockets, captures, command
+//! lines, links that a client closes, and all nodes of a station in one process.
 #![tactic(auto)]
 
+#[cfg(test)]
+mod addresses;
 #[cfg(test)]
 mod captures;
 #[cfg(test)]
@@ -19,9 +21,9 @@ mod memory;
 #[cfg(test)]
 mod node_stories;
 #[cfg(test)]
-mod one_round;
+mod numbers;
 #[cfg(test)]
-mod pair;
+mod one_round;
 #[cfg(test)]
 mod panel;
 #[cfg(test)]
@@ -32,6 +34,8 @@ mod panel_of_node;
 mod run_bench;
 #[cfg(test)]
 mod runs;
+#[cfg(test)]
+mod service;
 #[cfg(test)]
 mod sockets;
 #[cfg(test)]

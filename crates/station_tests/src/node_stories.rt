@@ -17,6 +17,7 @@ use crate::node_stories::records::records_are_same;
 use crate::node_stories::station::{Station, free_addresses};
 use crate::node_stories::stories::{
     calls_that_fail_change_nothing, nothing_old_is_heard, rests, stories_are_seen,
+    stories_over_sockets_are_seen,
 };
 use crate::run_bench::SMALL;
 use station_run::table_of;
@@ -25,6 +26,8 @@ use station_run::table_of;
 #[derive(Clone, Copy)]
 enum Trial {
     Stories,
+    /// Those over sockets, in two networks.
+    StoriesOverTwo,
     LateDatagrams,
     FailingCalls,
     Records,
@@ -35,17 +38,26 @@ enum Trial {
 /// Whether a trial comes out as it has to.
 fn comes_out(rt: &HostRuntime, trial: Trial) -> bool {
     let alloc = rt.alloc();
-    let (Some(addresses), Ok(table)) = (free_addresses(rt), table_of(alloc, SMALL)) else {
+    let (Some(addresses), Some(second)) = (free_addresses(rt, 0), free_addresses(rt, 1)) else {
         return false;
+    };
+    let Ok(table) = table_of(alloc, SMALL) else {
+        return false;
+    };
+    let second = match trial {
+        Trial::StoriesOverTwo => Some(second.as_slice()),
+        _ => None,
     };
     let station = Station {
         rt,
         alloc,
         table: &table,
         addresses: &addresses,
+        second,
     };
     match trial {
         Trial::Stories => stories_are_seen(station),
+        Trial::StoriesOverTwo => stories_over_sockets_are_seen(station),
         Trial::LateDatagrams => nothing_old_is_heard(station),
         Trial::FailingCalls => calls_that_fail_change_nothing(station),
         Trial::Records => records_are_same(station),
@@ -56,6 +68,11 @@ fn comes_out(rt: &HostRuntime, trial: Trial) -> bool {
 #[test]
 fn each_story_is_seen_as_it_is_told(rt: HostRuntime) {
     assert!(rt; comes_out(&rt, Trial::Stories));
+}
+
+#[test]
+fn each_story_is_seen_over_two_networks(rt: HostRuntime) {
+    assert!(rt; comes_out(&rt, Trial::StoriesOverTwo));
 }
 
 #[test]

@@ -42,6 +42,7 @@ const DRIVE: Drive<'static> = Drive {
     script: SCRIPT,
     begins: 10_000,
     for_ms: 6560,
+    stops: u64::MAX,
     room: usize::MAX,
     failing: 0,
 };

@@ -63,6 +63,7 @@ const REFUSED: &[Visit] = &[
     (1, Asks::Get("/")),
     (1, Asks::Get("/station")),
     (1, Asks::Get("/state?after=0")),
+    (2, Asks::Get("/metrics")),
     (2, Asks::Get("/favicon.ico")),
     (2, Asks::Get("/command")),
     (2, Asks::Get("/state?after=x")),
@@ -89,7 +90,8 @@ const REFUSED: &[Visit] = &[
 #[test]
 fn each_request_has_its_status(rt: HostRuntime) {
     let left = attend(&rt, rt.alloc(), REFUSED, 200);
-    assert!(rt; count(&left.told, "200") == 3);
+    assert!(rt; count(&left.told, "200") == 4);
+    assert!(rt; has(&left.told, "zendurai_rounds_total "));
     assert!(rt; count(&left.told, "404") == 1);
     assert!(rt; count(&left.told, "405") == 1);
     assert!(rt; count(&left.told, "400") == 2);
@@ -112,6 +114,7 @@ const SESSION: &[Visit] = &[
     (1160, Asks::Post("mend S1")),
     (1170, Asks::Post("restart IXL1 0 1")),
     (1180, Asks::Get("/state?after=1160")),
+    (1185, Asks::Get("/metrics")),
 ];
 
 #[test]
@@ -123,6 +126,13 @@ fn a_session_of_requests_replays_as_the_same(rt: HostRuntime) {
     assert!(rt; has(&left.told, "cut S1 yes"));
     assert!(rt; has(&left.told, "link S1 lost"));
     assert!(rt; has(&left.told, "ixl holding"));
+    assert!(rt; has(&left.told, "zendurai_commands_total{answer=\"accepted\"} "));
+    assert!(rt;
+        has(
+            &left.told,
+            "zendurai_commands_total{answer=\"refused_3\"} 0"
+        )
+    );
     assert!(rt; has(&left.record, "set R2 = accepted"));
     assert!(rt; has(&left.record, "cancel R2 = accepted"));
     assert!(rt; has(&left.record, "restart IXL1 0 1 = ok"));

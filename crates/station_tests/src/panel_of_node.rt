@@ -3,8 +3,8 @@
 use crate::panel_bench::{Asks, Sevens, Visit, Visits, count, has, page};
 use crate::run_bench::SMALL;
 use control_table::{Checked, Layout};
-use node_network::MemoryOutside;
 use node_panel::{Heard, Room, attend_node};
+use station_node::node_network::MemoryOutside;
 use station_panel::{Pictured, open_desk};
 use station_run::table_of;
 use std::alloc::Global;
@@ -145,6 +145,7 @@ fn a_panel_shows_what_a_node_tells(rt: HostRuntime) {
     assert!(rt; has(&told, "section GP unknown") && has(&told, "indicates S1 stop"));
     assert!(rt; has(&told, "indicates S3 unknown") && has(&told, "ixl resume"));
     assert!(rt; count(&told, "202") == 3);
+    assert!(rt; asks(&rt, &mut seat, "numbers"));
     assert!(rt; asks(&rt, &mut seat, "resume") && asks(&rt, &mut seat, "set R2"));
     assert!(rt; seat.outside.take_written().is_none());
     let told = attend(&rt, rt.alloc(), &mut seat, &SET);
@@ -153,6 +154,41 @@ fn a_panel_shows_what_a_node_tells(rt: HostRuntime) {
     assert!(rt; has(&told, "not taken here"));
     assert!(rt; asks(&rt, &mut seat, "cancel all") && asks(&rt, &mut seat, "set R1"));
 }
+
+/// Numbers are told, and looked at; they are asked for once in 10 s.
+const COUNTED: Stage = (
+    &[
+        "number links_up - 2",
+        "number closings_taken_total time 3",
+        "number nothing - 3",
+    ],
+    &[(1, Asks::Get("/metrics"))],
+    10_300,
+);
+
+#[test]
+fn a_panel_serves_the_numbers_of_its_node(rt: HostRuntime) {
+    let table = small_table(&rt, rt.alloc());
+    let mut seat = panel_joined(&rt, rt.alloc(), table.layout());
+    attend(&rt, rt.alloc(), &mut seat, &JOINED);
+    let told = attend(&rt, rt.alloc(), &mut seat, &COUNTED);
+    assert!(rt; has(&told, "content-type: text/plain; version=0.0.4"));
+    assert!(rt; asks(&rt, &mut seat, "numbers"));
+    assert!(rt; asks(&rt, &mut seat, "resume") && asks(&rt, &mut seat, "set R2"));
+    assert!(rt; asks(&rt, &mut seat, "numbers"));
+    assert!(rt; seat.outside.take_written().is_none());
+    let told = attend(&rt, rt.alloc(), &mut seat, &LOOKED_AT);
+    assert!(rt; has(&told, "zendurai_links_up 2"));
+    assert!(rt; has(&told, "zendurai_closings_taken_total{reason=\"time\"} 3"));
+    assert!(rt; !has(&told, "zendurai_memory_bytes"));
+    seat.outside.close();
+    attend(&rt, rt.alloc(), &mut seat, &GONE);
+    let told = attend(&rt, rt.alloc(), &mut seat, &LOOKED_AT);
+    assert!(rt; !has(&told, "zendurai_links_up"));
+}
+
+/// The numbers are looked at.
+const LOOKED_AT: Stage = (&[], &[(1, Asks::Get("/metrics"))], 10_400);
 
 #[test]
 fn a_panel_knows_nothing_of_a_node_that_has_gone(rt: HostRuntime) {

@@ -48,6 +48,8 @@ struct HastyClock {
     latest: u64,
     /// By how much it goes on at the next reading, and at the one after that, in microseconds.
     steps: (u64, u64),
+    /// From which reading on it tells that the run is to end.
+    stops: u64,
 }
 
 impl Clock for HastyClock {
@@ -57,6 +59,10 @@ impl Clock for HastyClock {
         self.latest = self.latest.saturating_add(self.steps.0);
         self.steps = (self.steps.1, 10_000);
         self.latest
+    }
+
+    fn is_stopped(&self) -> bool {
+        self.latest >= self.stops
     }
 }
 
@@ -68,6 +74,8 @@ pub(crate) struct Drive<'a> {
     /// When its first round is, in microseconds. The others are 10 ms apart.
     pub(crate) begins: u64,
     pub(crate) for_ms: u64,
+    /// At which reading of its clock it is stopped, in microseconds.
+    pub(crate) stops: u64,
     /// For how many bytes of its record there is room.
     pub(crate) room: usize,
     /// Which call of its network fails, counted from 1; none at 0.
@@ -109,6 +117,7 @@ pub(crate) fn run_over_memory(rt: &impl Abort, alloc: Global, drive: Drive<'_>) 
     let mut clock = HastyClock {
         latest: 0,
         steps: (0, drive.begins),
+        stops: drive.stops,
     };
     let disk = Disk {
         kept: Vec::new(alloc),

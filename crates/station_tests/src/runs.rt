@@ -5,7 +5,7 @@ use crate::run_bench::{
     Drive, Left, SMALL, Told, is_same, lacks_delivery, run_over_memory, run_over_sockets,
     whole_lines,
 };
-use station_run::RunOptions;
+use station_run::{RunFiles, RunOptions};
 use std::alloc::{AllocError, Global};
 use std::fs::File;
 use std::ops::Range;
@@ -32,11 +32,12 @@ safe
 /// R1 is set in the round after the one in which the restart hold is ended.
 const SCRIPT: &str = "at 8000 resume\nat 8010 set R1\n";
 
-const WHOLE: Drive<'static> = Drive {
+pub(crate) const WHOLE: Drive<'static> = Drive {
     layout: SMALL,
     script: SCRIPT,
     begins: 10_000,
     for_ms: 12_000,
+    stops: u64::MAX,
     room: usize::MAX,
     failing: 0,
 };
@@ -154,6 +155,10 @@ const fn asked(record: &str) -> RunOptions<'_> {
         script: LATE_SCRIPT,
         record,
         for_ms: 12_000,
+        files: RunFiles {
+            record_size: None,
+            stop_file: None,
+        },
     }
 }
 

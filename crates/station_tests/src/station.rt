@@ -13,6 +13,7 @@ Usage: station <COMMAND>
 
 Commands:
   check    Checks the layout of a station and its table of routes
+  routes   Prints the routes that the table of a layout lacks
   plan     Draws the track plan of a layout
   table    Prints the control table of a layout
   sim      Applies lines of events to a station of a layout
@@ -38,8 +39,10 @@ that it needs on its path and at its flanks, and has its signals at the right pl
 
 For a sound layout it prints how many signals, points, sections and routes the station has, and each
 pair of routes that can't be set at the same time. Otherwise it prints the first fault, and ends with
-status 1. With --explain a second line says what is wrong, in words. With --digest one line more has a
-SHA-256 of the layout's text, which is the same on two machines where the text is.
+status 1. With --explain a second line says what is wrong, in words. With --complete further lines tell
+of a sound layout which routes its table lacks, which ways can't be routes and why, at which signals and
+borders no route begins or ends, and which sections the approach lists lack. With --digest one line more
+has a SHA-256 of the layout's text, which is the same on two machines where the text is.
 docs/INTERLOCKING.md has the keys of the file and all faults, examples/ has stations.
 
 Example: station check examples/junction.toml
@@ -53,6 +56,9 @@ Arguments:
 Options:
       --explain
           Tells a fault in a second line, in words
+
+      --complete
+          Tells what the table of routes lacks
 
       --digest
           Prints a SHA-256 of the layout's text in one line more
@@ -69,9 +75,24 @@ Arguments:
   <FILE>  The layout, a TOML file (- for a file that is read is standard input)
 
 Options:
-      --explain  Tells a fault in a second line, in words
-      --digest   Prints a SHA-256 of the layout's text in one line more
-  -h, --help     Print help (see more with '--help')
+      --explain   Tells a fault in a second line, in words
+      --complete  Tells what the table of routes lacks
+      --digest    Prints a SHA-256 of the layout's text in one line more
+  -h, --help      Print help (see more with '--help')
+";
+
+const SHORT_ROUTES_HELP: &str = "Prints the routes that the table of a layout lacks
+
+Usage: station routes [OPTIONS] <FILE>
+
+Arguments:
+  <FILE>  The layout, a TOML file (- for a file that is read is standard input)
+
+Options:
+      --from <SIGNALS>   The signals at which the routes begin, with commas between their names, else all
+      --approach <RULE>  How far the approach of a route leads back: signal, to the signal before, or berth, over the tracks behind its signal; else signal
+      --write            Writes the routes into the file in place of printing them
+  -h, --help             Print help (see more with '--help')
 ";
 
 const PLAN_HELP: &str = "Draws the track plan of a layout, as an SVG picture on standard output.
@@ -147,6 +168,8 @@ The station begins with each point at left and each section clear. Each line of 
 and what it answered, as EVENT = ANSWER. Where each event answers the same, it prints `same`. Otherwise
 it prints the first line that differs, and ends with status 3.
 
+Where a session stands in parts, RECORD is the first: RECORD.2, RECORD.3 and so on are read behind it.
+
 With --node the record is that of one node, as node writes it with --record. It is applied to a node of
 this name that is made anew.
 
@@ -179,9 +202,13 @@ order of MS.
 Each event is recorded with what it answered; the record of a run that was stopped is good as far as
 it goes. At the end it prints what is seen of the station.
 
+With --stop-file it ends where that file is there, as it does after --for. With --record-size the record
+stands in parts, R, R.2, R.3 and so on: a part ends with the first line at whose end it has N bytes. None
+of them may be there already. replay, chart, decode and capture take R, and find the others.
+
 Example: station run examples/small.toml --script examples/proceed.script --record run.session --for 12000
 
-Usage: station run --script <S> --record <R> --for <MS> <FILE>
+Usage: station run [OPTIONS] --script <S> --record <R> --for <MS> <FILE>
 
 Arguments:
   <FILE>
@@ -194,8 +221,14 @@ Options:
       --record <R>
           The file to which the session is written
 
+      --record-size <N>
+          How many bytes a part of the record has, from 4096 to 4294967296, else it stands in one file
+
       --for <MS>
           How long the station runs, from 1000 to 600000 milliseconds
+
+      --stop-file <F>
+          A file that isn't there yet, and ends the run as soon as it is
 
   -h, --help
           Print help (see a summary with '-h')
@@ -208,7 +241,7 @@ at left and each section clear. The address of a page is printed, for a browser 
 page shows the track plan as the station stands. On it a person sets and cancels routes, drives trains,
 and disturbs the station: cuts links, loses and delays datagrams, makes nodes anew, jams points.
 
-It runs until it is stopped, or until the datagrams that were sent take 1 GiB.
+It runs until it is stopped, or until the datagrams that were sent take 1 GiB. --stop-file is as for run.
 
 With --node the station isn't run here: its interlocking runs as node runs one with --operator, and the
 panel is joined to it as its operator. The page then shows what the interlocking knows, and sets and
@@ -231,6 +264,9 @@ Options:
 
       --for <MS>
           How long the panel stands, from 1000 to 600000 milliseconds, else until it is stopped
+
+      --stop-file <F>
+          A file that isn't there yet, and ends the run as soon as it is
 
       --node <ADDRESS>
           The address at which the interlocking's node serves its operator: the panel is joined to it
@@ -366,8 +402,11 @@ Options:
       --addresses <ADDRESSES>  The addresses of the nodes, a TOML file
       --operator <ADDRESS>     The loopback address of the operator, in place of standard input and output
       --record <R>             The file to which what came and what was done is written
+      --record-size <N>        How many bytes a part of the record has, from 4096 to 4294967296, else it stands in one file
       --clock <MS>             Where the node's clock begins, from 0 to 9000000000000 milliseconds, else at 0
+      --hold <MS>              How long a datagram waits for those that were sent before it, from 0 to 80 milliseconds, else 60
       --for <MS>               How long the node runs, from 1000 to 600000 milliseconds, else without end
+      --stop-file <F>          A file that isn't there yet, and ends the run as soon as it is
   -h, --help                   Print help (see more with '--help')
 ";
 
@@ -462,7 +501,7 @@ For more information, try '--help'.
 
 const A_SECOND_SCRIPT: &str = "error: the argument '--script <S>' cannot be used multiple times
 
-Usage: station run --script <S> --record <R> --for <MS> <FILE>
+Usage: station run [OPTIONS] --script <S> --record <R> --for <MS> <FILE>
 
 For more information, try '--help'.
 ";
@@ -478,6 +517,24 @@ For more information, try '--help'.
 const A_SECOND_SWITCH: &str = "error: the argument '--csv' cannot be used multiple times
 
 Usage: station table [OPTIONS] <FILE>
+
+For more information, try '--help'.
+";
+
+const TOO_LONG_A_HOLD: &str = "error: invalid value '81' for '--hold <MS>': 81 is not in 0..=80
+
+For more information, try '--help'.
+";
+
+const TOO_SHORT_A_PART: &str =
+    "error: invalid value '4095' for '--record-size <N>': 4095 is not in 4096..=4294967296
+
+For more information, try '--help'.
+";
+
+const NO_RULE: &str = "error: routes takes --approach signal or --approach berth
+
+Usage: station <COMMAND>
 
 For more information, try '--help'.
 ";
@@ -502,6 +559,7 @@ const HELPED: &[Printed] = &[
     ("station help", 0, HELP),
     ("station check --help", 0, CHECK_HELP),
     ("station check -h", 0, SHORT_CHECK_HELP),
+    ("station routes -h", 0, SHORT_ROUTES_HELP),
     ("station plan --help", 0, PLAN_HELP),
     ("station table --help", 0, TABLE_HELP),
     ("station sim --help", 0, SIM_HELP),
@@ -535,6 +593,9 @@ const REFUSED: &[Printed] = &[
     ("station table --csv --csv", 2, A_SECOND_SWITCH),
     ("station node f S1", 2, NO_ADDRESSES),
     ("station node f S1 --clock=9000000000001", 2, TOO_LATE),
+    ("station node f S1 --hold=81", 2, TOO_LONG_A_HOLD),
+    ("station run --record-size=4095", 2, TOO_SHORT_A_PART),
+    ("station routes f --approach far", 2, NO_RULE),
     ("station decode --layout f", 2, NOTHING_TO_DECODE),
     ("station decode f", 2, NOTHING_TO_DECODE),
     ("station decode --hex - f r", 2, NOTHING_TO_DECODE),

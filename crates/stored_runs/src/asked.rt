@@ -11,6 +11,7 @@ use station_record::{
 };
 use std::alloc::Global;
 use std::io::Write;
+use table_review::{ApproachRule, Asked as AskedRoutes, ReviewFault, lacking_text, review_text};
 
 /// What is asked of texts: of a layout and another text, where there is one, with the other words of a line.
 #[derive(Clone, Copy)]
@@ -30,6 +31,8 @@ impl<'a> Asked<'a> {
     pub(crate) fn show<W: Write>(self, alloc: Global, out: &mut W) -> Result<(), Failure> {
         let mut told = Vec::new(alloc);
         let status = match self.kind {
+            Kind::Routes => tell_found(self.lacking(alloc), out, &mut told),
+            Kind::Complete => tell_found(review_text(alloc, self.layout), out, &mut told),
             Kind::Report | Kind::Explain | Kind::Table | Kind::Csv | Kind::Plan => {
                 self.tell_layout(alloc, out, &mut told)
             }
@@ -62,6 +65,16 @@ impl<'a> Asked<'a> {
             }
             _ => check_text(alloc, layout, out, told),
         }
+    }
+
+    /// The routes that a layout lacks.
+    fn lacking(self, alloc: Global) -> Result<Vec<u8>, ReviewFault> {
+        let asked = AskedRoutes {
+            text: self.layout,
+            from: None,
+            rule: ApproachRule::Signal,
+        };
+        lacking_text(alloc, &asked)
     }
 
     /// Tells what is asked of the record of a node, and answers the status.
@@ -102,6 +115,25 @@ impl<'a> Asked<'a> {
         let from = millis(self.word)?;
         let to = millis(self.last)?;
         Ok(Cut { from, to })
+    }
+}
+
+/// Tells what was found of a table, or why nothing is told, and answers the status.
+fn tell_found<W: Write>(
+    found: Result<Vec<u8>, ReviewFault>,
+    out: &mut W,
+    told: &mut Vec<u8>,
+) -> u8 {
+    match found {
+        Ok(text) => match out.write_all(&text) {
+            Ok(()) => 0,
+            Err(_) => 1,
+        },
+        Err(fault) => {
+            // What isn't told for want of memory leaves the status.
+            let _ = told.writeln(format_args!("{fault}"));
+            1
+        }
     }
 }
 

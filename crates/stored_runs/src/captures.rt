@@ -1,7 +1,7 @@
 //! Captures, in hexadecimal digits.
 
 use crate::asked::Asked;
-use node_record::node_capture;
+use node_record::{NodeEnds, node_capture};
 use station_record::capture_session;
 use std::alloc::Global;
 use std::io;
@@ -26,7 +26,11 @@ pub(crate) fn show_session<W: Write>(
 
 /// Writes the capture of the record of a node, or that there is none.
 pub(crate) fn show_node<W: Write>(alloc: Global, asked: Asked<'_>, out: &mut W) -> io::Result<()> {
-    match node_capture(alloc, asked.layout, asked.word, asked.text, &[]) {
+    let ends = NodeEnds {
+        first: &[],
+        second: &[],
+    };
+    match node_capture(alloc, asked.layout, asked.word, asked.text, ends) {
         Ok(file) => write_digits(&file, out),
         Err(_) => out.writeln("no capture"),
     }

@@ -19,6 +19,7 @@
 //! - `report CASES`: what `station check` writes, and its status;
 //! - `commented CASES`: the same of the text after many lines of comment;
 //! - `explain CASES`: what `station check --explain` writes, and its status;
+//! - `routes CASES` and `complete CASES`: what `station routes` writes, and `station check --complete` behind its report;
 //! - `table LAYOUT` and `csv LAYOUT`: the control table of a layout, in either form;
 //! - `plan LAYOUT ROUTE PICTURE`: the track plan of a layout, with a route and with what is seen in a picture, or a hyphen where
 //!   none is asked for;

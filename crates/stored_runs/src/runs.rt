@@ -28,9 +28,12 @@ fn carry_out<W: Write>(rt: &HostRuntime, run: &str, out: &mut W) -> Result<(), F
     let (word, words) = parts(run, " ")?;
     let kind = kind_of(word)?;
     match kind {
-        Kind::Report | Kind::Commented | Kind::Explain | Kind::Contents => {
-            cases::carry_out(rt, kind, words, out)
-        }
+        Kind::Report
+        | Kind::Commented
+        | Kind::Explain
+        | Kind::Routes
+        | Kind::Complete
+        | Kind::Contents => cases::carry_out(rt, kind, words, out),
         Kind::Restarts => lists::carry_out(rt, words, out),
         _ => with_texts(rt, kind, words, out),
     }

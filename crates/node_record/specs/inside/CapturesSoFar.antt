@@ -5,14 +5,14 @@ use Rattle.capture_file.specs.Captures.{IsCapture}
 use Rattle.capture_file.specs.Journeys.{Sent as Captured}
 use Rattle.capture_file.specs.declared.fault.CaptureFault.TheVariants.{TooLong}
 use Rattle.capture_file.specs.declared.journey.TheConstants.{MOST_BYTES}
-use Rattle.capture_file.specs.declared.journey.Endpoint.{Endpoint}
 use Rattle.station_check.specs.declared.failure.Failure.{Failure}
 use Rattle.station_check.specs.declared.failure.Failure.TheVariants.{Capture, OutOfMemory}
 use Rattle.node_record.specs.CapturedRecord.{HasTooLong, captured}
+use Rattle.node_record.specs.NodeEnds.{Ends}
 use Rattle.node_record.specs.NodeTraffic.{Passed}
 
 -- a datagram was added to a capture
-pub record Adds (given : List Endpoint) (node : ℕ) (one : Passed) (old new : List ℕ) : Type 0 where
+pub record Adds (given : Ends) (node : ℕ) (one : Passed) (old new : List ℕ) : Type 0 where
   pub exact : new ≡ old ++ packet_block (captured given node one)
   pub is : (all : List Captured) → IsCapture all old → IsCapture (all ++ captured given node one ∷ []) new
 

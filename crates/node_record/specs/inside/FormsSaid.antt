@@ -1,16 +1,10 @@
 -- What a line tells, by its form.
-use Rattle.std.specs.Prelude.{ℕ, Bool, true, false, List, Result, Err}
-use Rattle.control_table.specs.layout.Entries.{Site}
+use Rattle.std.specs.Prelude.{ℕ, List, Result, Err}
 use Rattle.replay_words.specs.declared.fault.Fault.{Fault}
 use Rattle.replay_words.specs.declared.fault.Fault.TheVariants.{Words}
-use Rattle.node_record.specs.RecordLines.{Line, alone, breaks_off, comes, complains, fails, followed, reads, sends}
+use Rattle.node_record.specs.RecordLines.{Line, alone, breaks_off, complains, fails, followed, reads}
 use Rattle.node_record.specs.declared.record_line.Form.{Form}
 use Rattle.node_record.specs.declared.record_line.Form.TheVariants as form
-
--- a datagram came, or it was sent
-abbrev pub datagram : Site → Bool → List (List ℕ) → Result Line Fault
-datagram site true words = comes site words
-datagram site false words = sends site words
 
 abbrev pub other_said : Form → List (List ℕ) → Result Line Fault
 other_said form.Reads words = reads words

@@ -1,5 +1,5 @@
 -- How the approach of a signal is searched, step by step.
-use Rattle.std.specs.Prelude.{◌≡◌, ◌↔◌, ℕ, suc, zero, ◌==◌, ◌&&◌, Bool, true, false, not, is_some, List, [], ◌∷◌, ◌++◌, Option, Some, None, if◌then◌else◌}
+use Rattle.std.specs.Prelude.{◌↔◌, ℕ, suc, zero, ◌==◌, ◌&&◌, Bool, true, false, not, is_some, List, [], ◌∷◌, ◌++◌, Option, Some, None, if◌then◌else◌}
 use Rattle.std.specs.List.{Contains, list_any}
 use Rattle.control_table.specs.layout.declared.ids.SectionId.{SectionId}
 use Rattle.control_table.specs.layout.declared.ids.SignalId.{SignalId}

@@ -1,5 +1,5 @@
 -- What a route writes that leads along a way, step by step.
-use Rattle.std.specs.Prelude.{◌≡◌, ℕ, ◌==◌, Bool, true, false, List, [], ◌∷◌, Option, Some, None, slice_get, map, if◌then◌else◌}
+use Rattle.std.specs.Prelude.{◌≡◌, ◌==◌, Bool, true, false, List, [], Option, Some, None, slice_get, map, if◌then◌else◌}
 use Rattle.std.specs.List.{AllZip, list_any, filter_map}
 use Rattle.control_table.specs.sci_telegram.declared.message.Aspect.{Aspect}
 use Rattle.control_table.specs.sci_telegram.declared.message.Aspect.TheVariants.{Slow, Proceed}

@@ -1,7 +1,7 @@
 -- How ways are searched, step by step.
 use Rattle.std.specs.Prelude.{◌≡◌, ℕ, suc, zero, ◌<◌, ◌≤◌, ◌==◌, ◌-◌, ◌&&◌, ◌||◌, length, Bool, true, false, not, is_some, List, [], ◌∷◌, ◌++◌, Option, Some, None, Result, Ok, Err, slice_get, if◌then◌else◌}
 use Rattle.std.specs.Option.{option_map, option_or}
-use Rattle.std.specs.List.{list_any, flat_map}
+use Rattle.std.specs.List.{list_any}
 use Rattle.control_table.specs.sci_telegram.declared.message.Side.{Side}
 use Rattle.control_table.specs.sci_telegram.declared.message.Side.TheVariants as side
 use Rattle.control_table.specs.layout.declared.ids.SectionId.{SectionId}
@@ -14,7 +14,6 @@ use Rattle.layout_text.specs.declared.entries.End.{End}
 use Rattle.layout_text.specs.declared.entries.End.TheVariants as end
 use Rattle.control_table.specs.layout.declared.entries.Joint.{Joint}
 use Rattle.control_table.specs.layout.declared.entries.Signal.{Signal}
-use Rattle.control_table.specs.layout.declared.entries.Exit.{Exit}
 use Rattle.control_table.specs.layout.declared.entries.Exit.TheVariants as exit
 use Rattle.control_table.specs.layout.Entries.{Site}
 use Rattle.control_table.specs.layout.Known.{same_port, same_element, end_number}
@@ -170,14 +169,15 @@ opposed ns n = some_and (λ n. has_need ns (n.0, other n.1)) n
 
 -- ---- a way that hasn't come to its end
 
--- its passages so far, their sections, and what they require
+-- whether it is judged by what it requires, its passages so far, their sections, and what they require
 pub record Partial : Type 0 where
+  pub judged : Bool
   pub passages : List Passage
   pub sections : List SectionId
   pub needs : List (PointId × Side)
 
-unfoldable pub start : Partial
-start = record { passages = []; sections = []; needs = [] }
+unfoldable pub start : Bool → Partial
+start judged = record { judged = judged; passages = []; sections = []; needs = [] }
 
 abbrev pub holds_element : List Passage → Element → Bool
 holds_element path e = list_any (λ g. is_element g.left.element e) path
@@ -200,18 +200,21 @@ abbrev pub with_need : List (PointId × Side) → Option (PointId × Side) → L
 with_need ns None = ns
 with_need ns (Some n) = ns ++ n ∷ []
 
+-- a passage leaves no leg open, and requires no point that is required at the other side
+abbrev pub sides_go : Site → List (PointId × Side) → Passage → Bool
+sides_go l ns g = not (is_open_at l (used g)) && not (opposed ns (used g)) && not (opposed ns (flank_at l (used g)))
+
 -- the way may go on by a passage
 unfoldable pub may_go : Site → Partial → Passage → Bool
 may_go l p g =
     not (holds_element p.passages g.left.element)
     && section_may_come p.sections (section_of l g.left.element)
-    && not (is_open_at l (used g))
-    && not (opposed p.needs (used g))
-    && not (opposed p.needs (flank_at l (used g)))
+    && (not p.judged || sides_go l p.needs g)
 
 -- the way, gone on by a passage
 unfoldable pub longer : Site → Partial → Passage → Partial
 longer l p g = record {
+  judged = p.judged;
   passages = p.passages ++ g ∷ [];
   sections = with_section p.sections (section_of l g.left.element);
   needs = with_need (with_need p.needs (used g)) (flank_at l (used g));
@@ -249,26 +252,26 @@ ways_over l s (suc n) p (Some g) =
     if may_go l p g then ways_on (λ h. ways_over l s n (longer l p g) h) s (longer l p g).passages (comes_to l s g.left) else []
 
 -- the ways that begin over an element entered at a port, if it is one
-abbrev pub ways_behind : Site → SignalId → Option Port → List Way
-ways_behind l s None = []
-ways_behind l s (Some entered) = ways_over l s 64 start (first_out entered) ++ ways_over l s 64 start (second_out entered)
+abbrev pub ways_behind : Bool → Site → SignalId → Option Port → List Way
+ways_behind judged l s None = []
+ways_behind judged l s (Some entered) = ways_over l s 64 (start judged) (first_out entered) ++ ways_over l s 64 (start judged) (second_out entered)
 
-abbrev pub ways_at : Site → SignalId → Option Port → List Way
-ways_at l s None = []
-ways_at l s (Some at) = ways_behind l s (joined_to l.joints at)
+abbrev pub ways_at : Bool → Site → SignalId → Option Port → List Way
+ways_at judged l s None = []
+ways_at judged l s (Some at) = ways_behind judged l s (joined_to l.joints at)
 
--- the ways that begin at a signal
-unfoldable pub ways_from : Site → SignalId → List Way
-ways_from l s = ways_at l s (port_of l.signals s)
+-- the ways that begin at a signal, those that are passable or all
+unfoldable pub ways_from : Bool → Site → SignalId → List Way
+ways_from judged l s = ways_at judged l s (port_of l.signals s)
 
 abbrev pub is_asked : List SignalId → SignalId → Bool
 is_asked entries s = list_any (λ e. e.0 == s.0) entries
 
--- the ways that begin at a signal, if it stands in a list
+-- the passable ways that begin at a signal, if it stands in a list
 abbrev pub ways_asked : Site → List SignalId → SignalId → List Way
-ways_asked l entries s = if is_asked entries s then ways_from l s else []
+ways_asked l entries s = if is_asked entries s then ways_from true l s else []
 
--- the ways that begin at signals of a list, of those below the n-th of the layout
+-- the passable ways that begin at signals of a list, of those below the n-th of the layout
 unfoldable pub ways_below : Site → List SignalId → ℕ → List Way
 ways_below l entries zero = []
 ways_below l entries (suc n) = ways_below l entries n ++ ways_asked l entries (record { 0 = n })

@@ -1,13 +1,12 @@
 //! A node of any kind.
 
-use crate::node_stories::desk::Wire;
 use crate::node_stories::driven::Driven;
 use crate::node_stories::gear::Gear;
 use crate::node_stories::station::{D1, INTERLOCKING, P1, S1, Station};
 use control_table::{DetectorId, Occupancy, PointId, SignalId};
 use node_kinds::node_drive::{Course, NodeFault};
 use node_kinds::{DetectorNode, InterlockingNode, PointNode, SignalNode};
-use node_network::MemoryOutside;
+use station_node::node_network::{MemoryOutside, NodeSocket};
 use std::alloc::Global;
 
 /// A node of any kind, or none where its process is played elsewhere.
@@ -56,7 +55,7 @@ impl<'a> AnyNode<'a> {
         alloc: Global,
         course: &mut Course,
         memory: &mut MemoryOutside,
-        wire: &mut Option<Wire<'_>>,
+        wire: &mut Option<NodeSocket>,
     ) -> Result<(), NodeFault> {
         match self {
             AnyNode::Elsewhere => Ok(()),

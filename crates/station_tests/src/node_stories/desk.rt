@@ -5,20 +5,24 @@ ghost use Rattle.std.specs.Prelude.{◌≡◌};
 use crate::node_stories::station::Station;
 use node_kinds::Fault;
 use node_kinds::node_drive::{BrokenOff, NextDatagram, NextLine, NodeId, Outside, ThrownAway};
-use node_network::{Lines, Machine, MemoryOutside, NodeClock, NodeSocket};
+use station_node::node_network::{MemoryOutside, NodeSocket};
 use std::alloc::{AllocError, Global};
 
-/// A machine whose lines and whose clock nothing is asked for.
-pub(crate) type Wire<'a> = Machine<'a, HostRuntime, &'a [u8], Vec<u8>, Vec<u8>>;
+/// For how many milliseconds a datagram waits for those before it.
+const HOLD: u64 = 60;
 
-/// Opens the socket of a node, at the node's own address.
-pub(crate) fn opened<'a>(station: Station<'a>, number: usize) -> Option<Wire<'a>> {
-    let (rt, alloc) = (station.rt, station.alloc);
-    let clock = NodeClock::start(rt, 0).ok()?;
-    let socket = NodeSocket::open(rt, alloc, station.addresses, NodeId(number)).ok()?;
-    let nothing: &'a [u8] = &[];
-    let lines = Lines::of_field(nothing, Vec::new(alloc));
-    Some(Machine::new(alloc, clock, socket, lines, Vec::new(alloc)))
+/// Opens the socket of a node, at the node's own address in each network.
+pub(crate) fn opened(station: Station<'_>, number: usize) -> Option<NodeSocket> {
+    let (first, second) = (station.addresses, station.second);
+    NodeSocket::open(
+        station.rt,
+        station.alloc,
+        first,
+        second,
+        NodeId(number),
+        HOLD,
+    )
+    .ok()
 }
 
 /// Who has a round while a process rests.
@@ -37,16 +41,16 @@ impl Others for Nobody {
 
 /// What a node has outside.
 #[derive(Drop)]
-pub(crate) struct Desk<'d, 'a, O> {
+pub(crate) struct Desk<'d, O> {
     /// What its clock read last.
     pub(crate) latest: u64,
     pub(crate) memory: &'d mut MemoryOutside,
     /// Its socket, if it has one.
-    pub(crate) wire: &'d mut Option<Wire<'a>>,
+    pub(crate) wire: &'d mut Option<NodeSocket>,
     pub(crate) others: &'d mut O,
 }
 
-impl<'d, 'a, O: Others> Outside for Desk<'d, 'a, O> {
+impl<'d, O: Others> Outside for Desk<'d, O> {
     ghost use Rattle.std.specs.Prelude.{None};
 
     ghost told = { λ desk. record { calls = None; latest = desk.latest } };
@@ -54,10 +58,12 @@ impl<'d, 'a, O: Others> Outside for Desk<'d, 'a, O> {
     fn rest(&mut self) {
         self.others.go_on_beside(self.memory);
         self.memory.rest();
+        begin_round(self.wire);
     }
 
     fn read_clock(&mut self) -> u64 {
         self.latest = self.latest.max(self.memory.read_clock());
+        note_reading(self.wire, self.latest);
         self.latest
     }
 
@@ -90,22 +96,38 @@ impl<'d, 'a, O: Others> Outside for Desk<'d, 'a, O> {
     }
 }
 
+/// A round begins at a socket, if there is one.
+fn begin_round(wire: &mut Option<NodeSocket>) {
+    match wire {
+        Some(wire) => wire.begin_round(),
+        None => (),
+    }
+}
+
+/// The clock was read, which a socket is told, if there is one.
+fn note_reading(wire: &mut Option<NodeSocket>, reading: u64) {
+    match wire {
+        Some(wire) => wire.note_reading(reading),
+        None => (),
+    }
+}
+
 /// The next datagram on a socket, or over memory where there is none.
-fn next_datagram(wire: &mut Option<Wire<'_>>, memory: &mut MemoryOutside) -> NextDatagram {
+fn next_datagram(wire: &mut Option<NodeSocket>, memory: &mut MemoryOutside) -> NextDatagram {
     match wire {
         Some(wire) => wire.next_datagram(),
         None => memory.next_datagram(),
     }
 }
 
-fn throw_away(wire: &mut Option<Wire<'_>>, memory: &mut MemoryOutside) -> ThrownAway {
+fn throw_away(wire: &mut Option<NodeSocket>, memory: &mut MemoryOutside) -> ThrownAway {
     match wire {
         Some(wire) => wire.throw_away(),
         None => memory.throw_away(),
     }
 }
 
-fn send(wire: &mut Option<Wire<'_>>, memory: &mut MemoryOutside, to: NodeId, bytes: &[u8]) {
+fn send(wire: &mut Option<NodeSocket>, memory: &mut MemoryOutside, to: NodeId, bytes: &[u8]) {
     match wire {
         Some(wire) => wire.send(to, bytes),
         None => memory.send(to, bytes),

@@ -2,9 +2,9 @@
 
 ghost use Rattle.std.specs.Prelude.{◌≡◌, ◌≤◌};
 
-use crate::node_stories::desk::{Desk, Nobody, Wire};
+use crate::node_stories::desk::{Desk, Nobody};
 use node_kinds::node_drive::{Course, NodeFault, NodeMachine, drive};
-use node_network::MemoryOutside;
+use station_node::node_network::{MemoryOutside, NodeSocket};
 use std::alloc::Global;
 use std::marker::Model;
 
@@ -45,7 +45,7 @@ impl<N: NodeMachine + Drop> Driven<N> {
         alloc: Global,
         course: &mut Course,
         memory: &mut MemoryOutside,
-        wire: &mut Option<Wire<'_>>,
+        wire: &mut Option<NodeSocket>,
     ) -> Result<(), NodeFault> {
         let Some(node) = &mut self.node else {
             return Ok(());

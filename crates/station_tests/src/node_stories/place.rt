@@ -2,14 +2,14 @@
 
 use crate::node_stories::any_node::{AnyNode, Beginning};
 use crate::node_stories::changes::Seen;
-use crate::node_stories::desk::{Wire, opened};
+use crate::node_stories::desk::opened;
 use crate::node_stories::driven::put;
 use crate::node_stories::gear::Gear;
 use crate::node_stories::station::{D1, INTERLOCKING, P1, Station, name};
 use control_table::Position;
 use node_kinds::node_drive::{Course, NodeId};
 use node_kinds::read_order;
-use node_network::MemoryOutside;
+use station_node::node_network::{MemoryOutside, NodeSocket};
 use std::alloc::Global;
 
 /// The process of a node with what it has outside, and its equipment or its operator.
@@ -20,7 +20,7 @@ pub(crate) struct Place<'a> {
     course: Course,
     pub(crate) memory: MemoryOutside,
     /// Its socket, if it has one.
-    wire: Option<Wire<'a>>,
+    wire: Option<NodeSocket>,
     pub(crate) gear: Gear,
     /// For how many rounds it isn't called.
     pub(crate) stopped: u64,

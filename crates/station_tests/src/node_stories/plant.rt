@@ -8,7 +8,7 @@ use crate::node_stories::place::Place;
 use crate::node_stories::script::{Act, Row};
 use crate::node_stories::station::{NAMES, Station};
 use node_kinds::simulator_spec::NodeId;
-use node_network::MemoryOutside;
+use station_node::node_network::MemoryOutside;
 use std::alloc::AllocError;
 use std::mem;
 

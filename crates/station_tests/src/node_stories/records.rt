@@ -8,7 +8,7 @@ use crate::node_stories::station::{NAMES, Station, name};
 use crate::run_bench::SMALL;
 use node_kinds::node_drive::Outside;
 use node_kinds::simulator_spec::NodeId;
-use node_network::Recorded;
+use station_node::node_network::Recorded;
 use station_node::{replay_node_text, run_node};
 
 /// From which number on the node numbers its PDUs, and another one.

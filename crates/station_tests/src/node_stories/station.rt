@@ -12,6 +12,8 @@ pub(crate) struct Station<'a> {
     pub(crate) alloc: Global,
     pub(crate) table: &'a Checked,
     pub(crate) addresses: &'a [SocketAddr],
+    /// Those in a second network, if there is one.
+    pub(crate) second: Option<&'a [SocketAddr]>,
 }
 
 /// Its nodes, by their numbers.
@@ -35,20 +37,21 @@ pub(crate) fn name(number: usize) -> &'static str {
     NAMES.get(number).copied().unwrap_or("-")
 }
 
-/// An address of the loopback interface for each node, all with one port, which the system gave.
-pub(crate) fn free_addresses(net: &impl Net) -> Option<[SocketAddr; 6]> {
-    let port = net.bind_udp(at(1, 0)).ok()?.local_addr().ok()?.port();
+/// An address of the loopback interface for each node in a network of this number, all with one port, which the system gave.
+pub(crate) fn free_addresses(net: &impl Net, network: u8) -> Option<[SocketAddr; 6]> {
+    let free = net.bind_udp(at(network, 1, 0)).ok()?;
+    let port = free.local_addr().ok()?.port();
     Some([
-        at(1, port),
-        at(2, port),
-        at(3, port),
-        at(4, port),
-        at(5, port),
-        at(6, port),
+        at(network, 1, port),
+        at(network, 2, port),
+        at(network, 3, port),
+        at(network, 4, port),
+        at(network, 5, port),
+        at(network, 6, port),
     ])
 }
 
 /// An address of the loopback interface.
-fn at(last: u8, port: u16) -> SocketAddr {
-    SocketAddr::new(IpAddr::V4(Ipv4Addr::new(127, 0, 0, last)), port)
+fn at(network: u8, last: u8, port: u16) -> SocketAddr {
+    SocketAddr::new(IpAddr::V4(Ipv4Addr::new(127, 0, network, last)), port)
 }

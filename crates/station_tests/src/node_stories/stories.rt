@@ -84,14 +84,17 @@ const LATE_DATAGRAMS: &[Story] = &[
     },
 ];
 
+/// The same over sockets.
+const OVER_SOCKETS: Story = Story {
+    is_over_sockets: true,
+    ..RESTARTS
+};
+
 /// Those that are played, each once.
 const STORIES: &[Story] = &[
     TO_PROCEED,
     RESTARTS,
-    Story {
-        is_over_sockets: true,
-        ..RESTARTS
-    },
+    OVER_SOCKETS,
     // The detector is made anew at proceed, and the approach lock of its route passes.
     Story {
         script: APPROACH_UNKNOWN,
@@ -142,6 +145,11 @@ const STORIES: &[Story] = &[
 /// Whether of each story is seen what it says.
 pub(crate) fn stories_are_seen(station: Station<'_>) -> bool {
     all_are_seen(station, STORIES)
+}
+
+/// The same of the one over sockets.
+pub(crate) fn stories_over_sockets_are_seen(station: Station<'_>) -> bool {
+    all_are_seen(station, &[OVER_SOCKETS])
 }
 
 /// The same of those in which datagrams wait for long.

@@ -17,9 +17,9 @@ returns-then-not-is_heard-clause-done g c =
     let noted = ap here c.note_reading.ensures in
     let late = heard_before (here c.args.course.now) _ reading false noted (sym c.is_heard.ensures ∙ c.if-not-is_heard.true) in
     let asked = asked_as (ap datagram_heard c.in-Came.is) c.next_datagram.ensures in (
-      (reading, Datagram arrived.from arrived.bytes.items c.throw_away-thrown.result 0) ∷ [],
+      (reading, Datagram arrived.origin arrived.bytes.items c.throw_away-thrown.result 0) ∷ [],
       λ taken few. too_old few late,
-      old_came reading arrived.from arrived.bytes.items c.throw_away-thrown.result c.note_reading.ensures late c.note_thrown_away.ensures asked c.read_clock-reading.ensures c.throw_away-thrown.ensures,
+      old_came reading arrived.origin arrived.bytes.items c.throw_away-thrown.result c.note_reading.ensures late c.note_thrown_away.ensures asked c.read_clock-reading.ensures c.throw_away-thrown.ensures,
     )
 
 pub returns-then-not-is_heard-clause-reached : goal.returns-then-not-is_heard-clause-reached
@@ -45,7 +45,7 @@ returns-in_err-hear_datagram-in-Came-clause-stopped g c =
     let noted = ap here c.note_reading.ensures in
     let heard = heard_before (here c.args.course.now) _ reading true noted (sym c.is_heard.ensures ∙ c.if-not-is_heard.false) in
     let asked = asked_as (ap datagram_heard c.in-Came.is) c.next_datagram.ensures in
-    let one : Timed Arrival = record { now = reading; input = (arrived.from, arrived.bytes.items); leaves = 0 } in
+    let one : Timed Arrival = record { now = reading; input = (arrived.origin, arrived.bytes.items); leaves = 0 } in
     stopped c.from_residual.result (one, heard, one_cut one noted heard asked c.read_clock-reading.ensures c.in_err-hear_datagram-in-Came.ensures.stopped)
 
 pub returns-in_ok-hear_datagram-in-Came-clause-done : goal.returns-in_ok-hear_datagram-in-Came-clause-done
@@ -59,9 +59,9 @@ returns-in_ok-hear_datagram-in-Came-clause-done g c =
     let is_heard = heard_before (here c.args.course.now) _ reading true noted (sym c.is_heard.ensures ∙ c.if-not-is_heard.false) in
     let asked = asked_as (ap datagram_heard c.in-Came.is) c.next_datagram.ensures in
     let leaves = c.release.result in
-    let one : Timed Arrival = record { now = reading; input = (arrived.from, arrived.bytes.items); leaves = leaves } in
+    let one : Timed Arrival = record { now = reading; input = (arrived.origin, arrived.bytes.items); leaves = leaves } in
     let heard = c.in_ok-hear_datagram-in-Came.ensures in
-    let done = datagram does reading arrived.from arrived.bytes.items (here c.note_reading.new.self) in (
+    let done = datagram does reading arrived.origin arrived.bytes.items (here c.note_reading.new.self) in (
       one,
       is_heard,
       one_datagram one noted is_heard asked c.read_clock-reading.ensures

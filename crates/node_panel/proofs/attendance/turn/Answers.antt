@@ -16,6 +16,7 @@ returns g c =
     let site = c.args.layout.now in
     let told = c.in_ok-hear_lines.ensures in
     let asked = c.in_ok-ask_each.ensures in
+    let questioned = c.ask_numbers.ensures in
     let began = c.has_listener-began.result in
     let commands : c.deref.result.now ≡ c.args.desk.now.waiting = c.deref.ensures.value ∙ c.take-commands.ensures.handed_out in
     let known : HeardView = timed c.args.reading (begun began c.args.heard.now) in
@@ -23,16 +24,19 @@ returns g c =
     let desk : c.count.new.self ≡ opened c.args.desk.now = c.count.ensures ∙ ap (λ (d : DeskView). record d { board = numbered d.board }) c.take-commands.ensures.left in
     ok_met c.show.result
     (λ is. (
-      AsksListener began ∷ (map AsksLine told.0 ++ asked.0),
-      calls_on c.has_listener-began.ensures (calls_on told.1 asked.1),
+      AsksListener began ∷ (map AsksLine told.0 ++ (asked.0 ++ questioned.0)),
+      calls_on c.has_listener-began.ensures (calls_on told.1 (calls_on asked.1 questioned.1)),
       record {
         began = began;
         lines = told.0;
         asked = asked.0;
+        questions = questioned.0;
         are = refl;
+        mid = c.ask_each.new.heard;
         asks =
             subst (λ (all : List PanelCommand). AsksEach site (flat_map asked_by all) (heard_all site told.0 known) asked.0 c.ask_each.new.heard) commands
             (subst (λ (h : HeardView). AsksEach site (flat_map asked_by c.deref.result.now) h asked.0 c.ask_each.new.heard) heard asked.2);
+        numbers = questioned.2;
         noted = c.ask_each.new.desk;
         notes = subst (λ (d : DeskView). Notes d c.ask_each.new.desk) desk (both told.3 asked.3);
         shows = is;

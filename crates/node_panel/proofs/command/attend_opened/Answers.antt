@@ -15,13 +15,13 @@ returns g c =
     record {
       opened = desk;
       desk = room.desk;
-      told_old = record { calls = None; latest = c.args.caller.clock.latest };
-      told_new = record { calls = None; latest = c.attend_node.new.outside.clock.latest };
+      told_old = record { calls = None; latest = c.args.outside.latest };
+      told_new = record { calls = None; latest = c.attend_node.new.outside.latest };
       began = c.requires;
       calls = ended.turns.0;
       called = ended.turns.1;
       last = last;
       turns = subst (λ (h : HeardView). Turns c.args.table.now (record { heard = h; desk = desk }) ended.turns.0 last) room.heard
           (subst (λ (p : Site). Turns p (record { heard = heard; desk = desk }) ended.turns.0 last) room.layout ended.turns.2);
-      over = subst (λ (n : ℕ). n ≤ c.attend_node.new.outside.clock.latest) c.unwrap_or.ensures ended.over;
+      over = subst (λ (n : ℕ). n ≤ c.attend_node.new.outside.latest) c.unwrap_or.ensures ended.over;
     }

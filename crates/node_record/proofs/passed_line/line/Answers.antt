@@ -16,11 +16,12 @@ returns-in-Delivered c =
     let one = c.args.one.now in
     delivered_told c.args.layout.now c.args.node one.reading one.way one.bytes.now c.name_or_none-own.result.now (string_bytes c.in_ok-words.words)
     (c.name_or_none-own.ensures ∙ ap name_or_none c.node_name-own.ensures) c.in_ok-words.ensures (λ line. string_bytes line) c.format-in-Delivered.result
-    c.in-Came.from (search rules) c.format-in-Delivered.ensures.ok
+    c.in-Came.from c.in-Came.over c.over_text-over.result.now (search rules) c.over_text-over.ensures c.format-in-Delivered.ensures.ok
 
 pub returns : goal.returns
 returns c =
     let one = c.args.one.now in
     lost_told c.args.layout.now c.args.node one.reading one.way one.bytes.now c.name_or_none-own.result.now (string_bytes c.in_ok-words.words)
     (c.name_or_none-own.ensures ∙ ap name_or_none c.node_name-own.ensures) c.in_ok-words.ensures (λ line. string_bytes line) c.format-in_default.result
-    c.in-Came.from c.in-Came.reception c.comment-why.result.now c.in-Came.is c.in_default.not-Delivered c.comment-why.ensures c.format-in_default.ensures.ok
+    c.in-Came.from c.in-Came.over c.in-Came.reception c.over_text-over.result.now c.comment-why.result.now c.in-Came.is c.in_default.not-Delivered c.over_text-over.ensures c.comment-why.ensures
+    c.format-in_default.ensures.ok

@@ -1,7 +1,7 @@
-use Rattle.std.proofs.Common.{◌≡◌, ◌≢◌, sym, true, false, Some, None, arith}
+use Rattle.std.proofs.Common.{◌≡◌, ◌≢◌, sym, true, false, arith}
 use Rattle.std.proofs.lemmas.Result.{err_from_is_err_and}
 use Rattle.route_derivation.specs.declared.search.Beyond.TheVariants as comes
-use Rattle.route_derivation.specs.inside.WaySearch.{comes_to, may_go, longer, first_out, second_out}
+use Rattle.route_derivation.specs.inside.WaySearch.{comes_to, may_go}
 use Rattle.route_derivation.proofs.Adding.{adds_at_none, adds_at_full, adds_at_stop, adds_at_nowhere, adds_at_end, adds_further_err, adds_further_ok}
 use Rattle.route_derivation.proofs.search.+add_ways_over.Goals as goal
 

@@ -4,6 +4,6 @@ use Rattle.station_plan.proofs.element_marks.draw_track.Goals as goal
 
 pub returns : goal.returns
 returns c = record {
-  drawn = on_ok_weaker c.name.result (λ same. same ∙ c.in_ok-line.ensures.drawn) c.name.ensures.drawn;
-  named = on_ok_weaker c.name.result (λ more. more ∙ ap (λ texts. texts ++ c.args.name) c.in_ok-line.ensures.named) c.name.ensures.named;
+  drawn = on_ok_weaker c.name.result (λ same. same ∙ c.in_ok-draw_row.ensures.drawn) c.name.ensures.drawn;
+  named = on_ok_weaker c.name.result (λ more. more ∙ ap (λ texts. texts ++ c.args.name) c.in_ok-draw_row.ensures.named) c.name.ensures.named;
 }

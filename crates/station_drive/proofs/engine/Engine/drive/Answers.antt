@@ -4,7 +4,7 @@ use Rattle.replay_lines.specs.Names.{node_names}
 use Rattle.station_drive.specs.Drives.{beginning}
 use Rattle.station_drive.specs.Rounds.{RoundHeard}
 use Rattle.station_drive.proofs.Composed.{performs_none, stopped, stops_all, stops_none}
-use Rattle.station_drive.proofs.Rows.{all-push, length-drives_after}
+use Rattle.station_drive.proofs.Rows.{all-lead, all-push, length-drives_after}
 use Rattle.station_drive.proofs.Turns.{broken_round, next_read, next_round, next_standing}
 use Rattle.station_drive.proofs.engine.Engine.drive.Goals as goal
 
@@ -33,6 +33,7 @@ loop-init g c =
       began,
       ap (λ s. s.first) began,
       ap (λ s. length s.drives) began ∙ length-replicate _ _,
+      tt,
     )
 
 -- a round was broken off
@@ -61,7 +62,7 @@ returns-then-passed-for_ms-clause-done g c =
     let done = c.in_ok-round.ensures.done in
     let turn : RoundHeard = record { reading = c.read-reading.result; heard = done.heard; asked = []; jammed = [] } in
     let first : c.round.new.course.first ≡ c.read-first.result = ap (λ k. k.first) c.in_ok-round.ensures.course ∙ before.6 in
-    let late = c.passed.ensures ∙ ap (λ (n : ℕ). (c.read-reading.result - n) / 1000) first in
+    let late = c.passed-passed.ensures ∙ ap (λ (n : ℕ). (c.read-reading.result - n) / 1000) first in
     record {
       first = c.read-first.result;
       earlier = before.0;
@@ -70,6 +71,30 @@ returns-then-passed-for_ms-clause-done g c =
       plain = all-push _ before.0 turn before.2 (record { whole = done.each ∙ ap (λ p. length (node_names p)) before.4.same_site; unasked = refl; unjammed = refl });
       goes_on = before.3;
       over = subst (λ n. c.args.for_ms ≤ n) late c.if-passed-for_ms.true;
+      performs = next_round _ c.loop.course before.0 turn before.5 before.4 done.performs;
+    }
+
+-- it was stopped, later than after each round before
+pub returns-then-is_stopped-clause-done : goal.returns-then-is_stopped-clause-done
+returns-then-is_stopped-clause-done g c =
+    let s = g.S.Station in
+    let site = s.site c.args.self.now.station in
+    let before = c.loop.invariant in
+    let done = c.in_ok-round.ensures.done in
+    let turn : RoundHeard = record { reading = c.read-reading.result; heard = done.heard; asked = []; jammed = [] } in
+    let first : c.round.new.course.first ≡ c.read-first.result = ap (λ k. k.first) c.in_ok-round.ensures.course ∙ before.6 in
+    let late = c.passed-passed.ensures ∙ ap (λ (n : ℕ). (c.read-reading.result - n) / 1000) first in
+    let passed = c.passed-passed.result in
+    let most = c.loop.most in
+    let longer : most < passed = c.if-passed-most.true in
+    record {
+      first = c.read-first.result;
+      earlier = before.0;
+      last = turn;
+      read = next_read _ _ _ _ before.0 turn before.1 c.read-reading.ensures.told;
+      plain = all-push _ before.0 turn before.2 (record { whole = done.each ∙ ap (λ p. length (node_names p)) before.4.same_site; unasked = refl; unjammed = refl });
+      goes_on = all-lead (λ one. (one.reading - c.read-first.result) / 1000 ≤ most) (λ one. (one.reading - c.read-first.result) / 1000 < passed) (λ one h. omega (arith, h, longer)) before.0 before.8;
+      over = subst (λ n. passed ≤ n) late (omega arith);
       performs = next_round _ c.loop.course before.0 turn before.5 before.4 done.performs;
     }
 
@@ -84,7 +109,11 @@ loop-preserved g c =
     let performs = next_round start c.loop.course before.0 turn before.5 before.4 done.performs in
     let course = c.in_ok-round.ensures.course in
     let first : c.round.new.course.first ≡ c.read-first.result = ap (λ k. k.first) course ∙ before.6 in
-    let late = c.passed.ensures ∙ ap (λ (n : ℕ). (c.read-reading.result - n) / 1000) first in (
+    let late = c.passed-passed.ensures ∙ ap (λ (n : ℕ). (c.read-reading.result - n) / 1000) first in
+    let most = c.loop.most in
+    let latest = c.later-most.result in
+    let older = c.later-most.ensures.one in
+    let newest = c.later-most.ensures.other in (
       before.0 ++ turn ∷ [],
       next_read _ _ _ _ before.0 turn before.1 c.read-reading.ensures.told,
       all-push _ before.0 turn before.2 (record { whole = done.each ∙ ap (λ p. length (node_names p)) before.4.same_site; unasked = refl; unjammed = refl }),
@@ -93,6 +122,9 @@ loop-preserved g c =
       next_standing start c.loop.course _ before.0 turn performs before.5 course,
       first,
       ap (λ k. length k.drives) course ∙ (length-drives_after _ _ _ _ ∙ before.7),
+      all-push _ before.0 turn
+          (all-lead (λ one. (one.reading - c.read-first.result) / 1000 ≤ most) (λ one. (one.reading - c.read-first.result) / 1000 ≤ latest) (λ one h. omega (arith, h, older)) before.0 before.8)
+          (subst (λ n. n ≤ latest) late newest),
     )
 
 -- no round was broken off

@@ -1,4 +1,4 @@
-use Rattle.std.proofs.Common.{◌≡◌, ◌<◌, ◌-◌, ◌/◌, ◌∷◌, List, length, map}
+use Rattle.std.proofs.Common.{◌≡◌, ◌<◌, ◌≤◌, ◌-◌, ◌/◌, ◌∷◌, List, length, map}
 use Rattle.std.specs.List.{AllByRecursion}
 use Rattle.station_drive.specs.Told.{Grows}
 use Rattle.station_drive.specs.Drives.{IsPlain, beginning}
@@ -22,3 +22,4 @@ invariant-loop g l =
     × (l.course ≡ standing_end s.does site state start turns)
     × (l.course.first ≡ l.first)
     × (length l.course.drives ≡ length site.points)
+    × AllByRecursion (λ turn. (turn.reading - l.first) / 1000 ≤ l.most) turns

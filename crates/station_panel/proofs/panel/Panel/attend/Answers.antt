@@ -28,6 +28,18 @@ returns-in-Some-clause-done g c =
       ends = (before.0, reading, refl, over c.args.limits.for_ms c.args.self.now.run.first c.turn.new.self.run.first reading c.in-Some.ending first c.in-Some.ensures);
     }
 
+pub returns-then-is_stopped-clause-done : goal.returns-then-is_stopped-clause-done
+returns-then-is_stopped-clause-done g c =
+    let before = c.loop.invariant in
+    let reading = c.read-reading.result in
+    let lived = subst (λ (m : Moment g.row.S.Denot g.row.N.Denot). IsLived g.S.Station g.N.Datagrams g.S.Pictured c.args.limits.memory reading m c.turn.new.self) c.answer.ensures.kept c.in_ok-turn.ensures.done in
+    record {
+      readings = before.0 ++ reading ∷ [];
+      read = grows_on _ _ _ before.0 (reading ∷ []) before.1 c.read-reading.ensures.told;
+      turns = goes_on before.2 reading (record { served = c.answer.new.self.desk; serves = c.answer.ensures.served; lived = lived });
+      ends = (before.0, reading, refl, tt);
+    }
+
 pub loop-preserved : goal.loop-preserved
 loop-preserved g c =
     let before = c.loop.invariant in

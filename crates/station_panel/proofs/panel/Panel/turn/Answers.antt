@@ -27,5 +27,5 @@ returns-clause-done g c =
     let round = round_wanted g.S.Station g.N.Datagrams c.args.reading old _ _ _ wanted (c.deref.ensures.value ∙ c.in_ok-events.ensures.events) live.done in
     let shown = c.in_ok-show.ensures.shown in
     subst (λ (m : Moment g.row.S.Denot g.row.N.Denot). IsLived g.S.Station g.N.Datagrams g.S.Pictured c.args.limit c.args.reading old m) (sym c.show.ensures.kept)
-    (lived g.S.Station g.N.Datagrams g.S.Pictured c.args.limit c.args.reading old c.live.new.self c.show.new.self.desk shown.0 round
-    (live.run ∙ ap (λ (m : Moment g.row.S.Denot g.row.N.Denot). run_after g.S.Station.does (g.S.Station.state c.live.new.self.station) m.run c.args.reading) wanted) (ap (λ m. m.desk) live.kept ∙ ap (λ m. m.desk) wanted) (ap (λ m. m.faults) live.kept ∙ ap (λ m. m.faults) wanted) shown.1)
+    (lived g.S.Station g.N.Datagrams g.S.Pictured c.args.limit c.args.reading old c.live.new.self c.show.new.self.desk shown.0 shown.1 round
+    (live.run ∙ ap (λ (m : Moment g.row.S.Denot g.row.N.Denot). run_after g.S.Station.does (g.S.Station.state c.live.new.self.station) m.run c.args.reading) wanted) (ap (λ m. m.desk) live.kept ∙ ap (λ m. m.desk) wanted) (ap (λ m. m.faults) live.kept ∙ ap (λ m. m.faults) wanted) shown.2)

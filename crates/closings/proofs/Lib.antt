@@ -1,0 +1,7 @@
+pub mod Places
+pub mod Apart
+pub mod Said
+pub mod Rows
+pub mod Listed
+pub mod Use
+pub mod Either

@@ -1,0 +1,22 @@
+use Rattle.std.proofs.Common.{ℕ, List}
+use Rattle.closings.specs.layout.Entries.{Site}
+use Rattle.closings.specs.layout.Once.{Once}
+use Rattle.closings.specs.layout.Station.{IsStation}
+use Rattle.closings_file.proofs.Courses.{Laws, kept_after_cut, kept_closed, kept_found}
+use Rattle.closings_file.proofs.laws.what_is_kept_is_found.Goals as goal
+
+laws : (c : goal.After-what_either_closes_is_closed) (l : Site) (head : List ℕ) → Once l → IsStation l → Laws l head
+laws c l head once station = record {
+  read = λ d t there closed. (c.written_is_read.ensures.things l head d t once station).1 (there, closed);
+  found = c.what_is_found_was_kept.ensures;
+  either = c.what_either_closes_is_closed.ensures.either;
+}
+
+pub returns-clause-wanted : goal.returns-clause-wanted
+returns-clause-wanted c l head fresh bytes moves t once station there = kept_closed l head (laws c l head once station) fresh bytes moves t there
+
+pub returns-clause-now : goal.returns-clause-now
+returns-clause-now c l head fresh bytes moves t once station there = kept_found l head (laws c l head once station) fresh bytes moves t there
+
+pub returns-clause-after_cut : goal.returns-clause-after_cut
+returns-clause-after_cut c l head fresh bytes moves t left any once station there = kept_after_cut l head (laws c l head once station) fresh bytes moves t left any there

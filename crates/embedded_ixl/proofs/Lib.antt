@@ -1,0 +1,14 @@
+pub mod Answered
+pub mod Below
+pub mod Causes
+pub mod Clocks
+pub mod FaultsTold
+pub mod FirstPlaces
+pub mod Heard
+pub mod JustStarted
+pub mod Left
+pub mod Requests
+pub mod Runs
+pub mod Started
+pub mod Views
+pub mod WorkedLoops

@@ -1,0 +1,41 @@
+-- What leaves and what is heard by the calls of a loop, in the words of a station of processes.
+use Rattle.std.specs.Prelude.{◌≡◌, ◌≤◌, ◌<◌, ◌+◌, ℕ, List, [], ◌∷◌, ◌++◌, Ok}
+use Rattle.ixl_state.specs.ixl_spec.Step.{Input}
+use Rattle.ixl.specs.Interlocking.{step_of}
+use Rattle.embedded_ixl.specs.Embedded.{EmbeddedIxlState}
+use Rattle.embedded_ixl.specs.Calls.{Call, FindsEmpty, after_call, after_calls, answer_to, input_by}
+use Rattle.embedded_ixl.specs.Inputs.{inputs_by}
+
+-- one of these
+pub record IsIn {A : Type 0} (one : A) (all : List A) : Type 0 where
+  pub before : List A
+  pub after : List A
+  pub all_are : all ≡ before ++ one ∷ after
+
+module _ (it : EmbeddedIxlState) where
+  -- A datagram that leaves at this reading, after these calls, is one that the last step handed out, less than 500 ms before.
+  pub record LeavesRightly (calls : List Call) (now : ℕ) (datagram : List ℕ) : Type 0 where
+    pub earlier : List Call
+    pub step : Call
+    pub later : List Call
+    pub calls_are : calls ≡ earlier ++ step ∷ later
+    -- it was accepted, and it brought this input at this reading
+    pub accepted : answer_to step (after_calls earlier it) ≡ Ok tt
+    pub since : ℕ
+    pub input : Input
+    pub brought : input_by step ≡ (since, input) ∷ []
+    -- it is the last one
+    pub last : inputs_by later (after_call step (after_calls earlier it)) ≡ []
+    pub handed : IsIn datagram (step_of since input (after_calls earlier it).interlocking.state).outbox.datagrams
+    pub fresh : now < since + 500
+
+  -- What comes at this reading, after these calls, has waited for at most 400 ms: so much before at most a reading was taken, and
+  -- after it a receive found nothing.
+  pub record WaitedBriefly (calls : List Call) (now : ℕ) : Type 0 where
+    pub earlier : List Call
+    pub before : ℕ
+    pub later : List Call
+    pub calls_are : calls ≡ earlier ++ FindsEmpty before ∷ later
+    pub accepted : answer_to (FindsEmpty before) (after_calls earlier it) ≡ Ok tt
+    pub not_after : before ≤ now
+    pub brief : now ≤ before + 400

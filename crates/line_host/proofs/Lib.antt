@@ -1,0 +1,3 @@
+mod Staying
+mod Loops
+mod Sites

@@ -1,0 +1,3 @@
+pub mod Up
+pub mod Told
+pub mod WorkedWatches

@@ -1,0 +1,4 @@
+pub mod Parts
+pub mod Written
+pub mod Reads
+pub mod inside

@@ -1,0 +1,4 @@
+pub mod Forgotten
+pub mod Pushed
+pub mod Table
+pub mod ReadAgain

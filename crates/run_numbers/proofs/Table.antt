@@ -1,0 +1,203 @@
+-- The rows of the table, one by one.
+use Rattle.std.proofs.Common.{◌≡◌, true, Ok, Some, refl}
+use Rattle.std.specs.Prelude.{slice_get}
+use Rattle.replay_words.specs.Words.{is_without}
+use Rattle.run_numbers.specs.Lines.{row_said}
+use Rattle.run_numbers.specs.Rows.{label_of, name_of, place_of, rows}
+use Rattle.run_numbers.specs.declared.labels.Fate.TheVariants as fates
+use Rattle.run_numbers.specs.declared.labels.Outcome.TheVariants as outcomes
+use Rattle.run_numbers.specs.declared.labels.Reason.TheVariants as reasons
+use Rattle.run_numbers.specs.declared.row.Row.{Row}
+use Rattle.run_numbers.specs.declared.row.Row.TheVariants.{LinksUp, LinksLost, Datagrams, AsksTaken, ClosingsTaken, Commands, AsksSent, ClosingsSent, Strangers, TooOld, Rounds, RoundsLate, Memory, SentMemory}
+
+pub stands_there : (row : Row) → slice_get rows (place_of row) ≡ Some row
+stands_there LinksUp = refl
+stands_there LinksLost = refl
+stands_there (Datagrams fates.Taken) = refl
+stands_there (Datagrams fates.Asked) = refl
+stands_there (Datagrams fates.Unreadable) = refl
+stands_there (Datagrams fates.NotForMe) = refl
+stands_there (Datagrams fates.WrongSender) = refl
+stands_there (Datagrams fates.OutOfRange) = refl
+stands_there (Datagrams fates.Stale) = refl
+stands_there (Datagrams fates.BadConfirm) = refl
+stands_there (Datagrams fates.WrongState) = refl
+stands_there (Datagrams fates.Discarded) = refl
+stands_there (Datagrams fates.Quiet) = refl
+stands_there AsksTaken = refl
+stands_there (ClosingsTaken reasons.User) = refl
+stands_there (ClosingsTaken reasons.State) = refl
+stands_there (ClosingsTaken reasons.Sequence) = refl
+stands_there (ClosingsTaken reasons.Time) = refl
+stands_there (ClosingsTaken reasons.Version) = refl
+stands_there (ClosingsTaken reasons.Window) = refl
+stands_there (ClosingsTaken reasons.Other) = refl
+stands_there (Commands outcomes.Accepted) = refl
+stands_there (Commands outcomes.Refused1) = refl
+stands_there (Commands outcomes.Refused2) = refl
+stands_there (Commands outcomes.Refused3) = refl
+stands_there (Commands outcomes.Refused4) = refl
+stands_there (Commands outcomes.Refused5) = refl
+stands_there (Commands outcomes.Refused6) = refl
+stands_there (Commands outcomes.Refused7) = refl
+stands_there (Commands outcomes.Refused8) = refl
+stands_there (Commands outcomes.Refused9) = refl
+stands_there (Commands outcomes.Refused10) = refl
+stands_there AsksSent = refl
+stands_there (ClosingsSent reasons.User) = refl
+stands_there (ClosingsSent reasons.State) = refl
+stands_there (ClosingsSent reasons.Sequence) = refl
+stands_there (ClosingsSent reasons.Time) = refl
+stands_there (ClosingsSent reasons.Version) = refl
+stands_there (ClosingsSent reasons.Window) = refl
+stands_there (ClosingsSent reasons.Other) = refl
+stands_there Strangers = refl
+stands_there TooOld = refl
+stands_there Rounds = refl
+stands_there RoundsLate = refl
+stands_there Memory = refl
+stands_there SentMemory = refl
+
+pub row_read : (row : Row) → row_said (name_of row) (label_of row) ≡ Ok row
+row_read LinksUp = refl
+row_read LinksLost = refl
+row_read (Datagrams fates.Taken) = refl
+row_read (Datagrams fates.Asked) = refl
+row_read (Datagrams fates.Unreadable) = refl
+row_read (Datagrams fates.NotForMe) = refl
+row_read (Datagrams fates.WrongSender) = refl
+row_read (Datagrams fates.OutOfRange) = refl
+row_read (Datagrams fates.Stale) = refl
+row_read (Datagrams fates.BadConfirm) = refl
+row_read (Datagrams fates.WrongState) = refl
+row_read (Datagrams fates.Discarded) = refl
+row_read (Datagrams fates.Quiet) = refl
+row_read AsksTaken = refl
+row_read (ClosingsTaken reasons.User) = refl
+row_read (ClosingsTaken reasons.State) = refl
+row_read (ClosingsTaken reasons.Sequence) = refl
+row_read (ClosingsTaken reasons.Time) = refl
+row_read (ClosingsTaken reasons.Version) = refl
+row_read (ClosingsTaken reasons.Window) = refl
+row_read (ClosingsTaken reasons.Other) = refl
+row_read (Commands outcomes.Accepted) = refl
+row_read (Commands outcomes.Refused1) = refl
+row_read (Commands outcomes.Refused2) = refl
+row_read (Commands outcomes.Refused3) = refl
+row_read (Commands outcomes.Refused4) = refl
+row_read (Commands outcomes.Refused5) = refl
+row_read (Commands outcomes.Refused6) = refl
+row_read (Commands outcomes.Refused7) = refl
+row_read (Commands outcomes.Refused8) = refl
+row_read (Commands outcomes.Refused9) = refl
+row_read (Commands outcomes.Refused10) = refl
+row_read AsksSent = refl
+row_read (ClosingsSent reasons.User) = refl
+row_read (ClosingsSent reasons.State) = refl
+row_read (ClosingsSent reasons.Sequence) = refl
+row_read (ClosingsSent reasons.Time) = refl
+row_read (ClosingsSent reasons.Version) = refl
+row_read (ClosingsSent reasons.Window) = refl
+row_read (ClosingsSent reasons.Other) = refl
+row_read Strangers = refl
+row_read TooOld = refl
+row_read Rounds = refl
+row_read RoundsLate = refl
+row_read Memory = refl
+row_read SentMemory = refl
+
+pub name_is_word : (row : Row) → is_without 32 (name_of row) ≡ true
+name_is_word LinksUp = refl
+name_is_word LinksLost = refl
+name_is_word (Datagrams fates.Taken) = refl
+name_is_word (Datagrams fates.Asked) = refl
+name_is_word (Datagrams fates.Unreadable) = refl
+name_is_word (Datagrams fates.NotForMe) = refl
+name_is_word (Datagrams fates.WrongSender) = refl
+name_is_word (Datagrams fates.OutOfRange) = refl
+name_is_word (Datagrams fates.Stale) = refl
+name_is_word (Datagrams fates.BadConfirm) = refl
+name_is_word (Datagrams fates.WrongState) = refl
+name_is_word (Datagrams fates.Discarded) = refl
+name_is_word (Datagrams fates.Quiet) = refl
+name_is_word AsksTaken = refl
+name_is_word (ClosingsTaken reasons.User) = refl
+name_is_word (ClosingsTaken reasons.State) = refl
+name_is_word (ClosingsTaken reasons.Sequence) = refl
+name_is_word (ClosingsTaken reasons.Time) = refl
+name_is_word (ClosingsTaken reasons.Version) = refl
+name_is_word (ClosingsTaken reasons.Window) = refl
+name_is_word (ClosingsTaken reasons.Other) = refl
+name_is_word (Commands outcomes.Accepted) = refl
+name_is_word (Commands outcomes.Refused1) = refl
+name_is_word (Commands outcomes.Refused2) = refl
+name_is_word (Commands outcomes.Refused3) = refl
+name_is_word (Commands outcomes.Refused4) = refl
+name_is_word (Commands outcomes.Refused5) = refl
+name_is_word (Commands outcomes.Refused6) = refl
+name_is_word (Commands outcomes.Refused7) = refl
+name_is_word (Commands outcomes.Refused8) = refl
+name_is_word (Commands outcomes.Refused9) = refl
+name_is_word (Commands outcomes.Refused10) = refl
+name_is_word AsksSent = refl
+name_is_word (ClosingsSent reasons.User) = refl
+name_is_word (ClosingsSent reasons.State) = refl
+name_is_word (ClosingsSent reasons.Sequence) = refl
+name_is_word (ClosingsSent reasons.Time) = refl
+name_is_word (ClosingsSent reasons.Version) = refl
+name_is_word (ClosingsSent reasons.Window) = refl
+name_is_word (ClosingsSent reasons.Other) = refl
+name_is_word Strangers = refl
+name_is_word TooOld = refl
+name_is_word Rounds = refl
+name_is_word RoundsLate = refl
+name_is_word Memory = refl
+name_is_word SentMemory = refl
+
+pub label_is_word : (row : Row) → is_without 32 (label_of row) ≡ true
+label_is_word LinksUp = refl
+label_is_word LinksLost = refl
+label_is_word (Datagrams fates.Taken) = refl
+label_is_word (Datagrams fates.Asked) = refl
+label_is_word (Datagrams fates.Unreadable) = refl
+label_is_word (Datagrams fates.NotForMe) = refl
+label_is_word (Datagrams fates.WrongSender) = refl
+label_is_word (Datagrams fates.OutOfRange) = refl
+label_is_word (Datagrams fates.Stale) = refl
+label_is_word (Datagrams fates.BadConfirm) = refl
+label_is_word (Datagrams fates.WrongState) = refl
+label_is_word (Datagrams fates.Discarded) = refl
+label_is_word (Datagrams fates.Quiet) = refl
+label_is_word AsksTaken = refl
+label_is_word (ClosingsTaken reasons.User) = refl
+label_is_word (ClosingsTaken reasons.State) = refl
+label_is_word (ClosingsTaken reasons.Sequence) = refl
+label_is_word (ClosingsTaken reasons.Time) = refl
+label_is_word (ClosingsTaken reasons.Version) = refl
+label_is_word (ClosingsTaken reasons.Window) = refl
+label_is_word (ClosingsTaken reasons.Other) = refl
+label_is_word (Commands outcomes.Accepted) = refl
+label_is_word (Commands outcomes.Refused1) = refl
+label_is_word (Commands outcomes.Refused2) = refl
+label_is_word (Commands outcomes.Refused3) = refl
+label_is_word (Commands outcomes.Refused4) = refl
+label_is_word (Commands outcomes.Refused5) = refl
+label_is_word (Commands outcomes.Refused6) = refl
+label_is_word (Commands outcomes.Refused7) = refl
+label_is_word (Commands outcomes.Refused8) = refl
+label_is_word (Commands outcomes.Refused9) = refl
+label_is_word (Commands outcomes.Refused10) = refl
+label_is_word AsksSent = refl
+label_is_word (ClosingsSent reasons.User) = refl
+label_is_word (ClosingsSent reasons.State) = refl
+label_is_word (ClosingsSent reasons.Sequence) = refl
+label_is_word (ClosingsSent reasons.Time) = refl
+label_is_word (ClosingsSent reasons.Version) = refl
+label_is_word (ClosingsSent reasons.Window) = refl
+label_is_word (ClosingsSent reasons.Other) = refl
+label_is_word Strangers = refl
+label_is_word TooOld = refl
+label_is_word Rounds = refl
+label_is_word RoundsLate = refl
+label_is_word Memory = refl
+label_is_word SentMemory = refl

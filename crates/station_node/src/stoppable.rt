@@ -1,0 +1,88 @@
+//! What a node's process has outside, until a file ends it.
+
+ghost use Rattle.std.specs.Prelude.{◌≤◌};
+
+use node_kinds::node_drive::{
+    BrokenOff, Fault, NextDatagram, NextLine, NodeId, Outside, ThrownAway,
+};
+use run_files::StopFile;
+use std::alloc::{AllocError, Global};
+use std::fs::Files;
+
+/// What a process has outside, until a file is there: from then on no line comes any more. So the process ends as it does where its
+/// field equipment has ended, and its equipment is told to rest. It is looked for once a round. It tells no calls.
+#[derive(Drop)]
+pub(crate) struct Stoppable<'a, O, R> {
+    outside: O,
+    stop: StopFile<'a, R>,
+    is_stopped: bool,
+    /// What the clock read last.
+    latest: u64,
+}
+
+impl<'a, O: Outside, R: Files> Stoppable<'a, O, R> {
+    pub(crate) fn new(outside: O, stop: StopFile<'a, R>) -> Stoppable<'a, O, R> {
+        Stoppable {
+            outside,
+            stop,
+            is_stopped: false,
+            latest: 0,
+        }
+    }
+}
+
+/// The later of two moments.
+fn later(one: u64, other: u64) -> u64
+    ensures { one ≤ result }
+{
+    if one < other { other } else { one }
+}
+
+impl<'a, O: Outside, R: Files> Outside for Stoppable<'a, O, R> {
+    ghost use Rattle.std.specs.Prelude.{None};
+
+    ghost told = { λ stoppable. record { calls = None; latest = stoppable.latest } };
+
+    fn rest(&mut self) {
+        self.outside.rest();
+        self.is_stopped = self.stop.is_there();
+    }
+
+    fn read_clock(&mut self) -> u64 {
+        let reading = self.outside.read_clock();
+        self.latest = later(self.latest, reading);
+        self.latest
+    }
+
+    fn has_listener(&mut self) -> bool {
+        self.outside.has_listener()
+    }
+
+    fn next_line(&mut self, alloc: Global) -> Result<NextLine, AllocError> {
+        if self.is_stopped {
+            Ok(NextLine::Closed)
+        } else {
+            self.outside.next_line(alloc)
+        }
+    }
+
+    fn next_datagram(&mut self) -> NextDatagram {
+        self.outside.next_datagram()
+    }
+
+    fn throw_away(&mut self) -> ThrownAway {
+        self.outside.throw_away()
+    }
+
+    fn write_line(&mut self, text: &str) -> Result<(), BrokenOff> {
+        self.outside.write_line(text)
+    }
+
+    fn send(&mut self, to: NodeId, bytes: &[u8]) {
+        self.outside.send(to, bytes);
+    }
+
+    fn complain(&mut self, line: u64, fault: Fault) {
+        self.outside.complain(line, fault);
+    }
+}

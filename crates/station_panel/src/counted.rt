@@ -1,0 +1,77 @@
+//! What a panel counts of its station.
+
+use panel_desk::node_lines::{Known, LinkState};
+use panel_desk::run_numbers::{Numbers, NumbersTold, Outcome, Reason, Row};
+use panel_desk::{Answer, PanelLine, Refused};
+use std::alloc::{AllocError, Global};
+
+/// The numbers that a panel of a played station tells.
+const TOLD: [Row; 23] = [
+    Row::LinksUp,
+    Row::Commands(Outcome::Accepted),
+    Row::Commands(Outcome::Refused1),
+    Row::Commands(Outcome::Refused2),
+    Row::Commands(Outcome::Refused3),
+    Row::Commands(Outcome::Refused4),
+    Row::Commands(Outcome::Refused5),
+    Row::Commands(Outcome::Refused6),
+    Row::Commands(Outcome::Refused7),
+    Row::Commands(Outcome::Refused8),
+    Row::Commands(Outcome::Refused9),
+    Row::Commands(Outcome::Refused10),
+    Row::AsksSent,
+    Row::ClosingsSent(Reason::User),
+    Row::ClosingsSent(Reason::State),
+    Row::ClosingsSent(Reason::Sequence),
+    Row::ClosingsSent(Reason::Time),
+    Row::ClosingsSent(Reason::Version),
+    Row::ClosingsSent(Reason::Window),
+    Row::ClosingsSent(Reason::Other),
+    Row::Rounds,
+    Row::RoundsLate,
+    Row::SentMemory,
+];
+
+/// Commands are counted by what a station answered to them.
+pub(crate) fn count_answers(numbers: &mut Numbers, answers: &[Result<Answer, Refused>]) {
+    for answer in answers {
+        match *answer {
+            Ok(Answer::Accepted) => numbers.count(Row::Commands(Outcome::Accepted)),
+            Ok(Answer::Refused(refusal)) => {
+                numbers.count(Row::Commands(Outcome::refused(refusal.number())));
+            }
+            Ok(Answer::Done) | Err(_) => (),
+        }
+    }
+}
+
+/// How many links are ready by what is seen of a station.
+pub(crate) fn ready_links(lines: &[PanelLine]) -> u64 {
+    let mut ready: u64 = 0;
+    for line in lines {
+        if is_ready_link(*line) {
+            ready = ready.saturating_add(1);
+        }
+    }
+    ready
+}
+
+/// Whether a line tells that a link is ready.
+fn is_ready_link(line: PanelLine) -> bool {
+    matches!(
+        line,
+        PanelLine::Known(Known::Link {
+            node: _,
+            state: LinkState::Ready,
+        })
+    )
+}
+
+/// What is told of these numbers.
+pub(crate) fn told(alloc: Global, numbers: &Numbers) -> Result<NumbersTold, AllocError> {
+    let mut all = NumbersTold::nothing(alloc)?;
+    for row in &TOLD {
+        all.tell(*row, numbers.value(*row));
+    }
+    Ok(all)
+}

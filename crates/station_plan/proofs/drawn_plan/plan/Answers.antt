@@ -1,5 +1,0 @@
-use Rattle.std.proofs.Common.{refl}
-use Rattle.station_plan.proofs.drawn_plan.plan.Goals as goal
-
-pub returns : goal.returns
-returns c = c.in_ok-paper.ensures _ refl

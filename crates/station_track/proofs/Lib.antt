@@ -1,0 +1,14 @@
+pub mod Members
+pub mod Same
+pub mod Joints
+pub mod Numbered
+pub mod Passages
+pub mod Grouped
+pub mod Neighbours
+pub mod Grouping
+pub mod RoutePaths
+pub mod SaneThroats
+pub mod Sound
+pub mod Meanings
+pub mod AheadLaws
+pub mod Loops

@@ -1,0 +1,7 @@
+pub mod Names
+pub mod Block
+pub mod SlowKey
+pub mod Topology
+pub mod Asked
+pub mod Completed
+pub mod Messages

@@ -1,0 +1,25 @@
+//! A text with a piece put into it.
+
+ghost use Rattle.std.specs.Prelude.{IfOk, IfSome};
+ghost use Rattle.table_review.specs.Completed.{IsInsertion};
+
+use std::alloc::{AllocError, Global};
+
+/// A text with a piece put into it at a place, if the text is so long.
+pub(crate) fn with_insertion(
+    alloc: Global,
+    text: &[u8],
+    at: usize,
+    piece: &[u8],
+) -> Result<Option<Vec<u8>>, AllocError>
+    ensures { IfOk result (λ put. IfSome put (λ v. IsInsertion text.now v.items)) }
+{
+    if at > text.len() {
+        return Ok(None);
+    }
+    let (before, after) = text.split_at(at);
+    let mut longer = Vec::from_slice(alloc, before)?;
+    longer.extend_from_slice(piece)?;
+    longer.extend_from_slice(after)?;
+    Ok(Some(longer))
+}

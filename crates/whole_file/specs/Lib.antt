@@ -1,0 +1,3 @@
+pub mod Calls
+pub mod Disk
+pub mod Keeping
