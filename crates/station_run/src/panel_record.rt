@@ -1,5 +1,7 @@
 //! The record of a panel.
 
+ghost use Rattle.std.specs.Prelude.{◌≡◌};
+
 use run_files::RecordFile;
 use std::io;
 use std::io::{BufWriter, Write};
@@ -14,7 +16,7 @@ pub(crate) struct PanelRecord<'a> {
 impl<'a> PanelRecord<'a> {
     /// The record that this file is.
     pub(crate) fn of(file: BufWriter<RecordFile<'a, HostRuntime>>) -> PanelRecord<'a>
-        ensures { result.file ≡ file }
+        ensures { result.file ≡ file.entry }
     {
         PanelRecord { file }
     }
