@@ -1,6 +1,6 @@
 //! A small layout with one point, all of whose routes are written out.
 
-use crate::{ApproachRule, Asked, completed_text, lacking_text, review_text};
+use crate::{ApproachRule, Asked, ReviewFault, completed_text, lacking_text, review_text};
 use std::process::Abort;
 
 const LAYOUT: &str = r#"section = ["G0", "GP", "G1", "G2"]
@@ -74,17 +74,19 @@ fn completed(rt: &HostRuntime, text: &str) -> Option<Vec<u8>> {
     Some(completed_text(rt.alloc(), &asked(text)).ok()??.text)
 }
 
-/// The two texts, one behind the other.
-fn both(rt: &HostRuntime, first: &str, second: &str) -> Option<String> {
-    let mut text = String::from_str(rt.alloc(), first).ok()?;
-    text.push_str(second).ok()?;
-    Some(text)
+/// Some texts, one behind the other.
+fn joined(rt: &HostRuntime, parts: &[&str]) -> String {
+    let mut text = String::new(rt.alloc());
+    for part in parts {
+        text.push_str(part).expect(rt, "memory suffices");
+    }
+    text
 }
 
 #[test]
 fn the_routes_of_a_small_layout_are_written(rt: HostRuntime) {
     assert!(rt; is_text(lacking_text(rt.alloc(), &asked(LAYOUT)).ok(), ROUTES));
-    let whole = both(&rt, LAYOUT, ROUTES).expect(&rt, "memory suffices");
+    let whole = joined(&rt, &[LAYOUT, ROUTES]);
     assert!(rt; is_text(completed(&rt, LAYOUT), whole.as_str()));
     assert!(rt; is_text(lacking_text(rt.alloc(), &asked(whole.as_str())).ok(), ""));
     assert!(rt; is_text(review_text(rt.alloc(), whole.as_str()).ok(), ""));
@@ -114,4 +116,64 @@ no route to border E2
 #[test]
 fn what_a_table_lacks_is_told(rt: HostRuntime) {
     assert!(rt; is_text(review_text(rt.alloc(), OPEN).ok(), LINES));
+}
+
+/// The first of these routes as an item of an array.
+const ONE: &str =
+    r#"  { name = "S-E1", entry = "S", exit = "E1", path = ["P0.left", "T1.b"], points = { P0 = "left" }, approach = ["G0"] },
+"#;
+
+/// The others.
+const OTHERS: &str =
+    r#"  { name = "S-E2", entry = "S", exit = "E2", path = ["P0.right", "T2.b"], points = { P0 = "right" }, approach = ["G0"], aspect = "slow" },
+  { name = "S1-W", entry = "S1", exit = "W", path = ["P0.tip", "T0.a"], points = { P0 = "left" }, approach = ["G1"] },
+  { name = "S2-W", entry = "S2", exit = "W", path = ["P0.tip", "T0.a"], points = { P0 = "right" }, approach = ["G2"], aspect = "slow" }"#;
+
+/// Whether a piece is put between two texts before the layout.
+fn is_put(rt: &HostRuntime, before: &str, piece: &[&str], after: &str) -> bool {
+    let piece = joined(rt, piece);
+    let old = joined(rt, &[before, after, LAYOUT]);
+    let new = joined(rt, &[before, piece.as_str(), after, LAYOUT]);
+    is_text(completed(rt, old.as_str()), new.as_str())
+}
+
+#[test]
+fn routes_are_put_into_an_empty_array(rt: HostRuntime) {
+    assert!(rt; is_put(&rt, "route = [", &["\n", ONE, OTHERS, ",\n"], "]\n"));
+    assert!(rt; is_put(&rt, "route = [\n", &[ONE, OTHERS, ",\n"], "]\n"));
+}
+
+#[test]
+fn routes_are_put_behind_those_of_an_array(rt: HostRuntime) {
+    let before = joined(&rt, &["route = [\n", OTHERS, " # not ] here\n"]);
+    assert!(rt; is_put(&rt, before.as_str(), &["  ,\n", ONE], "]\n"));
+    let before = joined(&rt, &["route = [\n", OTHERS]);
+    assert!(rt; is_put(&rt, before.as_str(), &[",\n", ONE], "]\n"));
+}
+
+#[test]
+fn an_array_under_another_key_has_no_place(rt: HostRuntime) {
+    let text = joined(&rt, &["\"route\" = []\n", LAYOUT]);
+    assert!(rt;
+        matches!(
+            completed_text(rt.alloc(), &asked(text.as_str())),
+            Err(ReviewFault::NoPlace)
+        )
+    );
+}
+
+/// Two points, of which the one that comes later in the alphabet is passed first.
+const ROW: &str = r#"section = ["G0", "GP", "GQ", "G1"]
+track = [{ name = "T0", section = "G0" }, { name = "T1", section = "G1" }]
+point = [{ name = "Q", id = 2, section = "GQ" }, { name = "P", id = 3, section = "GP" }]
+border = ["W", "E"]
+joint = [["W.end", "T0.a"], ["T0.b", "Q.tip"], ["Q.left", "P.tip"], ["P.left", "T1.a"], ["T1.b", "E.end"]]
+signal = [{ name = "S", id = 4, at = "T0.b" }]
+detector = [{ name = "D", id = 5, sections = ["G0", "GP", "GQ", "G1"] }]
+station = { name = "IXL", id = 1 }
+"#;
+
+#[test]
+fn points_are_read_in_another_order_than_they_are_passed(rt: HostRuntime) {
+    assert!(rt; completed(&rt, ROW).is_some());
 }
