@@ -146,7 +146,14 @@ fn routes_are_put_into_an_empty_array(rt: HostRuntime) {
 #[test]
 fn routes_are_put_behind_those_of_an_array(rt: HostRuntime) {
     let before = joined(&rt, &["route = [\n", OTHERS, " # not ] here\n"]);
-    assert!(rt; is_put(&rt, before.as_str(), &["  ,\n", ONE], "]\n"));
+    assert!(rt;
+        is_put(
+            &rt,
+            before.as_str(),
+            &["  ,\n", ONE],
+            "  ] # nor ] here\n# nor ] here\n"
+        )
+    );
     let before = joined(&rt, &["route = [\n", OTHERS]);
     assert!(rt; is_put(&rt, before.as_str(), &[",\n", ONE], "]\n"));
 }
