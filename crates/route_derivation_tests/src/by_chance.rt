@@ -65,9 +65,9 @@ struct Named {
 
 /// The port at a place of an order.
 fn port_at(order: &[usize], place: usize) -> Option<Named> {
-    let port = *order.get(place)?;
-    let name = *NAMES.get(port)?;
-    let element = *ELEMENTS.get(port)?;
+    let port = order.get(place).copied()?;
+    let name = NAMES.get(port).copied()?;
+    let element = ELEMENTS.get(port).copied()?;
     Some(Named { name, element })
 }
 
@@ -190,5 +190,5 @@ fn all_ways_of_layouts_by_chance_are_derived(rt: HostRuntime) {
         let text = layout_text(&rt, rt.alloc(), seed);
         ways = ways.saturating_add(ways_of(&rt, rt.alloc(), text.as_str()));
     }
-    assert!(rt; ways > 200);
+    assert!(rt; ways == 232);
 }

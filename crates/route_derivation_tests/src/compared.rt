@@ -14,12 +14,14 @@ fn leads(route: &DerivedRoute, way: &Way) -> bool {
     route.entry() == way.entry && route.exit() == way.exit && route.path() == way.path.as_slice()
 }
 
+/// Whether one of some routes leads a way.
+fn is_led(routes: &[DerivedRoute], way: &Way) -> bool {
+    routes.iter().any(|route| leads(route, way))
+}
+
 /// Whether routes lead all these ways, each once, and no other.
 fn lead_all(routes: &[DerivedRoute], ways: &[Way]) -> bool {
-    let all = ways
-        .iter()
-        .all(|way| routes.iter().any(|route| leads(route, way)));
-    all && routes.len() == ways.len()
+    routes.len() == ways.len() && ways.iter().all(|way| is_led(routes, way))
 }
 
 /// How many passable ways the layout of a text has. The routes that follow from it are found to lead these ways and no
@@ -28,10 +30,11 @@ pub(crate) fn ways_of(rt: &impl Abort, alloc: Global, text: &str) -> usize {
     let layout = Layout::read(alloc, text).expect(rt, "a layout");
     let ways = all_ways(alloc, &layout).expect(rt, "memory suffices");
     let entries = all_signals(alloc, &layout).expect(rt, "memory suffices");
-    match derive(alloc, &layout, &entries, &[], ApproachRule::Signal) {
-        Ok(routes) => assert!(rt; lead_all(&routes, &ways)),
-        Err(Underived::TooMany) => assert!(rt; ways.len() > MOST_ROUTES),
-        Err(_) => assert!(rt; false, "memory and names suffice"),
-    }
+    let agree = match derive(alloc, &layout, &entries, &[], ApproachRule::Signal) {
+        Ok(routes) => lead_all(&routes, &ways),
+        Err(Underived::TooMany) => ways.len() > MOST_ROUTES,
+        Err(_) => false,
+    };
+    assert!(rt; agree);
     ways.len()
 }
