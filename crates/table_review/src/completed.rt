@@ -151,8 +151,8 @@ fn completed_somewhere(
 }
 
 /// The text of a layout with the routes that its table lacks of those that are asked for; none where it lacks none. They
-/// are put into it at one place, and all else stands as it stood. It is answered only where it was read, its table is sound, has
-/// the routes of the old one and behind them those that were lacking, and lacks none any more.
+/// are put into it at one place, and all else stands as it stood. It is answered only where it was read, its table is
+/// sound, has the routes of the old one and behind them those that were lacking, and lacks none any more.
 pub fn completed_text(alloc: Global, asked: &Asked<'_>) -> Result<Option<Completed>, ReviewFault>
     ensures completed { IfOk result (λ o. IfSome o (λ new. IsCompleted asked.now new.text.items)) }
     ensures none { IfOk result (λ o. o ≡ None → LacksNone asked.now.text.now (option_copied asked.now.from) asked.now.rule) }

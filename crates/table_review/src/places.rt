@@ -37,8 +37,10 @@ pub(crate) fn form_at(spot: Spot) -> Form
     ensures { result ≡ places.form_at spot }
 {
     match spot {
-        Spot::End | Spot::Drawing(_) => Form::Block,
-        Spot::Line(_, _, _) | Spot::Bracket(_, _) => Form::Item,
+        Spot::End => Form::Block,
+        Spot::Drawing(_) => Form::Block,
+        Spot::Line(_, _, _) => Form::Item,
+        Spot::Bracket(_, _) => Form::Item,
     }
 }
 
@@ -62,8 +64,10 @@ pub(crate) fn behind_routes(spot: Spot) -> &'static str
     ensures { result.now ≡ places.behind_routes spot }
 {
     match spot {
+        Spot::End => "",
         Spot::Drawing(_) => "\n",
-        _ => "",
+        Spot::Line(_, _, _) => "",
+        Spot::Bracket(_, _) => "",
     }
 }
 
