@@ -1,6 +1,7 @@
 //! A small layout with one point, all of whose routes are written out.
 
 use crate::{ApproachRule, Asked, ReviewFault, completed_text, lacking_text, review_text};
+use std::alloc::Global;
 use std::process::Abort;
 
 const LAYOUT: &str = r#"section = ["G0", "GP", "G1", "G2"]
@@ -70,13 +71,13 @@ fn is_text(found: Option<Vec<u8>>, text: &str) -> bool {
 }
 
 /// The text of a layout with the routes that it lacks, if it lacks any.
-fn completed(rt: &HostRuntime, text: &str) -> Option<Vec<u8>> {
-    Some(completed_text(rt.alloc(), &asked(text)).ok()??.text)
+fn completed(alloc: Global, text: &str) -> Option<Vec<u8>> {
+    Some(completed_text(alloc, &asked(text)).ok()??.text)
 }
 
 /// Some texts, one behind the other.
-fn joined(rt: &HostRuntime, parts: &[&str]) -> String {
-    let mut text = String::new(rt.alloc());
+fn joined(rt: &impl Abort, alloc: Global, parts: &[&str]) -> String {
+    let mut text = String::new(alloc);
     for part in parts {
         text.push_str(part).expect(rt, "memory suffices");
     }
@@ -86,8 +87,8 @@ fn joined(rt: &HostRuntime, parts: &[&str]) -> String {
 #[test]
 fn the_routes_of_a_small_layout_are_written(rt: HostRuntime) {
     assert!(rt; is_text(lacking_text(rt.alloc(), &asked(LAYOUT)).ok(), ROUTES));
-    let whole = joined(&rt, &[LAYOUT, ROUTES]);
-    assert!(rt; is_text(completed(&rt, LAYOUT), whole.as_str()));
+    let whole = joined(&rt, rt.alloc(), &[LAYOUT, ROUTES]);
+    assert!(rt; is_text(completed(rt.alloc(), LAYOUT), whole.as_str()));
     assert!(rt; is_text(lacking_text(rt.alloc(), &asked(whole.as_str())).ok(), ""));
     assert!(rt; is_text(review_text(rt.alloc(), whole.as_str()).ok(), ""));
 }
@@ -130,37 +131,46 @@ const OTHERS: &str =
   { name = "S2-W", entry = "S2", exit = "W", path = ["P0.tip", "T0.a"], points = { P0 = "right" }, approach = ["G2"], aspect = "slow" }"#;
 
 /// Whether a piece is put between two texts before the layout.
-fn is_put(rt: &HostRuntime, before: &str, piece: &[&str], after: &str) -> bool {
-    let piece = joined(rt, piece);
-    let old = joined(rt, &[before, after, LAYOUT]);
-    let new = joined(rt, &[before, piece.as_str(), after, LAYOUT]);
-    is_text(completed(rt, old.as_str()), new.as_str())
+fn is_put(rt: &impl Abort, alloc: Global, before: &str, piece: &[&str], after: &str) -> bool {
+    let piece = joined(rt, alloc, piece);
+    let old = joined(rt, alloc, &[before, after, LAYOUT]);
+    let new = joined(rt, alloc, &[before, piece.as_str(), after, LAYOUT]);
+    is_text(completed(alloc, old.as_str()), new.as_str())
 }
 
 #[test]
 fn routes_are_put_into_an_empty_array(rt: HostRuntime) {
-    assert!(rt; is_put(&rt, "route = [", &["\n", ONE, OTHERS, ",\n"], "]\n"));
-    assert!(rt; is_put(&rt, "route = [\n", &[ONE, OTHERS, ",\n"], "]\n"));
+    assert!(rt;
+        is_put(
+            &rt,
+            rt.alloc(),
+            "route = [",
+            &["\n", ONE, OTHERS, ",\n"],
+            "]\n"
+        )
+    );
+    assert!(rt; is_put(&rt, rt.alloc(), "route = [\n", &[ONE, OTHERS, ",\n"], "]\n"));
 }
 
 #[test]
 fn routes_are_put_behind_those_of_an_array(rt: HostRuntime) {
-    let before = joined(&rt, &["route = [\n", OTHERS, " # not ] here\n"]);
+    let before = joined(&rt, rt.alloc(), &["route = [\n", OTHERS, " # not ] here\n"]);
     assert!(rt;
         is_put(
             &rt,
+            rt.alloc(),
             before.as_str(),
             &["  ,\n", ONE],
             "  ] # nor ] here\n# nor ] here\n"
         )
     );
-    let before = joined(&rt, &["route = [\n", OTHERS]);
-    assert!(rt; is_put(&rt, before.as_str(), &[",\n", ONE], "]\n"));
+    let before = joined(&rt, rt.alloc(), &["route = [\n", OTHERS]);
+    assert!(rt; is_put(&rt, rt.alloc(), before.as_str(), &[",\n", ONE], "]\n"));
 }
 
 #[test]
 fn an_array_under_another_key_has_no_place(rt: HostRuntime) {
-    let text = joined(&rt, &["\"route\" = []\n", LAYOUT]);
+    let text = joined(&rt, rt.alloc(), &["\"route\" = []\n", LAYOUT]);
     assert!(rt;
         matches!(
             completed_text(rt.alloc(), &asked(text.as_str())),
@@ -182,5 +192,5 @@ station = { name = "IXL", id = 1 }
 
 #[test]
 fn points_are_read_in_another_order_than_they_are_passed(rt: HostRuntime) {
-    assert!(rt; completed(&rt, ROW).is_some());
+    assert!(rt; completed(rt.alloc(), ROW).is_some());
 }
