@@ -16,12 +16,22 @@ fn leads(route: &DerivedRoute, way: &Way) -> bool {
 
 /// Whether one of some routes leads a way.
 fn is_led(routes: &[DerivedRoute], way: &Way) -> bool {
-    routes.iter().any(|route| leads(route, way))
+    for route in routes {
+        if leads(route, way) {
+            return true;
+        }
+    }
+    false
 }
 
 /// Whether routes lead all these ways, each once, and no other.
 fn lead_all(routes: &[DerivedRoute], ways: &[Way]) -> bool {
-    routes.len() == ways.len() && ways.iter().all(|way| is_led(routes, way))
+    for way in ways {
+        if !is_led(routes, way) {
+            return false;
+        }
+    }
+    routes.len() == ways.len()
 }
 
 /// How many passable ways the layout of a text has. The routes that follow from it are found to lead these ways and no

@@ -39,7 +39,12 @@ pub(crate) fn joined_to(layout: &Layout, port: Port) -> Option<Port> {
 
 /// Whether an element comes in a walk.
 fn comes(walk: &[Passage], element: Element) -> bool {
-    walk.iter().any(|passage| passage.left.element == element)
+    for passage in walk {
+        if passage.left.element == element {
+            return true;
+        }
+    }
+    false
 }
 
 /// Adds a walk with one more passage, if there is an end by which it leaves its element.

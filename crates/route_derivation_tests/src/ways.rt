@@ -45,8 +45,8 @@ fn end_at(layout: &Layout, entry: SignalId, port: Port) -> Option<Exit> {
 /// The section in which an element lies.
 fn section_of(layout: &Layout, element: Element) -> Option<SectionId> {
     match element {
-        Element::Track(track) => layout.tracks().get(track.0).map(|entry| entry.section),
-        Element::Point(point) => layout.points().get(point.0).map(|entry| entry.section),
+        Element::Track(track) => Some(layout.tracks().get(track.0)?.section),
+        Element::Point(point) => Some(layout.points().get(point.0)?.section),
         Element::Border(_) => None,
     }
 }
@@ -69,16 +69,28 @@ fn comes_again(layout: &Layout, walk: &[Passage], place: usize) -> bool {
 
 /// Whether a walk comes to a section that it had left.
 fn comes_back(layout: &Layout, walk: &[Passage]) -> bool {
-    (0..walk.len()).any(|place| comes_again(layout, walk, place))
+    for place in 0..walk.len() {
+        if comes_again(layout, walk, place) {
+            return true;
+        }
+    }
+    false
+}
+
+/// Whether one of some passages leaves its element where a way ends.
+fn comes_to_end(layout: &Layout, entry: SignalId, passages: &[Passage]) -> bool {
+    for passage in passages {
+        if end_at(layout, entry, passage.left).is_some() {
+            return true;
+        }
+    }
+    false
 }
 
 /// What a walk ends at, if it is a way.
 fn way_end(layout: &Layout, entry: SignalId, walk: &[Passage]) -> Option<Exit> {
     let (last, others) = walk.split_last()?;
-    let ends_before = others
-        .iter()
-        .any(|passage| end_at(layout, entry, passage.left).is_some());
-    if ends_before || comes_back(layout, walk) {
+    if comes_to_end(layout, entry, others) || comes_back(layout, walk) {
         return None;
     }
     end_at(layout, entry, last.left)
@@ -161,6 +173,16 @@ fn add_needs(
     }
 }
 
+/// Whether a point is required at both sides.
+fn is_at_both_sides(needs: &[(PointId, Side)]) -> bool {
+    for need in needs {
+        if needs.contains(&(need.0, other(need.1))) {
+            return true;
+        }
+    }
+    false
+}
+
 /// Whether a walk requires no point at both sides, and each leg that it doesn't use is guarded.
 fn is_passable(alloc: Global, layout: &Layout, walk: &[Passage]) -> Result<bool, AllocError> {
     let mut needs = Vec::new(alloc);
@@ -169,16 +191,16 @@ fn is_passable(alloc: Global, layout: &Layout, walk: &[Passage]) -> Result<bool,
             return Ok(false);
         }
     }
-    Ok(
-        !needs
-            .iter()
-            .any(|need| needs.contains(&(need.0, other(need.1)))),
-    )
+    Ok(!is_at_both_sides(&needs))
 }
 
 /// The ports by which a walk leaves its elements.
 fn path_of(alloc: Global, walk: &[Passage]) -> Result<Vec<Port>, AllocError> {
-    walk.iter().map(|passage| passage.left).collect(alloc)
+    let mut path = Vec::new(alloc);
+    for passage in walk {
+        path.push(passage.left)?;
+    }
+    Ok(path)
 }
 
 /// Adds a walk from a signal, if it is a passable way.
