@@ -7,6 +7,8 @@ pub mod Sent
 pub mod Recorded
 pub mod Happens
 pub mod Rests
+pub mod Programs
 pub mod OnLines
+pub mod Journeys
 pub mod Written
 pub mod WorkedRuns

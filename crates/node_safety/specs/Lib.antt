@@ -1,4 +1,5 @@
 pub mod Processes
 pub mod Records
+pub mod Runs
 pub mod Orders
 pub mod WorkedOrders

@@ -1,4 +1,4 @@
-//! What the processes of a station did, in one order, is safe.
+//! What the nodes of a station did, in one order, is safe.
 
 ghost use Rattle.std.specs.Prelude.{◌≡◌, ◌++◌, List};
 ghost use Rattle.node_kinds.specs.ixl_table.Table.{IsTableOf};
@@ -18,9 +18,9 @@ use simulator_node_laws::{
     what_nodes_of_true_clocks_show_is_safe, what_the_nodes_show_is_seen,
 };
 
-/// Where there is one order of all that the processes of a station did by their own records, which keeps what a history has to
-/// keep, what stands on their lines is safe after each part of it.
-pub fn what_processes_did_is_safe()
+/// Where there is one order of all that the nodes of a station did, as processes by their own records or in programs by their calls,
+/// which keeps what a history has to keep, what stands on their lines, or is ordered by the programs, is safe after each part of it.
+pub fn what_processes_and_programs_did_is_safe()
     ensures { (site : Site) (table : Table) (outset : Outset) → IsOutsetOf site outset → Once site → IsStation site → IsTableOf site table
         → (order : List Entry) (history : IsHistory site table outset order) (before behind : List Entry) (is : order ≡ before ++ behind) (seen : Snapshot)
         → IsOnLines site table outset (events_of before) (history.records before behind is) seen → Safe site seen }

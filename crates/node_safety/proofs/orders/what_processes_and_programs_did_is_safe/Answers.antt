@@ -2,7 +2,7 @@ use Rattle.node_safety.specs.Orders.{events_of}
 use Rattle.node_safety.proofs.Happens.{keep, may}
 use Rattle.node_safety.proofs.OnLines.{lines_rest}
 use Rattle.node_safety.proofs.Rests.{safe_at_rest}
-use Rattle.node_safety.proofs.orders.what_processes_did_is_safe.Goals as goal
+use Rattle.node_safety.proofs.orders.what_processes_and_programs_did_is_safe.Goals as goal
 
 pub returns : goal.returns
 returns c site table outset is_outset once station is_table order history before behind is seen on =
