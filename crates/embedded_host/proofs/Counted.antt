@@ -92,7 +92,7 @@ module _ {Object : Type 0} (does : Behaviour Object) where
     by_done false later true is =
         ap (λ (b : Bool). followed_by b (counted others new) (followed_by (is_done first) new.hosted.host.object followed)) later
         ∙ ap (λ (b : Bool). followed_by b new.hosted.host.object followed) is
-        ∙ sym (ap (λ (l : List Call). counted l new) (none_counts others later) ∙ nothing_came new)
+        ∙ sym (ap (λ (l : List Call). (host_after does (inputs_by does l new) new.hosted.host).object) (none_counts others later) ∙ nothing_came new)
         ∙ sym (after_first first (up_to_done others) it)
         ∙ ap (λ (l : List Call). (host_after does (inputs_by does l it) it.hosted.host).object) (sym (ap (λ (b : Bool). if b || has_done others then first ∷ up_to_done others else []) is))
         ∙ ap (λ (b : Bool). followed_by b (counted (first ∷ others) it) followed) (sym (ap (λ (b : Bool). b || has_done others) is))

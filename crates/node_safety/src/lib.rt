@@ -18,7 +18,7 @@ pub use laws::{
     controllers_are_those_of_a_world, interlockings_are_those_of_a_world,
     orders_tell_all_until_the_next,
 };
-pub use orders::what_processes_and_programs_did_is_safe;
+pub use orders::{what_processes_and_programs_did_is_safe, what_processes_and_programs_do_is_safe};
 pub use processes::{
     processes_are_the_nodes_of_a_world, what_processes_do_is_safe,
     what_processes_of_true_clocks_do_is_safe,
