@@ -10,5 +10,6 @@ pub mod Rests
 pub mod Programs
 pub mod OnLines
 pub mod Journeys
+pub mod Departs
 pub mod Written
 pub mod WorkedRuns

@@ -44,7 +44,7 @@ LeavingCounts {Object} does = (host : HostState Object) (begun : ℕ) (calls lat
 
 -- ---- controllers
 
-hosts_alike : {Object : Type 0} (does : Behaviour Object) (inputs : List (ℕ × Input)) (host : HostState Object) → host_by does inputs host ≡ host_after does inputs host
+pub hosts_alike : {Object : Type 0} (does : Behaviour Object) (inputs : List (ℕ × Input)) (host : HostState Object) → host_by does inputs host ≡ host_after does inputs host
 unfolding host_by host_after
 hosts_alike does [] host = refl
 hosts_alike does (one ∷ others) host = hosts_alike does others (host_step does one.0 one.1 host).host

@@ -1,7 +1,12 @@
 -- How old a datagram is that is heard: what its sender, the network and its receiver take of 2000 ms.
-use Rattle.std.specs.Prelude.{◌≤◌, ◌<◌, ◌+◌, ℕ}
+use Rattle.std.specs.Prelude.{◌≡◌, ◌≤◌, ◌<◌, ◌+◌, ℕ, List, [], Some, slice_get}
+use Rattle.node_kinds.specs.simulator_spec.First.{Outset}
+use Rattle.node_kinds.specs.simulator_spec.ixl_spec.Table.{Table}
+use Rattle.node_kinds.specs.simulator_spec.layout.Entries.{Site}
+use Rattle.node_kinds.specs.simulator_spec.simulator_event.declared.event.Event.{Event}
 use Rattle.node_kinds.specs.simulator_spec.rasta_core.Ends.{reading_of}
 use Rattle.node_kinds.specs.simulator_spec.rasta_core.TrueClocks.{IsSteady, Moment}
+use Rattle.simulator_node_laws.specs.Said.{Departure, departures_in}
 
 -- The moments on the way of a datagram, each in true time, with the clock of the node that reads it.
 pub record Journey : Type 0 where
@@ -28,3 +33,11 @@ pub record IsInTime (journey : Journey) : Type 0 where
   -- the receiver: proved of processes and of programs
   pub receiver : IsSteady journey.empty journey.heard
   pub heard_soon : reading_of journey.heard.clock ≤ reading_of journey.empty.clock + 400
+
+-- These bytes left a node in these events, in a step less than 500 ms before this reading of its clock.
+pub record HasLeft (site : Site) (table : Table) (outset : Outset) (events : List Event) (now : ℕ) (bytes : List ℕ) : Type 0 where
+  pub place : ℕ
+  pub departure : Departure
+  pub left : slice_get (departures_in site table outset [] events) place ≡ Some departure
+  pub same : departure.bytes ≡ bytes
+  pub soon : now < departure.reading + 500

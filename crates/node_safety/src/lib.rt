@@ -1,6 +1,7 @@
 //! What the nodes of a station show and drive, as processes or in programs, is safe. There is no code here but laws.
 #![tactic(auto)]
 
+mod departures;
 mod interlocking_programs;
 mod journeys;
 mod kinds;
@@ -11,6 +12,7 @@ mod programs;
 mod records;
 mod worked;
 
+pub use departures::what_programs_send_has_left;
 pub use interlocking_programs::an_interlocking_program_is_that_of_a_world;
 pub use journeys::what_keeps_its_shares_is_fresh;
 pub use kinds::{Detectors, Interlockings, Openings, Points, Signals};
