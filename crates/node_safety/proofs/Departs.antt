@@ -24,8 +24,8 @@ use Rattle.node_safety.proofs.Programs.{hosts_alike}
 -- ---- lists
 
 nil_cons : {A : Type 0} (front : List A) (one : A) (rest : List A) → [] ≡ front ++ one ∷ rest → ⊥
-nil_cons [] one rest e = cc
-nil_cons (first ∷ front) one rest e = cc
+nil_cons [] one rest e = cc (e)
+nil_cons (first ∷ front) one rest e = cc (e)
 
 tails : {A : Type 0} (one other : A) (rest more : List A) → one ∷ rest ≡ other ∷ more → rest ≡ more
 tails one other rest more e = cc

@@ -31,7 +31,7 @@ use Rattle.node_kinds.specs.Processes.{point_made, signal_made}
 use Rattle.simulator_node_laws.specs.Lives.{Life, host_after}
 use Rattle.simulator_node_laws.specs.Shown.{AreAll, IsOfNodes, host_now, point_life, signal_life}
 use Rattle.node_safety.specs.Orders.{IsOnLines}
-use Rattle.node_safety.specs.Runs.{AreNodes, IsController, as_process, in_program, IsNode, of_record, not_yet, IsOfCalls, IsOfRecord, is_contact, line_of, order_on, point_order, signal_order, while_up}
+use Rattle.node_safety.specs.Runs.{AreNodes, IsController, by_record, by_calls, IsNode, of_record, not_yet, IsOfCalls, IsOfRecord, is_contact, line_of, order_on, point_order, signal_order, while_up}
 use Rattle.node_safety.specs.Processes.{driven_by, shown_by}
 use Rattle.node_safety.proofs.Programs.{so_far_is}
 use Rattle.node_safety.proofs.Rests.{Rests}
@@ -111,8 +111,8 @@ module _ (signal_lives : HostLives signal_kind (host_after signal_behaviour)) (l
   lamp_of_calls is now (one ∷ others) down = inl refl
 
   pub lamp_is : (is : IsController signal_kind signal_behaviour signal_new lit) (now : ℕ) → (shown_by (order_on signal_order is) now ≡ aspects.Stop) ⊎ (shown_by (order_on signal_order is) now ≡ shows now)
-  lamp_is (as_process is) now = lamp_of_process is now
-  lamp_is (in_program is) now = lamp_of_calls is now is.while_down refl
+  lamp_is (by_record is) now = lamp_of_process is now
+  lamp_is (by_calls is) now = lamp_of_calls is now is.while_down refl
 
 module _ (point_lives : HostLives point_kind (host_after point_behaviour)) (motors : (drive : Option Drive) (now : ℕ) → side_ordered (drive_order drive) now ≡ drive_at drive now) (lines : LinesDrive)
     (site : Site) (table : Table) (outset : Outset) (events : List Event) (place : ℕ) (entry : PointEntry) where
@@ -148,8 +148,8 @@ module _ (point_lives : HostLives point_kind (host_after point_behaviour)) (moto
   motor_of_calls is now (one ∷ others) down = inl refl
 
   pub motor_is : (is : IsController point_kind point_behaviour point_new moved) (now : ℕ) → (driven_by (order_on point_order is) now ≡ None) ⊎ (driven_by (order_on point_order is) now ≡ drives_to now)
-  motor_is (as_process is) now = motor_of_process is now
-  motor_is (in_program is) now = motor_of_calls is now is.while_down refl
+  motor_is (by_record is) now = motor_of_process is now
+  motor_is (by_calls is) now = motor_of_calls is now is.while_down refl
 
 -- ---- all of it
 

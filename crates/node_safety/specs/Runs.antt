@@ -104,18 +104,18 @@ pub record IsOfIxlCalls (site : Site) (table : Table) (first begun : ℕ) (came 
 -- ---- one or the other
 
 pub data IsController {Object Contacts Sensed : Type 0} (kind : Kind (Controller Object Contacts) HostInput) (does : Behaviour Object) (node : Controller Object Contacts) (life : Life Sensed HostInput) : Type 0 where
-  as_process : IsNode kind is_contact node life → IsController kind does node life
-  in_program : IsOfCalls does node.host life.begins.clock life.came → IsController kind does node life
+  by_record : IsNode kind is_contact node life → IsController kind does node life
+  by_calls : IsOfCalls does node.host life.begins.clock life.came → IsController kind does node life
 
 pub data IsInterlocking (site : Site) (table : Table) (life : Life (Unit {0}) ixl.Input) : Type 0 where
-  as_process : IsNode interlocking_kind (λ (input : ixl.Input). false) (interlocking_made site life.begins.first table life.begins.clock) life → IsInterlocking site table life
-  in_program : IsOfIxlCalls site table life.begins.first life.begins.clock life.came → IsInterlocking site table life
+  ixl_by_record : IsNode interlocking_kind (λ (input : ixl.Input). false) (interlocking_made site life.begins.first table life.begins.clock) life → IsInterlocking site table life
+  ixl_by_calls : IsOfIxlCalls site table life.begins.first life.begins.clock life.came → IsInterlocking site table life
 
 -- the last order of a controller
 abbrev pub order_on : {Object Contacts Sensed : Type 0} {kind : Kind (Controller Object Contacts) HostInput} {does : Behaviour Object} {node : Controller Object Contacts} {life : Life Sensed HostInput}
     → (Object → Option Order) → IsController kind does node life → Option Order
-order_on order (as_process is) = line_of is
-order_on order (in_program is) = order_by order is
+order_on order (by_record is) = line_of is
+order_on order (by_calls is) = order_by order is
 
 -- what a signal orders of its lamp, and a point of its motor
 abbrev pub signal_order : SignalState → Option Order
