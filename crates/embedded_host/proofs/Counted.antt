@@ -1,5 +1,5 @@
 -- What counts of the calls of a loop is what came up to the last `done`.
-use Rattle.std.proofs.Common.{◌≡◌, ◌<◌, ◌+◌, ℕ, Bool, true, false, List, [], ◌∷◌, ◌++◌, Ok, Result, refl, sym, ap, ◌∙◌, subst, append_assoc, ◌||◌}
+use Rattle.std.proofs.Common.{◌≡◌, ℕ, Bool, true, false, List, [], ◌∷◌, ◌++◌, Ok, Result, refl, sym, ap, ◌∙◌, subst, append_assoc, ◌||◌}
 use Rattle.std.specs.Prelude.{is_ok, if◌then◌else◌}
 use Rattle.std.proofs.lemmas.List.{append-nil}
 use Rattle.rasta_core.specs.Outbox.{spellings}
@@ -7,7 +7,7 @@ use Rattle.object_host.specs.Behaviour.{Behaviour}
 use Rattle.object_host.specs.Host.{HostState}
 use Rattle.object_host.specs.Step.{host_step}
 use Rattle.object_host.specs.declared.input.Input.{Input}
-use Rattle.embedded_host.specs.Embedded.{EmbeddedState, started}
+use Rattle.embedded_host.specs.Embedded.{EmbeddedState}
 use Rattle.embedded_host.specs.Calls.{Call, Done, after_call, after_calls, answer_to, input_by}
 use Rattle.embedded_host.specs.Inputs.{host_after, inputs_by}
 use Rattle.embedded_host.specs.Leaving.{IsHandedOutBy, IsIn, LeavesRightly}
