@@ -171,7 +171,7 @@ module _ (site : Site) (table : Table) (outset : Outset) where
   map_one before what [] bytes rest = refl
   map_one before what (first ∷ front) bytes rest = ap (λ (l : List Departure). leaving before what first ∷ l) (map_one before what front bytes rest)
 
-  has_left : (events before : List Event) (happening : Event) (behind : List Event) (what : Told) (now : ℕ) (bytes : List ℕ) → events ≡ before ++ happening ∷ behind → told site table happening ≡ what
+  pub has_left : (events before : List Event) (happening : Event) (behind : List Event) (what : Told) (now : ℕ) (bytes : List ℕ) → events ≡ before ++ happening ∷ behind → told site table happening ≡ what
       → IsIn bytes (said_to site table outset before what) → now < reading_at site table outset before what + 500 → HasLeft site table outset events now bytes
   has_left events before happening behind what now bytes events_are is handed soon = record {
     place = length (departures_in site table outset [] before ++ map (leaving before what) handed.before);

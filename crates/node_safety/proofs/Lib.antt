@@ -11,5 +11,6 @@ pub mod Programs
 pub mod OnLines
 pub mod Journeys
 pub mod Departs
+pub mod IxlDeparts
 pub mod Written
 pub mod WorkedRuns

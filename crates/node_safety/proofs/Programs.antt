@@ -101,7 +101,7 @@ motor_follows law motors lines host begun came is whole now =
 abbrev pub IxlComesOfInputs : Type 0
 IxlComesOfInputs = (calls : List ixl_loop.Call) (it : EmbeddedIxlState) → (ixl_loop.after_calls calls it).interlocking.state ≡ ixl_state_after (ixl_inputs_by calls it) it.interlocking.state
 
-ixl_alike : (inputs : List (ℕ × ixl.Input)) (state : StateView) → (ixl_state_after inputs state).ixl ≡ ixl_after state.sited.site state.sited.table inputs state.ixl
+pub ixl_alike : (inputs : List (ℕ × ixl.Input)) (state : StateView) → (ixl_state_after inputs state).ixl ≡ ixl_after state.sited.site state.sited.table inputs state.ixl
 unfolding ixl_state_after ixl_after
 ixl_alike [] state = refl
 ixl_alike (one ∷ others) state = ixl_alike others (record state { ixl = (ixl_state_after (one ∷ []) state).ixl })

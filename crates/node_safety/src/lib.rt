@@ -13,7 +13,9 @@ mod records;
 mod worked;
 
 pub use departures::what_programs_send_has_left;
-pub use interlocking_programs::an_interlocking_program_is_that_of_a_world;
+pub use interlocking_programs::{
+    an_interlocking_program_is_that_of_a_world, what_an_interlocking_program_sends_has_left,
+};
 pub use journeys::what_keeps_its_shares_is_fresh;
 pub use kinds::{Detectors, Interlockings, Openings, Points, Signals};
 pub use laws::{
