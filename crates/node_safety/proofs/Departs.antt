@@ -19,7 +19,7 @@ use Rattle.simulator_node_laws.specs.Lives.{Life, Who, anew_where, detector_hear
 use Rattle.simulator_node_laws.specs.Said.{Departure, departures_in, leaves, reading_at, said_to, says, time_in}
 use Rattle.simulator_node_laws.specs.Told.{Told, Nobody, ToSignal, ToPoint, ToDetector, told}
 use Rattle.node_safety.specs.Journeys.{HasLeft}
-use Rattle.node_safety.proofs.Programs.{hosts_alike}
+use Rattle.node_safety.proofs.ByCalls.{hosts_alike}
 
 -- ---- lists
 

@@ -8,7 +8,6 @@ use Rattle.node_kinds.specs.simulator_spec.ixl_spec.Step as ixl
 use Rattle.node_kinds.specs.simulator_spec.ixl_spec.StepSoFar.{begun_with, empty_outbox}
 use Rattle.node_kinds.specs.simulator_spec.ixl_spec.Table.{SitedTable, Table}
 use Rattle.node_kinds.specs.simulator_spec.layout.Entries.{Site}
-use Rattle.node_kinds.specs.simulator_spec.rasta_core.Ends.{reading_of}
 use Rattle.node_kinds.specs.simulator_spec.simulator_event.declared.event.Event.{Event}
 use Rattle.embedded_host.specs.Leaving.{IsIn}
 use Rattle.embedded_ixl.specs.Calls.{Call, Takes, after_call, after_calls, answer_to, input_by, leaves_by}
@@ -24,7 +23,7 @@ use Rattle.simulator_node_laws.specs.Told.{Told, ToInterlocking, told}
 use Rattle.node_safety.specs.Journeys.{HasLeft}
 use Rattle.node_safety.specs.Runs.{IsOfIxlCalls}
 use Rattle.node_safety.proofs.Departs.{has_left, was_told}
-use Rattle.node_safety.proofs.Programs.{IxlComesOfInputs, ixl_alike}
+use Rattle.node_safety.proofs.ByCalls.{IxlComesOfInputs, ixl_alike}
 
 -- the law of what leaves
 abbrev pub LeavesFresh : Type 0

@@ -7,9 +7,9 @@ pub mod Sent
 pub mod Recorded
 pub mod Happens
 pub mod Rests
-pub mod Programs
+pub mod ByCalls
 pub mod OnLines
-pub mod Journeys
+pub mod Aged
 pub mod Departs
 pub mod IxlDeparts
 pub mod Written

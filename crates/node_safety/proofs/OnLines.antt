@@ -33,7 +33,7 @@ use Rattle.simulator_node_laws.specs.Shown.{AreAll, IsOfNodes, host_now, point_l
 use Rattle.node_safety.specs.Orders.{IsOnLines}
 use Rattle.node_safety.specs.Runs.{AreNodes, IsController, by_record, by_calls, IsNode, of_record, not_yet, IsOfCalls, IsOfRecord, is_contact, line_of, order_on, point_order, signal_order, while_up}
 use Rattle.node_safety.specs.Processes.{driven_by, shown_by}
-use Rattle.node_safety.proofs.Programs.{so_far_is}
+use Rattle.node_safety.proofs.ByCalls.{so_far_is}
 use Rattle.node_safety.proofs.Rests.{Rests}
 use Rattle.node_safety.proofs.Seen.{HostLives, LinesDrive, drive_line}
 

@@ -1,6 +1,6 @@
 //! Controllers in a program's own loop.
 
-ghost use Rattle.std.specs.Prelude.{◌≡◌, ◌++◌, ◌∷◌, ℕ, List, map, Some};
+ghost use Rattle.std.specs.Prelude.{◌≡◌, ◌++◌, ◌∷◌, ℕ, List, false, map, Some};
 ghost use Rattle.std.specs.List.{zip};
 ghost use Rattle.node_kinds.specs.simulator_spec.First.{Outset, new_point, new_signal};
 ghost use Rattle.node_kinds.specs.simulator_spec.Nodes.{key_of};

@@ -1,4 +1,4 @@
-use Rattle.node_safety.proofs.Programs.{lamp_follows, motor_follows}
+use Rattle.node_safety.proofs.ByCalls.{lamp_follows, motor_follows}
 use Rattle.node_safety.proofs.programs.equipment_follows_its_program.Goals as goal
 
 pub returns : goal.returns

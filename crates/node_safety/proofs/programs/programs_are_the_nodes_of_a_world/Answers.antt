@@ -5,7 +5,7 @@ use Rattle.node_kinds.specs.simulator_spec.tds_ctl.Controlled.{detection_behavio
 use Rattle.simulator_node_laws.specs.Lives.{detector_sensing}
 use Rattle.simulator_node_laws.specs.Said.{detector_life}
 use Rattle.simulator_node_laws.specs.Shown.{point_life, signal_life}
-use Rattle.node_safety.proofs.Programs.{node_is}
+use Rattle.node_safety.proofs.ByCalls.{node_is}
 use Rattle.node_safety.proofs.programs.programs_are_the_nodes_of_a_world.Goals as goal
 
 pub returns : goal.returns

@@ -1,7 +1,7 @@
 use Rattle.node_kinds.specs.simulator_spec.point_ctl.Controlled.{point_behaviour}
 use Rattle.node_kinds.specs.simulator_spec.signal_ctl.Signal.{signal_behaviour}
 use Rattle.node_kinds.specs.simulator_spec.tds_ctl.Controlled.{detection_behaviour}
-use Rattle.node_safety.proofs.Programs.{sent_is}
+use Rattle.node_safety.proofs.ByCalls.{sent_is}
 use Rattle.node_safety.proofs.programs.what_programs_send_counts.Goals as goal
 
 pub returns : goal.returns

@@ -1,5 +1,5 @@
 -- The age of what is heard.
-use Rattle.std.proofs.Common.{◌≡◌, ◌<◌, ◌≤◌, ◌+◌, ◌*◌, ◌/◌, ℕ, arith}
+use Rattle.std.proofs.Common.{◌<◌, ◌≤◌, ◌+◌, ◌*◌, ◌/◌, ℕ, arith}
 use Rattle.node_kinds.specs.simulator_spec.rasta_core.Bag.{lifetime}
 use Rattle.node_safety.specs.Journeys.{IsInTime, Journey}
 
