@@ -131,15 +131,15 @@ module _ {Contacts Coming : Type 0} (site : Site) (table : Table) (who : Who Con
   untold events life all = subst (λ (heard : Option Coming). AllTold events (hears who.contact heard life)) (sym deaf) all
 
   one_more : (events : List Event) (next : Event) → AllTold events (lived events) → AllTold (events ++ next ∷ []) (life_after site table who next (lived events))
-  one_more events (event.Request command) all = hearing events (event.Request command) _ refl all
-  one_more events (event.Occupy section occupancy) all = hearing events (event.Occupy section occupancy) _ refl all
-  one_more events (event.Tick node) all = hearing events (event.Tick node) _ refl all
+  one_more events (event.Request command) all = hearing events (event.Request command) (who.hearing (told site table (event.Request command))) refl all
+  one_more events (event.Occupy section occupancy) all = hearing events (event.Occupy section occupancy) (who.hearing (told site table (event.Occupy section occupancy))) refl all
+  one_more events (event.Tick node) all = hearing events (event.Tick node) (who.hearing (told site table (event.Tick node))) refl all
   one_more events (event.Time elapsed clocks) all =
       let new : Life Contacts Coming = turned site who (event.Time elapsed clocks) (lived events) in
       untold (events ++ event.Time elapsed clocks ∷ []) new (silent events (event.Time elapsed clocks) (lived events) new refl refl refl all)
-  one_more events (event.Deliver node bytes) all = hearing events (event.Deliver node bytes) _ refl all
-  one_more events (event.Lose bytes) all = hearing events (event.Lose bytes) _ refl all
-  one_more events (event.Reach point position) all = hearing events (event.Reach point position) _ refl all
+  one_more events (event.Deliver node bytes) all = hearing events (event.Deliver node bytes) (who.hearing (told site table (event.Deliver node bytes))) refl all
+  one_more events (event.Lose bytes) all = hearing events (event.Lose bytes) (who.hearing (told site table (event.Lose bytes))) refl all
+  one_more events (event.Reach point position) all = hearing events (event.Reach point position) (who.hearing (told site table (event.Reach point position))) refl all
   one_more events (event.Restart node clock number) all =
       untold (events ++ event.Restart node clock number ∷ []) (anew_where (who.is (node_at site node.0)) (record { clock = clock; first = number }) (lived events))
       (anew events (event.Restart node clock number) (record { clock = clock; first = number }) (who.is (node_at site node.0)) all)
