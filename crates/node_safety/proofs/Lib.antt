@@ -14,3 +14,4 @@ pub mod Departs
 pub mod IxlDeparts
 pub mod Written
 pub mod WorkedRuns
+pub mod WorkedJourneys
