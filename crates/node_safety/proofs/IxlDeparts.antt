@@ -1,7 +1,7 @@
 -- What a program's interlocking sent left it by the events of its history.
 use Rattle.std.proofs.Common.{◌≡◌, ◌∙◌, ◌≤◌, ◌<◌, ◌+◌, ℕ, List, [], ◌∷◌, ◌++◌, Some, Ok, Result, refl, sym, ap, subst, append_assoc, append-nil}
 use Rattle.std.specs.Prelude.{is_ok, if◌then◌else◌}
-use Rattle.node_kinds.specs.simulator_spec.First.{Beginning, Outset, new_ixl}
+use Rattle.node_kinds.specs.simulator_spec.First.{Outset, new_ixl}
 use Rattle.node_kinds.specs.simulator_spec.Nodes.{key_of}
 use Rattle.node_kinds.specs.simulator_spec.ixl_spec.State.{IxlState}
 use Rattle.node_kinds.specs.simulator_spec.ixl_spec.Step as ixl
@@ -78,10 +78,6 @@ module _ (law : LeavesFresh) (comes : IxlComesOfInputs) (site : Site) (table : T
     ixl_is : middle.ixl ≡ ixl_after site table (inputs_by earlier begun) (new_ixl site table (interlocking_life site table events).begins)
     ixl_is = ap (λ (state : StateView). state.ixl) (comes earlier begun) ∙ ixl_alike (inputs_by earlier begun) new
 
-  -- the same came to one that was made alike
-  so_made : (came other : List (ℕ × ixl.Input)) (begins made : Beginning) → came ≡ other → begins ≡ made → ixl_after site table other (new_ixl site table made) ≡ ixl_after site table came (new_ixl site table begins)
-  so_made came other begins made same alike = sym (λ i. ixl_after site table (same i) (new_ixl site table (alike i)))
-
   abbrev HandedOut : ℕ → SitedTable → IxlState → ixl.Input → List ℕ → Type 0
   HandedOut since sited state input datagram = IsIn datagram (ixl.stepped since sited.table (key_of sited.site) input (begun_with state empty_outbox)).outbox.datagrams
 
@@ -100,7 +96,7 @@ module _ (law : LeavesFresh) (comes : IxlComesOfInputs) (site : Site) (table : T
       ∙ ap (λ (l : List (ℕ × ixl.Input)). inputs_by left.earlier begun ++ l) (brings left.step more (after_calls left.earlier begun) (left.since, left.input) left.accepted left.brought) in
       let at = was_told site table the_interlocking refl (first_life tt) refl events (inputs_by left.earlier begun) left.since left.input rest came in
       let now_is : (middle left.earlier).ixl ≡ (interlocking_now site table (interlocking_life site table at.before)).ixl =
-      ixl_is left.earlier ∙ so_made (interlocking_life site table at.before).came (inputs_by left.earlier begun) (interlocking_life site table at.before).begins (interlocking_life site table events).begins at.came_is at.begins_is in
+      ixl_is left.earlier ∙ sym (λ i. ixl_after site table (at.came_is i) (new_ixl site table (at.begins_is i))) in
       let handed : HandedOut left.since (middle left.earlier).sited (middle left.earlier).ixl left.input datagram =
       record { before = left.handed.before; after = left.handed.after; all_are = left.handed.all_are } in
       let of_table : HandedOut left.since (record { site = site; table = table }) (middle left.earlier).ixl left.input datagram =

@@ -14,4 +14,3 @@ pub mod Departs
 pub mod IxlDeparts
 pub mod Written
 pub mod WorkedRuns
-pub mod WorkedJourneys

@@ -1,5 +1,5 @@
 -- Small orders that don't keep what a history has to keep, and what is told to whom.
-use Rattle.std.specs.Prelude.{◌≡◌, ◌+◌, ℕ, List, [], ◌∷◌, None, Some}
+use Rattle.std.specs.Prelude.{◌≡◌, ℕ, List, [], ◌∷◌, None, Some}
 use Rattle.node_kinds.specs.simulator_spec.layout.declared.port.Port.{Port}
 use Rattle.node_kinds.specs.simulator_spec.object_host.declared.input.Input.TheVariants as inputs
 use Rattle.node_kinds.specs.simulator_spec.object_host.declared.sense.Sense.TheVariants as sense
@@ -13,7 +13,6 @@ use Rattle.node_kinds.specs.simulator_spec.TrueClocks.{KeepTime}
 use Rattle.simulator_node_laws.specs.Said.{LeftInTime, detector_life}
 use Rattle.simulator_node_laws.specs.Shown.{interlocking_life, point_life, signal_life}
 use Rattle.simulator_node_laws.specs.Worked.{small, small_outset, small_table}
-use Rattle.node_safety.specs.Journeys.{IsInTime, Journey}
 use Rattle.node_safety.specs.Orders.{Entry, MayPass, TellsTruth, events_of, up_to}
 
 -- ---- clocks
@@ -70,20 +69,3 @@ comes_after elapsed = record { elapsed = elapsed; clocks = elapsed ∷ elapsed �
 pub record IsTooOld (at : Port) : Type 0 where
   pub in_time : (bytes : List ℕ) → LeftInTime (small at) small_table small_outset (up_to (is_called ∷ []) (comes_after 0)) bytes → LeftInTime (small at) small_table small_outset (up_to (is_called ∷ []) (comes_after 2000000)) bytes
   pub too_old : (bytes : List ℕ) → LeftInTime (small at) small_table small_outset (up_to (is_called ∷ []) (comes_after 2000001)) bytes → ⊥
-
--- ---- how old what is heard can be
-
--- A datagram on whose way each but the network takes all that it may, with clocks that are as slow as they may be.
-abbrev pub slow_journey : ℕ → Journey
-slow_journey in_network = record {
-  handed_out = record { at = 0; clock = 0 };
-  sent = record { at = 500509; clock = 499999 };
-  came = 500509 + in_network;
-  empty = record { at = 590509 + in_network; clock = 0 };
-  heard = record { at = 991919 + in_network; clock = 400999 };
-}
-
--- With 1000 ms in the network it keeps all shares, and is 8 ms younger than it may be.
-pub record TakesLongest : Type 0 where
-  pub in_time : IsInTime (slow_journey 1000000)
-  pub age : (slow_journey 1000000).heard.at ≡ 1991919

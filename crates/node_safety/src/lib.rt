@@ -35,4 +35,4 @@ pub use records::{
     a_process_records_its_node, a_process_that_is_cut_off_records_its_node,
     controllers_write_their_orders,
 };
-pub use worked::{journeys_are_as_worked_by_hand, orders_are_as_worked_by_hand};
+pub use worked::orders_are_as_worked_by_hand;

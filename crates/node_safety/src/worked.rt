@@ -1,7 +1,7 @@
 //! Small orders, worked by hand.
 
 ghost use Rattle.node_kinds.specs.simulator_spec.layout.declared.port.Port.{Port};
-ghost use Rattle.node_safety.specs.WorkedOrders.{Drifts, IsTooOld, MovesUndriven, TakesLongest, TellsTheDetector};
+ghost use Rattle.node_safety.specs.WorkedOrders.{Drifts, IsTooOld, MovesUndriven, TellsTheDetector};
 
 /// Small orders: a clock that drifts by one microsecond in a second too much, and one that an event of a world is too short for
 /// (*clocks*), a contact of a point that no order drives (*contacts*), a train of which the detector alone is told (*detectors*),
@@ -11,9 +11,4 @@ pub fn orders_are_as_worked_by_hand()
     ensures contacts { (at : Port) → MovesUndriven at }
     ensures detectors { (at : Port) → TellsTheDetector at }
     ensures datagrams { (at : Port) → IsTooOld at }
-{}
-
-/// A datagram on whose way all shares are used up, with the slowest clocks, is 8 ms younger than it may be.
-pub fn journeys_are_as_worked_by_hand()
-    ensures { TakesLongest }
 {}
