@@ -213,12 +213,13 @@ def record_lines(record):
 
 
 def full_disk(program, room):
-    """On a disk of 256 KiB the node tells once that it can't write its record, and goes on; a run ends."""
+    """On a disk of 64 KiB the node tells once that it can't write its record, and goes on; a run ends."""
     disk = room / "disk"
     disk.mkdir()
-    subprocess.run(["mount", "-t", "tmpfs", "-o", "size=256k", "tmpfs", disk], check=True)
+    subprocess.run(["mount", "-t", "tmpfs", "-o", "size=64k", "tmpfs", disk], check=True)
     try:
         end, record = room / "full.end", disk / "node.record"
+        field = Long(sys.executable, FIELD, program, HALDEN, ADDRESSES, f"--stop-file={end}")
         station = Long(program, "node", HALDEN, "HALDEN", "--addresses", ADDRESSES, "--record", record, "--record-size", SIZE, "--stop-file", end)
         for _ in range(600):
             if len(station.err) > 1:
@@ -228,6 +229,7 @@ def full_disk(program, room):
         time.sleep(2)
         well("a full disk is told once, and the node goes on", station.err.count(told) == 1 and station.process.poll() is None, "\n".join(station.err))
         station.ends_well("the node without a disk", end)
+        field.wait()
         whole = all(it.read_bytes().endswith(b"\n") for it in parts_of(record)[:-1])
         well(f"what is left of its record: {len(parts_of(record))} parts", whole and len(parts_of(record)) > 1)
         for it in parts_of(record):
