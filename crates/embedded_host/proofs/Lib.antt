@@ -1,7 +1,6 @@
 pub mod Answered
 pub mod Below
 pub mod Causes
-pub mod Counted
 pub mod Followed
 pub mod Heard
 pub mod Left

@@ -3,11 +3,10 @@ use Rattle.std.proofs.Common.{refl}
 use Rattle.object_host.specs.Behaviour.{Behaviour}
 use Rattle.object_host.specs.Host.{HostState}
 use Rattle.embedded_host.specs.Calls.{after_calls}
-use Rattle.embedded_host.specs.Inputs.{inputs_by}
 use Rattle.embedded_host.specs.Worked.{Worked}
 
 pub worked : {Object : Type 0} (does : Behaviour Object) (host : HostState Object) → Worked does host
-unfolding after_calls inputs_by
+unfolding after_calls
 worked does host = record {
   quiet_hears = refl;
   quiet_takes = refl;
@@ -20,6 +19,4 @@ worked does host = record {
   dropped = refl;
   fell = refl;
   not_kept = refl;
-  counts = refl;
-  counts_not_yet = refl;
 }

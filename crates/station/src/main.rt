@@ -1,12 +1,17 @@
 //! The program `station`. `station check FILE` tells whether the layout in FILE is sound, `station routes FILE` prints the
 //! routes that its table lacks, `station plan FILE` draws its track plan, and `station table FILE` prints its control table; `station sim FILE EVENTS` applies lines of events to a
 //! station of it, `station run FILE --script S --record R --for MS` runs one over sockets, `station panel FILE` has one operated
-//! from a browser, `station replay FILE RECORD` applies a recorded session, and `station chart FILE RECORD` draws it; `station decode --hex HEX` puts a datagram into
+//! from a browser, `station draw FILE` has one drawn there, `station replay FILE RECORD` applies a recorded session, and `station chart FILE RECORD` draws it; `station decode --hex HEX` puts a datagram into
 //! words, and `station decode FILE RECORD` those of a session, which `station capture FILE RECORD OUT` writes to a file for
 //! Wireshark; with `--node NAME` they do so with the record of a node. `station node FILE NAME --addresses ADDRESSES` runs a node of it as a process of its own. The status is 0 where this was done, 1 at a fault, 2 where the command line is wrong, and 3 where a session
 //! answers otherwise than it was recorded.
 #![tactic(auto)]
 
+mod draw_command;
+mod drawn_file;
+mod text_judge;
+
+use draw_command::draw_file;
 use node_panel::{NodePanelOptions, panel_of_node};
 use node_record::{
     Cut as NodeCut, FoundEnds, NodeCaptureOptions, NodeRecord, capture_node_to_file,
@@ -14,10 +19,10 @@ use node_record::{
 };
 use panel_page::PAGE;
 use station_command::{
-    Approach, CaptureArguments, ChartArguments, CheckArguments, DatagramArguments, Error, Failure,
-    NodeArguments, PanelArguments, PlanArguments, Request, RoutesArguments, RunArguments, RunFiles,
-    SessionArguments, SimArguments, TableArguments, files_of, input_once, is_memory, lines_of,
-    read_words, record_texts_of, text_of, texts_of, words,
+    Approach, CaptureArguments, ChartArguments, CheckArguments, DatagramArguments, DrawArguments,
+    Error, Failure, NodeArguments, PanelArguments, PlanArguments, Request, RoutesArguments,
+    RunArguments, RunFiles, SessionArguments, SimArguments, TableArguments, files_of, input_once,
+    is_memory, lines_of, read_words, record_texts_of, text_of, texts_of, words,
 };
 use station_layout::{Form, explain_text, plan_text, table_text};
 use station_node::node_network::WaitedStream;
@@ -76,6 +81,7 @@ fn carry_out<W: Write>(rt: &HostRuntime, request: Request<'_>, out: &mut W) -> R
     match request {
         Request::Check(arguments) => check(rt, arguments, out),
         Request::Routes(arguments) => routes(rt, arguments, out),
+        Request::Draw(arguments) => draw(rt, arguments),
         Request::Plan(arguments) => plan(rt, arguments, out),
         Request::Table(arguments) => table(rt, arguments, out),
         Request::Sim(arguments) => sim(rt, arguments, out),
@@ -178,6 +184,22 @@ fn write_routes(rt: &HostRuntime, file: &str, completed: &Completed) -> Result<u
     }
 }
 
+/// `draw FILE [--port P]`. Standard input can't be written, so it isn't drawn.
+fn draw(rt: &HostRuntime, arguments: DrawArguments<'_>) -> Result<u8, Failure> {
+    if arguments.layout == INPUT {
+        return cannot_read(rt, INPUT);
+    }
+    Ok(draw_file(rt, arguments.layout, port_of(arguments.port)))
+}
+
+/// A file that can't be read.
+fn cannot_read(rt: &HostRuntime, file: &str) -> Result<u8, Failure> {
+    match String::from_str(rt.alloc(), file) {
+        Ok(file) => Err(Failure::File(file)),
+        Err(_) => Err(Failure::OutOfMemory),
+    }
+}
+
 /// Prints the digest of a layout.
 fn tell_digest(rt: &HostRuntime, text: &str) -> Result<u8, Failure> {
     let Ok(digest) = layout_digest(rt.alloc(), text) else {
@@ -266,7 +288,7 @@ fn run<W: Write>(
 }
 
 /// The version of the program.
-const VERSION: &str = "1.0.0";
+pub(crate) const VERSION: &str = "1.0.0";
 
 /// The port of a panel's page, where the words say none.
 const PORT: u16 = 8080;
@@ -280,12 +302,12 @@ fn port_of(given: Option<u64>) -> u16 {
 }
 
 /// The record of a panel, where the words name none.
-const RECORD: &str = "panel.session";
+pub(crate) const RECORD: &str = "panel.session";
 
 /// Up to how many bytes of datagrams a panel stands: 1 GiB.
-const MEMORY: u64 = 1 << 30;
+pub(crate) const MEMORY: u64 = 1 << 30;
 
-/// `panel FILE [--port P] [--record R] [--record-size N] [--for MS] [--stop-file F] [--node ADDRESS]`. The track plan is drawn first.
+/// `panel FILE [--port P] [--record R] [--for MS] [--stop-file F] [--node ADDRESS]`. The track plan is drawn first.
 fn panel(rt: &HostRuntime, arguments: PanelArguments<'_>) -> Result<u8, Failure> {
     let text = text_of(rt, arguments.layout)?;
     let layout = text.as_str();
@@ -294,11 +316,12 @@ fn panel(rt: &HostRuntime, arguments: PanelArguments<'_>) -> Result<u8, Failure>
     if status != 0 {
         return Ok(status);
     }
+    let record = arguments.record.unwrap_or(RECORD);
     let files = RunFiles {
-        record_size: arguments.record_size,
+        record_size: None,
         stop_file: arguments.stop_file,
     };
-    let files = files_of(rt, arguments.record, files)?;
+    let files = files_of(rt, Some(record), files)?;
     let page = PageAsked {
         layout,
         plan: str::from_utf8(&plan).unwrap_or(""),
@@ -306,11 +329,11 @@ fn panel(rt: &HostRuntime, arguments: PanelArguments<'_>) -> Result<u8, Failure>
         version: VERSION,
         port: port_of(arguments.port),
         kind: "world",
-        record: arguments.record.unwrap_or(RECORD),
+        record,
     };
     Ok(match arguments.node {
         Some(node) => panel_node(rt, page, node, arguments),
-        None => panel_station(rt, page, arguments.for_ms, files),
+        None => panel_station(rt, page, arguments.for_ms, files.stop_file),
     })
 }
 
@@ -319,14 +342,14 @@ fn panel_station(
     rt: &HostRuntime,
     page: PageAsked<'_>,
     for_ms: Option<u64>,
-    files: RunFiles<'_>,
+    stop_file: Option<&str>,
 ) -> u8 {
     let limits = Limits {
         for_ms: for_ms.unwrap_or(u64::MAX),
         memory: MEMORY,
     };
     let asked = PanelOptions { page, limits };
-    station_run::panel(rt, &asked, files, &mut rt.stdout(), &mut rt.stderr())
+    station_run::panel(rt, &asked, stop_file, &mut rt.stdout(), &mut rt.stderr())
 }
 
 /// Has the node of an interlocking operated from a browser.

@@ -83,11 +83,12 @@ abbrev pub commands : List Command
 commands =
     command (codes "check") (layout ∷ may Switch (codes "explain") ∷ may Switch (codes "complete") ∷ may Switch (codes "digest") ∷ [])
     ∷ record (command (codes "routes") (layout ∷ may Word (codes "from") ∷ may Word (codes "approach") ∷ may Switch (codes "write") ∷ [])) { asks = asks_for_routes }
+    ∷ command (codes "draw") (layout ∷ may (Number 1 65535) (codes "port") ∷ [])
     ∷ command (codes "plan") (layout ∷ may Word (codes "route") ∷ may Word (codes "picture") ∷ [])
     ∷ command (codes "table") (layout ∷ may Switch (codes "csv") ∷ [])
     ∷ command (codes "sim") (layout ∷ second ∷ [])
     ∷ command (codes "run") (layout ∷ must Word (codes "script") ∷ must Word (codes "record") ∷ record_size ∷ must time (codes "for") ∷ stop_file ∷ [])
-    ∷ command (codes "panel") (layout ∷ may (Number 1 65535) (codes "port") ∷ may Word (codes "record") ∷ record_size ∷ may time (codes "for") ∷ stop_file ∷ node ∷ [])
+    ∷ command (codes "panel") (layout ∷ may (Number 1 65535) (codes "port") ∷ may Word (codes "record") ∷ may time (codes "for") ∷ stop_file ∷ node ∷ [])
     ∷ command (codes "replay") (layout ∷ second ∷ node ∷ [])
     ∷ command (codes "chart") (layout ∷ second ∷ node ∷ may moment (codes "from") ∷ may moment (codes "to") ∷ [])
     ∷ record (command (codes "decode") (may Word (codes "hex") ∷ may Word (codes "layout") ∷ may File (codes "FILE") ∷ may File (codes "SECOND") ∷ node ∷ [])) { asks = asks_to_decode }

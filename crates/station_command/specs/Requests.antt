@@ -23,6 +23,7 @@ abbrev pub says : Request → Said
 says (requests.Check o) = (codes "check", one o.layout.now ∷ Switched o.explained ∷ Switched o.complete ∷ Switched o.digest ∷ [])
 says (requests.Routes o) =
     (codes "routes", one o.layout.now ∷ Worded (option_copied o.from) ∷ Worded (option_map word_of o.approach) ∷ Switched o.write ∷ [])
+says (requests.Draw o) = (codes "draw", one o.layout.now ∷ Counted o.port ∷ [])
 says (requests.Plan o) = (codes "plan", one o.layout.now ∷ Worded (option_copied o.route) ∷ Worded (option_copied o.picture) ∷ [])
 says (requests.Table o) = (codes "table", one o.layout.now ∷ Switched o.csv ∷ [])
 says (requests.Sim o) = (codes "sim", one o.layout.now ∷ one o.events.now ∷ [])
@@ -32,7 +33,7 @@ says (requests.Run o) = (
 )
 says (requests.Panel o) = (
   codes "panel",
-  one o.layout.now ∷ Counted o.port ∷ Worded (option_copied o.record) ∷ Counted o.record_size ∷ Counted o.for_ms
+  one o.layout.now ∷ Counted o.port ∷ Worded (option_copied o.record) ∷ Counted o.for_ms
       ∷ Worded (option_copied o.stop_file) ∷ Worded (option_copied o.node) ∷ [],
 )
 says (requests.Replay o) = (codes "replay", one o.layout.now ∷ one o.recording.now ∷ Worded (option_copied o.node) ∷ [])

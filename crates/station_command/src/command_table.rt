@@ -29,6 +29,8 @@ pub(crate) const NODE: &str = "node";
 
 pub(crate) const ROUTES: &str = "routes";
 
+pub(crate) const DRAW: &str = "draw";
+
 /// The file of the layout, and the one that is applied to it.
 pub(crate) const FILE: &str = "FILE";
 
@@ -172,6 +174,20 @@ pub(crate) const COMMANDS: &[Entry] = &[
             Argument(WRITE, Kind::Switch, OPTIONAL, Help::Write),
         ],
     },
+    // `draw FILE [--port P]`
+    Entry {
+        word: DRAW,
+        help: CommandHelp::Draw,
+        arguments: &[
+            Argument(FILE, Kind::File("FILE"), NEEDED, Help::FileDrawn),
+            Argument(
+                PORT,
+                Kind::Number("P", LOWEST, HIGHEST),
+                OPTIONAL,
+                Help::Port,
+            ),
+        ],
+    },
     // `plan FILE [--route R] [--picture PICTURE]`
     Entry {
         word: PLAN,
@@ -223,7 +239,7 @@ pub(crate) const COMMANDS: &[Entry] = &[
             Argument(STOP_FILE, Kind::Word("F"), OPTIONAL, Help::StopFile),
         ],
     },
-    // `panel FILE [--port P] [--record R] [--record-size N] [--for MS] [--stop-file F] [--node ADDRESS]`
+    // `panel FILE [--port P] [--record R] [--for MS] [--stop-file F] [--node ADDRESS]`
     Entry {
         word: PANEL,
         help: CommandHelp::Panel,
@@ -236,12 +252,6 @@ pub(crate) const COMMANDS: &[Entry] = &[
                 Help::Port,
             ),
             Argument(RECORD, Kind::Word("R"), OPTIONAL, Help::RecordOfPanel),
-            Argument(
-                RECORD_SIZE,
-                Kind::Number("N", SMALLEST, LARGEST),
-                OPTIONAL,
-                Help::RecordSize,
-            ),
             Argument(
                 FOR,
                 Kind::Number("MS", SHORTEST, LONGEST),

@@ -10,6 +10,8 @@ pub enum Request<'a> {
     Check(CheckArguments<'a>),
     /// `routes FILE [--from SIGNALS] [--approach RULE] [--write]`: the routes that the layout in a file lacks.
     Routes(RoutesArguments<'a>),
+    /// `draw FILE [--port P]`: a page on which the layout in a file is drawn.
+    Draw(DrawArguments<'a>),
     /// `plan FILE [--route R] [--picture PICTURE]`: the track plan of the layout in a file.
     Plan(PlanArguments<'a>),
     /// `table FILE [--csv]`: the control table of the layout in a file.
@@ -19,7 +21,7 @@ pub enum Request<'a> {
     /// `run FILE --script S --record R [--record-size N] --for MS [--stop-file F]`: a station of the layout in a file over
     /// sockets.
     Run(RunArguments<'a>),
-    /// `panel FILE [--port P] [--record R] [--record-size N] [--for MS] [--stop-file F] [--node ADDRESS]`: a panel of a station of
+    /// `panel FILE [--port P] [--record R] [--for MS] [--stop-file F] [--node ADDRESS]`: a panel of a station of
     /// the layout in a file.
     Panel(PanelArguments<'a>),
     /// `replay FILE RECORD [--node NAME]`: whether a recorded session answers the same again.
@@ -65,6 +67,13 @@ pub struct RoutesArguments<'a> {
     pub write: bool,
 }
 
+/// The file of a layout, which may not be there yet, and the port of the page.
+#[derive(Clone, Copy)]
+pub struct DrawArguments<'a> {
+    pub layout: &'a str,
+    pub port: Option<u64>,
+}
+
 /// The file of a layout, the route that is drawn thick, and the file with what is seen.
 #[derive(Clone, Copy)]
 pub struct PlanArguments<'a> {
@@ -107,7 +116,6 @@ pub struct PanelArguments<'a> {
     pub layout: &'a str,
     pub port: Option<u64>,
     pub record: Option<&'a str>,
-    pub record_size: Option<u64>,
     pub for_ms: Option<u64>,
     pub stop_file: Option<&'a str>,
     pub node: Option<&'a str>,

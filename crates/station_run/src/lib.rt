@@ -3,15 +3,16 @@
 //! driven from a panel, which is what `station panel` does.
 #![tactic(auto)]
 
+mod beside;
 mod machine;
 mod panel_machine;
-mod panel_record;
 mod pictured_world;
 mod prepared;
 mod stoppable;
 mod thing;
 mod watched;
 
+pub use beside::{Beside, PlayedBeside, attend_alone, panel_beside};
 pub use machine::{RunOptions, run};
 pub use panel_machine::{Attended, panel};
 pub use prepared::{Prepared, StationRun, prepare};

@@ -14,6 +14,7 @@ Usage: station <COMMAND>
 Commands:
   check    Checks the layout of a station and its table of routes
   routes   Prints the routes that the table of a layout lacks
+  draw     Opens a page in a browser on which a station is drawn
   plan     Draws the track plan of a layout
   table    Prints the control table of a layout
   sim      Applies lines of events to a station of a layout
@@ -241,8 +242,7 @@ at left and each section clear. The address of a page is printed, for a browser 
 page shows the track plan as the station stands. On it a person sets and cancels routes, drives trains,
 and disturbs the station: cuts links, loses and delays datagrams, makes nodes anew, jams points.
 
-It runs until it is stopped, or until the datagrams that were sent take 1 GiB. --stop-file is as for run,
-and so is --record-size, with which --record has to stand.
+It runs until it is stopped, or until the datagrams that were sent take 1 GiB. --stop-file is as for run.
 
 With --node the station isn't run here: its interlocking runs as node runs one with --operator, and the
 panel is joined to it as its operator. The page then shows what the interlocking knows, and sets and
@@ -262,9 +262,6 @@ Options:
 
       --record <R>
           The file to which the session is written, else panel.session
-
-      --record-size <N>
-          How many bytes a part of the record has, from 4096 to 4294967296, else it stands in one file
 
       --for <MS>
           How long the panel stands, from 1000 to 600000 milliseconds, else until it is stopped
@@ -551,6 +548,18 @@ Usage: station <COMMAND>
 For more information, try '--help'.
 ";
 
+const SHORT_DRAW_HELP: &str = "Opens a page in a browser on which a station is drawn
+
+Usage: station draw [OPTIONS] <FILE>
+
+Arguments:
+  <FILE>  The layout that is drawn, a TOML file, which may not be there yet
+
+Options:
+      --port <P>  The port of the page, from 1 to 65535, else 8080
+  -h, --help      Print help (see more with '--help')
+";
+
 /// No command line here has more words.
 const MOST_WORDS: usize = 8;
 
@@ -564,6 +573,7 @@ const HELPED: &[Printed] = &[
     ("station check --help", 0, CHECK_HELP),
     ("station check -h", 0, SHORT_CHECK_HELP),
     ("station routes -h", 0, SHORT_ROUTES_HELP),
+    ("station draw -h", 0, SHORT_DRAW_HELP),
     ("station plan --help", 0, PLAN_HELP),
     ("station table --help", 0, TABLE_HELP),
     ("station sim --help", 0, SIM_HELP),
