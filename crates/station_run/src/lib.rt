@@ -3,7 +3,6 @@
 //! driven from a panel, which is what `station panel` does.
 #![tactic(auto)]
 
-mod beside;
 mod machine;
 mod panel_machine;
 mod pictured_world;
@@ -12,7 +11,6 @@ mod stoppable;
 mod thing;
 mod watched;
 
-pub use beside::{Beside, PlayedBeside, attend_alone, panel_beside};
 pub use machine::{RunOptions, run};
 pub use panel_machine::{Attended, panel};
 pub use prepared::{Prepared, StationRun, prepare};
