@@ -34,9 +34,9 @@ PARTS = [
     ),
     (
         "Nodes as processes",
-        "What a process does, and where that is safe. *done* says what a process called that ran to its end, *stopped* what one called "
+        "What a process does, and where that is safe, also beside nodes in programs of others. *done* says what a process called that ran to its end, *stopped* what one called "
         "that ended early.",
-        [(NODE, "run_node", ["done", "stopped"]), (ORDER, "what_processes_did_is_safe", [""])],
+        [(NODE, "run_node", ["done", "stopped"]), (ORDER, "what_processes_and_programs_did_is_safe", [""])],
     ),
 ]
 

@@ -4,11 +4,11 @@ Each text is judged by `promtool check metrics` (of Debian's package `prometheus
 
     python3 bench/metrics.py STATION [LAYOUT]
 
-world      the links come up, a route is set, a refused command is counted by its number, one link is cut and closes by time; another host
-           is refused, and no token is asked for
+world      the links come up, a route is set, a refused command is counted by its number, one link is cut and closes by time, which is
+           told to nobody; another host is refused, and no token is asked for
 nodes      the same of an interlocking's process: unasked its operator's lines have no number, and asked they tell what the panel serves;
-           rounds go on, memory is told; garbage that is sent to it is counted as unreadable, and that of a stranger as from a stranger;
-           its record replays as the same, questions and answers in it
+           rounds go on, memory is told; what a stranger sends is counted as from a stranger; a controller that is made anew, which falls
+           silent by that, is a link that was lost; its record replays as the same, questions and answers in it
 """
 import json
 import pathlib
@@ -111,6 +111,11 @@ def set_route(panel, told, count=1):
     return wait("a command that was accepted is counted", panel, lambda it: it["commands_total", "accepted"] >= 2, 30)
 
 
+def closings(numbers):
+    """The numbers of disconnection requests."""
+    return {it: count for it, count in numbers.items() if it[0].startswith("closings")}
+
+
 def world(program, layout):
     told, names = links_of(layout)
     with tempfile.TemporaryDirectory() as place:
@@ -124,7 +129,8 @@ def world(program, layout):
             set_route(panel, told)
             before = looked_at(panel)
             command(panel, f"cut {names[0]}")
-            after = wait("a link that is cut closes by time", panel, lambda it: it["links_up", None] < len(names) and it["closings_sent_total", "time"] > before["closings_sent_total", "time"], 10)
+            after = wait("a link that is cut closes by time", panel, lambda it: it["links_up", None] == len(names) - 1, 10)
+            judge("that it closed so is told to nobody", closings(after) == closings(before) and after["closings_sent_total", "time"] == 0)
             judge("rounds go on", after["rounds_total", None] > before["rounds_total", None] + 50)
             judge("datagrams take memory", after["sent_memory_bytes", None] > before["sent_memory_bytes", None])
             promtool(panel, "a station in one process")
@@ -187,6 +193,9 @@ def nodes(program, layout):
             judge("rounds go on", after["rounds_total", None] > before["rounds_total", None])
             judge("memory is told", 1 << 20 < after["memory_bytes", None] < 1 << 30)
             judge("datagrams are taken", after["datagrams_total", "taken"] > before["datagrams_total", "taken"] > 0)
+            panel.say(f"restart {names[0]}")
+            lost = wait("a controller that falls silent is a link that was lost", panel, lambda it: it["links_lost_total", None] == after["links_lost_total", None] + 1, 20)
+            judge("that its link closed so is told to nobody", lost["closings_sent_total", "time"] == lost["closings_taken_total", "time"] == 0)
             promtool(panel, "an interlocking's process")
             record = panel.told.read_text()
             judge("nothing is told unasked", record.count("hears numbers\n") * 32 == record.count("\nwrites number ") > 0)

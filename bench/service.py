@@ -112,22 +112,23 @@ def refusals(program, room):
     second.touch()
     long = [
         ("run", SMALL, "--script", SCRIPT, "--record", room / "r", "--for", 1000),
-        ("panel", SMALL, "--record", room / "r", "--port", PORT, "--for", 1000),
+        ("panel", SMALL, "--port", PORT, "--for", 1000, "--record", room / "r"),
         ("panel", HALDEN, "--node", OPERATOR, "--port", PORT, "--for", 1000),
         ("node", HALDEN, "HALDEN", "--addresses", ADDRESSES, "--for", 1000),
     ]
     for words in long:
         ran = run(program, *words, "--stop-file", there)
         well(f"{words[0]} over a stop file", ran.returncode == 1 and str(there) in ran.stderr and not ran.stdout, ran.stderr)
-        if words[0] != "run":
+        if room / "r" not in words:
             continue
         for record in (there, room / "fresh"):
             named = there if record == there else second
             given = [record if it == room / "r" else it for it in words]
             ran = run(program, *given, "--record-size", SIZE)
             well(f"{words[0]} over {named.name}", ran.returncode == 1 and str(named) in ran.stderr and not record.with_name("fresh").exists(), ran.stderr)
-    ran = run(program, *long[3], "--record-size", SIZE)
-    well("a size without a record", ran.returncode == 2, ran.stderr)
+    for words in (long[1][:-2], long[2], long[3]):
+        ran = run(program, *words, "--record-size", SIZE)
+        well(f"{words[0]} with a size and without a record", ran.returncode == 2 and not ran.stdout, ran.stderr)
     for size in (4095, 4294967297):
         ran = run(program, *long[3], "--record", room / "r", "--record-size", size)
         well(f"a size of {size}", ran.returncode == 2, ran.stderr)
@@ -144,13 +145,19 @@ def sessions(program, room):
     broken_parts(program, record)
 
     record, end = room / "panel.session", room / "panel.end"
-    began = Long(program, "panel", SMALL, "--port", PORT, "--record", record, "--stop-file", end)
-    time.sleep(6)
+    began = Long(program, "panel", SMALL, "--port", PORT, "--record", record, "--record-size", SIZE, "--stop-file", end)
+    time.sleep(10)
     page = urllib.request.urlopen(f"http://127.0.0.1:{PORT}/", timeout=5).read()
     well("the page of a panel", b"<html" in page)
     began.ends_well("panel", end)
+    same_of_both("a panel", program, SMALL, record, judge_parts("panel", record, SIZE))
+    # and whole, in one file
+    record, end = room / "whole.session", room / "whole.end"
+    began = Long(program, "panel", SMALL, "--port", PORT, "--record", record, "--stop-file", end)
+    time.sleep(3)
+    began.ends_well("panel with one file", end)
     ran = run(program, "replay", SMALL, record)
-    well("a panel replays", (ran.returncode, ran.stdout) == (0, "same\n"), ran.stdout + ran.stderr)
+    well("it replays", (ran.returncode, ran.stdout, len(parts_of(record))) == (0, "same\n", 1), ran.stdout + ran.stderr)
 
 
 def broken_parts(program, record):
@@ -206,12 +213,13 @@ def record_lines(record):
 
 
 def full_disk(program, room):
-    """On a disk of 256 KiB the node tells once that it can't write its record, and goes on; a run ends."""
+    """On a disk of 64 KiB the node tells once that it can't write its record, and goes on; a run ends."""
     disk = room / "disk"
     disk.mkdir()
-    subprocess.run(["mount", "-t", "tmpfs", "-o", "size=256k", "tmpfs", disk], check=True)
+    subprocess.run(["mount", "-t", "tmpfs", "-o", "size=64k", "tmpfs", disk], check=True)
     try:
         end, record = room / "full.end", disk / "node.record"
+        field = Long(sys.executable, FIELD, program, HALDEN, ADDRESSES, f"--stop-file={end}")
         station = Long(program, "node", HALDEN, "HALDEN", "--addresses", ADDRESSES, "--record", record, "--record-size", SIZE, "--stop-file", end)
         for _ in range(600):
             if len(station.err) > 1:
@@ -221,6 +229,7 @@ def full_disk(program, room):
         time.sleep(2)
         well("a full disk is told once, and the node goes on", station.err.count(told) == 1 and station.process.poll() is None, "\n".join(station.err))
         station.ends_well("the node without a disk", end)
+        field.wait()
         whole = all(it.read_bytes().endswith(b"\n") for it in parts_of(record)[:-1])
         well(f"what is left of its record: {len(parts_of(record))} parts", whole and len(parts_of(record)) > 1)
         for it in parts_of(record):

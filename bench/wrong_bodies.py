@@ -10,7 +10,8 @@ run: a function that has no proof since it calls another wrong one is tried once
 
 --whole      tries each on its whole crate, as the gate does those of must-fail
 --jobs       how many crates are tried at a time
---log        keeps each verdict; what stands there is not tried again while its text, its crate and all below are the same
+--log        keeps each verdict; what stands there is not tried again while its text, its crate and all below are the same.
+             bench/wrong_bodies.tsv is such a log
 --libraries  a checkout, not changed since it built libraries: those of equal texts are taken from there, and not from this one.
              A library that isn't there is proved
 """

@@ -13,7 +13,7 @@ or_assoc : (a b c : Bool) → (a || (b || c)) ≡ ((a || b) || c)
 or_assoc true b c = refl
 or_assoc false b c = refl
 
-has_append : (calls more : List Call) → has_done (calls ++ more) ≡ (has_done calls || has_done more)
+pub has_append : (calls more : List Call) → has_done (calls ++ more) ≡ (has_done calls || has_done more)
 has_append [] more = refl
 has_append (first ∷ others) more = ap (λ (b : Bool). is_done first || b) (has_append others more) ∙ or_assoc (is_done first) (has_done others) (has_done more)
 

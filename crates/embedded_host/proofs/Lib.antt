@@ -1,6 +1,7 @@
 pub mod Answered
 pub mod Below
 pub mod Causes
+pub mod Counted
 pub mod Followed
 pub mod Heard
 pub mod Left

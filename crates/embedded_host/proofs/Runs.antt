@@ -41,7 +41,7 @@ module _ {Object : Type 0} (does : Behaviour Object) where
 
   -- ---- the controller is what came of it
 
-  one_host : (accepted : Bool) (call : Call) (others : List (ℕ × Input)) (it : EmbeddedState Object)
+  pub one_host : (accepted : Bool) (call : Call) (others : List (ℕ × Input)) (it : EmbeddedState Object)
       → host_after does others (if accepted then after_accepted does call it else it).hosted.host ≡ host_after does ((if accepted then input_by call else []) ++ others) it.hosted.host
   unfolding host_after
   one_host false call others it = refl

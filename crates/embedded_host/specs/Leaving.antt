@@ -2,11 +2,12 @@
 use Rattle.std.specs.Prelude.{◌≡◌, ◌≤◌, ◌<◌, ◌+◌, ℕ, List, [], ◌∷◌, ◌++◌, Ok}
 use Rattle.rasta_core.specs.Outbox.{spellings}
 use Rattle.object_host.specs.Behaviour.{Behaviour}
+use Rattle.object_host.specs.Host.{HostState}
 use Rattle.object_host.specs.Step.{host_step}
 use Rattle.object_host.specs.declared.input.Input.{Input}
 use Rattle.embedded_host.specs.Embedded.{EmbeddedState}
 use Rattle.embedded_host.specs.Calls.{Call, Done, FindsEmpty, after_call, after_calls, answer_to, input_by}
-use Rattle.embedded_host.specs.Inputs.{inputs_by}
+use Rattle.embedded_host.specs.Inputs.{host_after, inputs_by}
 
 -- one of these
 pub record IsIn {A : Type 0} (one : A) (all : List A) : Type 0 where
@@ -43,3 +44,14 @@ module _ {Object : Type 0} (does : Behaviour Object) (it : EmbeddedState Object)
     pub accepted : answer_to (FindsEmpty before) (after_calls does earlier it) ≡ Ok tt
     pub not_after : before ≤ now
     pub brief : now ≤ before + 400
+
+-- A datagram that leaves at this reading is one that a controller handed out as one of these inputs came to it, less than 500 ms
+-- before.
+pub record IsHandedOutBy {Object : Type 0} (does : Behaviour Object) (inputs : List (ℕ × Input)) (host : HostState Object) (now : ℕ) (datagram : List ℕ) : Type 0 where
+  pub earlier : List (ℕ × Input)
+  pub since : ℕ
+  pub input : Input
+  pub later : List (ℕ × Input)
+  pub inputs_are : inputs ≡ earlier ++ (since, input) ∷ later
+  pub handed : IsIn datagram (spellings (host_after does earlier host).link.identity.key (host_step does since input (host_after does earlier host)).pdus)
+  pub fresh : now < since + 500

@@ -1,5 +1,5 @@
 -- What the equipment follows: the orders that were put in force.
-use Rattle.std.specs.Prelude.{◌≡◌, ◌||◌, Bool, true, false, List, [], ◌∷◌, ◌++◌}
+use Rattle.std.specs.Prelude.{◌≡◌, ◌||◌, if◌then◌else◌, Bool, true, false, List, [], ◌∷◌, ◌++◌}
 use Rattle.object_host.specs.Behaviour.{Behaviour}
 use Rattle.embedded_host.specs.Embedded.{EmbeddedState}
 use Rattle.embedded_host.specs.Calls.{Call, Done, after_call}
@@ -13,6 +13,11 @@ is_done _ = false
 abbrev pub has_done : List Call → Bool
 has_done [] = false
 has_done (first ∷ others) = is_done first || has_done others
+
+-- The calls up to the last `done`. What came by them counts: of a later step no order is in force, and nothing has left.
+abbrev pub up_to_done : List Call → List Call
+up_to_done [] = []
+up_to_done (first ∷ others) = if has_done (first ∷ others) then first ∷ up_to_done others else []
 
 module _ {Object : Type 0} where
   -- the object whose order the equipment follows: with `done` the present one, and else the one that it followed

@@ -3,7 +3,10 @@ use Rattle.std.specs.Prelude.{◌≡◌, [], ◌∷◌, None, Ok, Err}
 use Rattle.object_host.specs.Behaviour.{Behaviour}
 use Rattle.object_host.specs.Host.{HostState}
 use Rattle.embedded_host.specs.Embedded.{leaving, started}
+use Rattle.object_host.specs.declared.input.Input.TheVariants as inputs
 use Rattle.embedded_host.specs.Calls.{Hears, Ticks, FindsEmpty, Done, Takes, after_calls, answer_to}
+use Rattle.embedded_host.specs.Inputs.{inputs_by}
+use Rattle.embedded_host.specs.Orders.{up_to_done}
 use Rattle.embedded_host.specs.declared.refusal.Refusal.TheVariants.{ClockFell, TooSoon, TooOld, NotInForce}
 
 pub record Worked {Object : Type 0} (does : Behaviour Object) (host : HostState Object) : Type 0 where
@@ -23,3 +26,6 @@ pub record Worked {Object : Type 0} (does : Behaviour Object) (host : HostState 
   -- a reading that falls is refused, and one that was refused isn't kept
   pub fell : answer_to (Ticks 2999) (after_calls does (Ticks 3000 ∷ []) (started host 1000)) ≡ Err ClockFell
   pub not_kept : answer_to (Ticks 3000) (after_calls does (Ticks 3000 ∷ Hears 9000 [] ∷ []) (started host 1000)) ≡ Ok tt
+  -- a tick counts once an order was put in force behind it, and one that was refused never does
+  pub counts : inputs_by does (up_to_done (Ticks 3000 ∷ Ticks 2999 ∷ Done ∷ Ticks 3001 ∷ [])) (started host 1000) ≡ (3000, inputs.Tick) ∷ []
+  pub counts_not_yet : inputs_by does (up_to_done (Ticks 3000 ∷ Takes 3000 ∷ [])) (started host 1000) ≡ []

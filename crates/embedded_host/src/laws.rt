@@ -1,6 +1,6 @@
 //! What the calls of a loop come to: laws, as functions that do nothing.
 
-ghost use Rattle.std.specs.Prelude.{◌≡◌, ◌≤◌, ◌+◌, ℕ, false, true, is_ok, Ok, Err, Some, List};
+ghost use Rattle.std.specs.Prelude.{◌≡◌, ◌≤◌, ◌+◌, ◌++◌, ℕ, false, true, is_ok, Ok, Err, Some, List};
 ghost use Rattle.rasta_core.specs.identity.Identity.{Identity};
 ghost use Rattle.object_host.specs.Host.{HostState};
 ghost use Rattle.object_host.specs.Hosted.{new_host};
@@ -8,8 +8,8 @@ ghost use Rattle.embedded_host.specs.Calls.{Call, Hears, Takes, after_calls, ans
 ghost use Rattle.embedded_host.specs.Causes.{HasCause};
 ghost use Rattle.embedded_host.specs.Embedded.{EmbeddedState, started};
 ghost use Rattle.embedded_host.specs.Inputs.{Rise, host_after, inputs_by};
-ghost use Rattle.embedded_host.specs.Leaving.{LeavesRightly, WaitedBriefly};
-ghost use Rattle.embedded_host.specs.Orders.{FollowsABeginning, followed_after};
+ghost use Rattle.embedded_host.specs.Leaving.{IsHandedOutBy, LeavesRightly, WaitedBriefly};
+ghost use Rattle.embedded_host.specs.Orders.{FollowsABeginning, followed_after, up_to_done};
 ghost use Rattle.embedded_host.specs.Worked.{Worked};
 ghost use Rattle.embedded_host.specs.declared.refusal.Refusal.{Refusal};
 
@@ -29,6 +29,12 @@ pub fn calls_are_inputs<C: Controller>()
 pub fn what_leaves_is_in_force_and_fresh<C: Controller>()
     ensures { (host : HostState C) (begun : ℕ) (calls : List Call) (now : ℕ) (datagram : List ℕ) → leaves_by (Takes now) (after_calls C.behaviour calls (started host begun)) ≡ Some datagram
         → LeavesRightly C.behaviour (started host begun) calls now datagram × (begun + 2000 ≤ now) }
+{}
+
+/// So it is of a step that counts, whatever is called later: it was handed out as an input came by the calls up to the last `done`.
+pub fn what_leaves_counts<C: Controller>()
+    ensures { (host : HostState C) (begun : ℕ) (calls later : List Call) (now : ℕ) (datagram : List ℕ) → leaves_by (Takes now) (after_calls C.behaviour calls (started host begun)) ≡ Some datagram
+        → IsHandedOutBy C.behaviour (inputs_by C.behaviour (up_to_done (calls ++ later)) (started host begun)) host now datagram }
 {}
 
 /// Bytes are heard, whatever was called before, only where they have waited for at most 400 ms: so much before at most the clock
@@ -51,6 +57,11 @@ pub fn a_refusal_has_its_cause<C: Controller>()
 #[tactic(auto, using(crate::proofs::Followed::follows_a_beginning))]
 pub fn the_equipment_follows_a_beginning<C: Controller>()
     ensures { (calls : List Call) (it : EmbeddedState C) → FollowsABeginning C.behaviour it calls (followed_after C.behaviour calls it it.hosted.host.object) }
+{}
+
+/// It is the order of a controller to which came what came by the calls up to the last `done`, and nothing else.
+pub fn the_equipment_follows_what_counts<C: Controller>()
+    ensures { (calls : List Call) (it : EmbeddedState C) → followed_after C.behaviour calls it it.hosted.host.object ≡ (host_after C.behaviour (inputs_by C.behaviour (up_to_done calls) it) it.hosted.host).object }
 {}
 
 /// One that has just started has its equipment rest at every reading: stop, no drive.

@@ -7,6 +7,10 @@ pub mod Sent
 pub mod Recorded
 pub mod Happens
 pub mod Rests
+pub mod ByCalls
 pub mod OnLines
+pub mod Aged
+pub mod Departs
+pub mod IxlDeparts
 pub mod Written
 pub mod WorkedRuns

@@ -1,4 +1,4 @@
--- What stands on the lines is what the nodes of a world show, or the equipment rests.
+-- What stands on the lines, or is ordered by programs, is what the nodes of a world show, or the equipment rests.
 use Rattle.std.proofs.Common.{◌≡◌, ◌∙◌, ◌⊎◌, inl, inr, ◌<◌, ◌≤◌, ℕ, List, [], ◌∷◌, ◌++◌, length, get_or, Option, Some, None, slice_get, refl, sym, ap, append-nil, arith}
 use Rattle.std.proofs.lemmas.Option.{same_Some, slice_get_cases, slice_get_within}
 use Rattle.node_kinds.specs.simulator_spec.layout.Entries.{Site}
@@ -30,8 +30,10 @@ use Rattle.node_kinds.specs.Controllers.{Controller, drive_order, lamp_order, po
 use Rattle.node_kinds.specs.Processes.{point_made, signal_made}
 use Rattle.simulator_node_laws.specs.Lives.{Life, host_after}
 use Rattle.simulator_node_laws.specs.Shown.{AreAll, IsOfNodes, host_now, point_life, signal_life}
-use Rattle.node_safety.specs.Orders.{AreNodes, IsNode, of_record, not_yet, IsOfRecord, IsOnLines, is_contact, line_of, while_up}
+use Rattle.node_safety.specs.Orders.{IsOnLines}
+use Rattle.node_safety.specs.Runs.{AreNodes, IsController, by_record, by_calls, IsNode, of_record, not_yet, IsOfCalls, IsOfRecord, is_contact, line_of, order_on, point_order, signal_order, while_up}
 use Rattle.node_safety.specs.Processes.{driven_by, shown_by}
+use Rattle.node_safety.proofs.ByCalls.{so_far_is}
 use Rattle.node_safety.proofs.Rests.{Rests}
 use Rattle.node_safety.proofs.Seen.{HostLives, LinesDrive, drive_line}
 
@@ -96,9 +98,21 @@ module _ (signal_lives : HostLives signal_kind (host_after signal_behaviour)) (l
       ∙ ap (λ (h : HostState SignalState). aspect_shown h.object.lamp now) (host_is signal_kind (host_after signal_behaviour) signal_lives signal_new lit is up))
   lamp_of_record is now (one ∷ others) down = inl refl
 
-  pub lamp_is : (is : IsNode signal_kind is_contact signal_new lit) (now : ℕ) → (shown_by (line_of is) now ≡ aspects.Stop) ⊎ (shown_by (line_of is) now ≡ shows now)
-  lamp_is (of_record is) now = lamp_of_record is now is.while_down refl
-  lamp_is (not_yet begins contacts) now = inl refl
+  lamp_of_process : (is : IsNode signal_kind is_contact signal_new lit) (now : ℕ) → (shown_by (line_of is) now ≡ aspects.Stop) ⊎ (shown_by (line_of is) now ≡ shows now)
+  lamp_of_process (of_record is) now = lamp_of_record is now is.while_down refl
+  lamp_of_process (not_yet begins contacts) now = inl refl
+
+  lamp_of_calls : (is : IsOfCalls signal_behaviour signal_new.host lit.begins.clock lit.came) (now : ℕ) (down : List (ℕ × Input)) → is.while_down ≡ down
+      → (shown_by (while_up down (signal_order (host_after signal_behaviour is.so_far signal_new.host).object)) now ≡ aspects.Stop)
+      ⊎ (shown_by (while_up down (signal_order (host_after signal_behaviour is.so_far signal_new.host).object)) now ≡ shows now)
+  lamp_of_calls is now [] up = inr (
+      lamps (host_after signal_behaviour is.so_far signal_new.host).object.lamp now
+      ∙ ap (λ (came : List (ℕ × Input)). aspect_shown (host_after signal_behaviour came signal_new.host).object.lamp now) (so_far_is is up))
+  lamp_of_calls is now (one ∷ others) down = inl refl
+
+  pub lamp_is : (is : IsController signal_kind signal_behaviour signal_new lit) (now : ℕ) → (shown_by (order_on signal_order is) now ≡ aspects.Stop) ⊎ (shown_by (order_on signal_order is) now ≡ shows now)
+  lamp_is (by_record is) now = lamp_of_process is now
+  lamp_is (by_calls is) now = lamp_of_calls is now is.while_down refl
 
 module _ (point_lives : HostLives point_kind (host_after point_behaviour)) (motors : (drive : Option Drive) (now : ℕ) → side_ordered (drive_order drive) now ≡ drive_at drive now) (lines : LinesDrive)
     (site : Site) (table : Table) (outset : Outset) (events : List Event) (place : ℕ) (entry : PointEntry) where
@@ -120,9 +134,22 @@ module _ (point_lives : HostLives point_kind (host_after point_behaviour)) (moto
       ∙ ap (λ (h : HostState PointState). drives now h.object) (host_is point_kind (host_after point_behaviour) point_lives point_new moved is up))
   motor_of_record is now (one ∷ others) down = inl refl
 
-  pub motor_is : (is : IsNode point_kind is_contact point_new moved) (now : ℕ) → (driven_by (line_of is) now ≡ None) ⊎ (driven_by (line_of is) now ≡ drives_to now)
-  motor_is (of_record is) now = motor_of_record is now is.while_down refl
-  motor_is (not_yet begins contacts) now = inl refl
+  motor_of_process : (is : IsNode point_kind is_contact point_new moved) (now : ℕ) → (driven_by (line_of is) now ≡ None) ⊎ (driven_by (line_of is) now ≡ drives_to now)
+  motor_of_process (of_record is) now = motor_of_record is now is.while_down refl
+  motor_of_process (not_yet begins contacts) now = inl refl
+
+  motor_of_calls : (is : IsOfCalls point_behaviour point_new.host moved.begins.clock moved.came) (now : ℕ) (down : List (ℕ × Input)) → is.while_down ≡ down
+      → (driven_by (while_up down (point_order (host_after point_behaviour is.so_far point_new.host).object)) now ≡ None)
+      ⊎ (driven_by (while_up down (point_order (host_after point_behaviour is.so_far point_new.host).object)) now ≡ drives_to now)
+  motor_of_calls is now [] up = inr (
+      motors (drive_of (host_after point_behaviour is.so_far point_new.host).object) now
+      ∙ sym (drive_line lines (host_after point_behaviour is.so_far point_new.host) now)
+      ∙ ap (λ (came : List (ℕ × Input)). drives now (host_after point_behaviour came point_new.host).object) (so_far_is is up))
+  motor_of_calls is now (one ∷ others) down = inl refl
+
+  pub motor_is : (is : IsController point_kind point_behaviour point_new moved) (now : ℕ) → (driven_by (order_on point_order is) now ≡ None) ⊎ (driven_by (order_on point_order is) now ≡ drives_to now)
+  motor_is (by_record is) now = motor_of_process is now
+  motor_is (by_calls is) now = motor_of_calls is now is.while_down refl
 
 -- ---- all of it
 
@@ -146,7 +173,7 @@ module _ (signal_lives : HostLives signal_kind (host_after signal_behaviour)) (p
       let there = on.shows.1 signal.0 at.0 at.1 in
       let same : there.0 ≡ record { 0 = aspect } = same_Some there.0 (record { 0 = aspect }) (sym there.1 ∙ is) in
       by_either aspect now (ap (λ (s : Shown). s.0) same) at.0 at.1
-      (either_way there.0.0 aspects.Stop (shown_by (line_of (are.signal signal.0 at.0 at.1)) now) (shows signal_lives lamps site table events signal.0 at.0 now) there.2
+      (either_way there.0.0 aspects.Stop (shown_by (order_on signal_order (are.signal signal.0 at.0 at.1)) now) (shows signal_lives lamps site table events signal.0 at.0 now) there.2
       (lamp_is signal_lives lamps site table events signal.0 at.0 (are.signal signal.0 at.0 at.1) now))
     where
       by_either : {one : Aspect} (aspect : Aspect) (now : ℕ) → one ≡ aspect → (entry : SignalEntry) → slice_get site.signals signal.0 ≡ Some entry
@@ -160,7 +187,7 @@ module _ (signal_lives : HostLives signal_kind (host_after signal_behaviour)) (p
       let now = reading_of (point_life site table outset events place).clock in
       let there = on.driven.1 place at.0 at.1 in
       by_either (same_Some _ side (sym (of_nodes.driven.1 place at.0 at.1) ∙ is)) there.1
-      (either_way there.0 None (driven_by (line_of (are.point place at.0 at.1)) now) (drives_to point_lives motors lines site table outset events place at.0 now) there.2
+      (either_way there.0 None (driven_by (order_on point_order (are.point place at.0 at.1)) now) (drives_to point_lives motors lines site table outset events place at.0 now) there.2
       (motor_is point_lives motors lines site table outset events place at.0 (are.point place at.0 at.1) now))
     where
       by_either : {one right : Option Side} → right ≡ side → slice_get seen.driven.items place ≡ Some one → (one ≡ None) ⊎ (one ≡ right) → (slice_get seen.driven.items place ≡ Some None) ⊎ (slice_get seen.driven.items place ≡ Some side)

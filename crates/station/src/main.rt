@@ -285,7 +285,7 @@ const RECORD: &str = "panel.session";
 /// Up to how many bytes of datagrams a panel stands: 1 GiB.
 const MEMORY: u64 = 1 << 30;
 
-/// `panel FILE [--port P] [--record R] [--for MS] [--stop-file F] [--node ADDRESS]`. The track plan is drawn first.
+/// `panel FILE [--port P] [--record R] [--record-size N] [--for MS] [--stop-file F] [--node ADDRESS]`. The track plan is drawn first.
 fn panel(rt: &HostRuntime, arguments: PanelArguments<'_>) -> Result<u8, Failure> {
     let text = text_of(rt, arguments.layout)?;
     let layout = text.as_str();
@@ -294,12 +294,11 @@ fn panel(rt: &HostRuntime, arguments: PanelArguments<'_>) -> Result<u8, Failure>
     if status != 0 {
         return Ok(status);
     }
-    let record = arguments.record.unwrap_or(RECORD);
     let files = RunFiles {
-        record_size: None,
+        record_size: arguments.record_size,
         stop_file: arguments.stop_file,
     };
-    let files = files_of(rt, Some(record), files)?;
+    let files = files_of(rt, arguments.record, files)?;
     let page = PageAsked {
         layout,
         plan: str::from_utf8(&plan).unwrap_or(""),
@@ -307,11 +306,11 @@ fn panel(rt: &HostRuntime, arguments: PanelArguments<'_>) -> Result<u8, Failure>
         version: VERSION,
         port: port_of(arguments.port),
         kind: "world",
-        record,
+        record: arguments.record.unwrap_or(RECORD),
     };
     Ok(match arguments.node {
         Some(node) => panel_node(rt, page, node, arguments),
-        None => panel_station(rt, page, arguments.for_ms, files.stop_file),
+        None => panel_station(rt, page, arguments.for_ms, files),
     })
 }
 
@@ -320,14 +319,14 @@ fn panel_station(
     rt: &HostRuntime,
     page: PageAsked<'_>,
     for_ms: Option<u64>,
-    stop_file: Option<&str>,
+    files: RunFiles<'_>,
 ) -> u8 {
     let limits = Limits {
         for_ms: for_ms.unwrap_or(u64::MAX),
         memory: MEMORY,
     };
     let asked = PanelOptions { page, limits };
-    station_run::panel(rt, &asked, stop_file, &mut rt.stdout(), &mut rt.stderr())
+    station_run::panel(rt, &asked, files, &mut rt.stdout(), &mut rt.stderr())
 }
 
 /// Has the node of an interlocking operated from a browser.

@@ -87,7 +87,7 @@ commands =
     ∷ command (codes "table") (layout ∷ may Switch (codes "csv") ∷ [])
     ∷ command (codes "sim") (layout ∷ second ∷ [])
     ∷ command (codes "run") (layout ∷ must Word (codes "script") ∷ must Word (codes "record") ∷ record_size ∷ must time (codes "for") ∷ stop_file ∷ [])
-    ∷ command (codes "panel") (layout ∷ may (Number 1 65535) (codes "port") ∷ may Word (codes "record") ∷ may time (codes "for") ∷ stop_file ∷ node ∷ [])
+    ∷ command (codes "panel") (layout ∷ may (Number 1 65535) (codes "port") ∷ may Word (codes "record") ∷ record_size ∷ may time (codes "for") ∷ stop_file ∷ node ∷ [])
     ∷ command (codes "replay") (layout ∷ second ∷ node ∷ [])
     ∷ command (codes "chart") (layout ∷ second ∷ node ∷ may moment (codes "from") ∷ may moment (codes "to") ∷ [])
     ∷ record (command (codes "decode") (may Word (codes "hex") ∷ may Word (codes "layout") ∷ may File (codes "FILE") ∷ may File (codes "SECOND") ∷ node ∷ [])) { asks = asks_to_decode }

@@ -32,7 +32,7 @@ says (requests.Run o) = (
 )
 says (requests.Panel o) = (
   codes "panel",
-  one o.layout.now ∷ Counted o.port ∷ Worded (option_copied o.record) ∷ Counted o.for_ms
+  one o.layout.now ∷ Counted o.port ∷ Worded (option_copied o.record) ∷ Counted o.record_size ∷ Counted o.for_ms
       ∷ Worded (option_copied o.stop_file) ∷ Worded (option_copied o.node) ∷ [],
 )
 says (requests.Replay o) = (codes "replay", one o.layout.now ∷ one o.recording.now ∷ Worded (option_copied o.node) ∷ [])

@@ -175,6 +175,7 @@ fn panel<'a>(matches: &ArgMatches<'a>) -> Option<Request<'a>>
         layout: word(matches, FILE)?,
         port: number_given(matches, PORT),
         record: word(matches, RECORD),
+        record_size: number_given(matches, RECORD_SIZE),
         for_ms: number_given(matches, FOR),
         stop_file: word(matches, STOP_FILE),
         node: word(matches, NODE),

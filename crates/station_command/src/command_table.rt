@@ -223,7 +223,7 @@ pub(crate) const COMMANDS: &[Entry] = &[
             Argument(STOP_FILE, Kind::Word("F"), OPTIONAL, Help::StopFile),
         ],
     },
-    // `panel FILE [--port P] [--record R] [--for MS] [--stop-file F] [--node ADDRESS]`
+    // `panel FILE [--port P] [--record R] [--record-size N] [--for MS] [--stop-file F] [--node ADDRESS]`
     Entry {
         word: PANEL,
         help: CommandHelp::Panel,
@@ -236,6 +236,12 @@ pub(crate) const COMMANDS: &[Entry] = &[
                 Help::Port,
             ),
             Argument(RECORD, Kind::Word("R"), OPTIONAL, Help::RecordOfPanel),
+            Argument(
+                RECORD_SIZE,
+                Kind::Number("N", SMALLEST, LARGEST),
+                OPTIONAL,
+                Help::RecordSize,
+            ),
             Argument(
                 FOR,
                 Kind::Number("MS", SHORTEST, LONGEST),

@@ -19,7 +19,7 @@ pub enum Request<'a> {
     /// `run FILE --script S --record R [--record-size N] --for MS [--stop-file F]`: a station of the layout in a file over
     /// sockets.
     Run(RunArguments<'a>),
-    /// `panel FILE [--port P] [--record R] [--for MS] [--stop-file F] [--node ADDRESS]`: a panel of a station of
+    /// `panel FILE [--port P] [--record R] [--record-size N] [--for MS] [--stop-file F] [--node ADDRESS]`: a panel of a station of
     /// the layout in a file.
     Panel(PanelArguments<'a>),
     /// `replay FILE RECORD [--node NAME]`: whether a recorded session answers the same again.
@@ -107,6 +107,7 @@ pub struct PanelArguments<'a> {
     pub layout: &'a str,
     pub port: Option<u64>,
     pub record: Option<&'a str>,
+    pub record_size: Option<u64>,
     pub for_ms: Option<u64>,
     pub stop_file: Option<&'a str>,
     pub node: Option<&'a str>,

@@ -5,6 +5,7 @@
 
 mod machine;
 mod panel_machine;
+mod panel_record;
 mod pictured_world;
 mod prepared;
 mod stoppable;

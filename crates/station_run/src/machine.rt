@@ -7,6 +7,7 @@ ghost use Rattle.station_record.specs.replay.station_check.Failures.{Explained};
 ghost use Rattle.station_run.specs.Inside.{IsOfMachine, IsOfRun, IsOfSystem, of_opening};
 ghost use Rattle.station_run.specs.Runs.{CanRun, Explains, IsWhole, RunsSomehow};
 
+use crate::panel_record::PanelRecord;
 use crate::prepared::{StationRun, prepare};
 use crate::stoppable::Stoppable;
 use crate::watched::Watched;
@@ -14,10 +15,10 @@ use run_files::{RecordFile, RunFiles, record_file};
 use station_panel::station_drive::{Clock, OpenFault, Sockets};
 use station_record::{Failure, tell};
 use std::fs::Files;
+use std::io;
 use std::io::{BufWriter, Eprint, Write};
 use std::net::Net;
 use std::time::Clock as Timer;
-use std::{fs, io};
 
 /// What `station run` is asked: the texts of the layout and the script, where the record goes and in which parts, for how many
 /// milliseconds, and which file ends it before.
@@ -119,41 +120,33 @@ pub(crate) fn open<'a, R: Files + Net + Timer + AllocGlobal>(
     })
 }
 
-/// What a panel uses of the machine. Its record stands in one file.
+/// What a panel uses of the machine.
 #[derive(Drop)]
-pub(crate) struct PanelMachine<'a, R: Files> {
+pub(crate) struct PanelMachine<'a> {
     pub(crate) sockets: Sockets,
-    pub(crate) recorder: BufWriter<R::File>,
-    pub(crate) clock: Stoppable<'a, R>,
+    pub(crate) recorder: PanelRecord<'a>,
+    pub(crate) clock: Stoppable<'a, HostRuntime>,
 }
 
-/// Opens the sockets of a panel, makes its record and starts its clock, which a file may stop.
-pub(crate) fn open_panel<'a, R: Files + Net + Timer + AllocGlobal>(
-    rt: &'a R,
+/// Opens the sockets of a panel, then its record, and starts its clock.
+pub(crate) fn open_panel<'a>(
+    rt: &'a HostRuntime,
     nodes: usize,
     record: &str,
-    stop_file: Option<&'a str>,
-) -> Result<PanelMachine<'a, R>, Failure>
+    files: RunFiles<'a>,
+) -> Result<PanelMachine<'a>, Failure>
     ensures { IfErr result IsOfMachine }
 {
-    let sockets = Sockets::open(rt, rt.alloc(), nodes).map_err(of_opening)?;
-    let (recorder, clock) = begin_panel(rt, record, stop_file).map_err(of_system)?;
-    Ok(PanelMachine {
+    let Machine {
         sockets,
         recorder,
         clock,
+    } = open(rt, nodes, record, files)?;
+    Ok(PanelMachine {
+        sockets,
+        recorder: PanelRecord::of(recorder),
+        clock,
     })
-}
-
-/// Makes the record of a panel, and starts its clock.
-fn begin_panel<'a, R: Files + Timer + AllocGlobal>(
-    rt: &'a R,
-    record: &str,
-    stop_file: Option<&'a str>,
-) -> io::Result<(BufWriter<R::File>, Stoppable<'a, R>)> {
-    let recorder = BufWriter::new(rt.alloc(), fs::create(rt, record)?)?;
-    let clock = Stoppable::start(rt, stop_file)?;
-    Ok((recorder, clock))
 }
 
 /// A record, and a clock that a file stops.

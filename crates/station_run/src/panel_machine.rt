@@ -11,6 +11,7 @@ use crate::machine::{PanelMachine, open_panel};
 use crate::pictured_world::PicturedWorld;
 use crate::prepared::{StationRun, prepare};
 use crate::stoppable::Stoppable;
+use run_files::RunFiles;
 use station_panel::station_drive::{Clock, Datagrams, Engine, Sockets};
 use station_panel::{Ending, Listens, Loopback, PanelFault, PanelOptions, serve};
 use station_record::{Failure, tell};
@@ -21,13 +22,13 @@ use std::random::RandomSource;
 use std::time::Clock as Timer;
 
 /// Attends a panel of a new station of a layout: its nodes run over sockets, as `run` has them, each event is recorded, and a
-/// browser of this machine gets a page with which the station is operated. It ends with its time, or where a file is there that ends
-/// it. The address of the page is written to `out`, and at the end a word of why, if it is neither of these. The status is 0, or 1 where anything failed; `err` is then
+/// browser of this machine gets a page with which the station is operated. Its files are as those of a run: it ends with its time, or
+/// where a file is there that ends it. The address of the page is written to `out`, and at the end a word of why, if it is neither of these. The status is 0, or 1 where anything failed; `err` is then
 /// told why.
-pub fn panel<'a, R: Files + Net + Timer + RandomSource + AllocGlobal, O: Write, E: Write>(
-    rt: &'a R,
+pub fn panel<'a, O: Write, E: Write>(
+    rt: &'a HostRuntime,
     asked: &PanelOptions<'_>,
-    stop_file: Option<&'a str>,
+    files: RunFiles<'a>,
     out: &mut O,
     err: &mut E,
 ) -> u8
@@ -42,7 +43,7 @@ pub fn panel<'a, R: Files + Net + Timer + RandomSource + AllocGlobal, O: Write, 
         Ok(prepared) => prepared,
         Err(failure) => return tell(&failure, err),
     };
-    match open_panel(rt, prepared.nodes(), asked.page.record, stop_file) {
+    match open_panel(rt, prepared.nodes(), asked.page.record, files) {
         Ok(
             PanelMachine {
                 sockets,

@@ -21,6 +21,7 @@ use crate::node_stories::stories::{
 };
 use crate::run_bench::SMALL;
 use station_run::table_of;
+use std::net::SocketAddr;
 
 /// What is tried with the small station.
 #[derive(Clone, Copy)]
@@ -44,9 +45,9 @@ fn comes_out(rt: &HostRuntime, trial: Trial) -> bool {
     let Ok(table) = table_of(alloc, SMALL) else {
         return false;
     };
-    let second = match trial {
-        Trial::StoriesOverTwo => Some(second.as_slice()),
-        _ => None,
+    let second: &[SocketAddr] = match trial {
+        Trial::StoriesOverTwo => &second,
+        _ => &[],
     };
     let station = Station {
         rt,

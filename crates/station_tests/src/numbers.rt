@@ -85,10 +85,16 @@ fn told_by(rt: &impl Abort, alloc: Global, lines: &[&str]) -> MemoryOutside {
     outside
 }
 
+/// More lines than a node tells in a test.
+const LINES: usize = 1000;
+
 /// How many of the lines that were told begin so.
 fn count(outside: &mut MemoryOutside, beginning: &str) -> usize {
     let mut found = 0usize;
-    while let Some(line) = outside.take_written() {
+    for _ in 0..LINES {
+        let Some(line) = outside.take_written() else {
+            break;
+        };
         if line.as_str().starts_with(beginning) {
             found = found.saturating_add(1);
         }

@@ -76,33 +76,66 @@ fn text_of(rt: &HostRuntime, record: &str) -> Result<String, PartsFault> {
     }
 }
 
+/// Whether a record has just this text with all its parts.
+fn has_text(found: &Result<String, PartsFault>, text: &str) -> bool {
+    match found {
+        Ok(read) => read.as_str() == text,
+        Err(_) => false,
+    }
+}
+
+/// The part that is said to end within a line.
+fn cut_part(found: &Result<String, PartsFault>) -> &str {
+    match found {
+        Err(PartsFault::CutOff(name)) => name.as_str(),
+        _ => "",
+    }
+}
+
+/// The part that is said to be missing.
+fn missing_part(found: &Result<String, PartsFault>) -> &str {
+    match found {
+        Err(PartsFault::Missing(name)) => name.as_str(),
+        _ => "",
+    }
+}
+
+/// Writes a record in parts of four bytes.
+fn write_parts(rt: &HostRuntime, text: &[u8]) -> io::Result<()> {
+    let mut record = record_file(rt, "parts", Some(4))?;
+    record.write_all(text)
+}
+
 /// Whether these lines stand in a record of three parts.
 fn stand_in_parts(rt: &HostRuntime) -> bool {
-    let Ok(mut record) = record_file(rt, "parts", Some(4)) else {
-        return false;
-    };
-    let written = record.write_all(b"one\ntwo, three\nfo").is_ok();
-    drop(record);
+    let written = write_parts(rt, b"one\ntwo, three\nfo").is_ok();
+    let found = text_of(rt, "parts");
     written
         && has(rt, "parts", "one\n")
         && has(rt, "parts.2", "two, three\n")
         && has(rt, "parts.3", "fo")
-        && matches!(text_of(rt, "parts"), Ok(text) if text.as_str() == "one\ntwo, three\nfo")
+        && has_text(&found, "one\ntwo, three\nfo")
 }
 
-/// Whether a part that is cut, and one that is missing, is told by its name.
-fn are_told(rt: &HostRuntime) -> bool {
-    let cut = fs::write(rt, "parts.2", b"tw").is_ok()
-        && matches!(text_of(rt, "parts"), Err(PartsFault::CutOff(name)) if name.as_str() == "parts.2");
-    let gone = fs::remove_file(rt, "parts.2").is_ok()
-        && matches!(text_of(rt, "parts"), Err(PartsFault::Missing(name)) if name.as_str() == "parts.2");
-    cut && gone
+/// Whether a part that is cut is told by its name.
+fn is_cut_told(rt: &HostRuntime) -> bool {
+    let cut = fs::write(rt, "parts.2", b"tw").is_ok();
+    let found = text_of(rt, "parts");
+    cut && cut_part(&found) == "parts.2"
+}
+
+/// Whether a part that is missing is told by its name.
+fn is_missing_told(rt: &HostRuntime) -> bool {
+    let gone = fs::remove_file(rt, "parts.2").is_ok();
+    let found = text_of(rt, "parts");
+    gone && missing_part(&found) == "parts.2"
 }
 
 #[test]
 fn parts_are_read_again(rt: HostRuntime) {
     assert!(rt; stand_in_parts(&rt));
-    assert!(rt; are_told(&rt));
+    assert!(rt; is_cut_told(&rt));
+    assert!(rt; is_missing_told(&rt));
     // A record that is there isn't written over in parts, and is without them.
     assert!(rt; record_file(&rt, "parts", Some(4)).is_err());
     assert!(rt; record_file(&rt, "parts", None).is_ok() && has(&rt, "parts", ""));
@@ -145,6 +178,14 @@ fn end(rt: &HostRuntime) -> bool {
     fs::write(rt, "end", b"").is_ok()
 }
 
+/// Whether a record with all its parts is the same once more.
+fn is_record_same(rt: &HostRuntime, record: &str) -> bool {
+    match &text_of(rt, record) {
+        Ok(text) => is_same(rt.alloc(), text.as_str().as_bytes()),
+        Err(_) => false,
+    }
+}
+
 #[test]
 fn a_file_ends_a_run(rt: HostRuntime) {
     let (told, made) = thread::join(&rt, || run_over_sockets(&rt, &ENDED), || end(&rt));
@@ -152,8 +193,7 @@ fn a_file_ends_a_run(rt: HostRuntime) {
     // It went on for less than ten of its twelve seconds, and more than one.
     assert!(rt; told.out.starts_with(b"time ") && told.out.get(9) == Some(&b'\n'));
     assert!(rt; fs::read_to_string(&rt, "run.3").is_ok());
-    let record = text_of(&rt, "run");
-    assert!(rt; matches!(record, Ok(text) if is_same(rt.alloc(), text.as_str().as_bytes())));
+    assert!(rt; is_record_same(&rt, "run"));
 }
 
 /// What a run with these files is told.

@@ -241,7 +241,8 @@ at left and each section clear. The address of a page is printed, for a browser 
 page shows the track plan as the station stands. On it a person sets and cancels routes, drives trains,
 and disturbs the station: cuts links, loses and delays datagrams, makes nodes anew, jams points.
 
-It runs until it is stopped, or until the datagrams that were sent take 1 GiB. --stop-file is as for run.
+It runs until it is stopped, or until the datagrams that were sent take 1 GiB. --stop-file is as for run,
+and so is --record-size, with which --record has to stand.
 
 With --node the station isn't run here: its interlocking runs as node runs one with --operator, and the
 panel is joined to it as its operator. The page then shows what the interlocking knows, and sets and
@@ -261,6 +262,9 @@ Options:
 
       --record <R>
           The file to which the session is written, else panel.session
+
+      --record-size <N>
+          How many bytes a part of the record has, from 4096 to 4294967296, else it stands in one file
 
       --for <MS>
           How long the panel stands, from 1000 to 600000 milliseconds, else until it is stopped

@@ -1,7 +1,6 @@
 //! A text with a piece put into it.
 
-ghost use Rattle.std.specs.Prelude.{IfOk, IfSome};
-ghost use Rattle.table_review.specs.Completed.{IsInsertion};
+ghost use Rattle.std.specs.Prelude.{◌≡◌, ◌++◌, IfOk, IfSome, drop, take};
 
 use std::alloc::{AllocError, Global};
 
@@ -12,7 +11,7 @@ pub(crate) fn with_insertion(
     at: usize,
     piece: &[u8],
 ) -> Result<Option<Vec<u8>>, AllocError>
-    ensures { IfOk result (λ put. IfSome put (λ v. IsInsertion text.now v.items)) }
+    ensures { IfOk result (λ put. IfSome put (λ v. v.items ≡ (take at text.now ++ piece.now) ++ drop at text.now)) }
 {
     if at > text.len() {
         return Ok(None);

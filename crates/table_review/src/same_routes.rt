@@ -58,12 +58,18 @@ fn same_ends(one: &Said<'_>, other: &Said<'_>) -> bool {
         && one.aspect == other.aspect
 }
 
+/// Whether two lists have the same points at the same sides, in whatever order: that in which a text writes them isn't
+/// kept when it is read. No point stands in a list twice.
+fn same_sides(one: &[(PointId, Side)], other: &[(PointId, Side)]) -> bool {
+    one.len() == other.len() && other.iter().all(|needed| one.contains(needed))
+}
+
 /// Whether two routes say the same.
 fn is_same(one: &Said<'_>, other: &Said<'_>) -> bool {
     same_ends(one, other)
         && one.path == other.path
-        && one.points == other.points
-        && one.flank == other.flank
+        && same_sides(one.points, other.points)
+        && same_sides(one.flank, other.flank)
         && one.approach == other.approach
         && one.extra == other.extra
 }

@@ -13,7 +13,12 @@ const HOLD: u64 = 60;
 
 /// Opens the socket of a node, at the node's own address in each network.
 pub(crate) fn opened(station: Station<'_>, number: usize) -> Option<NodeSocket> {
-    let (first, second) = (station.addresses, station.second);
+    let first = station.addresses;
+    let second = if station.second.is_empty() {
+        None
+    } else {
+        Some(station.second)
+    };
     NodeSocket::open(
         station.rt,
         station.alloc,

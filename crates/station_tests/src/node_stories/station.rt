@@ -12,8 +12,8 @@ pub(crate) struct Station<'a> {
     pub(crate) alloc: Global,
     pub(crate) table: &'a Checked,
     pub(crate) addresses: &'a [SocketAddr],
-    /// Those in a second network, if there is one.
-    pub(crate) second: Option<&'a [SocketAddr]>,
+    /// Those in a second network; none where there is only one.
+    pub(crate) second: &'a [SocketAddr],
 }
 
 /// Its nodes, by their numbers.

@@ -1,0 +1,66 @@
+//! Answers, with the fields that each has.
+
+ghost use Rattle.std.specs.Prelude.{◌≡◌, IfOk, OnOk};
+ghost use Rattle.http_header.specs.FieldValue.{plain_value};
+ghost use Rattle.http_server.specs.Response.{IsBlank, IsResponse};
+ghost use Rattle.draw_desk.specs.Answers.{fields_with, kind_text};
+ghost use Rattle.draw_desk.specs.declared.answer.Kind.TheVariants.{Plain};
+
+use bytes::Bytes;
+use http::header::{CACHE_CONTROL, CONTENT_TYPE, X_CONTENT_TYPE_OPTIONS, X_FRAME_OPTIONS};
+use http::{HeaderValue, StatusCode};
+use http_server::Response;
+use std::alloc::{AllocError, Global};
+
+/// What an answer has.
+#[derive(Clone, Copy, Debug)]
+pub(crate) enum Kind {
+    Html,
+    Json,
+    Plain,
+}
+
+impl Kind {
+    /// How it is named in its field.
+    fn value(self) -> HeaderValue
+        ensures { result ≡ plain_value (kind_text self) }
+    {
+        match self {
+            Kind::Html => HeaderValue::from_static("text/html; charset=utf-8"),
+            Kind::Json => HeaderValue::from_static("application/json"),
+            Kind::Plain => HeaderValue::from_static("text/plain; charset=utf-8"),
+        }
+    }
+}
+
+/// Fills an answer of a kind. No other page shows it in a frame, and nothing keeps it.
+pub(crate) fn fill(
+    response: &mut Response,
+    status: StatusCode,
+    kind: Kind,
+    body: Bytes,
+) -> Result<(), AllocError>
+    requires { IsBlank response.old }
+    ensures { OnOk result (IsResponse status (fields_with kind) body response.new) }
+{
+    response.status = status;
+    response.add_header(CONTENT_TYPE, kind.value())?;
+    response.add_header(CACHE_CONTROL, HeaderValue::from_static("no-store"))?;
+    response.add_header(X_FRAME_OPTIONS, HeaderValue::from_static("DENY"))?;
+    response.add_header(X_CONTENT_TYPE_OPTIONS, HeaderValue::from_static("nosniff"))?;
+    response.body.push(body)
+}
+
+/// An answer in words, which is made before anything is done, so that it is there whatever comes of it.
+pub(crate) fn plain(
+    alloc: Global,
+    status: StatusCode,
+    words: &'static str,
+) -> Result<Response, AllocError>
+    ensures { IfOk result (IsResponse status (fields_with Plain) words.now) }
+{
+    let mut response = Response::new(alloc);
+    let body = Bytes::from_static(words.as_bytes());
+    fill(&mut response, status, Kind::Plain, body)?;
+    Ok(response)
+}
