@@ -1,9 +1,10 @@
-//! A small layout with one point, all of whose routes are written out.
+//! What the tables of small layouts lack, written out: by itself, put into the layout's text at each place that there is, and told.
 
-use crate::{ApproachRule, Asked, ReviewFault, completed_text, lacking_text, review_text};
 use std::alloc::Global;
 use std::process::Abort;
+use table_review::{ApproachRule, Asked, ReviewFault, completed_text, lacking_text, review_text};
 
+/// A layout with one point.
 const LAYOUT: &str = r#"section = ["G0", "GP", "G1", "G2"]
 track = [{ name = "T0", section = "G0" }, { name = "T1", section = "G1" }, { name = "T2", section = "G2" }]
 point = [{ name = "P0", id = 2, section = "GP", slow = "right" }]
@@ -17,6 +18,7 @@ name = "IXL"
 id = 1
 "#;
 
+/// All of its routes.
 const ROUTES: &str = r#"
 [[route]]
 name = "S-E1"
