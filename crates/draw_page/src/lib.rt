@@ -19,4 +19,4 @@ mod table;
 mod toml_text;
 mod whole;
 
-pub use document::page;
+pub use document::PAGE;

@@ -10,8 +10,6 @@ pub enum Request<'a> {
     Check(CheckArguments<'a>),
     /// `routes FILE [--from SIGNALS] [--approach RULE] [--write]`: the routes that the layout in a file lacks.
     Routes(RoutesArguments<'a>),
-    /// `draw FILE [--port P]`: a page on which the layout in a file is drawn.
-    Draw(DrawArguments<'a>),
     /// `plan FILE [--route R] [--picture PICTURE]`: the track plan of the layout in a file.
     Plan(PlanArguments<'a>),
     /// `table FILE [--csv]`: the control table of the layout in a file.
@@ -65,13 +63,6 @@ pub struct RoutesArguments<'a> {
     pub from: Option<&'a str>,
     pub approach: Option<Approach>,
     pub write: bool,
-}
-
-/// The file of a layout, which may not be there yet, and the port of the page.
-#[derive(Clone, Copy)]
-pub struct DrawArguments<'a> {
-    pub layout: &'a str,
-    pub port: Option<u64>,
 }
 
 /// The file of a layout, the route that is drawn thick, and the file with what is seen.

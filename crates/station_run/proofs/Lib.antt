@@ -1,4 +1,3 @@
 pub mod RunEnds
 pub mod Seen
 pub mod PanelWorlds
-pub mod PanelsBeside
