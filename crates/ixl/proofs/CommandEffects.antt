@@ -1,5 +1,5 @@
 -- What a command leaves.
-use Rattle.std.proofs.Common.{◌≡◌, ◌∙◌, false, true, ℕ, ◌<◌, length, refl, sym, ap, subst}
+use Rattle.std.proofs.Common.{◌≡◌, ◌∙◌, false, true, ℕ, ◌<◌, length, arith, refl, sym, ap, subst}
 use Rattle.std.specs.Prelude.{Option, Some, None, slice_get}
 use Rattle.std.proofs.lemmas.List.Elements.{All-map}
 use Rattle.ixl_state.specs.rasta_pdu.declared.key.Key.{Key}

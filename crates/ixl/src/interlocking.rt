@@ -6,11 +6,7 @@ ghost use Rattle.ixl_state.specs.bit_row.Places.{Has};
 ghost use Rattle.ixl_state.specs.layout.declared.ids.RouteId.{RouteId};
 ghost use Rattle.ixl_state.specs.ixl_spec.Commands.{refusal, refused_where};
 ghost use Rattle.ixl_state.specs.ixl_spec.Due.{HoldsSection};
-ghost use Rattle.ixl_state.specs.ixl_spec.Operations.{has_named, has_thing};
 ghost use Rattle.ixl_state.specs.ixl_spec.View.{authority_from, indicated, is_holding, is_set};
-ghost use Rattle.ixl_state.specs.ixl_spec.closings.Things.{HasNamed, HasThing};
-ghost use Rattle.ixl_state.specs.ixl_spec.closings.declared.thing.Named.{Named};
-ghost use Rattle.ixl_state.specs.ixl_spec.closings.declared.thing.Thing.{Thing};
 ghost use Rattle.ixl_state.specs.ixl_spec.declared.command.Refusal.TheVariants as refusals;
 ghost use Rattle.ixl_state.specs.State.{AtRoute, MayStepAll};
 ghost use Rattle.ixl_state.specs.ixl_spec.StepSoFar.{empty_outbox};
@@ -196,15 +192,6 @@ impl Interlocking {
         ensures { result ≡ self.now.state.ixl.closed }
     {
         self.state.closed()
-    }
-
-    /// A station has the things of its layout, and no others: so a close and an open are refused as `NoSuchThing` exactly where
-    /// the layout lacks what they name.
-    pub fn has_what_its_layout_has(&self)
-        ensures thing { (thing : Thing) → IsTrue (has_thing self.now.state.sited.table self.now.state.ixl thing) ↔ HasThing self.now.state.sited.site thing }
-        ensures named { (named : Named) → IsTrue (has_named self.now.state.sited.table self.now.state.ixl named) ↔ HasNamed self.now.state.sited.site named }
-    {
-        self.state.has_what_its_layout_has();
     }
 
     /// The clock reading at which a route was released in its present setting, if it was.

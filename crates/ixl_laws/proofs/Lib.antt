@@ -55,14 +55,5 @@ pub mod WholeInput
 pub mod WholeRules
 pub mod WholeSteps
 pub mod WholeTicks
-pub mod Following
-pub mod KeptBehind
+pub mod ClosedStays
 pub mod OperationAnswers
-pub mod UsedLess
-pub mod InputUses
-pub mod TurnFollows
-pub mod NeededPoints
-pub mod GivenOver
-pub mod Released
-pub mod ReleasedSteps
-pub mod ClosingsFirst

@@ -1,7 +1,7 @@
 -- A point that is moved by command is available.
 use Rattle.std.proofs.Common.{◌≡◌, ℕ, Bool, true, false, not, refl, ap}
 use Rattle.std.specs.Prelude.{Option, Some, None, is_some}
-use Rattle.std.proofs.lemmas.Bool.{true≢false}
+use Rattle.std.proofs.lemmas.Bool.{true≢false, false≢true}
 use Rattle.ixl_state.specs.layout.declared.ids.PointId.{PointId}
 use Rattle.ixl_state.specs.sci_telegram.declared.message.Side.{Side}
 use Rattle.ixl_state.specs.ixl_spec.Commands.{held_told, moving_refusal, refusal, refused_where}

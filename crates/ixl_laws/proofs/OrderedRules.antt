@@ -11,7 +11,7 @@ use Rattle.ixl_state.specs.sci_telegram.declared.message.Aspect.TheVariants as a
 use Rattle.ixl_state.specs.sci_telegram.declared.message.Side.{Side}
 use Rattle.ixl_state.specs.ixl_client.Client.{ClientState, PeerState}
 use Rattle.ixl_state.specs.ixl_client.ClientSoFar as client
-use Rattle.ixl_state.specs.ixl_client.ClientSoFar.{Closes, Sends, begun, calling}
+use Rattle.ixl_state.specs.ixl_client.ClientSoFar.{Closes, LinkCall, Sends, begun, calling}
 use Rattle.ixl_state.specs.ixl_client.Step.{commanding, is_refused_by_window, message_of, posting, telegram_to}
 use Rattle.ixl_state.specs.ixl_client.declared.command.Command.{Command}
 use Rattle.ixl_state.specs.ixl_client.declared.command.Command.TheVariants as commands

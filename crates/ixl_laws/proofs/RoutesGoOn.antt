@@ -86,21 +86,21 @@ giving_move_goes : (now point : ℕ) (side : _) (part : StepSoFar) → PartGoes 
 unfolding giving_move
 giving_move_goes now point side part = same_goes part _ (with_one_keeps (slice_get part.ixl.known_points point) _ part (λ known_point. refl))
 
-pub from_proceeding : (p : Phase) → is_proceeding p ≡ true → IsOnward p phase.Withdrawn
+from_proceeding : (p : Phase) → is_proceeding p ≡ true → IsOnward p phase.Withdrawn
 from_proceeding phase.Free is = absurd (false≢true is)
 from_proceeding phase.Waiting is = absurd (false≢true is)
 from_proceeding phase.Proceeding is = record { order = omega arith; freed = tt }
 from_proceeding phase.Withdrawn is = absurd (false≢true is)
 from_proceeding (phase.Ended clock done) is = absurd (false≢true is)
 
-pub from_withdrawn : (now : ℕ) (p : Phase) → is_withdrawn p ≡ true → IsOnward p (phase.Ended now 0)
+from_withdrawn : (now : ℕ) (p : Phase) → is_withdrawn p ≡ true → IsOnward p (phase.Ended now 0)
 from_withdrawn now phase.Free is = absurd (false≢true is)
 from_withdrawn now phase.Waiting is = absurd (false≢true is)
 from_withdrawn now phase.Proceeding is = absurd (false≢true is)
 from_withdrawn now phase.Withdrawn is = record { order = omega arith; freed = tt }
 from_withdrawn now (phase.Ended clock done) is = absurd (false≢true is)
 
-pub from_waiting : (p : Phase) → is_waiting p ≡ true → IsOnward p phase.Proceeding
+from_waiting : (p : Phase) → is_waiting p ≡ true → IsOnward p phase.Proceeding
 from_waiting phase.Free is = absurd (false≢true is)
 from_waiting phase.Waiting is = record { order = omega arith; freed = tt }
 from_waiting phase.Proceeding is = absurd (false≢true is)
@@ -357,7 +357,7 @@ moved_routes now None (commands.Release route) part = refl
 moved_routes now None (commands.Close named) part = refl
 moved_routes now None (commands.Open named) part = refl
 
-pub where_none : (fails : Bool) (told : Refusal) (rest : Option Refusal) → refused_where fails told rest ≡ None → (fails ≡ false) × (rest ≡ None)
+where_none : (fails : Bool) (told : Refusal) (rest : Option Refusal) → refused_where fails told rest ≡ None → (fails ≡ false) × (rest ≡ None)
 where_none true told rest is = absurd (some_is is)
 where_none false told rest is = (refl, is)
 

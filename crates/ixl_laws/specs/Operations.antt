@@ -3,6 +3,7 @@ use Rattle.std.specs.Prelude.{◌≡◌, ◌≤◌, ◌<◌, ◌==◌, ℕ, true
 use Rattle.std.specs.List.{Contains}
 use Rattle.std.specs.Option.{option_or}
 use Rattle.ixl_state.specs.release.Approach.{approach_end}
+use Rattle.ixl_state.specs.sci_telegram.declared.message.Side.{Side}
 use Rattle.ixl_state.specs.ixl_spec.closings.declared.closed.Closings.{Closings}
 use Rattle.ixl_state.specs.ixl_spec.closings.declared.thing.Named.{Named}
 use Rattle.ixl_state.specs.ixl_spec.closings.declared.thing.Thing.{Thing}

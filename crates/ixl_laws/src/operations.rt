@@ -27,7 +27,7 @@ ghost use Rattle.ixl_laws.specs.WholeStep.{Fits, TurnTaken, WholeStep};
 use ixl_state::ixl_spec::{
     a_command_changes_what_it_names_alone, close_is_accepted_where_nothing_is_used,
     move_is_accepted_where_it_may_be, release_is_accepted_where_it_may_be,
-    request_is_accepted_where_admissible,
+    request_is_accepted_where_admissible, route_is_freed_where_cancel_lets_it_go,
 };
 
 /// A release, a move, a close and an open are accepted exactly where they may be once the clock has acted, and refused for the
@@ -83,9 +83,7 @@ pub fn nothing_is_given_over_what_is_closed()
     ensures commands { (now : ℕ) (point : PointId) (side : Side) (old new : InterlockingState) → HasStepped now (Commands (commands.Move point side)) old new Accepted
         → IsClosed old.state.ixl.closed (Point point side) → ⊥ }
 {
-    request_is_accepted_where_admissible();
-    close_is_accepted_where_nothing_is_used();
-    a_command_changes_what_it_names_alone();
+    nothing_closed_is_used();
     move_is_accepted_where_it_may_be();
 }
 
@@ -114,7 +112,10 @@ pub fn a_release_frees_only_after_its_time()
     ensures { (number : ℕ) (first : StepTaken) (others : List StepTaken) (place : ℕ) (taken : TurnTaken) → OneAfterAnother first others → IsUnreleased number first.old.state.ixl
         → slice_get (last_of first others).whole.turns place ≡ Some taken → FreesByRelease (last_of first others).now (last_of first others).old.state.sited.table number taken
         → IsReleasedBefore number (first ∷ others) (last_of first others).now }
-{}
+{
+    releases_are_noted_with_their_clock();
+    route_is_freed_where_cancel_lets_it_go();
+}
 
 /// Where the first inputs of an interlocking that was just made are closes of what is there, each is accepted, and all that they
 /// name is closed after them. So what was closed before a restart is closed after it.
@@ -126,6 +127,7 @@ pub fn closings_that_are_given_first_are_closed()
         → first.old.state.ixl ≡ new_ixl site table begins → first.old.state.sited.table ≡ table → AreCloses names (first ∷ others)
         → All (IsNamed table (new_ixl site table begins)) names → Contains names named → Names named thing → IsClosed (last_of first others).new.state.ixl.closed thing }
 {
+    what_is_closed_changes_by_command_alone();
     close_is_accepted_where_nothing_is_used();
     a_command_changes_what_it_names_alone();
 }

@@ -38,8 +38,8 @@ pub use closings::control_table::{
     Position, RouteId, SectionId, Side, SignalId,
 };
 pub use closings::{
-    Closings, Named, Thing, a_command_changes_what_it_names_alone, a_name_names_what_has_it,
-    all_track_is_closed, side_said, side_word, what_either_closes_is_closed,
+    Closings, Named, Thing, a_command_changes_what_it_names_alone, all_track_is_closed, side_said,
+    side_word, what_either_closes_is_closed,
 };
 pub use rasta_core::{
     CLOCK_LIMIT, LATEST_CLOCK, LIFETIME, LIFETIME_MICROS, MICROS, Millis, Outbox, QUIET_TIME,

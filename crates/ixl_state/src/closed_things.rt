@@ -1,10 +1,8 @@
 //! What is closed, and what the station has.
 
-ghost use Rattle.std.specs.Prelude.{◌≡◌, ◌↔◌, true, IsTrue};
+ghost use Rattle.std.specs.Prelude.{◌≡◌, true};
 ghost use Rattle.ixl_spec.specs.closings.Closed.{with_named, without_named};
-ghost use Rattle.ixl_spec.specs.closings.Things.{HasNamed, HasThing, IsPlaced};
-ghost use Rattle.ixl_spec.specs.closings.declared.thing.Named.{Named};
-ghost use Rattle.ixl_spec.specs.closings.declared.thing.Thing.{Thing};
+ghost use Rattle.ixl_spec.specs.closings.Things.{IsPlaced};
 ghost use Rattle.ixl_spec.specs.Operations.{has_named, has_thing};
 
 use crate::state::State;
@@ -19,7 +17,7 @@ impl State {
         match thing {
             Thing::Section(section) => section.0 < table.reporters().len(),
             Thing::Point(point, _) => point.0 < table.point_sections().len(),
-            Thing::Signal(signal) => signal.0 < self.field().signals(),
+            Thing::Signal(signal) => signal.0 < table.checked().layout().signals().len(),
             Thing::Route(route) => route.0 < table.rows().len(),
         }
     }
@@ -32,16 +30,6 @@ impl State {
             Named::One(thing) => self.has_thing(thing),
             Named::BothSides(point) => point.0 < self.table().point_sections().len(),
         }
-    }
-
-    /// A station has the things of its layout, and no others.
-    pub fn has_what_its_layout_has(&self)
-        ensures thing { (thing : Thing) → IsTrue (has_thing self.now.sited.table self.now.ixl thing) ↔ HasThing self.now.sited.site thing }
-        ensures named { (named : Named) → IsTrue (has_named self.now.sited.table self.now.ixl named) ↔ HasNamed self.now.sited.site named }
-    {
-        let table = self.table();
-        table.is_of_its_site();
-        table.names_what_is_there();
     }
 
     /// What a command names is closed.

@@ -32,11 +32,13 @@ use Rattle.node_drive.specs.node_lines.declared.operator_line.LinkState.{LinkSta
 use Rattle.node_drive.specs.node_lines.declared.operator_line.LinkState.TheVariants.{Ready, Lost}
 use Rattle.node_drive.specs.node_lines.declared.operator_line.Authority.{Authority}
 use Rattle.node_drive.specs.node_lines.declared.operator_line.OperatorLine.TheVariants.{Accepted, Refused}
-use Rattle.node_drive.specs.Kinds.{Kind, Meaning, Comes, Faulty}
+use Rattle.node_drive.specs.Kinds.{Kind, Meaning, Comes, Faulty, ToKeep}
 use Rattle.node_drive.specs.Waiting.{Addressed}
 use Rattle.run_numbers.specs.Numbers.{NumbersState}
 use Rattle.node_kinds.specs.Controllers.{is_same_occupancy}
 use Rattle.node_kinds.specs.Counted.{is_question, number_lines, numbers_after}
+use Rattle.node_kinds.specs.Kept.{closing_changes, closings_told, to_keep, wanted}
+use Rattle.node_kinds.specs.declared.keeping.Keeping.{Keeping}
 use Rattle.node_kinds.specs.declared.thing.Thing.{Thing}
 use Rattle.node_kinds.specs.declared.thing.Thing.TheVariants.{SignalLink, PointLink, DetectorLink, Section, Point, Signal, Indication, Route, Readiness}
 
@@ -224,10 +226,11 @@ asked site table now state (Err fault) = Faulty fault
 
 -- ---- the kind
 
--- an interlocking of this layout and control table, what it told last, of each thing, and what it counted
+-- an interlocking of this layout and control table, what its process keeps of it, what it told last, of each thing, and what it counted
 pub record InterlockingNode : Type 0 where
   pub site : Site
   pub table : Table
+  pub keeping : Keeping
   pub ixl : IxlState
   pub told : List (Option Known)
   pub numbers : NumbersState
@@ -252,22 +255,36 @@ known_then now input node = all_known node.site node.table now (ixl_step now inp
 abbrev pub numbers_then : ℕ → ixl.Input → InterlockingNode → NumbersState
 numbers_then now input node = numbers_after input (ixl.reply now node.table (key_of node.site) input node.ixl) node.told (known_then now input node) node.numbers
 
+-- what is asked to be kept then
+abbrev pub keeps_then : ℕ → ixl.Input → InterlockingNode → Option ToKeep
+keeps_then now input node =
+    to_keep node.site node.keeping input (ixl.reply now node.table (key_of node.site) input node.ixl)
+    (wanted node.keeping node.table node.ixl) (wanted node.keeping node.table (ixl_step now input node).ixl)
+
+-- the lines that are told then
+abbrev pub said_then : ℕ → ixl.Input → InterlockingNode → List (List ℕ)
+said_then now input node =
+    answer now input node
+    ++ (closing_changes node.site node.ixl.closed (ixl_step now input node).ixl.closed
+    ++ changes node.site node.told (known_then now input node))
+
 -- A line that asks for the numbers is answered by them, and nothing comes of it.
 abbrev pub meaning_in : ℕ → List ℕ → InterlockingNode → Meaning ixl.Input
 meaning_in now text node =
     if is_question text then Comes (number_lines node.numbers) [] else asked node.site node.table now node.ixl (command_said node.site (words text))
 
--- Who begins to listen is told what was told last, and so with what is told from then on all that is known.
+-- Who begins to listen is told all that is closed, and what was told last, and so with what is told from then on all that is known.
 abbrev pub interlocking_kind : Kind InterlockingNode ixl.Input
 interlocking_kind = record {
   after = λ now input node. record node { ixl = (ixl_step now input node).ixl; told = known_then now input node; numbers = numbers_then now input node };
   hands = λ now input node. to_controllers node.site (ixl_step now input node).outbox.datagrams;
-  says = λ now input node. answer now input node ++ changes node.site node.told (known_then now input node);
+  keeps = λ now input node. keeps_then now input node;
+  says = λ now input node. said_then now input node;
   tick = ixl.Tick;
   datagram = ixl.Datagram;
   is_partner = λ node. nat_le 1 node.0;
   order = λ node. None;
   meaning = meaning_in;
-  stands = λ now node. changes node.site [] node.told;
+  stands = λ now node. closings_told node.site node.ixl.closed ++ changes node.site [] node.told;
   is_done = λ node. false;
 }

@@ -10,9 +10,10 @@ use Rattle.std.specs.List.{join_with_byte}
 use Rattle.std.specs.Str.{bytes_eq}
 use Rattle.replay_words.specs.declared.fault.Fault.{Fault}
 use Rattle.replay_words.specs.declared.fault.Fault.TheVariants.{Words}
-use Rattle.replay_lines.specs.ixl_spec.layout.Entries.{Site}
-use Rattle.replay_lines.specs.ixl_spec.declared.command.Command.{Command}
-use Rattle.replay_lines.specs.ixl_spec.declared.command.Command.TheVariants as command
+use Rattle.ixl_spec.specs.layout.Entries.{Site}
+use Rattle.ixl_spec.specs.declared.command.Command.{Command}
+use Rattle.ixl_spec.specs.declared.command.Command.TheVariants as command
+use Rattle.replay_words.specs.Fault.{◌>>=◌}
 use Rattle.replay_lines.specs.Events.{close_named, move_point, open_named, release}
 use Rattle.replay_lines.specs.Names.{route_named, route_word}
 use Rattle.replay_lines.specs.ReadAgain.{command_read}

@@ -20,14 +20,14 @@ pub use order_read::read_order;
 pub use report::{FieldReport, ReportText, read_report};
 
 // What crates above need of the crates below.
+pub use ixl_spec;
 pub use replay_lines;
-pub use replay_lines::ixl_spec;
 pub use replay_words;
 pub use simulator_event;
 
 // The everyday items of the crates below.
-pub use replay_lines::ixl_spec::rasta_pdu::Received;
-pub use replay_lines::ixl_spec::{
+pub use ixl_spec::rasta_pdu::Received;
+pub use ixl_spec::{
     Aspect, BitRow, BorderId, CLOCK_LIMIT, Checked, Command, Datagram, Detector, DetectorId, Key,
     LATEST_CLOCK, LIFETIME, LIFETIME_MICROS, LONGEST_DATAGRAM, Layout, MICROS, Millis, Name, Node,
     NodeId, Occupancy, Outbox, Point, PointId, Position, Protocol, QUIET_TIME, ROUND, ROUND_MICROS,

@@ -4,7 +4,7 @@ ghost use Rattle.std.specs.Prelude.{◌≡◌};
 ghost use Rattle.replay_words.specs.Cut.{words};
 ghost use Rattle.node_lines.specs.Commands.{cancel, command_said, one, resume, set};
 
-use replay_lines::ixl_spec::{Command, Layout, side_word};
+use ixl_spec::{Command, Layout, side_word};
 use replay_lines::{
     close_named, move_point, open_named, point_word, release, route_named, route_word,
 };

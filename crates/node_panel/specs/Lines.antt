@@ -141,9 +141,12 @@ known_said site (first ∷ rest) =
     else Err Words
 known_said site [] = Err Words
 
--- whether a word begins an answer
+-- whether a word begins an answer: `accepted`, `refused ..` or `not kept ..`
 abbrev pub is_answer : List ℕ → Bool
-is_answer word = if bytes_eq word (codes "accepted") then true else bytes_eq word (codes "refused")
+is_answer word =
+    if bytes_eq word (codes "accepted") then true
+    else if bytes_eq word (codes "refused") then true
+    else bytes_eq word (codes "not")
 
 abbrev pub told_known : Result Known Fault → Result Told Fault
 told_known (Ok known) = Ok (Tells known)

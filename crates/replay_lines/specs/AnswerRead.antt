@@ -5,6 +5,7 @@ use Rattle.std.specs.Option.{ok_or}
 use Rattle.std.specs.Str.{bytes_eq}
 use Rattle.replay_words.specs.declared.fault.Fault.{Fault}
 use Rattle.replay_words.specs.declared.fault.Fault.TheVariants as fault
+use Rattle.replay_words.specs.Fault.{◌>>=◌}
 use Rattle.replay_words.specs.Read.{decimal}
 use Rattle.ixl_spec.specs.layout.Entries.{Site}
 use Rattle.ixl_spec.specs.layout.declared.ids.RouteId.{RouteId}

@@ -13,13 +13,13 @@
 --     lose HEX                            Lose, of 1 to 512 bytes
 --     reach POINT left|right|none         Reach
 --     restart NODE CLOCK SN               Restart; at most 9000000000000, and 4294967295
-use Rattle.std.specs.Prelude.{ℕ, nat_le, Bool, false, if◌then◌else◌, List, [], ◌∷◌, length, replicate, slice_set, codes, None, Result, Ok, Err}
+use Rattle.std.specs.Prelude.{ℕ, nat_le, Bool, false, if◌then◌else◌, List, [], ◌∷◌, length, replicate, slice_set, codes, Option, Some, None, Result, Ok, Err}
 use Rattle.std.specs.List.{list_any}
 use Rattle.std.specs.Option.{ok_or, option_map_or}
 use Rattle.std.specs.Str.{bytes_eq}
 use Rattle.replay_words.specs.declared.fault.Fault.{Fault}
 use Rattle.replay_words.specs.declared.fault.Fault.TheVariants.{Words, Name, Number}
-use Rattle.replay_words.specs.Fault.{both}
+use Rattle.replay_words.specs.Fault.{both, ◌>>=◌}
 use Rattle.replay_words.specs.Cut.{name_and_number}
 use Rattle.replay_words.specs.Read.{decimal, hexadecimal, hexadecimal_or_none}
 use Rattle.ixl_spec.specs.layout.Entries.{Site}

@@ -1,11 +1,12 @@
 -- The line of an event: its words, parted by single spaces. Numbers have no leading zeros, and hexadecimal
 -- digits are in lower case.
-use Rattle.std.specs.Prelude.{ℕ, ◌==◌, ◌&&◌, nat_lt, nat_le, if◌then◌else◌, Option, Some, None, List, [], ◌∷◌, ◌++◌, length, slice_get, codes}
+use Rattle.std.specs.Prelude.{ℕ, suc, ◌==◌, ◌&&◌, nat_lt, nat_le, if◌then◌else◌, Option, Some, None, List, [], ◌∷◌, ◌++◌, length, slice_get, codes}
 use Rattle.std.specs.Option.{option_map}
 use Rattle.std.specs.List.{join_with_byte}
 use Rattle.std.specs.Fmt.{decimal}
 use Rattle.replay_words.specs.Read.{hex_word}
 use Rattle.ixl_spec.specs.layout.Entries.{Site}
+use Rattle.ixl_spec.specs.layout.declared.ids.RouteId.{RouteId}
 use Rattle.ixl_spec.specs.declared.command.Command.{Command}
 use Rattle.ixl_spec.specs.declared.command.Command.TheVariants as command
 use Rattle.ixl_spec.specs.closings.Words.{name_word, side_of, side_word}

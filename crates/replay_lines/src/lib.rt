@@ -37,6 +37,5 @@ pub use text::{SessionFault, read_lines};
 pub use words::{read_event, read_script_event};
 
 // What crates above need of the crates below.
-pub use ixl_spec;
 pub use ixl_spec::rasta_core::{MICROS, ROUND, ROUND_MICROS};
 pub use ixl_spec::rasta_pdu::{LONGEST_DATAGRAM, Received};

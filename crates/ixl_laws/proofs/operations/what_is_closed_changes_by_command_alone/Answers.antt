@@ -1,4 +1,4 @@
-use Rattle.ixl_laws.proofs.KeptBehind.{closed_step, first_closed}
+use Rattle.ixl_laws.proofs.ClosedStays.{closed_step, first_closed}
 use Rattle.ixl_laws.proofs.operations.what_is_closed_changes_by_command_alone.Goals as goal
 
 pub returns-clause-first : goal.returns-clause-first

@@ -1,7 +1,6 @@
 use Rattle.std.proofs.Common.{◌∙◌, ℕ, nat_lt, List, ap, length, sym}
 use Rattle.ixl_spec.specs.Operations.{has_thing}
 use Rattle.ixl_spec.specs.Table.{Row}
-use Rattle.ixl_known.specs.Field.{FieldState}
 use Rattle.ixl_table.specs.Table.{SitedTable}
 use Rattle.ixl_state.proofs.state.State.has_thing.Goals as goal
 
@@ -14,11 +13,6 @@ pub returns-in-Point : goal.returns-in-Point
 returns-in-Point c =
     ap (λ (list : List ℕ). nat_lt c.in-Point.point.0 (length list)) (c.point_sections.ensures ∙ ap (λ (p : SitedTable). p.table.point_sections) c.table-table.ensures.sited)
     ∙ ap (has_thing c.args.self.now.sited.table c.args.self.now.ixl) (sym c.in-Point.is)
-
-pub returns-in-Signal : goal.returns-in-Signal
-returns-in-Signal c =
-    ap (λ (n : ℕ). nat_lt c.in-Signal.signal.0 n) (c.signals.ensures ∙ ap (λ (f : FieldState). length f.known_signals) c.field.ensures)
-    ∙ ap (has_thing c.args.self.now.sited.table c.args.self.now.ixl) (sym c.in-Signal.is)
 
 pub returns-in-Route : goal.returns-in-Route
 returns-in-Route c =

@@ -1,4 +1,4 @@
-use Rattle.std.proofs.Common.{◌≤◌, arith, length, subst}
+use Rattle.std.proofs.Common.{◌≡◌, ◌≤◌, arith, length, subst}
 use Rattle.ixl_table.specs.Table.{IsTableOf, IsTableThere, SitedTable}
 use Rattle.ixl_state.proofs.ThingsFew.{is_placed}
 use Rattle.ixl_state.proofs.state.State.things_are_few.Goals as goal
