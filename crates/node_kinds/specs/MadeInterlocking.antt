@@ -5,7 +5,6 @@ use Rattle.simulator_spec.specs.layout.Entries.{Site}
 use Rattle.simulator_spec.specs.ixl_spec.Step as ixl
 use Rattle.simulator_spec.specs.ixl_spec.Table.{Table}
 use Rattle.node_drive.specs.Kinds.{NodeState}
-use Rattle.node_drive.specs.node_lines.Auxiliaries.{none_counted}
 use Rattle.run_numbers.specs.Numbers.{no_numbers}
 use Rattle.node_kinds.specs.Interlockings.{InterlockingNode, commands, to_controllers}
 use Rattle.node_kinds.specs.inside.InterlockingSteps.{texts}
@@ -13,7 +12,7 @@ use Rattle.node_kinds.specs.declared.interlocking_node.InterlockingNode.{Interlo
 
 abbrev pub seen : Code → NodeState InterlockingNode ixl.Input
 seen node = record {
-  state = record { site = node.stepped.sited.site; table = node.stepped.sited.table; ixl = node.stepped.ixl; told = node.told.items; numbers = node.numbers; counts = node.counts };
+  state = record { site = node.stepped.sited.site; table = node.stepped.sited.table; ixl = node.stepped.ixl; told = node.told.items; numbers = node.numbers };
   reached = node.stepped.reached;
   handed = to_controllers node.stepped.sited.site node.stepped.datagrams;
   said = texts node.said;
@@ -23,7 +22,7 @@ seen node = record {
 -- one that was made with this clock and these first sequence numbers, and has told nothing yet
 abbrev pub made : Site → Table → Beginning → NodeState InterlockingNode ixl.Input
 made site table begins = record {
-  state = record { site = site; table = table; ixl = new_ixl site table begins; told = []; numbers = no_numbers; counts = none_counted };
+  state = record { site = site; table = table; ixl = new_ixl site table begins; told = []; numbers = no_numbers };
   reached = begins.clock;
   handed = [];
   said = [];

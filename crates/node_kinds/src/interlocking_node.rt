@@ -3,9 +3,8 @@
 ghost use Rattle.ixl_state.specs.ixl_table.Table.{IsTableOf};
 ghost use Rattle.std.specs.Prelude.{◌≡◌, ◌++◌, ◌≤◌, [], map, IfOk, OnOk};
 ghost use Rattle.node_kinds.specs.Counted.{number_lines, with_links};
-ghost use Rattle.ixl.specs.Interlocking.{told};
 ghost use Rattle.simulator_spec.specs.First.{Beginning};
-ghost use Rattle.node_kinds.specs.Interlockings.{all_known, answer_to, changes, counted_if_accepted, wanted};
+ghost use Rattle.node_kinds.specs.Interlockings.{all_known, answer_to, changes, wanted};
 ghost use Rattle.node_kinds.specs.inside.InterlockingSteps.{texts};
 ghost use Rattle.node_kinds.specs.MadeInterlocking.{made, seen};
 
@@ -16,8 +15,8 @@ use crate::interlocking_steps::SteppedInterlocking;
 use crate::knowledge::all_known;
 use crate::receivers::receiver;
 use crate::saying::say_answer_by_step;
-use ixl::{Command, Input, Reply};
-use node_drive::node_lines::{AuxiliaryCounts, Known, OperatorCommand, read_command};
+use ixl::{Command, Input};
+use node_drive::node_lines::{Known, OperatorCommand, read_command};
 use node_drive::{LineMeaning, NodeMachine, Order, Outgoing};
 use run_numbers::Numbers;
 use simulator_spec::{Checked, NodeId};
@@ -27,13 +26,12 @@ use std::collections::VecDeque;
 /// The word by which an operator asks for the numbers.
 const NUMBERS: &str = "numbers";
 
-/// The interlocking of a station, with what it told last of each thing, what it counted, how many auxiliary commands it accepted, the
-/// lines that it has to tell, and the commands of a line that have to come.
+/// The interlocking of a station, with what it told last of each thing, what it counted, the lines that it has to tell, and the
+/// commands of a line that have to come.
 pub struct InterlockingNode {
     pub(crate) stepped: SteppedInterlocking,
     pub(crate) told: Vec<Option<Known>>,
     pub(crate) numbers: Numbers,
-    pub(crate) counts: AuxiliaryCounts,
     pub(crate) said: VecDeque<String>,
     pub(crate) left: VecDeque<Command>,
 }
@@ -45,7 +43,6 @@ impl Drop for InterlockingNode {
             stepped: _,
             told: _,
             numbers: _,
-            counts: _,
             said: _,
             left: _,
         } = self;
@@ -71,36 +68,20 @@ impl InterlockingNode {
             stepped,
             told: Vec::new(alloc),
             numbers: Numbers::none(alloc)?,
-            counts: AuxiliaryCounts::none(),
             said: VecDeque::new(alloc),
             left: VecDeque::new(alloc),
         })
-    }
-
-    /// How many auxiliary commands were accepted, so that a file may keep it.
-    pub fn counts(&self) -> AuxiliaryCounts
-        ensures { result ≡ (seen self.now).state.counts }
-    {
-        self.counts
-    }
-
-    /// It counts auxiliary commands on from what was counted before it was made.
-    pub fn count_on(&mut self, counts: AuxiliaryCounts)
-        ensures { self.new ≡ record self.old { counts = counts } }
-    {
-        self.counts = counts;
     }
 
     /// What changed is to be told, and the links are counted.
     fn tell(&mut self, alloc: Global, reading: u64) -> Result<(), AllocError>
         ensures stepped { self.new.stepped ≡ self.old.stepped }
         ensures left { self.new.left ≡ self.old.left }
-        ensures counts { self.new.counts ≡ self.old.counts }
-        ensures told { OnOk result (self.new.told.items ≡ all_known self.old.stepped.sited.site self.old.stepped.sited.table self.old.counts reading self.old.stepped.ixl) }
+        ensures told { OnOk result (self.new.told.items ≡ all_known self.old.stepped.sited.site self.old.stepped.sited.table reading self.old.stepped.ixl) }
         ensures said { OnOk result (texts self.new.said ≡ texts self.old.said ++ changes self.old.stepped.sited.site self.old.told.items self.new.told.items) }
         ensures numbers { OnOk result (self.new.numbers ≡ with_links self.old.told.items self.new.told.items self.old.numbers) }
     {
-        let all = all_known(alloc, self.stepped.interlocking(), self.counts, reading)?;
+        let all = all_known(alloc, self.stepped.interlocking(), reading)?;
         say_changes(
             alloc,
             self.stepped.layout(),
@@ -113,15 +94,6 @@ impl InterlockingNode {
         Ok(())
     }
 
-    /// A command is counted if it is an auxiliary one, and was accepted.
-    fn count_auxiliary(&mut self, command: Command, reply: Reply)
-        ensures { self.new ≡ record self.old { counts = counted_if_accepted command (told reply) self.old.counts } }
-    {
-        if matches!(reply, Reply::Accepted) {
-            self.counts = self.counts.after(command);
-        }
-    }
-
     /// A line of the operator is taken: its answer is to be told, and its commands are to come.
     fn take(
         &mut self,
@@ -132,7 +104,6 @@ impl InterlockingNode {
         ensures stepped { self.new.stepped ≡ self.old.stepped }
         ensures told { self.new.told ≡ self.old.told }
         ensures numbers { self.new.numbers ≡ self.old.numbers }
-        ensures counts { self.new.counts ≡ self.old.counts }
         ensures said { OnOk result (texts self.new.said ≡ answer_to self.old.stepped.sited.site self.old.stepped.sited.table reading self.old.stepped.ixl asked) }
         ensures left { OnOk result (self.new.left.items ≡ wanted self.old.stepped.ixl asked) }
     {
@@ -148,7 +119,6 @@ impl InterlockingNode {
         ensures stepped { self.new.stepped ≡ self.old.stepped }
         ensures told { self.new.told ≡ self.old.told }
         ensures numbers { self.new.numbers ≡ self.old.numbers }
-        ensures counts { self.new.counts ≡ self.old.counts }
         ensures said { OnOk result (texts self.new.said ≡ number_lines self.old.numbers) }
         ensures left { self.new.left.items ≡ [] }
     {
@@ -216,7 +186,6 @@ impl NodeMachine for InterlockingNode {
         self.said.clear();
         let reply = self.stepped.step(reading, Input::Command(command));
         count_answer(&mut self.numbers, reply);
-        self.count_auxiliary(command, reply);
         say_answer_by_step(alloc, self.stepped.layout(), &mut self.said, command, reply)?;
         self.tell(alloc, reading)?;
         Ok(true)
