@@ -1,4 +1,5 @@
 pub mod Answered
+pub mod Moved
 pub mod PointAnswers
 pub mod Apart
 pub mod Blind
@@ -54,3 +55,5 @@ pub mod WholeInput
 pub mod WholeRules
 pub mod WholeSteps
 pub mod WholeTicks
+pub mod ClosedStays
+pub mod OperationAnswers

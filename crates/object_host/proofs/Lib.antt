@@ -1,5 +1,4 @@
 pub mod OutboxPosts
-pub mod FewSent
 pub mod UnderWay
 pub mod Status
 pub mod ItemActions
@@ -7,6 +6,7 @@ pub mod OwedReports
 pub mod Closed
 pub mod Between
 pub mod Made
+pub mod Behind
 pub mod Acts
 pub mod Says
 pub mod Told

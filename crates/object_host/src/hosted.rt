@@ -1,6 +1,6 @@
 //! A link, the initialisation and one field object.
 
-ghost use Rattle.std.specs.Prelude.{◌≡◌, ◌≤◌, ◌↔◌, ℕ, true, false, [], drop, length, slice_get, IsTrue, IfOk};
+ghost use Rattle.std.specs.Prelude.{◌≡◌, ◌≤◌, ◌↔◌, ℕ, true, false, [], drop, slice_get, IsTrue, IfOk};
 ghost use Rattle.std.specs.Option.{option_map};
 ghost use Rattle.rasta_core.specs.Calls.{IsAt, MayStep};
 ghost use Rattle.rasta_core.specs.Clock.{alive_until};
@@ -40,7 +40,7 @@ impl<C: Controller> Model for Hosted<C> {
 
     ghost view = { λ h. record { host = h.host; outbox = h.outbox } };
 
-    ghost invariant = { λ h. IsHosted C.behaviour h.host × (h.outbox.capacity ≡ 47) };
+    ghost invariant = { λ h. IsHosted C.behaviour h.host × (h.outbox.capacity ≡ 128) };
 }
 
 /// Takes out all datagrams.
@@ -52,24 +52,26 @@ fn empty(outbox: &mut Outbox)
 
 impl<C: Controller> Hosted<C> {
     ghost use Rattle.std.specs.Borrow.{sem};
-    ghost use Rattle.object_host.specs.Host.{is_completed};
+    ghost use Rattle.object_host.specs.Host.{is_completed, restrictive_from};
     ghost use Rattle.object_host.specs.Made.{AreItems};
     ghost use Rattle.object_host.specs.Refused.{LeavesRefused};
     ghost use Rattle.object_host.specs.Step.{host_step};
     ghost use Rattle.object_host.specs.Stepped.{EndsStepped};
-    ghost use Rattle.object_host.specs.Hosted.{empty_outbox, most_in_step, new_host};
+    ghost use Rattle.object_host.specs.Hosted.{empty_outbox, new_host};
 
     /// A controller of these names and identities, with a link that isn't in a connection and begins so. The object is as
-    /// after a loss. `version` is the version of the telegrams: version 2 has the aspect slow, version 1 doesn't.
-    #[tactic(auto, unfolding(crate::specs::Hosted::new_host, crate::specs::Host::keeping))]
+    /// after a loss. `version` is the version of the telegrams: version 2 has the aspect slow, version 1 doesn't. `is_strict`
+    /// is whether the station keeps trains apart, as all its nodes do or none.
+    #[tactic(auto, unfolding(crate::specs::Hosted::new_host))]
     pub fn new(
         alloc: Global,
         parties: Parties,
         start: Start,
         object: C,
         version: u8,
+        is_strict: bool,
     ) -> Result<Hosted<C>, AllocError>
-        ensures { IfOk result (λ hosted. hosted ≡ record { host = new_host C.behaviour (record { role = Server; own = parties.own; partner = parties.partner; key = parties.key }) parties.own_name parties.peer_name start.first_sequence_number start.now object version; outbox = empty_outbox }) }
+        ensures { IfOk result (λ hosted. hosted ≡ record { host = new_host C.behaviour (record { role = Server; own = parties.own; partner = parties.partner; key = parties.key }) parties.own_name parties.peer_name start.first_sequence_number start.now object version is_strict; outbox = empty_outbox }) }
     {
         let Parties {
             own,
@@ -82,18 +84,21 @@ impl<C: Controller> Hosted<C> {
             now,
         } = start;
         let link = Link::server(alloc, own, partner, key, first_sequence_number, now)?;
-        let outbox = Outbox::for_datagrams(alloc, DATAGRAMS)?;
+        let outbox = Outbox::for_links(alloc, OWN_LINKS)?;
         let mut object = object;
         object.lost();
-        object.keep(link.alive_until());
-        let host = Host {
+        let caught_up_until = link.alive_until();
+        let mut host = Host {
             link,
+            caught_up_until,
             stage: Stage::Outside,
             object,
             own_name: parties.own_name,
             peer_name: parties.peer_name,
             version,
+            is_strict,
         };
+        host.keep();
         Ok(Hosted { host, outbox })
     }
 
@@ -105,10 +110,12 @@ impl<C: Controller> Hosted<C> {
     }
 
     /// The field object. At and past the moment at which the link dies it is restrictive, stepped or not, and as
-    /// long as the initialisation isn't completed at every clock reading.
+    /// long as the initialisation isn't completed at every clock reading. Of a strict host it is restrictive, too, at and past
+    /// the moment until which the link is caught up.
     pub fn object(&self) -> &C
         ensures object { result.now ≡ self.now.host.object }
         ensures dies { (now : ℕ) → alive_until self.now.host.link ≤ now → C.behaviour.is_restrictive now self.now.host.object ≡ true }
+        ensures behind { (now : ℕ) → restrictive_from self.now.host ≤ now → C.behaviour.is_restrictive now self.now.host.object ≡ true }
         ensures uninitialised { (now : ℕ) → is_completed self.now.host.stage ≡ false → C.behaviour.is_restrictive now self.now.host.object ≡ true }
     {
         &self.host.object
@@ -128,8 +135,6 @@ impl<C: Controller> Hosted<C> {
         requires { MayStep now self.old.host.link }
         ensures* after { sem 𝓛 (EndsStepped C.row (record { behaviour = C.behaviour }) self.entry now input.entry) }
         ensures value { result.now ≡ posted self.old.host.link.identity.key (host_step C.behaviour now input.entry self.old.host).pdus empty_outbox }
-        // The items of a window, a retransmission's two ends, and the close.
-        ensures few { length (host_step C.behaviour now input.entry self.old.host).pdus ≤ most_in_step }
         // What it sends are items, so each call of the link is one that may be made.
         ensures items { AreItems (host_step C.behaviour now input.entry self.old.host).calls }
         // A datagram that the link refuses leaves what a step with that refusal in its place leaves.
@@ -157,5 +162,5 @@ impl<C: Controller> Hosted<C> {
     }
 }
 
-/// For how many datagrams the outbox has room: a step hands out at most 23, and each call of the link asks for room for 24.
-const DATAGRAMS: usize = 47;
+/// For how many links the outbox has room: a step hands out fewer than two links may.
+const OWN_LINKS: usize = 2;
