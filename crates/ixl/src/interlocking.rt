@@ -19,8 +19,8 @@ use crate::refusals::{is_holding, refusal, refusal_of_any};
 use crate::step::step;
 use ixl_state::ixl_table::Table;
 use ixl_state::{
-    Aspect, BitRow, Checked, Closings, Command, Datagram, Key, Millis, Outbox, Refusal, RouteId,
-    SignalId, State, key_of,
+    Aspect, BitRow, Checked, Command, Datagram, Key, Millis, Outbox, Refusal, RouteId, SignalId,
+    State, key_of,
 };
 use std::alloc::{AllocError, Global};
 use std::marker::Model;
@@ -172,8 +172,8 @@ impl Interlocking {
         refusal(&self.state, now, command)
     }
 
-    /// Why each command for a route of the table or for a point is refused, whatever it is: nothing is set, cancelled, released
-    /// or moved in the hold, nor before it was told to resume.
+    /// Why each command for a route of the table is refused, whatever it is: nothing is set or cancelled in the hold, nor
+    /// before it was told to resume.
     pub fn refusal_of_any(&self, now: Millis) -> Option<Refusal>
         ensures { result ≡ refused_where (is_holding now self.now.state.ixl) refusals.Holding (refused_where (not self.now.state.ixl.resumed) refusals.NotResumed None) }
     {
@@ -185,21 +185,6 @@ impl Interlocking {
         ensures { result ≡ is_holding now self.now.state.ixl }
     {
         is_holding(&self.state, now)
-    }
-
-    /// What is closed.
-    pub fn closed(&self) -> Closings
-        ensures { result ≡ self.now.state.ixl.closed }
-    {
-        self.state.closed()
-    }
-
-    /// The clock reading at which a route was released in its present setting, if it was.
-    pub fn released(&self, route: RouteId) -> Option<Millis>
-        requires { route.0 < length self.now.state.sited.table.rows }
-        ensures { AtRoute self.now.state route.0 (λ row kept. result ≡ kept.released) }
-    {
-        self.state.route(route.0).released()
     }
 
     /// Whether a route is set.

@@ -1,5 +1,4 @@
 pub mod Answered
-pub mod Moved
 pub mod PointAnswers
 pub mod Apart
 pub mod Blind
@@ -55,5 +54,3 @@ pub mod WholeInput
 pub mod WholeRules
 pub mod WholeSteps
 pub mod WholeTicks
-pub mod ClosedStays
-pub mod OperationAnswers

@@ -4,7 +4,6 @@ pub mod Called
 pub mod Cancels
 pub mod GivenOnce
 pub mod History
-pub mod ClearSince
 pub mod Links
 pub mod Nodes
 pub mod Onward
@@ -13,4 +12,3 @@ pub mod Refused
 pub mod Reported
 pub mod UnsoundAspect
 pub mod WholeStep
-pub mod Operations

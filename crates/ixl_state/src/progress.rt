@@ -2,11 +2,10 @@
 
 ghost use Rattle.std.specs.Prelude.{◌≡◌, ℕ, ◌+◌, ◌<◌, ◌||◌, not, true, false, [], None, length};
 ghost use Rattle.release.specs.Passage.{passage_after};
-ghost use Rattle.ixl_spec.specs.Commands.{released_at, route_set};
+ghost use Rattle.ixl_spec.specs.Commands.{route_set};
 ghost use Rattle.ixl_spec.specs.Rules.{come_to, freed, one_freed};
 ghost use Rattle.ixl_spec.specs.State.{RouteState};
 ghost use Rattle.ixl_spec.specs.Step.{route_looks};
-ghost use Rattle.release.specs.Reports.{clear_since_after};
 ghost use Rattle.ixl_spec.specs.View.{first_blocking, is_set, place_in};
 ghost use Rattle.ixl_spec.specs.declared.phase.Phase.TheVariants as phase;
 ghost use Rattle.ixl_state.specs.State.{AtRoute, route_changed};
@@ -157,15 +156,6 @@ impl State {
         self.keep(number, route);
     }
 
-    /// It notes at this clock whether its sections are clear.
-    pub fn note(&mut self, number: usize, now: Millis, are_clear: bool)
-        requires there { number < length self.old.sited.table.rows }
-        ensures { self.new ≡ route_changed (λ old. record old { clear_since = clear_since_after now are_clear old.clear_since }) number self.old }
-    {
-        let route = self.route(number).notes(now, are_clear);
-        self.keep(number, route);
-    }
-
     /// It is set: nothing blocks it. From here on each point counts as unmoved for it.
     pub fn set(&mut self, number: usize)
         requires there { number < length self.old.sited.table.rows }
@@ -193,16 +183,7 @@ impl State {
         self.keep(number, route);
     }
 
-    /// It is released at this clock.
-    pub fn release(&mut self, number: usize, now: Millis)
-        requires there { number < length self.old.sited.table.rows }
-        ensures { self.new ≡ route_changed (released_at now) number self.old }
-    {
-        let route = self.route(number).released_at(now);
-        self.keep(number, route);
-    }
-
-    /// Commands for routes and points are taken from now on.
+    /// Requests and cancels are taken from now on.
     pub fn resume(&mut self)
         ensures { self.new ≡ record self.old { ixl = record self.old.ixl { resumed = true } } }
     {

@@ -1,5 +1,5 @@
 -- Sending the owed reports, one after another.
-use Rattle.std.proofs.Common.{◌≡◌, ℕ, ◌+◌, ◌-◌, ◌<◌, suc, Bool, true, false, if◌then◌else◌, arith, refl, sym, subst}
+use Rattle.std.proofs.Common.{◌≡◌, ℕ, ◌+◌, ◌-◌, ◌<◌, suc, true, false, arith, refl, sym, subst}
 use Rattle.std.proofs.lemmas.List.{append-nil}
 use Rattle.rasta_core.specs.Outbox.{OutboxState}
 use Rattle.object_host.specs.Behaviour.{Behaviour}
@@ -8,11 +8,6 @@ use Rattle.object_host.specs.Step.{goes_on, most_owed, paying, paying_first}
 use Rattle.object_host.specs.inside.Performed.{IsPerformed}
 use Rattle.object_host.proofs.UnderWay.{IsFirst, IsNothing, IsUnderWay}
 use Rattle.object_host.proofs.UnderWay as loops
-
--- a round that goes on hands out one PDU at most, and one that doesn't may close the link, too
-pub posted_by : {Object : Type 0} {now : ℕ} {part : HostSoFar Object} {old new : HostState Object} {box out : OutboxState} {b c : Bool} → b ≡ c →
-    IsPerformed (if b then 1 else 2) now part old new box out → IsPerformed (if c then 1 else 2) now part old new box out
-posted_by {Object} {now} {part} {old} {new} {box} {out} {b} {c} same made = subst (λ b. IsPerformed (if b then 1 else 2) now part old new box out) same made
 
 module _ {Object : Type 0} (does : Behaviour Object) where
   abbrev pub left_at : ℕ → ℕ → HostState Object → HostSoFar Object
@@ -52,8 +47,8 @@ module _ {Object : Type 0} (does : Behaviour Object) where
 
   pub paying_stops : (now round : ℕ) (start : HostState Object) (box : OutboxState) (host : HostState Object) (outbox : OutboxState) (new : HostState Object) (out : OutboxState) →
       IsPaying now start box round host outbox → round < most_owed → goes_on now (does.owed host.object) host ≡ false →
-      IsPerformed 2 now (first_of now host) host new outbox out → IsPerformed (most_owed + 1) now (paying does now most_owed start) start new box out
+      IsPerformed 1 now (first_of now host) host new outbox out → IsPerformed most_owed now (paying does now most_owed start) start new box out
   paying_stops now round start box host outbox new out state within off made =
       let split = subst (λ n. IsFirst (paying does now n host) (first_of now host) (silent (first_of now host).host)) (sym (more round within)) (stopping now (most_owed - (round + 1)) host off)
-      in let next = loops.goes_on now start box _ round 2 host outbox _ _ _ new out state.way split made
-      in loops.comes_to_end now start box _ (round + 2) (most_owed + 1) new out _ next (record { stays = sym made.host; posts_none = refl; calls_none = refl }) (omega (arith, within))
+      in let next = loops.goes_on now start box _ round 1 host outbox _ _ _ new out state.way split made
+      in loops.comes_to_end now start box _ (round + 1) most_owed new out _ next (record { stays = sym made.host; posts_none = refl; calls_none = refl }) (omega (arith, within))

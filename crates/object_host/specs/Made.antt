@@ -36,11 +36,10 @@ abbrev pub AreOwn : List LinkCall → Type 0
 AreOwn [] = Unit {0}
 AreOwn (first ∷ others) = IsOwn first × AreOwn others
 
--- A datagram is received, once, and before that the link may be closed by the clock. All other calls are own ones.
+-- a datagram is received first, and all other calls are own ones
 abbrev pub AreCallsFor : Input → List LinkCall → Type 0
 AreCallsFor inputs.Tick calls = AreOwn calls
-AreCallsFor (inputs.Datagram bytes) calls =
-    (first : List LinkCall) × (others : List LinkCall) × (calls ≡ first ++ Receives bytes.now ∷ others) × AreOwn first × AreOwn others
+AreCallsFor (inputs.Datagram bytes) calls = (others : List LinkCall) × (calls ≡ Receives bytes.now ∷ others) × AreOwn others
 AreCallsFor (inputs.Sense sense) calls = AreOwn calls
 
 -- what is sent are items, which a link can carry

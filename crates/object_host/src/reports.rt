@@ -1,55 +1,32 @@
 //! The reports that the object owes.
 
-ghost use Rattle.std.specs.Prelude.{◌≡◌, if◌then◌else◌};
-ghost use Rattle.rasta_core.specs.Calls.{MayStep};
+ghost use Rattle.std.specs.Prelude.{◌≡◌};
 ghost use Rattle.rasta_core.specs.Outbox.{HasRoomFor};
-ghost use Rattle.object_host.specs.Step.{after_refusal, goes_on, is_refused_by_window, most_owed, paying, paying_first, posting};
+ghost use Rattle.object_host.specs.Step.{goes_on, most_owed, paying, paying_first, posting};
 ghost use Rattle.object_host.specs.inside.Performed.{IsPerformed};
 
 use crate::controller::Controller;
 use crate::host::Host;
-use rasta_core::{Millis, Outbox, Reason, SendFault};
+use rasta_core::{Millis, Outbox};
 
 /// How many owed reports a step sends at most: the window of a link.
 const MOST_OWED: usize = 20;
 
-fn is_refused_by_window(answer: Result<(), SendFault>) -> bool
-    ensures { result ≡ is_refused_by_window answer }
-{
-    matches!(answer, Err(SendFault::WindowFull))
-}
-
 impl<C: Controller> Host<C> {
-    /// The link refused a report. A strict host closes it where the window did so, and the reports mustn't wait.
-    #[tactic(auto, unfolding(crate::specs::Step::after_refusal))]
-    fn react(&mut self, now: Millis, answer: Result<(), SendFault>, outbox: &mut Outbox)
-        requires clock { MayStep now self.old.link }
-        requires room { HasRoomFor 24 outbox.old }
-        ensures { IsPerformed 1 now (after_refusal C.behaviour now answer self.old) self.old self.new outbox.old outbox.new }
-    {
-        if self.is_strict && self.object.closes_when_full() && is_refused_by_window(answer) {
-            self.close(now, Reason::Window, outbox);
-        }
-    }
-
     /// The first owed report is sent, once the initialisation was completed. Before, nothing is owed. Answers whether
-    /// there was one that is owed no longer. One that the window refuses stays owed, or closes the link.
+    /// there was one that is owed no longer.
     #[tactic(auto, using(crate::proofs::OutboxPosts::posting, crate::proofs::UnderWay::items_joined))]
     fn pay_first(&mut self, now: Millis, outbox: &mut Outbox) -> bool
         requires at { self.old.link.clock ≡ now }
-        requires room { HasRoomFor 25 outbox.old }
-        ensures performed { IsPerformed (if result then 1 else 2) now (paying_first C.behaviour now (C.behaviour.owed self.old.object) self.old) self.old self.new outbox.old outbox.new }
+        requires room { HasRoomFor 24 outbox.old }
+        ensures performed { IsPerformed 1 now (paying_first C.behaviour now (C.behaviour.owed self.old.object) self.old) self.old self.new outbox.old outbox.new }
         ensures answer { result ≡ goes_on now (C.behaviour.owed self.old.object) self.old }
     {
         let Some(report) = self.object.owed() else {
             return false;
         };
-        if self.stage.is_completed() {
-            let answer = self.post(now, &report, outbox);
-            if answer.is_err() {
-                self.react(now, answer, outbox);
-                return false;
-            }
+        if self.stage.is_completed() && self.post(now, &report, outbox).is_err() {
+            return false;
         }
         self.object.paid();
         true
@@ -59,8 +36,8 @@ impl<C: Controller> Host<C> {
     #[tactic(auto, using(crate::proofs::OutboxPosts::posting, crate::proofs::UnderWay::items_joined))]
     pub(crate) fn pay(&mut self, now: Millis, outbox: &mut Outbox)
         requires at { self.old.link.clock ≡ now }
-        requires room { HasRoomFor 45 outbox.old }
-        ensures { IsPerformed 21 now (paying C.behaviour now most_owed self.old) self.old self.new outbox.old outbox.new }
+        requires room { HasRoomFor 44 outbox.old }
+        ensures { IsPerformed 20 now (paying C.behaviour now most_owed self.old) self.old self.new outbox.old outbox.new }
     {
         for _round in 0..MOST_OWED {
             if !self.pay_first(now, outbox) {

@@ -1,6 +1,6 @@
 //! What a signal shows, by what its host acted on in the connection.
 
-ghost use Rattle.std.specs.Prelude.{◌≡◌, ℕ, true, false, List, [], Some, Bool};
+ghost use Rattle.std.specs.Prelude.{◌≡◌, ℕ, true, false, List, [], Some};
 ghost use Rattle.sci_telegram.specs.declared.message.Side.{Side};
 ghost use Rattle.rasta_core.specs.State.{is_open};
 ghost use Rattle.rasta_core.specs.Clock.{settled};
@@ -26,11 +26,10 @@ use point_ctl::Point;
 use signal_ctl::{Signal, shows_the_last_aspect_taken};
 
 /// A signal in its host shows an aspect other than stop exactly where this is the last aspect that its host acted on in the
-/// connection that it is in, and the controller's clock is below the moment from which the host has it be restrictive: the link's
-/// `alive_until`, or where trains are kept apart what it is caught up until, if that is earlier (*shown*). What that stands on holds at the
+/// connection that it is in, and the controller's clock is below `alive_until` (*shown*). What that stands on holds at the
 /// beginning and after every event of two ends of which the host's is settled at its clock (*starts*, *kept*).
 pub fn signal_shows_what_was_told()
-    ensures starts { (names : Names) (start : Start) (own_name peer_name : List ℕ) (signal : SignalState) (version : ℕ) (is_strict : Bool) → IsTold (begun signal_behaviour names start own_name peer_name signal version is_strict) }
+    ensures starts { (names : Names) (start : Start) (own_name peer_name : List ℕ) (signal : SignalState) (version : ℕ) → IsTold (begun signal_behaviour names start own_name peer_name signal version) }
     ensures kept { (event : Event SignalState) (world : World SignalState) → settled (reading_of world.ends.server.clock) world.ends.server.link ≡ world.ends.server.link
         → IsTold world → IsTold (happened signal_behaviour event world) }
     ensures shown { (world : World SignalState) → IsTold world → aspect_shown world.object.lamp (reading_of world.ends.server.clock) ≡ aspect_due world }
@@ -67,7 +66,7 @@ pub fn steps_find_what_was_reported()
 /// gives are reports, and a position that they tell is where the point stands then (*standing*). It is driven only in a
 /// connection, for the move in progress (*driven*).
 pub fn point_reports_its_moves()
-    ensures starts { (names : Names) (start : Start) (own_name peer_name : List ℕ) (point : PointState) (version : ℕ) (is_strict : Bool) → IsReported (begun point_behaviour names start own_name peer_name point version is_strict) }
+    ensures starts { (names : Names) (start : Start) (own_name peer_name : List ℕ) (point : PointState) (version : ℕ) → IsReported (begun point_behaviour names start own_name peer_name point version) }
     ensures kept { (event : Event PointState) (world : World PointState) → settled (reading_of world.ends.server.clock) world.ends.server.link ≡ world.ends.server.link
         → IsReported world → IsReported (happened point_behaviour event world) }
     ensures standing { (now : ℕ) (input : Input) (host : HostState PointState) → GivesStanding (host_step point_behaviour now input host)

@@ -1,6 +1,6 @@
 //! What an object is told, for every lawful object.
 
-ghost use Rattle.std.specs.Prelude.{◌≡◌, ℕ, false, ◌++◌, List, [], None, Bool};
+ghost use Rattle.std.specs.Prelude.{◌≡◌, ℕ, false, ◌++◌, List, [], None};
 ghost use Rattle.sci_telegram.specs.declared.telegram.Telegram.{Telegram};
 ghost use Rattle.rasta_core.specs.Ends.{kept, reading_of};
 ghost use Rattle.rasta_core.specs.Clock.{settled};
@@ -24,9 +24,9 @@ use rasta_core::{
 /// After every list of events, in a connection that is the last of both ends, the object was told what a beginning of
 /// the items commands that the client's `send` accepted there, in order and each once.
 pub fn told_is_given<C: Controller>()
-    ensures { (names : Names) (start : Start) (own_name peer_name : List ℕ) (object : C) (version : ℕ) (is_strict : Bool) (events : List (Event C)) → AreNames names
-        → MayRun C.behaviour names events (begun C.behaviour names start own_name peer_name object version is_strict)
-        → IsToldInConnection (run C.behaviour events (begun C.behaviour names start own_name peer_name object version is_strict)) }
+    ensures { (names : Names) (start : Start) (own_name peer_name : List ℕ) (object : C) (version : ℕ) (events : List (Event C)) → AreNames names
+        → MayRun C.behaviour names events (begun C.behaviour names start own_name peer_name object version)
+        → IsToldInConnection (run C.behaviour events (begun C.behaviour names start own_name peer_name object version)) }
 {
     starts_in_time();
     links_are_settled();

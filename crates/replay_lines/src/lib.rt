@@ -8,7 +8,6 @@ mod laws;
 mod line;
 mod lines_written;
 mod names;
-mod operation_words;
 mod outset;
 mod reply;
 mod round_trip;
@@ -27,7 +26,6 @@ pub use names::{
     name_word, node_named, point_named, point_word, route_named, route_word, section_named,
     section_word,
 };
-pub use operation_words::{close_named, move_point, open_named, release};
 pub use outset::Begun;
 pub use reply::recorded;
 pub use round_trip::written_events_are_read_again;

@@ -39,20 +39,16 @@ module _ (site : Site) (now point : ℕ) (table : Table) where
   abbrev Quiet : StepSoFar → Type 0
   Quiet = On point AwaitsNoneAt
 
-  obeyed_quiet : (command : Command) (ixl : IxlState) → OfPoints point AwaitsNoneAt ixl.known_points → OfPoints point AwaitsNoneAt (obeyed now command ixl).known_points
+  obeyed_quiet : (command : Command) (ixl : IxlState) → OfPoints point AwaitsNoneAt ixl.known_points → OfPoints point AwaitsNoneAt (obeyed command ixl).known_points
   unfolding obeyed
   obeyed_quiet (Command.Request route) ixl is = λ known e awaits.
       let found = mapped_at (unmoved_for route.0) ixl.known_points point known e
       in is found.0 found.1 (ap (λ (k : KnownPointState). k.client.stage) (sym found.2) ∙ awaits)
   obeyed_quiet (Command.Cancel route) ixl is = is
   obeyed_quiet Command.Resume ixl is = is
-  obeyed_quiet (Command.Release route) ixl is = is
-  obeyed_quiet (Command.Move point side) ixl is = is
-  obeyed_quiet (Command.Close named) ixl is = is
-  obeyed_quiet (Command.Open named) ixl is = is
 
   commanded_quiet : (cause : Option Refusal) (command : Command) (ixl : IxlState) → OfPoints point AwaitsNoneAt ixl.known_points
-      → OfPoints point AwaitsNoneAt (commanded_by now cause command ixl).known_points
+      → OfPoints point AwaitsNoneAt (commanded_by cause command ixl).known_points
   commanded_quiet None command ixl is = obeyed_quiet command ixl is
   commanded_quiet (Some cause) command ixl is = is
 

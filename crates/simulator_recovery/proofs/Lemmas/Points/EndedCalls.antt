@@ -66,19 +66,15 @@ module _ (now point : ℕ) (F : ClientState → List LinkCall → Type 0)
       in along_keeps On (looking table) (looking_turns On now table (λ number change part is. is)) (looks sections known done.heard done.client)
       (with_detector place (detector_after (occupied_heard done.heard known.occupied) done.client) (noted (Detector place) done part)) (elsewhere (Detector place) done part refl is)) is) is
 
-  obeyed_on : (command : Command) (part : StepSoFar) → On part → On (record part { ixl = obeyed now command part.ixl })
+  obeyed_on : (command : Command) (part : StepSoFar) → On part → On (record part { ixl = obeyed command part.ixl })
   unfolding obeyed
   obeyed_on (Command.Request route) part is known e =
       let found = mapped_at (unmoved_for route.0) part.ixl.known_points point known e
       in subst (λ (k : KnownPointState). F k.client (at_node (Point point) part.calls)) (sym found.2) (is found.0 found.1)
   obeyed_on (Command.Cancel route) part is known e = is known e
   obeyed_on Command.Resume part is known e = is known e
-  obeyed_on (Command.Release route) part is known e = is known e
-  obeyed_on (Command.Move point side) part is known e = is known e
-  obeyed_on (Command.Close named) part is known e = is known e
-  obeyed_on (Command.Open named) part is known e = is known e
 
-  commanded_on : (cause : Option Refusal) (command : Command) (part : StepSoFar) → On part → On (record part { ixl = commanded_by now cause command part.ixl })
+  commanded_on : (cause : Option Refusal) (command : Command) (part : StepSoFar) → On part → On (record part { ixl = commanded_by cause command part.ixl })
   commanded_on None command part is = obeyed_on command part is
   commanded_on (Some cause) command part is = is
 

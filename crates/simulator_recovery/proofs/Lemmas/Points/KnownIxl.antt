@@ -66,17 +66,13 @@ module _ (now : ℕ) (table : Table) (Clocked Heard : List KnownPointState → L
       in along_keeps HasHeard (looking table) looking_heard (looks sections known done.heard done.client) (with_detector place (detector_after (occupied_heard done.heard known.occupied) done.client) (noted (Detector place) done part))
       (hear.detector place done.calls part.ixl.known_points part.calls (still_heard part all))) (still_heard part all)) (still_heard part all)
 
-  obeyed_heard : (command : Command) (part : StepSoFar) → HasHeard part → HasHeard (record part { ixl = obeyed now command part.ixl })
+  obeyed_heard : (command : Command) (part : StepSoFar) → HasHeard part → HasHeard (record part { ixl = obeyed command part.ixl })
   unfolding obeyed
   obeyed_heard (Command.Request route) part all = hear.unmoved route.0 part.ixl.known_points part.calls all
   obeyed_heard (Command.Cancel route) part all = all
   obeyed_heard Command.Resume part all = all
-  obeyed_heard (Command.Release route) part all = all
-  obeyed_heard (Command.Move point side) part all = all
-  obeyed_heard (Command.Close named) part all = all
-  obeyed_heard (Command.Open named) part all = all
 
-  commanded_heard : (cause : Option Refusal) (command : Command) (part : StepSoFar) → HasHeard part → HasHeard (record part { ixl = commanded_by now cause command part.ixl })
+  commanded_heard : (cause : Option Refusal) (command : Command) (part : StepSoFar) → HasHeard part → HasHeard (record part { ixl = commanded_by cause command part.ixl })
   commanded_heard None command part all = obeyed_heard command part all
   commanded_heard (Some cause) command part all = all
 

@@ -615,7 +615,7 @@ module _ (now : ℕ) (table : Table) (point : ℕ) (side : Side) where
       in along_keeps Inside (looking table) looking_inside (looks sections known done.heard done.client)
       (with_detector place (detector_after (occupied_heard done.heard known.occupied) done.client) (noted (Detector place) done part)) (known_inside point side part.ixl is)) (known_inside point side part.ixl is)) (known_inside point side part.ixl is)
 
-  obeyed_inside : (command : Command) (ixl : IxlState) → KnownInside point side ixl → KnownInside point side (obeyed now command ixl)
+  obeyed_inside : (command : Command) (ixl : IxlState) → KnownInside point side ixl → KnownInside point side (obeyed command ixl)
   unfolding obeyed
   obeyed_inside (Command.Request route) ixl is known e inside =
       let found = mapped_at (unmoved_for route.0) ixl.known_points point known e
@@ -623,12 +623,8 @@ module _ (now : ℕ) (table : Table) (point : ℕ) (side : Side) where
       in (ap (λ (k : KnownPointState). is_available k.client.stage) found.2 ∙ before.0, ap (λ (k : KnownPointState). k.side) found.2 ∙ before.1)
   obeyed_inside (Command.Cancel route) ixl is known e inside = is known e inside
   obeyed_inside Command.Resume ixl is known e inside = is known e inside
-  obeyed_inside (Command.Release route) ixl is known e inside = is known e inside
-  obeyed_inside (Command.Move point side) ixl is known e inside = is known e inside
-  obeyed_inside (Command.Close named) ixl is known e inside = is known e inside
-  obeyed_inside (Command.Open named) ixl is known e inside = is known e inside
 
-  commanded_inside : (cause : Option Refusal) (command : Command) (ixl : IxlState) → KnownInside point side ixl → KnownInside point side (commanded_by now cause command ixl)
+  commanded_inside : (cause : Option Refusal) (command : Command) (ixl : IxlState) → KnownInside point side ixl → KnownInside point side (commanded_by cause command ixl)
   commanded_inside None command ixl is = obeyed_inside command ixl is
   commanded_inside (Some cause) command ixl is = is
 
