@@ -108,7 +108,6 @@ name = "N-W"
 entry = "N"
 exit = "W"
 path = ["X.b", "K.right", "LO.b"]
-points = {}
 approach = ["G1"]
 "#;
 
@@ -139,7 +138,6 @@ name = "Z-W"
 entry = "Z"
 exit = "W"
 path = ["LP.b"]
-points = {}
 approach = ["GX"]
 "#;
 

@@ -1,0 +1,10 @@
+pub mod Plan
+pub mod State
+pub mod Events
+pub mod Ends
+pub mod Network
+pub mod Refusals
+pub mod Happens
+pub mod Run
+pub mod Promise
+pub mod Runs
