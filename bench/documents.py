@@ -9,6 +9,7 @@ names         what stands in backticks and looks like a name is there: of a crat
 quotations    a definition or a clause that stands in a block stands so, word for word, in a file that is named before it
 links         a link leads to a file, and to a heading in it
 numbers       what can be counted is as it is counted anew, by the tables of bench/counted.py
+drawing       each crate of the map stands above those on which it stands
 pages         those that bench/pages.py makes are as it would write them now, and each named wrong body has its edit
 
 CHANGELOG.md tells what was: numbers aren't judged there.
@@ -20,7 +21,8 @@ import sys
 
 import counted
 import pages as made_pages
-from tree import OPTION, TOP, clauses_of_functions, commands, ends_of_paths, names, options, text_of, wrong_bodies
+import ways
+from tree import OPTION, TOP, clauses_of_functions, commands, crates, ends_of_paths, names, options, text_of, wrong_bodies
 
 # What stands in backticks, looks like a name, and is none of the tree's.
 OTHER_NAMES = {
@@ -261,7 +263,19 @@ def check_lists(page):
             yield 1, f"{what} lacks `{it}`"
 
 
-OF_NOW = [check_edits, check_numbers, check_lists]
+def check_drawing(page):
+    """In the map's drawing each crate stands above those on which it stands."""
+    if page.name != "docs/MAP.md":
+        return
+    drawing = page.text.split("```")[1].splitlines()
+    rows = {it: row for row, line in enumerate(drawing) for it in NAME.findall(line) if it in crates()}
+    named = ways.read_crates(TOP / "crates.txt")
+    for crate, lower in ((crate, it) for crate in rows for it in named[crate] if it in rows):
+        if rows[lower] <= rows[crate]:
+            yield page.text[: page.text.index("```")].count("\n") + 1 + rows[crate], f"`{crate}` stands on `{lower}`, which is drawn no lower"
+
+
+OF_NOW = [check_edits, check_numbers, check_lists, check_drawing]
 OF_ALL = [check_names, check_whereabouts, check_clauses, check_commands, check_fields]
 OF_ALL += [check_quotations, check_copies, check_links]
 

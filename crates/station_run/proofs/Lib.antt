@@ -1,3 +1,4 @@
 pub mod RunEnds
 pub mod Seen
 pub mod PanelWorlds
+pub mod PanelsBeside

@@ -1,8 +1,9 @@
 //! A station that runs in one process: its layout and its script are judged, each node gets a socket, and the station is driven
 //! for some time, while every event is recorded. At the end its picture is told. This is what `station run` does. Or it is
-//! driven from a panel, which is what `station panel` does.
+//! driven from a panel, which is what `station panel` does; that may be beside something else in the same process.
 #![tactic(auto)]
 
+mod beside;
 mod machine;
 mod panel_machine;
 mod panel_record;
@@ -12,6 +13,7 @@ mod stoppable;
 mod thing;
 mod watched;
 
+pub use beside::{Beside, PlayedBeside, attend_alone, panel_beside};
 pub use machine::{RunOptions, run};
 pub use panel_machine::{Attended, panel};
 pub use prepared::{Prepared, StationRun, prepare};

@@ -22,6 +22,3 @@ pub use review::review_text;
 pub use route_derivation::ApproachRule;
 pub use slow_key::slow_legs;
 pub use topology::layout_or_topology;
-
-#[cfg(test)]
-mod tests;

@@ -1,9 +1,0 @@
-pub mod Added
-pub mod Loops
-pub mod ValueLemmas
-pub mod Ways
-pub mod StationsFound
-pub mod LinesMade
-pub mod Seen
-pub mod TracksAmong
-pub mod Locked
