@@ -14,7 +14,8 @@ PARTS = pathlib.Path(__file__).resolve().parent.parent / "crates" / "draw_page" 
 
 def parts():
     """The names of the page's parts, in their order."""
-    return re.search(r"style!\(\[\]([^)]*)\)", (PARTS / "document.rt").read_text())[1].split()[:-1]
+    texts = re.findall(r"(\w+)!\(\[\]([^)]*)\)", (PARTS / "document.rt").read_text())
+    return [it for first, later in texts for it in [first, *later.split()[:-1]]]
 
 
 def part(name):
@@ -22,7 +23,7 @@ def part(name):
 
 
 def page(names=()):
-    return "".join(part(name) for name in names or ["style", *parts()])
+    return "".join(part(name) for name in names or parts())
 
 
 if __name__ == "__main__":

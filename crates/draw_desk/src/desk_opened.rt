@@ -18,7 +18,7 @@ use std::random::RandomSource;
 #[derive(Clone, Copy, Debug)]
 pub struct PageDrawn<'a> {
     /// The page that is served.
-    pub page: &'static str,
+    pub page: &'a str,
     /// The path of the file that is drawn.
     pub file: &'a str,
     /// The version of the program.
@@ -58,7 +58,7 @@ fn desk_with<O: Outside + Drop>(
     Ok(Desk {
         alloc,
         access,
-        page: Bytes::from_static(asked.page.as_bytes()),
+        page: Bytes::copy_from_slice(alloc, asked.page.as_bytes())?,
         file: OwnText::of(alloc, asked.file)?,
         version: asked.version,
         known: Known {

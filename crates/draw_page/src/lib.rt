@@ -19,4 +19,4 @@ mod table;
 mod toml_text;
 mod whole;
 
-pub use document::PAGE;
+pub use document::page;

@@ -107,7 +107,7 @@ function signalFix(port) {
 
 // ---- the station that serves the page, where one does: its check is the proved one
 
-let station = null, answer = null, asking = null;
+let station = null, answer = null, asking = null, isAsking = false;
 
 // What the station says of the text that is drawn now; nothing as long as it wasn't asked.
 const verdict = () => answer && answer.text === read.text ? answer : null;
@@ -121,8 +121,11 @@ function askStation() {
   if (station) asking = setTimeout(check, 250);
 }
 
+// One text at a time: a station that is slow isn't asked about those between.
 async function check() {
+  if (isAsking) return;
   const text = read.text;
+  isAsking = true;
   try {
     const said = await ask("/check", text);
     if (!said.ok) throw new Error(await said.text());
@@ -135,6 +138,8 @@ async function check() {
     clearTimeout(asking);
     asking = setTimeout(check, 3000);
   }
+  isAsking = false;
+  if (!station.isGone && text !== read.text) askStation();
   paintWord();
   paintFaults();
   repaintLit();

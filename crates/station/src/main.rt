@@ -1,12 +1,17 @@
 //! The program `station`. `station check FILE` tells whether the layout in FILE is sound, `station routes FILE` prints the
 //! routes that its table lacks, `station plan FILE` draws its track plan, and `station table FILE` prints its control table; `station sim FILE EVENTS` applies lines of events to a
 //! station of it, `station run FILE --script S --record R --for MS` runs one over sockets, `station panel FILE` has one operated
-//! from a browser, `station replay FILE RECORD` applies a recorded session, and `station chart FILE RECORD` draws it; `station decode --hex HEX` puts a datagram into
+//! from a browser, `station draw FILE` has one drawn there, `station replay FILE RECORD` applies a recorded session, and `station chart FILE RECORD` draws it; `station decode --hex HEX` puts a datagram into
 //! words, and `station decode FILE RECORD` those of a session, which `station capture FILE RECORD OUT` writes to a file for
 //! Wireshark; with `--node NAME` they do so with the record of a node. `station node FILE NAME --addresses ADDRESSES` runs a node of it as a process of its own. The status is 0 where this was done, 1 at a fault, 2 where the command line is wrong, and 3 where a session
 //! answers otherwise than it was recorded.
 #![tactic(auto)]
 
+mod draw_command;
+mod drawn_file;
+mod text_judge;
+
+use draw_command::draw_file;
 use node_panel::{NodePanelOptions, panel_of_node};
 use node_record::{
     Cut as NodeCut, FoundEnds, NodeCaptureOptions, NodeRecord, capture_node_to_file,
@@ -14,10 +19,10 @@ use node_record::{
 };
 use panel_page::PAGE;
 use station_command::{
-    Approach, CaptureArguments, ChartArguments, CheckArguments, DatagramArguments, Error, Failure,
-    NodeArguments, PanelArguments, PlanArguments, Request, RoutesArguments, RunArguments, RunFiles,
-    SessionArguments, SimArguments, TableArguments, files_of, input_once, is_memory, lines_of,
-    read_words, record_texts_of, text_of, texts_of, words,
+    Approach, CaptureArguments, ChartArguments, CheckArguments, DatagramArguments, DrawArguments,
+    Error, Failure, NodeArguments, PanelArguments, PlanArguments, Request, RoutesArguments,
+    RunArguments, RunFiles, SessionArguments, SimArguments, TableArguments, files_of, input_once,
+    is_memory, lines_of, read_words, record_texts_of, text_of, texts_of, words,
 };
 use station_layout::{Form, explain_text, plan_text, table_text};
 use station_node::node_network::WaitedStream;
@@ -76,6 +81,7 @@ fn carry_out<W: Write>(rt: &HostRuntime, request: Request<'_>, out: &mut W) -> R
     match request {
         Request::Check(arguments) => check(rt, arguments, out),
         Request::Routes(arguments) => routes(rt, arguments, out),
+        Request::Draw(arguments) => Ok(draw(rt, arguments)),
         Request::Plan(arguments) => plan(rt, arguments, out),
         Request::Table(arguments) => table(rt, arguments, out),
         Request::Sim(arguments) => sim(rt, arguments, out),
@@ -178,6 +184,16 @@ fn write_routes(rt: &HostRuntime, file: &str, completed: &Completed) -> Result<u
     }
 }
 
+/// `draw FILE [--port P]`. What is drawn is written, so it is no standard input.
+fn draw(rt: &HostRuntime, arguments: DrawArguments<'_>) -> u8 {
+    let DrawArguments { layout, port } = arguments;
+    if layout == INPUT {
+        let _ = eprintln!(rt; "can't write {layout}");
+        return 1;
+    }
+    draw_file(rt, layout, port_of(port))
+}
+
 /// Prints the digest of a layout.
 fn tell_digest(rt: &HostRuntime, text: &str) -> Result<u8, Failure> {
     let Ok(digest) = layout_digest(rt.alloc(), text) else {
@@ -266,9 +282,9 @@ fn run<W: Write>(
 }
 
 /// The version of the program.
-const VERSION: &str = "1.0.0";
+pub(crate) const VERSION: &str = "1.0.0";
 
-/// The port of a panel's page, where the words say none.
+/// The port of a page, where the words say none.
 const PORT: u16 = 8080;
 
 /// The port of a page: the one that is given, which has 16 bits.
@@ -280,10 +296,10 @@ fn port_of(given: Option<u64>) -> u16 {
 }
 
 /// The record of a panel, where the words name none.
-const RECORD: &str = "panel.session";
+pub(crate) const RECORD: &str = "panel.session";
 
 /// Up to how many bytes of datagrams a panel stands: 1 GiB.
-const MEMORY: u64 = 1 << 30;
+pub(crate) const MEMORY: u64 = 1 << 30;
 
 /// `panel FILE [--port P] [--record R] [--record-size N] [--for MS] [--stop-file F] [--node ADDRESS]`. The track plan is drawn first.
 fn panel(rt: &HostRuntime, arguments: PanelArguments<'_>) -> Result<u8, Failure> {

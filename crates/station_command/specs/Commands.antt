@@ -83,6 +83,7 @@ abbrev pub commands : List Command
 commands =
     command (codes "check") (layout ∷ may Switch (codes "explain") ∷ may Switch (codes "complete") ∷ may Switch (codes "digest") ∷ [])
     ∷ record (command (codes "routes") (layout ∷ may Word (codes "from") ∷ may Word (codes "approach") ∷ may Switch (codes "write") ∷ [])) { asks = asks_for_routes }
+    ∷ command (codes "draw") (layout ∷ may (Number 1 65535) (codes "port") ∷ [])
     ∷ command (codes "plan") (layout ∷ may Word (codes "route") ∷ may Word (codes "picture") ∷ [])
     ∷ command (codes "table") (layout ∷ may Switch (codes "csv") ∷ [])
     ∷ command (codes "sim") (layout ∷ second ∷ [])

@@ -23,6 +23,7 @@ abbrev pub says : Request → Said
 says (requests.Check o) = (codes "check", one o.layout.now ∷ Switched o.explained ∷ Switched o.complete ∷ Switched o.digest ∷ [])
 says (requests.Routes o) =
     (codes "routes", one o.layout.now ∷ Worded (option_copied o.from) ∷ Worded (option_map word_of o.approach) ∷ Switched o.write ∷ [])
+says (requests.Draw o) = (codes "draw", one o.layout.now ∷ Counted o.port ∷ [])
 says (requests.Plan o) = (codes "plan", one o.layout.now ∷ Worded (option_copied o.route) ∷ Worded (option_copied o.picture) ∷ [])
 says (requests.Table o) = (codes "table", one o.layout.now ∷ Switched o.csv ∷ [])
 says (requests.Sim o) = (codes "sim", one o.layout.now ∷ one o.events.now ∷ [])

@@ -12,16 +12,16 @@ ghost use Rattle.station_command.specs.inside.Matches.{asked_of_rows, value_in};
 ghost use Rattle.clap.specs.declared.error.kind.ErrorKind.TheVariants as kind;
 
 use crate::command_table::{
-    ADDRESSES, APPROACH, CAPTURE, CHART, CHECK, CLOCK, COMPLETE, CSV, DECODE, DIGEST, EXPLAIN,
-    FILE, FOR, FORCE, FROM, HEX, HOLD, LAYOUT, NAME, NODE, OPERATOR, OUT, PANEL, PICTURE, PLAN,
-    PORT, RECORD, RECORD_SIZE, REPLAY, ROUTE, ROUTES, RUN, SCRIPT, SECOND, SIM, STOP_FILE, TABLE,
-    TO, WRITE,
+    ADDRESSES, APPROACH, CAPTURE, CHART, CHECK, CLOCK, COMPLETE, CSV, DECODE, DIGEST, DRAW,
+    EXPLAIN, FILE, FOR, FORCE, FROM, HEX, HOLD, LAYOUT, NAME, NODE, OPERATOR, OUT, PANEL, PICTURE,
+    PLAN, PORT, RECORD, RECORD_SIZE, REPLAY, ROUTE, ROUTES, RUN, SCRIPT, SECOND, SIM, STOP_FILE,
+    TABLE, TO, WRITE,
 };
 use crate::line::station;
 use crate::request::{
-    Approach, CaptureArguments, ChartArguments, CheckArguments, DatagramArguments, NodeArguments,
-    PanelArguments, PlanArguments, Request, RoutesArguments, RunArguments, SessionArguments,
-    SimArguments, TableArguments,
+    Approach, CaptureArguments, ChartArguments, CheckArguments, DatagramArguments, DrawArguments,
+    NodeArguments, PanelArguments, PlanArguments, Request, RoutesArguments, RunArguments,
+    SessionArguments, SimArguments, TableArguments,
 };
 use clap::error::ErrorKind;
 use clap::{ArgMatches, Command, Error};
@@ -119,6 +119,16 @@ fn routes<'a>(matches: &ArgMatches<'a>) -> Option<Request<'a>>
         from,
         approach,
         write,
+    }))
+}
+
+/// The drawing that is asked for.
+fn draw<'a>(matches: &ArgMatches<'a>) -> Option<Request<'a>>
+    ensures { option_map says result ≡ asked_by (value_in matches.now) (codes "draw") }
+{
+    Some(Request::Draw(DrawArguments {
+        layout: word(matches, FILE)?,
+        port: number_given(matches, PORT),
     }))
 }
 
@@ -269,6 +279,7 @@ fn request_by<'a>(name: &str, matches: &ArgMatches<'a>) -> Option<Request<'a>>
     match name {
         CHECK => check(matches),
         ROUTES => routes(matches),
+        DRAW => draw(matches),
         PLAN => plan(matches),
         TABLE => table(matches),
         SIM => sim(matches),

@@ -29,6 +29,8 @@ pub(crate) const NODE: &str = "node";
 
 pub(crate) const ROUTES: &str = "routes";
 
+pub(crate) const DRAW: &str = "draw";
+
 /// The file of the layout, and the one that is applied to it.
 pub(crate) const FILE: &str = "FILE";
 
@@ -170,6 +172,20 @@ pub(crate) const COMMANDS: &[Entry] = &[
             Argument(FROM, Kind::Word("SIGNALS"), OPTIONAL, Help::FromSignals),
             Argument(APPROACH, Kind::Word("RULE"), OPTIONAL, Help::Approach),
             Argument(WRITE, Kind::Switch, OPTIONAL, Help::Write),
+        ],
+    },
+    // `draw FILE [--port P]`
+    Entry {
+        word: DRAW,
+        help: CommandHelp::Draw,
+        arguments: &[
+            Argument(FILE, Kind::File("FILE"), NEEDED, Help::FileDrawn),
+            Argument(
+                PORT,
+                Kind::Number("P", LOWEST, HIGHEST),
+                OPTIONAL,
+                Help::Port,
+            ),
         ],
     },
     // `plan FILE [--route R] [--picture PICTURE]`

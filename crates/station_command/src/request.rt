@@ -10,6 +10,8 @@ pub enum Request<'a> {
     Check(CheckArguments<'a>),
     /// `routes FILE [--from SIGNALS] [--approach RULE] [--write]`: the routes that the layout in a file lacks.
     Routes(RoutesArguments<'a>),
+    /// `draw FILE [--port P]`: a page on which the layout in a file is drawn.
+    Draw(DrawArguments<'a>),
     /// `plan FILE [--route R] [--picture PICTURE]`: the track plan of the layout in a file.
     Plan(PlanArguments<'a>),
     /// `table FILE [--csv]`: the control table of the layout in a file.
@@ -63,6 +65,13 @@ pub struct RoutesArguments<'a> {
     pub from: Option<&'a str>,
     pub approach: Option<Approach>,
     pub write: bool,
+}
+
+/// The file of a layout, which may not be there yet, and the port of the page.
+#[derive(Clone, Copy)]
+pub struct DrawArguments<'a> {
+    pub layout: &'a str,
+    pub port: Option<u64>,
 }
 
 /// The file of a layout, the route that is drawn thick, and the file with what is seen.
@@ -168,6 +177,9 @@ pub struct NodeArguments<'a> {
     pub stop_file: Option<&'a str>,
 }
 
+/// How many milliseconds a datagram waits for those before it, where the words say nothing.
+pub const USUAL_HOLD: u64 = 60;
+
 impl NodeArguments<'_> {
     /// The first reading of the node's clock, in milliseconds: 0 where the words say none.
     pub fn first_reading(&self) -> u64
@@ -176,10 +188,10 @@ impl NodeArguments<'_> {
         self.clock.unwrap_or(0)
     }
 
-    /// How many milliseconds a datagram waits for those before it: 60 where the words say nothing.
+    /// How many milliseconds a datagram waits for those before it.
     pub fn longest_wait(&self) -> u64
-        ensures { result ≡ unwrap_or self.now.hold 60 }
+        ensures { result ≡ unwrap_or self.now.hold USUAL_HOLD }
     {
-        self.hold.unwrap_or(60)
+        self.hold.unwrap_or(USUAL_HOLD)
     }
 }

@@ -7,6 +7,7 @@ pub(crate) const ABOUT: &str = "The interlocking of a railway station";
 pub(crate) enum CommandHelp {
     Check,
     Routes,
+    Draw,
     Plan,
     Table,
     Sim,
@@ -25,6 +26,7 @@ impl CommandHelp {
         match self {
             CommandHelp::Check => CHECK,
             CommandHelp::Routes => ROUTES,
+            CommandHelp::Draw => DRAW,
             CommandHelp::Plan => PLAN,
             CommandHelp::Table => TABLE,
             CommandHelp::Sim => SIM,
@@ -43,6 +45,7 @@ impl CommandHelp {
         match self {
             CommandHelp::Check => CHECK_DETAILS,
             CommandHelp::Routes => ROUTES_DETAILS,
+            CommandHelp::Draw => DRAW_DETAILS,
             CommandHelp::Plan => PLAN_DETAILS,
             CommandHelp::Table => TABLE_DETAILS,
             CommandHelp::Sim => SIM_DETAILS,
@@ -67,6 +70,7 @@ pub(crate) enum Help {
     FromSignals,
     Approach,
     Write,
+    FileDrawn,
     Route,
     Picture,
     Csv,
@@ -108,6 +112,7 @@ impl Help {
             Help::FromSignals => FROM_SIGNALS,
             Help::Approach => APPROACH,
             Help::Write => WRITE,
+            Help::FileDrawn => FILE_DRAWN,
             Help::Route => ROUTE,
             Help::Picture => PICTURE,
             Help::Csv => CSV,
@@ -156,6 +161,8 @@ const APPROACH: &str =
     "How far the approach of a route leads back: signal, to the signal before, or berth, over the tracks behind its signal; else signal";
 
 const WRITE: &str = "Writes the routes into the file in place of printing them";
+
+const FILE_DRAWN: &str = "The layout that is drawn, a TOML file, which may not be there yet";
 
 const ROUTE: &str = "The route that is drawn thick, with its flank points and approach";
 
@@ -218,6 +225,21 @@ With --write the routes are written into the file, behind those that stand there
 it changes. The file is written only where the new text is a sound layout, as for check.
 
 Example: station routes examples/small.toml --from S1,S2";
+
+const DRAW: &str = "Opens a page in a browser on which a station is drawn";
+
+const DRAW_DETAILS: &str = "Opens a page in a browser on which a station is drawn.
+
+The address of a page is printed, for a browser on this machine. There rails are drawn, with joints,
+signals and borders: points, sections and the table of routes follow. Each text is checked as by check
+with --explain and --complete, and the page tells what that says.
+
+FILE may not be there yet. What is saved is written whole, and never over a file that something else
+changed meanwhile, unless the person at the page wants that. Run it starts a panel of what was checked
+last, as panel does, at an address of its own, until it is stopped there. Its session is recorded in
+panel.session. draw itself runs until it is stopped.
+
+Example: station draw mine.toml";
 
 const PLAN: &str = "Draws the track plan of a layout";
 

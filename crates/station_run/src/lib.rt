@@ -1,6 +1,6 @@
 //! A station that runs in one process: its layout and its script are judged, each node gets a socket, and the station is driven
 //! for some time, while every event is recorded. At the end its picture is told. This is what `station run` does. Or it is
-//! driven from a panel, which is what `station panel` does; that may be beside something else in the same process.
+//! driven from a panel, which is what `station panel` does, and what `station draw` does beside its page.
 #![tactic(auto)]
 
 mod beside;

@@ -29,6 +29,8 @@ mod panel;
 #[cfg(test)]
 mod panel_bench;
 #[cfg(test)]
+mod panel_beside;
+#[cfg(test)]
 mod panel_of_node;
 #[cfg(test)]
 mod run_bench;

@@ -14,6 +14,7 @@ Usage: station <COMMAND>
 Commands:
   check    Checks the layout of a station and its table of routes
   routes   Prints the routes that the table of a layout lacks
+  draw     Opens a page in a browser on which a station is drawn
   plan     Draws the track plan of a layout
   table    Prints the control table of a layout
   sim      Applies lines of events to a station of a layout
@@ -551,6 +552,18 @@ Usage: station <COMMAND>
 For more information, try '--help'.
 ";
 
+const SHORT_DRAW_HELP: &str = "Opens a page in a browser on which a station is drawn
+
+Usage: station draw [OPTIONS] <FILE>
+
+Arguments:
+  <FILE>  The layout that is drawn, a TOML file, which may not be there yet
+
+Options:
+      --port <P>  The port of the page, from 1 to 65535, else 8080
+  -h, --help      Print help (see more with '--help')
+";
+
 /// No command line here has more words.
 const MOST_WORDS: usize = 8;
 
@@ -564,6 +577,7 @@ const HELPED: &[Printed] = &[
     ("station check --help", 0, CHECK_HELP),
     ("station check -h", 0, SHORT_CHECK_HELP),
     ("station routes -h", 0, SHORT_ROUTES_HELP),
+    ("station draw -h", 0, SHORT_DRAW_HELP),
     ("station plan --help", 0, PLAN_HELP),
     ("station table --help", 0, TABLE_HELP),
     ("station sim --help", 0, SIM_HELP),
