@@ -1,5 +1,5 @@
 //! Tests of derived routes: over small layouts they lead all passable ways and no other. The ways are found by the definition
-//! alone, among all walks from port to port over elements that come once. What a table lacks of them is written into its layout.
+//! alone, among all walks from port to port over elements that come once.
 //!
 //! There is nothing here but tests.
 #![tactic(auto)]
@@ -8,8 +8,6 @@
 mod by_chance;
 #[cfg(test)]
 mod compared;
-#[cfg(test)]
-mod completed_tables;
 #[cfg(test)]
 mod small;
 #[cfg(test)]

@@ -11,7 +11,9 @@ use station_record::{
 };
 use std::alloc::Global;
 use std::io::Write;
-use table_review::{ApproachRule, Asked as AskedRoutes, ReviewFault, lacking_text, review_text};
+use table_review::{
+    ApproachRule, Asked as AskedRoutes, ReviewFault, completed_text, lacking_text, review_text,
+};
 
 /// What is asked of texts: of a layout and another text, where there is one, with the other words of a line.
 #[derive(Clone, Copy)]
@@ -33,6 +35,7 @@ impl<'a> Asked<'a> {
         let status = match self.kind {
             Kind::Routes => tell_found(self.lacking(alloc), out, &mut told),
             Kind::Complete => tell_found(review_text(alloc, self.layout), out, &mut told),
+            Kind::Completed => tell_found(self.completed(alloc), out, &mut told),
             Kind::Report | Kind::Explain | Kind::Table | Kind::Csv | Kind::Plan => {
                 self.tell_layout(alloc, out, &mut told)
             }
@@ -67,14 +70,26 @@ impl<'a> Asked<'a> {
         }
     }
 
-    /// The routes that a layout lacks.
-    fn lacking(self, alloc: Global) -> Result<Vec<u8>, ReviewFault> {
-        let asked = AskedRoutes {
+    /// What is asked of the routes of a layout.
+    fn routes(self) -> AskedRoutes<'a> {
+        AskedRoutes {
             text: self.layout,
             from: None,
             rule: ApproachRule::Signal,
-        };
-        lacking_text(alloc, &asked)
+        }
+    }
+
+    /// The routes that a layout lacks.
+    fn lacking(self, alloc: Global) -> Result<Vec<u8>, ReviewFault> {
+        lacking_text(alloc, &self.routes())
+    }
+
+    /// A layout with the routes that it lacks; nothing where it lacks none.
+    fn completed(self, alloc: Global) -> Result<Vec<u8>, ReviewFault> {
+        match completed_text(alloc, &self.routes())? {
+            Some(completed) => Ok(completed.text),
+            None => Ok(Vec::new(alloc)),
+        }
     }
 
     /// Tells what is asked of the record of a node, and answers the status.

@@ -33,6 +33,7 @@ fn carry_out<W: Write>(rt: &HostRuntime, run: &str, out: &mut W) -> Result<(), F
         | Kind::Explain
         | Kind::Routes
         | Kind::Complete
+        | Kind::Completed
         | Kind::Contents => cases::carry_out(rt, kind, words, out),
         Kind::Restarts => lists::carry_out(rt, words, out),
         _ => with_texts(rt, kind, words, out),
