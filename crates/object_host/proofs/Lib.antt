@@ -1,5 +1,4 @@
 pub mod OutboxPosts
-pub mod FewSent
 pub mod UnderWay
 pub mod Status
 pub mod ItemActions

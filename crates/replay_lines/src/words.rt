@@ -3,11 +3,10 @@
 ghost use Rattle.std.specs.Prelude.{◌≡◌, IfOk, length, replicate};
 ghost use Rattle.std.specs.List.{list_any};
 ghost use Rattle.replay_lines.specs.Names.{node_names};
-ghost use Rattle.replay_lines.specs.Events.{are_formed, cancel, clear, deliver, event, has_name, lose, name_nodes, number_up_to, occupy, position_named, reach, requested, restart, resume, set, steps_set, tick, time};
+ghost use Rattle.replay_lines.specs.Events.{are_formed, cancel, clear, deliver, event, has_name, lose, name_nodes, number_up_to, occupy, position_named, reach, restart, resume, set, steps_set, tick, time};
 ghost use Rattle.replay_lines.specs.Given.{Gives};
 ghost use Rattle.replay_lines.specs.Scripted.{script_event};
 
-use crate::operation_words::{close_named, move_point, open_named, release};
 use crate::{node_named, point_named, route_named, section_named};
 use ixl_spec::{Command, LATEST_CLOCK, Layout, Occupancy, Position};
 use replay_words::{
@@ -26,10 +25,6 @@ pub fn read_event(alloc: Global, layout: &Layout, words: Words<'_>) -> Result<Ev
         Some("set") => set(layout, words),
         Some("cancel") => cancel(layout, words),
         Some("resume") => resume(words),
-        Some("release") => requested(release(layout, words)),
-        Some("move") => requested(move_point(layout, words)),
-        Some("close") => requested(close_named(layout, words)),
-        Some("open") => requested(open_named(layout, words)),
         Some("occupy") => occupy(layout, words),
         Some("clear") => clear(layout, words),
         Some("tick") => tick(layout, words),
@@ -52,10 +47,6 @@ pub fn read_script_event(layout: &Layout, words: Words<'_>) -> Result<Event, Fau
         Some("set") => set(layout, rest),
         Some("cancel") => cancel(layout, rest),
         Some("resume") => resume(rest),
-        Some("release") => requested(release(layout, rest)),
-        Some("move") => requested(move_point(layout, rest)),
-        Some("close") => requested(close_named(layout, rest)),
-        Some("open") => requested(open_named(layout, rest)),
         Some("occupy") => occupy(layout, rest),
         Some("clear") => clear(layout, rest),
         Some("restart") => restart(layout, rest),
@@ -88,13 +79,6 @@ fn resume(mut words: Words<'_>) -> Result<Event, Fault>
         None => Ok(Event::Request(Command::Resume)),
         Some(_) => Err(Fault::Words),
     }
-}
-
-/// The event in which a command comes.
-fn requested(command: Result<Command, Fault>) -> Result<Event, Fault>
-    ensures { result ≡ requested command }
-{
-    Ok(Event::Request(command?))
 }
 
 fn occupy(layout: &Layout, mut words: Words<'_>) -> Result<Event, Fault>

@@ -29,8 +29,7 @@ use Rattle.simulator_spec.specs.ixl_client.Client.{new_client}
 use Rattle.simulator_spec.specs.ixl_client.ClientSoFar.{calling}
 use Rattle.simulator_spec.specs.ixl_client.Meaning.{meaning}
 use Rattle.simulator_spec.specs.ixl_client.Step.{fallen as client_fallen, posting as client_posting, rising, following as client_following, acting as client_acting, acting_all as client_acting_all, clocked, hearing as client_hearing, commanding as client_commanding, ticking as client_ticking}
-use Rattle.simulator_spec.specs.ixl_spec.Commands.{closed_refusal, locking_refusal, moved_at_once, refusal as refused, obeyed}
-use Rattle.simulator_spec.specs.ixl_spec.Operations.{lies_in_closed}
+use Rattle.simulator_spec.specs.ixl_spec.Commands.{locking_refusal, refusal as refused, obeyed}
 use Rattle.simulator_spec.specs.ixl_spec.Rules.{withdrawing, ending_authority, freeing_next, freeing_by_passage, freeing_by_cancel, moving_one, moving, proceeding}
 use Rattle.simulator_spec.specs.ixl_spec.Step.{all_clocked, known_signal_hearing, known_point_hearing, looking_by, detector_hearing, watching, node_of, node_hearing, given as ixl_given, known_signal_ticking, known_point_ticking, detector_ticking, ticked, stepped}
 use Rattle.simulator_spec.specs.ixl_spec.StepSoFar.{known_signal_after, giving_aspect, known_point_after, giving_move, detector_after, at_route}
@@ -107,15 +106,15 @@ leads at (first ∷ others) world =
     by_test false made_so left_out = left_out
 
 holds_one : (at : Port) → held_of short_table (played at to_authority (short_begun at)).interlocking (played at to_authority (short_begun at)).frozen ≡ the_pair ∷ []
-unfolding padding block_words sequence after_block after_blocks digest code intact payload fields text pdu_writing text_of opening_of disconnection_of nothing_of item_of items_to_end items_of body_of pdu_read pdu_reading telegram_writing kind_at name_spelled aspect_in message_in telegram_in telegram_reading created opens opening link_ticking closing_by sending_item acceptance answer_to_send hearing_bytes receiving settled deadline alive_until quiet_until state_at is_up_at header_of pdu_of sending telling limited entered link_beating giving closing link_beginning requesting meeting judging granting joining ahead behind age still_waiting taking repeated retagged repeating link_answering missing handing bringing in_turn admitting testing connected asking resting by_state link_hearing posted fallen keeping risen new_host posting posting_all violating answering initial_status initialising commanding following acting acting_all received hearing paying beginning given beating host_step places_below places number_below number at new_client calling meaning client_fallen client_posting rising client_following client_acting client_acting_all clocked client_hearing client_commanding client_ticking locking_refusal closed_refusal refused obeyed moved_at_once withdrawing ending_authority freeing_next freeing_by_passage freeing_by_cancel moving_one moving proceeding all_clocked known_signal_hearing known_point_hearing looking_by detector_hearing watching node_of node_hearing ixl_given known_signal_ticking known_point_ticking detector_ticking ticked stepped known_signal_after giving_aspect known_point_after giving_move detector_after at_route is_clear is_occupied is_known is_at_known_stop new_ixl world_at detector_stepped happens interlocking_stepped passed point_stepped signal_stepped stepped_at refusal refusal_of_time controller_after controller_anew controller_later sent_by_controller held_of sending_all sending_one host_after lies_in_closed
+unfolding padding block_words sequence after_block after_blocks digest code intact payload fields text pdu_writing text_of opening_of disconnection_of nothing_of item_of items_to_end items_of body_of pdu_read pdu_reading telegram_writing kind_at name_spelled aspect_in message_in telegram_in telegram_reading created opens opening link_ticking closing_by sending_item acceptance answer_to_send hearing_bytes receiving settled deadline alive_until quiet_until state_at is_up_at header_of pdu_of sending telling limited entered link_beating giving closing link_beginning requesting meeting judging granting joining ahead behind age still_waiting taking repeated retagged repeating link_answering missing handing bringing in_turn admitting testing connected asking resting by_state link_hearing posted fallen keeping risen new_host posting posting_all violating answering initial_status initialising commanding following acting acting_all received hearing paying beginning given beating host_step places_below places number_below number at new_client calling meaning client_fallen client_posting rising client_following client_acting client_acting_all clocked client_hearing client_commanding client_ticking locking_refusal refused obeyed withdrawing ending_authority freeing_next freeing_by_passage freeing_by_cancel moving_one moving proceeding all_clocked known_signal_hearing known_point_hearing looking_by detector_hearing watching node_of node_hearing ixl_given known_signal_ticking known_point_ticking detector_ticking ticked stepped known_signal_after giving_aspect known_point_after giving_move detector_after at_route is_clear is_occupied is_known is_at_known_stop new_ixl world_at detector_stepped happens interlocking_stepped passed point_stepped signal_stepped stepped_at refusal refusal_of_time controller_after controller_anew controller_later sent_by_controller held_of sending_all sending_one host_after
 holds_one at = refl
 
 holds_still : (at : Port) → held_of short_table (played at to_another (short_begun at)).interlocking (played at to_another (short_begun at)).frozen ≡ the_pair ∷ []
-unfolding padding block_words sequence after_block after_blocks digest code intact payload fields text pdu_writing text_of opening_of disconnection_of nothing_of item_of items_to_end items_of body_of pdu_read pdu_reading telegram_writing kind_at name_spelled aspect_in message_in telegram_in telegram_reading created opens opening link_ticking closing_by sending_item acceptance answer_to_send hearing_bytes receiving settled deadline alive_until quiet_until state_at is_up_at header_of pdu_of sending telling limited entered link_beating giving closing link_beginning requesting meeting judging granting joining ahead behind age still_waiting taking repeated retagged repeating link_answering missing handing bringing in_turn admitting testing connected asking resting by_state link_hearing posted fallen keeping risen new_host posting posting_all violating answering initial_status initialising commanding following acting acting_all received hearing paying beginning given beating host_step places_below places number_below number at new_client calling meaning client_fallen client_posting rising client_following client_acting client_acting_all clocked client_hearing client_commanding client_ticking locking_refusal closed_refusal refused obeyed moved_at_once withdrawing ending_authority freeing_next freeing_by_passage freeing_by_cancel moving_one moving proceeding all_clocked known_signal_hearing known_point_hearing looking_by detector_hearing watching node_of node_hearing ixl_given known_signal_ticking known_point_ticking detector_ticking ticked stepped known_signal_after giving_aspect known_point_after giving_move detector_after at_route is_clear is_occupied is_known is_at_known_stop new_ixl world_at detector_stepped happens interlocking_stepped passed point_stepped signal_stepped stepped_at refusal refusal_of_time controller_after controller_anew controller_later sent_by_controller held_of sending_all sending_one host_after lies_in_closed
+unfolding padding block_words sequence after_block after_blocks digest code intact payload fields text pdu_writing text_of opening_of disconnection_of nothing_of item_of items_to_end items_of body_of pdu_read pdu_reading telegram_writing kind_at name_spelled aspect_in message_in telegram_in telegram_reading created opens opening link_ticking closing_by sending_item acceptance answer_to_send hearing_bytes receiving settled deadline alive_until quiet_until state_at is_up_at header_of pdu_of sending telling limited entered link_beating giving closing link_beginning requesting meeting judging granting joining ahead behind age still_waiting taking repeated retagged repeating link_answering missing handing bringing in_turn admitting testing connected asking resting by_state link_hearing posted fallen keeping risen new_host posting posting_all violating answering initial_status initialising commanding following acting acting_all received hearing paying beginning given beating host_step places_below places number_below number at new_client calling meaning client_fallen client_posting rising client_following client_acting client_acting_all clocked client_hearing client_commanding client_ticking locking_refusal refused obeyed withdrawing ending_authority freeing_next freeing_by_passage freeing_by_cancel moving_one moving proceeding all_clocked known_signal_hearing known_point_hearing looking_by detector_hearing watching node_of node_hearing ixl_given known_signal_ticking known_point_ticking detector_ticking ticked stepped known_signal_after giving_aspect known_point_after giving_move detector_after at_route is_clear is_occupied is_known is_at_known_stop new_ixl world_at detector_stepped happens interlocking_stepped passed point_stepped signal_stepped stepped_at refusal refusal_of_time controller_after controller_anew controller_later sent_by_controller held_of sending_all sending_one host_after
 holds_still at = refl
 
 holds_none : (at : Port) → held_of short_table (played at to_another (short_begun at)).interlocking (played at to_authority (short_begun at)).frozen ≡ []
-unfolding padding block_words sequence after_block after_blocks digest code intact payload fields text pdu_writing text_of opening_of disconnection_of nothing_of item_of items_to_end items_of body_of pdu_read pdu_reading telegram_writing kind_at name_spelled aspect_in message_in telegram_in telegram_reading created opens opening link_ticking closing_by sending_item acceptance answer_to_send hearing_bytes receiving settled deadline alive_until quiet_until state_at is_up_at header_of pdu_of sending telling limited entered link_beating giving closing link_beginning requesting meeting judging granting joining ahead behind age still_waiting taking repeated retagged repeating link_answering missing handing bringing in_turn admitting testing connected asking resting by_state link_hearing posted fallen keeping risen new_host posting posting_all violating answering initial_status initialising commanding following acting acting_all received hearing paying beginning given beating host_step places_below places number_below number at new_client calling meaning client_fallen client_posting rising client_following client_acting client_acting_all clocked client_hearing client_commanding client_ticking locking_refusal closed_refusal refused obeyed moved_at_once withdrawing ending_authority freeing_next freeing_by_passage freeing_by_cancel moving_one moving proceeding all_clocked known_signal_hearing known_point_hearing looking_by detector_hearing watching node_of node_hearing ixl_given known_signal_ticking known_point_ticking detector_ticking ticked stepped known_signal_after giving_aspect known_point_after giving_move detector_after at_route is_clear is_occupied is_known is_at_known_stop new_ixl world_at detector_stepped happens interlocking_stepped passed point_stepped signal_stepped stepped_at refusal refusal_of_time controller_after controller_anew controller_later sent_by_controller held_of sending_all sending_one host_after lies_in_closed
+unfolding padding block_words sequence after_block after_blocks digest code intact payload fields text pdu_writing text_of opening_of disconnection_of nothing_of item_of items_to_end items_of body_of pdu_read pdu_reading telegram_writing kind_at name_spelled aspect_in message_in telegram_in telegram_reading created opens opening link_ticking closing_by sending_item acceptance answer_to_send hearing_bytes receiving settled deadline alive_until quiet_until state_at is_up_at header_of pdu_of sending telling limited entered link_beating giving closing link_beginning requesting meeting judging granting joining ahead behind age still_waiting taking repeated retagged repeating link_answering missing handing bringing in_turn admitting testing connected asking resting by_state link_hearing posted fallen keeping risen new_host posting posting_all violating answering initial_status initialising commanding following acting acting_all received hearing paying beginning given beating host_step places_below places number_below number at new_client calling meaning client_fallen client_posting rising client_following client_acting client_acting_all clocked client_hearing client_commanding client_ticking locking_refusal refused obeyed withdrawing ending_authority freeing_next freeing_by_passage freeing_by_cancel moving_one moving proceeding all_clocked known_signal_hearing known_point_hearing looking_by detector_hearing watching node_of node_hearing ixl_given known_signal_ticking known_point_ticking detector_ticking ticked stepped known_signal_after giving_aspect known_point_after giving_move detector_after at_route is_clear is_occupied is_known is_at_known_stop new_ixl world_at detector_stepped happens interlocking_stepped passed point_stepped signal_stepped stepped_at refusal refusal_of_time controller_after controller_anew controller_later sent_by_controller held_of sending_all sending_one host_after
 holds_none at = refl
 
 pub frozen : (at : Port) → NoFrozenRows at
@@ -129,15 +128,15 @@ frozen at = record {
 }
 
 shows_stop : (at : Port) → map shown_by (played at to_stop (short_begun at)).signals ≡ aspects.Stop ∷ []
-unfolding padding block_words sequence after_block after_blocks digest code intact payload fields text pdu_writing text_of opening_of disconnection_of nothing_of item_of items_to_end items_of body_of pdu_read pdu_reading telegram_writing kind_at name_spelled aspect_in message_in telegram_in telegram_reading created opens opening link_ticking closing_by sending_item acceptance answer_to_send hearing_bytes receiving settled deadline alive_until quiet_until state_at is_up_at header_of pdu_of sending telling limited entered link_beating giving closing link_beginning requesting meeting judging granting joining ahead behind age still_waiting taking repeated retagged repeating link_answering missing handing bringing in_turn admitting testing connected asking resting by_state link_hearing posted fallen keeping risen new_host posting posting_all violating answering initial_status initialising commanding following acting acting_all received hearing paying beginning given beating host_step places_below places number_below number at new_client calling meaning client_fallen client_posting rising client_following client_acting client_acting_all clocked client_hearing client_commanding client_ticking locking_refusal closed_refusal refused obeyed moved_at_once withdrawing ending_authority freeing_next freeing_by_passage freeing_by_cancel moving_one moving proceeding all_clocked known_signal_hearing known_point_hearing looking_by detector_hearing watching node_of node_hearing ixl_given known_signal_ticking known_point_ticking detector_ticking ticked stepped known_signal_after giving_aspect known_point_after giving_move detector_after at_route is_clear is_occupied is_known is_at_known_stop new_ixl world_at detector_stepped happens interlocking_stepped passed point_stepped signal_stepped stepped_at refusal refusal_of_time controller_after controller_anew controller_later sent_by_controller held_of sending_all sending_one host_after lies_in_closed
+unfolding padding block_words sequence after_block after_blocks digest code intact payload fields text pdu_writing text_of opening_of disconnection_of nothing_of item_of items_to_end items_of body_of pdu_read pdu_reading telegram_writing kind_at name_spelled aspect_in message_in telegram_in telegram_reading created opens opening link_ticking closing_by sending_item acceptance answer_to_send hearing_bytes receiving settled deadline alive_until quiet_until state_at is_up_at header_of pdu_of sending telling limited entered link_beating giving closing link_beginning requesting meeting judging granting joining ahead behind age still_waiting taking repeated retagged repeating link_answering missing handing bringing in_turn admitting testing connected asking resting by_state link_hearing posted fallen keeping risen new_host posting posting_all violating answering initial_status initialising commanding following acting acting_all received hearing paying beginning given beating host_step places_below places number_below number at new_client calling meaning client_fallen client_posting rising client_following client_acting client_acting_all clocked client_hearing client_commanding client_ticking locking_refusal refused obeyed withdrawing ending_authority freeing_next freeing_by_passage freeing_by_cancel moving_one moving proceeding all_clocked known_signal_hearing known_point_hearing looking_by detector_hearing watching node_of node_hearing ixl_given known_signal_ticking known_point_ticking detector_ticking ticked stepped known_signal_after giving_aspect known_point_after giving_move detector_after at_route is_clear is_occupied is_known is_at_known_stop new_ixl world_at detector_stepped happens interlocking_stepped passed point_stepped signal_stepped stepped_at refusal refusal_of_time controller_after controller_anew controller_later sent_by_controller held_of sending_all sending_one host_after
 shows_stop at = refl
 
 by_all_lines : (at : Port) → shown_by_line at (lines_after signal_behaviour lamp_line (came_to_it at) (signal_begun at)) ≡ aspects.Stop
-unfolding with_stop padding block_words sequence after_block after_blocks digest code intact payload fields text pdu_writing text_of opening_of disconnection_of nothing_of item_of items_to_end items_of body_of pdu_read pdu_reading telegram_writing kind_at name_spelled aspect_in message_in telegram_in telegram_reading created opens opening link_ticking closing_by sending_item acceptance answer_to_send hearing_bytes receiving settled deadline alive_until quiet_until state_at is_up_at header_of pdu_of sending telling limited entered link_beating giving closing link_beginning requesting meeting judging granting joining ahead behind age still_waiting taking repeated retagged repeating link_answering missing handing bringing in_turn admitting testing connected asking resting by_state link_hearing posted fallen keeping risen new_host posting posting_all violating answering initial_status initialising commanding following acting acting_all received hearing paying beginning given beating host_step places_below places number_below number at new_client calling meaning client_fallen client_posting rising client_following client_acting client_acting_all clocked client_hearing client_commanding client_ticking locking_refusal closed_refusal refused obeyed moved_at_once withdrawing ending_authority freeing_next freeing_by_passage freeing_by_cancel moving_one moving proceeding all_clocked known_signal_hearing known_point_hearing looking_by detector_hearing watching node_of node_hearing ixl_given known_signal_ticking known_point_ticking detector_ticking ticked stepped known_signal_after giving_aspect known_point_after giving_move detector_after at_route is_clear is_occupied is_known is_at_known_stop new_ixl world_at detector_stepped happens interlocking_stepped passed point_stepped signal_stepped stepped_at refusal refusal_of_time controller_after controller_anew controller_later sent_by_controller held_of sending_all sending_one host_after lies_in_closed
+unfolding with_stop padding block_words sequence after_block after_blocks digest code intact payload fields text pdu_writing text_of opening_of disconnection_of nothing_of item_of items_to_end items_of body_of pdu_read pdu_reading telegram_writing kind_at name_spelled aspect_in message_in telegram_in telegram_reading created opens opening link_ticking closing_by sending_item acceptance answer_to_send hearing_bytes receiving settled deadline alive_until quiet_until state_at is_up_at header_of pdu_of sending telling limited entered link_beating giving closing link_beginning requesting meeting judging granting joining ahead behind age still_waiting taking repeated retagged repeating link_answering missing handing bringing in_turn admitting testing connected asking resting by_state link_hearing posted fallen keeping risen new_host posting posting_all violating answering initial_status initialising commanding following acting acting_all received hearing paying beginning given beating host_step places_below places number_below number at new_client calling meaning client_fallen client_posting rising client_following client_acting client_acting_all clocked client_hearing client_commanding client_ticking locking_refusal refused obeyed withdrawing ending_authority freeing_next freeing_by_passage freeing_by_cancel moving_one moving proceeding all_clocked known_signal_hearing known_point_hearing looking_by detector_hearing watching node_of node_hearing ixl_given known_signal_ticking known_point_ticking detector_ticking ticked stepped known_signal_after giving_aspect known_point_after giving_move detector_after at_route is_clear is_occupied is_known is_at_known_stop new_ixl world_at detector_stepped happens interlocking_stepped passed point_stepped signal_stepped stepped_at refusal refusal_of_time controller_after controller_anew controller_later sent_by_controller held_of sending_all sending_one host_after
 by_all_lines at = refl
 
 by_lines_of_ticks : (at : Port) → shown_by_line at (lines_of_ticks signal_behaviour lamp_line (came_to_it at) (signal_begun at)) ≡ aspects.Proceed
-unfolding with_stop padding block_words sequence after_block after_blocks digest code intact payload fields text pdu_writing text_of opening_of disconnection_of nothing_of item_of items_to_end items_of body_of pdu_read pdu_reading telegram_writing kind_at name_spelled aspect_in message_in telegram_in telegram_reading created opens opening link_ticking closing_by sending_item acceptance answer_to_send hearing_bytes receiving settled deadline alive_until quiet_until state_at is_up_at header_of pdu_of sending telling limited entered link_beating giving closing link_beginning requesting meeting judging granting joining ahead behind age still_waiting taking repeated retagged repeating link_answering missing handing bringing in_turn admitting testing connected asking resting by_state link_hearing posted fallen keeping risen new_host posting posting_all violating answering initial_status initialising commanding following acting acting_all received hearing paying beginning given beating host_step places_below places number_below number at new_client calling meaning client_fallen client_posting rising client_following client_acting client_acting_all clocked client_hearing client_commanding client_ticking locking_refusal closed_refusal refused obeyed moved_at_once withdrawing ending_authority freeing_next freeing_by_passage freeing_by_cancel moving_one moving proceeding all_clocked known_signal_hearing known_point_hearing looking_by detector_hearing watching node_of node_hearing ixl_given known_signal_ticking known_point_ticking detector_ticking ticked stepped known_signal_after giving_aspect known_point_after giving_move detector_after at_route is_clear is_occupied is_known is_at_known_stop new_ixl world_at detector_stepped happens interlocking_stepped passed point_stepped signal_stepped stepped_at refusal refusal_of_time controller_after controller_anew controller_later sent_by_controller held_of sending_all sending_one host_after lies_in_closed
+unfolding with_stop padding block_words sequence after_block after_blocks digest code intact payload fields text pdu_writing text_of opening_of disconnection_of nothing_of item_of items_to_end items_of body_of pdu_read pdu_reading telegram_writing kind_at name_spelled aspect_in message_in telegram_in telegram_reading created opens opening link_ticking closing_by sending_item acceptance answer_to_send hearing_bytes receiving settled deadline alive_until quiet_until state_at is_up_at header_of pdu_of sending telling limited entered link_beating giving closing link_beginning requesting meeting judging granting joining ahead behind age still_waiting taking repeated retagged repeating link_answering missing handing bringing in_turn admitting testing connected asking resting by_state link_hearing posted fallen keeping risen new_host posting posting_all violating answering initial_status initialising commanding following acting acting_all received hearing paying beginning given beating host_step places_below places number_below number at new_client calling meaning client_fallen client_posting rising client_following client_acting client_acting_all clocked client_hearing client_commanding client_ticking locking_refusal refused obeyed withdrawing ending_authority freeing_next freeing_by_passage freeing_by_cancel moving_one moving proceeding all_clocked known_signal_hearing known_point_hearing looking_by detector_hearing watching node_of node_hearing ixl_given known_signal_ticking known_point_ticking detector_ticking ticked stepped known_signal_after giving_aspect known_point_after giving_move detector_after at_route is_clear is_occupied is_known is_at_known_stop new_ixl world_at detector_stepped happens interlocking_stepped passed point_stepped signal_stepped stepped_at refusal refusal_of_time controller_after controller_anew controller_later sent_by_controller held_of sending_all sending_one host_after
 by_lines_of_ticks at = refl
 
 pub line : (at : Port) → LineNotTold at

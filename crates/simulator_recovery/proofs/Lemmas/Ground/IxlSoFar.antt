@@ -7,7 +7,6 @@ use Rattle.simulator_recovery.proofs.Words.Recovery.{EachClient}
 use Rattle.simulator_spec.specs.ixl_client.declared.command.Command.{Command as ClientCommand}
 use Rattle.simulator_recovery.proofs.Lemmas.Ground.DueShapes.{along_keeps, looking_turns, one_keeps, over_keeps, route_holds, ticked_keeps, turned_keeps, watching_turns, where_both, where_keeps}
 use Rattle.simulator_recovery.proofs.Lemmas.Ground.IxlClients.{detector_client, mapped_at, point_client, signal_client}
-use Rattle.simulator_recovery.proofs.Lemmas.Ground.MovedAtOnce.{moved_keeps}
 
 -- ---- the calls at one controller
 
@@ -246,7 +245,7 @@ module _ (now : ℕ) (Gives : ℕ → Aspect → Type 0) (Comes : List ℕ → T
 
     -- ---- the input
 
-    obeyed_held : (command : Command) (part : StepSoFar) → Held part → Held (record part { ixl = obeyed now command part.ixl })
+    obeyed_held : (command : Command) (part : StepSoFar) → Held part → Held (record part { ixl = obeyed command part.ixl })
     unfolding obeyed
     obeyed_held (Command.Request route) part all = record {
       signals = all.signals;
@@ -255,12 +254,8 @@ module _ (now : ℕ) (Gives : ℕ → Aspect → Type 0) (Comes : List ℕ → T
     }
     obeyed_held (Command.Cancel route) part all = record { signals = all.signals; points = all.points; detectors = all.detectors }
     obeyed_held Command.Resume part all = record { signals = all.signals; points = all.points; detectors = all.detectors }
-    obeyed_held (Command.Release route) part all = record { signals = all.signals; points = all.points; detectors = all.detectors }
-    obeyed_held (Command.Move point side) part all = all
-    obeyed_held (Command.Close named) part all = record { signals = all.signals; points = all.points; detectors = all.detectors }
-    obeyed_held (Command.Open named) part all = record { signals = all.signals; points = all.points; detectors = all.detectors }
 
-    commanded_held : (cause : Option Refusal) (command : Command) (part : StepSoFar) → Held part → Held (record part { ixl = commanded_by now cause command part.ixl })
+    commanded_held : (cause : Option Refusal) (command : Command) (part : StepSoFar) → Held part → Held (record part { ixl = commanded_by cause command part.ixl })
     commanded_held None command part all = obeyed_held command part all
     commanded_held (Some cause) command part all = record { signals = all.signals; points = all.points; detectors = all.detectors }
 
@@ -272,8 +267,7 @@ module _ (now : ℕ) (Gives : ℕ → Aspect → Type 0) (Comes : List ℕ → T
     unfolding given
     given_held key Tick part comes all = weaker_all part all
     given_held key (Datagram bytes) part comes all = heard_at bytes (addressed (reading key bytes) part.ixl) part (comes bytes refl) all
-    given_held key (Commands command) part comes all =
-        moved_keeps Held now table move_held (refusal now table command part.ixl) command part refl (commanded_held (refusal now table command part.ixl) command part (weaker_all part all))
+    given_held key (Commands command) part comes all = commanded_held (refusal now table command part.ixl) command part (weaker_all part all)
 
     clocked_held : (part : StepSoFar) → part.calls ≡ [] → EachClient Before part.ixl → All Clocked (record part { ixl = all_clocked now part.ixl })
     unfolding all_clocked at_node

@@ -2,7 +2,7 @@
 use Rattle.simulator_recovery.proofs.Words.Basics.{◌≡◌, ◌⊎◌, inl, inr, ℕ, ◌==◌, ◌&&◌, Bool, true, false, List, Option, Some, None, slice_get, refl, sym, ap, subst, ◌∙◌, not, nat_cmp_total, unsigned_tied, contains, contains-remove, remove, Contains, eq-eqb, All-contains, same_Some}
 use Rattle.simulator_recovery.proofs.Words.Links.{reading_of}
 use Rattle.simulator_recovery.proofs.Words.Controllers.{Side}
-use Rattle.simulator_recovery.proofs.Words.Interlockings.{is_available, commanded_by, obeyed, refusal, request_refusal, set_anew, unmoved_for, Admissible, AllClear, AllKnown, At, IsAvailable, IsClear, IsHeldWithAuthority, Known, authorised, come_to, count, ended, ending_authority, freed_by_cancel, freed_by_passage, freeing_by_cancel, freeing_by_passage, freeing_next, frees_cancelled, frees_next, is_move_due, is_proceed_due, is_stop_due, is_withdrawn, moved, moving, moving_one, proceeding, ruled, withdrawing, withdrawn, IxlState, KnownDetectorState, KnownPointState, RouteState, changed, Commands, all_clocked, given, reply, stepped, ticked, watching, StepSoFar, begun_with, empty_outbox, giving_aspect, giving_move, over, with_route, Need, Row, Table, is_at_known_stop, Command, Refusal, Phase, moved_at_once}
+use Rattle.simulator_recovery.proofs.Words.Interlockings.{is_available, commanded_by, obeyed, refusal, request_refusal, set_anew, unmoved_for, Admissible, AllClear, AllKnown, At, IsAvailable, IsClear, IsHeldWithAuthority, Known, authorised, come_to, count, ended, ending_authority, freed_by_cancel, freed_by_passage, freeing_by_cancel, freeing_by_passage, freeing_next, frees_cancelled, frees_next, is_move_due, is_proceed_due, is_stop_due, is_withdrawn, moved, moving, moving_one, proceeding, ruled, withdrawing, withdrawn, IxlState, KnownDetectorState, KnownPointState, RouteState, changed, Commands, all_clocked, given, reply, stepped, ticked, watching, StepSoFar, begun_with, empty_outbox, giving_aspect, giving_move, over, with_route, Need, Row, Table, is_at_known_stop, Command, Refusal, Phase}
 use Rattle.simulator_recovery.proofs.Words.Stations.{Places, Site, RouteId, Event, Answer, answered, happens, interlocking_stepped, WorldState}
 use Rattle.simulator_recovery.proofs.Words.Recovery.{HasAspect, Waits, MoveLaw, RequestLaw}
 use Rattle.simulator_recovery.proofs.Lemmas.Lamps.Cancelled.{not_refused}
@@ -155,24 +155,21 @@ module _ (site : Site) (table : Table) (world : WorldState) (route : RouteId) wh
   abbrev clocked : StepSoFar
   clocked = record (begun_with world.interlocking.ixl empty_outbox) { ixl = all_clocked now world.interlocking.ixl }
 
-  abbrev heard_by : Option Refusal → StepSoFar
-  heard_by cause = moved_at_once now cause (Command.Request route) (record clocked { ixl = commanded_by now cause (Command.Request route) clocked.ixl })
-
   abbrev heard : StepSoFar
-  heard = heard_by (refusal now table (Command.Request route) clocked.ixl)
+  heard = record clocked { ixl = commanded_by (refusal now table (Command.Request route) clocked.ixl) (Command.Request route) clocked.ixl }
 
   abbrev Set : StepSoFar → Type 0
   Set part = (Unmoved route.0 part.ixl.known_points × (part.ixl.detectors ≡ clocked.ixl.detectors)) × At part.ixl.routes route.0 Waits
 
-  obeyed_set : (one : RouteState) → slice_get clocked.ixl.routes route.0 ≡ Some one → Set (heard_by None)
-  unfolding obeyed moved_at_once
+  obeyed_set : (one : RouteState) → slice_get clocked.ixl.routes route.0 ≡ Some one → Set (record clocked { ixl = obeyed (Command.Request route) clocked.ixl })
+  unfolding obeyed
   obeyed_set one there = (
     ((λ place known e available. let found = mapped_at (unmoved_for route.0) clocked.ixl.known_points place known e in ap (λ (k : KnownPointState). contains k.moved route.0) found.2 ∙ removed found.0.moved route.0), refl),
     (set_anew one, changed_here set_anew route.0 clocked.ixl.routes one there, (refl, refl)),
   )
 
   heard_set : (one : RouteState) → slice_get clocked.ixl.routes route.0 ≡ Some one → refusal now table (Command.Request route) clocked.ixl ≡ None → Set heard
-  heard_set one there none = subst (λ (cause : Option Refusal). Set (heard_by cause)) (sym none) (obeyed_set one there)
+  heard_set one there none = subst (λ (cause : Option Refusal). Set (record clocked { ixl = commanded_by cause (Command.Request route) clocked.ixl })) (sym none) (obeyed_set one there)
 
   abbrev seen : StepSoFar
   seen = over (watching table) (count table) heard

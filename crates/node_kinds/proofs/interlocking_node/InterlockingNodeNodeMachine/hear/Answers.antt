@@ -1,4 +1,4 @@
-use Rattle.std.proofs.Common.{◌≡◌, ◌∙◌, ap, map, refl, string_bytes}
+use Rattle.std.proofs.Common.{◌≡◌, ◌∙◌, ap, map, string_bytes}
 use Rattle.simulator_spec.specs.Nodes.{key_of}
 use Rattle.simulator_spec.specs.ixl_spec.Step as ixl
 use Rattle.ixl.specs.Interlocking.{told as told_as}
@@ -15,7 +15,7 @@ returns c =
     let input = ixl.Datagram c.args.bytes.now in
     let counted : c.count_taken.new.numbers ≡ taken input (told_as c.step-reply.result) (answered (told_as c.step-reply.result) old.numbers) =
     c.count_taken.ensures ∙ ap (taken input (told_as c.step-reply.result)) c.count_answer.ensures in
-    three_ok c.tell.result (λ told said linked. node_stepped c.args.reading input old.stepped c.step-reply.new.self new.stepped old.told.items new.told.items old.numbers new.numbers old.counts old.counts new.counts (texts old.said) (texts new.said) (texts c.clear.new.self)
+    three_ok c.tell.result (λ told said linked. node_stepped c.args.reading input old.stepped c.step-reply.new.self new.stepped old.told.items new.told.items old.numbers new.numbers (texts old.said) (texts new.said) (texts c.clear.new.self)
     (commands old.left.items) (commands new.left.items) c.tell.ensures.stepped c.step-reply.ensures.stepped told (ap (map string_bytes) c.clear.ensures.items) said (ap (λ l. commands l.items) c.tell.ensures.left)
-    (linked ∙ ap (with_links old.told.items new.told.items) counted ∙ ap (λ reply. numbers_after input reply old.told.items new.told.items old.numbers) c.step-reply.ensures.answered) c.tell.ensures.counts refl)
+    (linked ∙ ap (with_links old.told.items new.told.items) counted ∙ ap (λ reply. numbers_after input reply old.told.items new.told.items old.numbers) c.step-reply.ensures.answered))
     c.tell.ensures.told c.tell.ensures.said c.tell.ensures.numbers
