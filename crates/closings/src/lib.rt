@@ -1,12 +1,14 @@
 //! What of a station is closed: sections, points at a side, signals and routes, and the words by which lines name them.
 #![tactic(auto)]
 
+mod auxiliary;
 mod closed;
 mod laws;
 mod route_use;
 mod thing;
 mod words;
 
+pub use auxiliary::{Auxiliary, AuxiliaryCounts};
 pub use closed::Closings;
 pub use laws::{
     a_command_changes_what_it_names_alone, a_name_names_what_has_it, all_track_is_closed,

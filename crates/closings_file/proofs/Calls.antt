@@ -16,21 +16,21 @@ use Rattle.closings_file.specs.Course.{Course, after, all_kept, calls_of, gone, 
 use Rattle.closings_file.specs.Course.{Fails, Goes}
 
 -- a keep that isn't known has begun, or all is kept at once
-begun_so : (l : Site) (head : List ℕ) (course : Course) → is_idle course.file.progress ≡ true → is_known (writing l head (wanted course)) course.known ≡ false
-    → cond (is_idle course.file.progress) (kept_by l head course) course ≡ with_file (file.Begins (writing l head (wanted course))) (record course { known = None })
+begun_so : (l : Site) (head : List ℕ) (course : Course) → is_idle course.file.progress ≡ true → is_known (writing l head course.counts (wanted course)) course.known ≡ false
+    → cond (is_idle course.file.progress) (kept_by l head course) course ≡ with_file (file.Begins (writing l head course.counts (wanted course))) (record course { known = None })
 begun_so l head course idle unknown =
     ap (λ (v : Bool). cond v (kept_by l head course) course) idle
-    ∙ ap (λ (v : Bool). cond v (all_kept course) (with_file (file.Begins (writing l head (wanted course))) (record course { known = None }))) unknown
+    ∙ ap (λ (v : Bool). cond v (all_kept course) (with_file (file.Begins (writing l head course.counts (wanted course))) (record course { known = None }))) unknown
 
-known_so : (l : Site) (head : List ℕ) (course : Course) → is_idle course.file.progress ≡ true → is_known (writing l head (wanted course)) course.known ≡ true
+known_so : (l : Site) (head : List ℕ) (course : Course) → is_idle course.file.progress ≡ true → is_known (writing l head course.counts (wanted course)) course.known ≡ true
     → cond (is_idle course.file.progress) (kept_by l head course) course ≡ all_kept course
 known_so l head course idle known =
     ap (λ (v : Bool). cond v (kept_by l head course) course) idle
-    ∙ ap (λ (v : Bool). cond v (all_kept course) (with_file (file.Begins (writing l head (wanted course))) (record course { known = None }))) known
+    ∙ ap (λ (v : Bool). cond v (all_kept course) (with_file (file.Begins (writing l head course.counts (wanted course))) (record course { known = None }))) known
 
 pub makes_these_moves : (l : Site) (head : List ℕ) (left : Option DiskFile) (happened : Bool) (failing : Option Call) (course : Course)
-    → IsTrue (is_idle course.file.progress) → is_known (writing l head (wanted course)) course.known ≡ false
-    → calls_of l head (keep_moves left happened failing) course ≡ keep_calls (writing l head (wanted course)) failing
+    → IsTrue (is_idle course.file.progress) → is_known (writing l head course.counts (wanted course)) course.known ≡ false
+    → calls_of l head (keep_moves left happened failing) course ≡ keep_calls (writing l head course.counts (wanted course)) failing
 makes_these_moves l head left happened None course idle unknown =
     ap (λ (c : Course). calls_of l head (Goes ∷ Goes ∷ Goes ∷ Goes ∷ []) c) (begun_so l head course idle unknown)
 makes_these_moves l head left happened (Some Write) course idle unknown =
@@ -68,9 +68,9 @@ goes_settled l head course t settled = on course.file.progress settled.idle
 
 pub all_is_kept : (l : Site) (head : List ℕ) (left : Option DiskFile) (happened : Bool) (course : Course) (t : Thing)
     → IsTrue (is_idle course.file.progress) → IsClosed (wanted course) t → IsTrue ((run l head (keep_moves left happened None) course).kept t)
-all_is_kept l head left happened course t idle closed = by (is_known (writing l head (wanted course)) course.known) refl
+all_is_kept l head left happened course t idle closed = by (is_known (writing l head course.counts (wanted course)) course.known) refl
   where
-    by : (v : Bool) → is_known (writing l head (wanted course)) course.known ≡ v → IsTrue ((run l head (keep_moves left happened None) course).kept t)
+    by : (v : Bool) → is_known (writing l head course.counts (wanted course)) course.known ≡ v → IsTrue ((run l head (keep_moves left happened None) course).kept t)
     by true known =
         let begun : IsSettled (all_kept course) t = record { kept = closed; idle = idle_is course.file.progress idle } in
         let more = λ (next : Course) (settled : IsSettled next t). goes_settled l head next t settled in

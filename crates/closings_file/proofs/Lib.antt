@@ -1,6 +1,10 @@
 pub mod Bytes
+pub mod Begins
+pub mod Added
 pub mod Reading
 pub mod Lines
+pub mod Numbers
 pub mod Written
+pub mod FoundNumbers
 pub mod Courses
 pub mod Calls

@@ -1,6 +1,6 @@
 -- What is written is read, what was cut off is told to be so, and so is a text of another layout.
 use Rattle.std.proofs.Common.{◌≡◌, ◌≢◌, ◌⊎◌, ◌↔◌, ◌∙◌, ℕ, ◌+◌, ◌-◌, ◌<◌, ◌≤◌, ◌&&◌, Bool, true, false, List, [], ◌∷◌, ◌++◌, length, ltb, take, drop, Some, None, refl, sym, ap, subst, inl, inr, ⊎_elim, append_assoc, arith}
-use Rattle.std.specs.Prelude.{Contains, Ok, Err, codes}
+use Rattle.std.specs.Prelude.{Contains, Result, Ok, Err, codes}
 use Rattle.std.specs.List.{slice_split}
 use Rattle.std.proofs.lemmas.Bool.{cond-true, cond-false, le-ltb, lt-ltb, ltb-true, ltb-false}
 use Rattle.std.proofs.lemmas.List.{length-append, length-take-le, take-append-drop, take-append-le, take_at, drop_at}
@@ -10,30 +10,21 @@ use Rattle.closings.specs.layout.Entries.{Site}
 use Rattle.closings.specs.declared.thing.Thing.{Thing}
 use Rattle.closings.specs.declared.thing.Named.{Named}
 use Rattle.closings.specs.declared.thing.Named.TheVariants.{One}
+use Rattle.closings.specs.declared.auxiliary.AuxiliaryCounts.{AuxiliaryCounts}
 use Rattle.closings.specs.declared.closed.Closings.{Closings}
 use Rattle.closings.specs.Things.{HasThing, Names}
+use Rattle.closings.specs.Auxiliaries.{AreNumbers}
 use Rattle.closings.specs.Closed.{IsClosed, closed_things, nothing, with_named}
 use Rattle.closings_file.specs.declared.fault.FileFault.{FileFault}
 use Rattle.closings_file.specs.declared.fault.FileFault.TheVariants.{CutOff, OtherLayout, Damaged}
+use Rattle.closings_file.specs.declared.found.Said.{Said}
 use Rattle.closings_file.specs.Files.{found_in, found_of}
-use Rattle.closings_file.specs.Texts.{begin_with, ends_line, heading, is_cut_off, lines_closed, lines_read, reading, writing}
+use Rattle.closings_file.specs.Texts.{all_read, begin_with, ends_line, heading, is_cut_off, lines_closed, lines_counted, lines_read, number_line, opens_read, reading, said_with, writing}
+use Rattle.closings_file.proofs.Begins.{begins_not, begins_so, begins_then}
 use Rattle.closings_file.proofs.Lines.{AreRead, AreThere, all_closed, lines_again, lines_cut, take_more}
+use Rattle.closings_file.proofs.Numbers.{AreReadAgain, IsLabel, number_again, number_cut}
 
--- ---- beginnings
-
-pub begins_so : (text rest : List ℕ) → begin_with text (text ++ rest) ≡ true
-begins_so text rest = (bytes_eq-Decides text (take (length text) (text ++ rest))).1 (sym (take_at text rest (length text) refl))
-
-pub begins_then : (text bytes : List ℕ) → begin_with text bytes ≡ true → bytes ≡ text ++ drop (length text) bytes
-begins_then text bytes is =
-    sym (take-append-drop (length text) bytes) ∙ ap (λ (t : List ℕ). t ++ drop (length text) bytes) (sym ((bytes_eq-Decides text (take (length text) bytes)).0 is))
-
-pub begins_not : (text bytes : List ℕ) → (begin_with text bytes ≡ true → ⊥) → begin_with text bytes ≡ false
-begins_not text bytes never = by (begin_with text bytes) refl
-  where
-    by : (v : Bool) → begin_with text bytes ≡ v → v ≡ false
-    by true is = absurd (never is)
-    by false is = refl
+-- ---- what begins otherwise
 
 shorter_begins_not : (text bytes : List ℕ) → length bytes < length text → begin_with text bytes ≡ false
 shorter_begins_not text bytes less =
@@ -48,13 +39,14 @@ cut_so text count less =
 
 -- ---- what is written
 
-reads_behind : (l : Site) (head rest : List ℕ) → reading l head (head ++ rest) ≡ lines_read l (slice_split ends_line rest) nothing
+reads_behind : (l : Site) (head rest : List ℕ) → reading l head (head ++ rest) ≡ all_read l (slice_split ends_line rest)
 reads_behind l head rest =
     cond-true (begin_with head (head ++ rest)) _ _ (begins_so head rest)
-    ∙ ap (λ (text : List ℕ). lines_read l (slice_split ends_line text) nothing) (drop_at head rest (length head) refl)
+    ∙ ap (λ (text : List ℕ). all_read l (slice_split ends_line text)) (drop_at head rest (length head) refl)
 
 -- what laws of closings say of a layout
 pub record Knows (l : Site) : Type 0 where
+  pub numbers : AreReadAgain
   pub words : AreRead l
   pub listed : (c : Closings) (t : Thing) → Contains (closed_things l c) t ↔ (HasThing l t × IsClosed c t)
   pub closed : (c : Closings) (n : Named) (t : Thing) → IsClosed (with_named c n) t ↔ (Names n t ⊎ IsClosed c t)
@@ -68,8 +60,44 @@ all_there l (t ∷ things) has =
 listed_there : (l : Site) → Knows l → (c : Closings) → AreThere l (closed_things l c)
 listed_there l knows c = all_there l (closed_things l c) (λ t at. ((knows.listed c t).0 at).0)
 
-pub read_again : (l : Site) → Knows l → (head : List ℕ) (c : Closings) → reading l head (writing l head c) ≡ Ok (all_closed (closed_things l c) nothing)
-read_again l knows head c = reads_behind l head (lines_closed l c) ∙ lines_again l knows.words (closed_things l c) nothing (listed_there l knows c)
+-- ---- the numbers
+
+releases_label : IsLabel (codes "counted release ")
+releases_label = record { plain = λ word e. e }
+
+opens_label : IsLabel (codes "counted open ")
+opens_label = record { plain = λ word e. e }
+
+all_again : (l : Site) (counts : AuxiliaryCounts) → AreReadAgain → AreNumbers counts → (rest : List ℕ)
+    → all_read l (slice_split ends_line (lines_counted counts ++ rest)) ≡ said_with counts (lines_read l (slice_split ends_line rest) nothing)
+all_again l counts again are rest =
+    let opens = number_line (codes "counted open ") counts.opens in
+    ap (λ (text : List ℕ). all_read l (slice_split ends_line text)) (append_assoc (number_line (codes "counted release ") counts.releases) opens rest)
+    ∙ number_again (codes "counted release ") releases_label again counts.releases are.releases (opens_read l) (opens ++ rest)
+    ∙ number_again (codes "counted open ") opens_label again counts.opens are.opens
+    (λ number last. said_with (record { releases = counts.releases; opens = number }) (lines_read l last nothing)) rest
+
+all_cut : (l : Site) (counts : AuxiliaryCounts) → AreReadAgain → AreNumbers counts → (rest : List ℕ) (count : ℕ) → count < length (lines_counted counts ++ rest)
+    → ((fewer : ℕ) → fewer < length rest → lines_read l (slice_split ends_line (take fewer rest)) nothing ≡ Err CutOff)
+    → all_read l (slice_split ends_line (take count (lines_counted counts ++ rest))) ≡ Err CutOff
+all_cut l counts again are rest count less cut =
+    let releases = number_line (codes "counted release ") counts.releases in
+    let opens = number_line (codes "counted open ") counts.opens in
+    let apart : lines_counted counts ++ rest ≡ releases ++ (opens ++ rest) = append_assoc releases opens rest in
+    ap (λ (text : List ℕ). all_read l (slice_split ends_line (take count text))) apart
+    ∙ number_cut (codes "counted release ") releases_label again counts.releases are.releases (opens_read l) (opens ++ rest) count (subst (λ (text : List ℕ). count < length text) apart less)
+    (λ fewer within. number_cut (codes "counted open ") opens_label again counts.opens are.opens
+    (λ number last. said_with (record { releases = counts.releases; opens = number }) (lines_read l last nothing)) rest fewer within
+    (λ least fits. ap (said_with (record { releases = counts.releases; opens = counts.opens })) (cut least fits)))
+
+-- ---- the whole text
+
+pub read_again : (l : Site) → Knows l → (head : List ℕ) (counts : AuxiliaryCounts) (c : Closings) → AreNumbers counts
+    → reading l head (writing l head counts c) ≡ Ok (record { counts = counts; closings = all_closed (closed_things l c) nothing })
+read_again l knows head counts c are =
+    reads_behind l head (lines_counted counts ++ lines_closed l c)
+    ∙ all_again l counts knows.numbers are (lines_closed l c)
+    ∙ ap (said_with counts) (lines_again l knows.words (closed_things l c) nothing (listed_there l knows c))
 
 -- none of nothing
 none_of : (t : Thing) → Contains {X = Thing} [] t → ⊥
@@ -93,12 +121,14 @@ all-closed l knows (u ∷ things) c t is =
     (λ at. ⊎_elim (λ first. inr ((knows.closed c (One u) t).1 (inl (sym (one_of u t first))))) (λ later. inl later) (Contains-append_cases (u ∷ []) things t at))
     (λ old. inr ((knows.closed c (One u) t).1 (inr old))) is)
 
-pub found_again : (l : Site) → Knows l → (head : List ℕ) (c : Closings) → found_in l head (Some (writing l head c)) ≡ record { closings = all_closed (closed_things l c) nothing; fault = None }
-found_again l knows head c = ap (found_of l) (read_again l knows head c)
+pub found_again : (l : Site) → Knows l → (head : List ℕ) (counts : AuxiliaryCounts) (c : Closings) → AreNumbers counts
+    → found_in l head (Some (writing l head counts c)) ≡ record { closings = all_closed (closed_things l c) nothing; counts = counts; fault = None }
+found_again l knows head counts c are = ap (found_of l) (read_again l knows head counts c are)
 
-pub found_things : (l : Site) → Knows l → (head : List ℕ) (c : Closings) (t : Thing) → IsClosed (found_in l head (Some (writing l head c))).closings t ↔ (HasThing l t × IsClosed c t)
-found_things l knows head c t =
-    let same = ap (λ found. found.closings) (found_again l knows head c) in (
+pub found_things : (l : Site) → Knows l → (head : List ℕ) (counts : AuxiliaryCounts) (c : Closings) (t : Thing) → AreNumbers counts
+    → IsClosed (found_in l head (Some (writing l head counts c))).closings t ↔ (HasThing l t × IsClosed c t)
+found_things l knows head counts c t are =
+    let same = ap (λ found. found.closings) (found_again l knows head counts c are) in (
       λ is. (knows.listed c t).0
           (⊎_elim (λ at. at) (λ old. absurd (knows.none t old)) (closed-all l knows (closed_things l c) nothing t (subst (λ (d : Closings). IsClosed d t) same is))),
       λ is. subst (λ (d : Closings). IsClosed d t) (sym same) (all-closed l knows (closed_things l c) nothing t (inl ((knows.listed c t).1 is))),
@@ -106,11 +136,12 @@ found_things l knows head c t =
 
 -- ---- what was cut off
 
-pub read_cut : (l : Site) → Knows l → (head : List ℕ) (c : Closings) (count : ℕ) → count < length (writing l head c) → reading l head (take count (writing l head c)) ≡ Err CutOff
-read_cut l knows head c count less = by (ltb count (length head)) refl
+pub read_cut : (l : Site) → Knows l → (head : List ℕ) (counts : AuxiliaryCounts) (c : Closings) (count : ℕ) → AreNumbers counts → count < length (writing l head counts c)
+    → reading l head (take count (writing l head counts c)) ≡ Err CutOff
+read_cut l knows head counts c count are less = by (ltb count (length head)) refl
   where
     rest : List ℕ
-    rest = lines_closed l c
+    rest = lines_counted counts ++ lines_closed l c
 
     by : (before : Bool) → ltb count (length head) ≡ before → reading l head (take count (head ++ rest)) ≡ Err CutOff
     by true is =
@@ -123,7 +154,8 @@ read_cut l knows head c count less = by (ltb count (length head)) refl
         let fits : count - length head < length rest = omega (arith, length-append head rest, less, beyond) in
         ap (reading l head) (take_more head rest (count - length head) count (omega (arith, fits)) (omega (arith, beyond)))
         ∙ reads_behind l head (take (count - length head) rest)
-        ∙ lines_cut l knows.words (closed_things l c) nothing (count - length head) (listed_there l knows c) fits
+        ∙ all_cut l counts knows.numbers are (lines_closed l c) (count - length head) fits
+        (λ fewer within. lines_cut l knows.words (closed_things l c) nothing fewer (listed_there l knows c) within)
 
 -- ---- other layouts
 
@@ -138,10 +170,10 @@ same_digest digest other long same = same_beginning digest other (codes "\n") (c
 heading_long : (digest : List ℕ) → length (heading digest) ≡ 7 + (length digest + 1)
 heading_long digest = omega (arith, length-append (codes "layout ") (digest ++ codes "\n"), length-append digest (codes "\n"))
 
-pub read_other : (l far : Site) (digest other : List ℕ) (c : Closings) → length digest ≡ length other → digest ≢ other
-    → reading l (heading digest) (writing far (heading other) c) ≡ Err OtherLayout
-read_other l far digest other c long apart =
-    let rest = lines_closed far c in
+pub read_other : (l far : Site) (digest other : List ℕ) (counts : AuxiliaryCounts) (c : Closings) → length digest ≡ length other → digest ≢ other
+    → reading l (heading digest) (writing far (heading other) counts c) ≡ Err OtherLayout
+read_other l far digest other counts c long apart =
+    let rest = lines_counted counts ++ lines_closed far c in
     let bytes = heading other ++ rest in
     let heads : length (heading digest) ≡ length (heading other) = omega (arith, heading_long digest, heading_long other, long) in
     cond-false (begin_with (heading digest) bytes) _ _

@@ -2,24 +2,25 @@
 use Rattle.std.specs.Prelude.{ℕ, Bool, false, List, [], Option, Some, None, Result, Ok, Err, if◌then◌else◌}
 use Rattle.std.specs.Str.{bytes_eq}
 use Rattle.closings.specs.layout.Entries.{Site}
-use Rattle.closings.specs.declared.closed.Closings.{Closings}
+use Rattle.closings.specs.Auxiliaries.{none_counted}
 use Rattle.closings.specs.Closed.{all_track}
 use Rattle.whole_file.specs.Calls.{Made, keep_calls}
 use Rattle.closings_file.specs.declared.fault.FileFault.{FileFault}
 use Rattle.closings_file.specs.declared.fault.FileFault.TheVariants.{Missing}
 use Rattle.closings_file.specs.declared.found.Found.{Found}
+use Rattle.closings_file.specs.declared.found.Said.{Said}
 use Rattle.closings_file.specs.declared.unkept.Unkept.{Unkept}
 use Rattle.closings_file.specs.declared.unkept.Unkept.TheVariants.{OutOfMemory, Failed}
 use Rattle.closings_file.specs.Texts.{reading}
 
 -- ---- what is found
 
--- a file that says less than what is closed closes all track
-abbrev pub found_of : Site → Result Closings FileFault → Found
-found_of l (Ok closings) = record { closings = closings; fault = None }
-found_of l (Err fault) = record { closings = all_track l; fault = Some fault }
+-- a file that says less than what is closed closes all track, and tells no counts
+abbrev pub found_of : Site → Result Said FileFault → Found
+found_of l (Ok said) = record { closings = said.closings; counts = said.counts; fault = None }
+found_of l (Err fault) = record { closings = all_track l; counts = none_counted; fault = Some fault }
 
--- What is closed when a process begins, where its file has these bytes; none where no file is there.
+-- What is closed and counted when a process begins, where its file has these bytes; none where no file is there.
 abbrev pub found_in : Site → (head : List ℕ) → Option (List ℕ) → Found
 found_in l head None = found_of l (Err Missing)
 found_in l head (Some bytes) = found_of l (reading l head bytes)

@@ -13,13 +13,13 @@ use crate::found::{Found, found_of};
 use crate::reader::read;
 use crate::unkept::Unkept;
 use crate::writer::{heading, write};
-use closings::{Closings, Layout};
+use closings::{AuxiliaryCounts, Closings, Layout};
 use std::alloc::{AllocError, Global};
 use std::io;
 use std::marker::Model;
 use whole_file::Place;
 
-/// Keeps the file of what is closed. A command that was accepted takes effect in the interlocking, then its closings are
+/// Keeps the file of what is closed, and of how many auxiliary commands were counted. A command that was accepted takes effect in the interlocking, then its closings are
 /// kept, and only then `accepted` may be told, where the keep answered Ok. So the file has what was told to be closed, or
 /// more: an `open` takes effect before it leaves the file.
 #[derive(Drop)]
@@ -51,9 +51,9 @@ impl Keeper {
         })
     }
 
-    /// What is closed when a process begins, where this is what the place of its file answered when it was read. Where
+    /// What is closed and counted when a process begins, where this is what the place of its file answered when it was read. Where
     /// the file isn't there, can't be read, is cut off, of another layout, or names what the layout doesn't have, every
-    /// section and every point is closed.
+    /// section and every point is closed, and none was counted.
     pub fn found(&self, layout: &Layout, answer: io::Result<Option<Vec<u8>>>) -> Found
         ensures read { IfOk answer (λ file. result ≡ found_in layout.now self.now.head (option_map (λ bytes. bytes.items) file)) }
         ensures unreadable { IsErr answer → result ≡ found_of layout.now (Err Unreadable) }
@@ -76,20 +76,21 @@ impl Keeper {
         }
     }
 
-    /// Keeps the file, so that it has what is closed now. Where it is known to have just that, no call is made. Where it
+    /// Keeps the file, so that it has what is closed and counted now. Where it is known to have just that, no call is made. Where it
     /// answers Ok the file is on disk; where it doesn't, the next keep tries again.
     pub fn keep<P: Place>(
         &mut self,
         alloc: Global,
         place: &mut P,
         layout: &Layout,
+        counts: AuxiliaryCounts,
         closings: &Closings,
     ) -> Result<(), Unkept>
-        ensures calls { P.calls place.new ≡ recorded (file_calls (writing layout.now self.old.head closings.now) self.old result) (P.calls place.old) }
-        ensures keeper { self.new ≡ after_keep (writing layout.now self.old.head closings.now) self.old result }
-        ensures known { IsTrue (has (writing layout.now self.old.head closings.now) self.old) → IfErr result (λ unkept. unkept ≡ OutOfMemory) }
+        ensures calls { P.calls place.new ≡ recorded (file_calls (writing layout.now self.old.head counts closings.now) self.old result) (P.calls place.old) }
+        ensures keeper { self.new ≡ after_keep (writing layout.now self.old.head counts closings.now) self.old result }
+        ensures known { IsTrue (has (writing layout.now self.old.head counts closings.now) self.old) → IfErr result (λ unkept. unkept ≡ OutOfMemory) }
     {
-        let Ok(text) = write(alloc, layout, self.head.as_str(), closings) else {
+        let Ok(text) = write(alloc, layout, self.head.as_str(), counts, closings) else {
             return Err(Unkept::OutOfMemory);
         };
         if self.has(text.as_str()) {

@@ -1,7 +1,7 @@
 //! What is kept over a kill between any two calls, and over each call that is refused.
 
 use crate::yard::Yard;
-use closings_file::{BitRow, Closings, NotKept, Place, Unkept};
+use closings_file::{Auxiliary, BitRow, Closings, NotKept, Place, Unkept};
 use std::alloc::Global;
 use std::process::Abort;
 use whole_file::Call;
@@ -138,10 +138,12 @@ fn each_call_of_an_open_is_refused(rt: HostRuntime) {
         yard.restart(&rt);
         assert!(rt; yard.is_closed(&yard.closed, "P left"));
         assert!(rt; !yard.is_closed(&yard.closed, "P right"));
+        let counted = yard.counts.with_one(Auxiliary::Open);
         yard.open(&rt, "G1");
         assert!(rt; yard.keep().is_ok());
         yard.restart(&rt);
         assert!(rt; yard.are_closed(&yard.closed, &["P left"]));
+        assert!(rt; yard.counts == counted);
     }
 }
 

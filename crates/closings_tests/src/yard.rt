@@ -1,6 +1,8 @@
 //! A small layout, and a file of its closings in memory.
 
-use closings_file::{Closings, Found, Keeper, Layout, Named, Place, Unkept};
+use closings_file::{
+    Auxiliary, AuxiliaryCounts, Closings, Found, Keeper, Layout, Named, Place, Unkept,
+};
 use std::alloc::Global;
 use std::process::Abort;
 use whole_file::MemoryPlace;
@@ -44,6 +46,8 @@ pub(crate) struct Yard {
     pub(crate) place: MemoryPlace,
     /// What is closed in the interlocking.
     pub(crate) closed: Closings,
+    /// What it counted.
+    pub(crate) counts: AuxiliaryCounts,
 }
 
 impl Yard {
@@ -55,6 +59,7 @@ impl Yard {
             keeper: Keeper::new(alloc, DIGEST).expect(rt, "there is memory"),
             place: MemoryPlace::new(alloc),
             closed: Closings::none(),
+            counts: AuxiliaryCounts::none(),
         }
     }
 
@@ -71,15 +76,17 @@ impl Yard {
     pub(crate) fn open(&mut self, rt: &impl Abort, words: &str) {
         if let Some(named) = Named::read(&self.layout, words) {
             self.closed = self.closed.open(named);
+            self.counts = self.counts.with_one(Auxiliary::Open);
         } else {
             assert!(rt; false, "{words}");
         }
     }
 
-    /// What is closed is kept.
+    /// What is closed and counted is kept.
     pub(crate) fn keep(&mut self) -> Result<(), Unkept> {
+        let place = &mut self.place;
         self.keeper
-            .keep(self.alloc, &mut self.place, &self.layout, &self.closed)
+            .keep(self.alloc, place, &self.layout, self.counts, &self.closed)
     }
 
     /// What a process finds that begins now.
@@ -96,7 +103,9 @@ impl Yard {
     /// The process ends, and a new one begins from what it finds.
     pub(crate) fn restart(&mut self, rt: &impl Abort) {
         self.keeper = Keeper::new(self.alloc, DIGEST).expect(rt, "there is memory");
-        self.closed = self.found().closings;
+        let found = self.found();
+        self.closed = found.closings;
+        self.counts = found.counts;
     }
 
     /// The bytes of the file.

@@ -6,6 +6,7 @@ use Rattle.closings_file.proofs.laws.cut_off_is_told.Goals as goal
 
 knows : (c : goal.After-all_track_is_closed) (l : Site) → Once l → IsStation l → Knows l
 knows c l once station = record {
+  numbers = c.a_number_is_read_again.ensures.read;
   words = record {
     read = λ n there. c.words_are_read_again.ensures.read l n once station there;
     plain = λ n there. c.words_are_read_again.ensures.plain l n station there;
@@ -16,4 +17,4 @@ knows c l once station = record {
 }
 
 pub returns : goal.returns
-returns c l head closings count once station less = read_cut l (knows c l once station) head closings count less
+returns c l head counts closings count once station are less = read_cut l (knows c l once station) head counts closings count are less

@@ -7,7 +7,8 @@ use Rattle.closings_file.proofs.laws.what_is_kept_is_found.Goals as goal
 
 laws : (c : goal.After-what_either_closes_is_closed) (l : Site) (head : List ℕ) → Once l → IsStation l → Laws l head
 laws c l head once station = record {
-  read = λ d t there closed. (c.written_is_read.ensures.things l head d t once station).1 (there, closed);
+  read = λ counts d t are there closed. (c.written_is_read.ensures.things l head counts d t once station are).1 (there, closed);
+  counted = λ counts d are. c.written_is_read.ensures.counts l head counts d once station are;
   found = c.what_is_found_was_kept.ensures;
   either = c.what_either_closes_is_closed.ensures.either;
 }
