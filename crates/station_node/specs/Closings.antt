@@ -1,0 +1,145 @@
+-- The file of what is closed, and the process of the interlocking that keeps it.
+use Rattle.std.specs.Prelude.{◌≡◌, ℕ, ◌&&◌, ◌||◌, if◌then◌else◌, Bool, true, false, List, [], ◌∷◌, ◌++◌, codes, take, Option, Some, None}
+use Rattle.node_kinds.specs.simulator_spec.layout.Entries.{Site}
+use Rattle.node_kinds.specs.simulator_spec.ixl_spec.closings.declared.closed.Closings.{Closings}
+use Rattle.node_kinds.specs.simulator_spec.ixl_spec.closings.declared.thing.Thing.{Thing}
+use Rattle.node_kinds.specs.simulator_spec.ixl_spec.closings.declared.thing.Named.TheVariants.{One as OneThing}
+use Rattle.node_kinds.specs.simulator_spec.ixl_spec.closings.Closed.{either, is_closed}
+use Rattle.node_kinds.specs.simulator_spec.ixl_spec.declared.command.Command.TheVariants.{Close}
+use Rattle.node_kinds.specs.declared.keeping.Keeping.{Keeping}
+use Rattle.node_kinds.specs.declared.keeping.Keeping.TheVariants as keeping
+use Rattle.node_kinds.specs.node_drive.Calls.{Call, Keeps}
+use Rattle.node_kinds.specs.node_drive.node_lines.Commands.{command_text}
+use Rattle.node_kinds.specs.node_drive.node_lines.declared.operator_command.OperatorCommand.TheVariants.{One}
+use Rattle.whole_file.specs.declared.call.Call.{Call as FileCall}
+use Rattle.whole_file.specs.Disk.{Disk, DiskFile, cut}
+use Rattle.whole_file.specs.Keeping.{Cuts, Kept, Move, Stops, begins, keep_moves, run}
+use Rattle.closings_file.specs.Course.{FindsClosed}
+use Rattle.closings_file.specs.Files.{is_known}
+use Rattle.closings_file.specs.Texts.{writing}
+use Rattle.station_node.specs.declared.with_file.Giving.{Giving}
+use Rattle.station_node.specs.declared.with_file.Giving.TheVariants as giving
+
+-- ---- the words
+
+-- what the first line of a record says of what is kept
+abbrev pub keeps_words : Keeping → List ℕ
+keeps_words keeping.Nothing = []
+keeps_words keeping.Closings = codes " keeps closings"
+keeps_words keeping.Locks = codes " keeps locks"
+
+-- the line by which a node is told to close a thing
+abbrev pub close_text : Site → Thing → List ℕ
+close_text site thing = command_text site (One (Close (OneThing thing)))
+
+-- ---- what a process keeps
+
+-- As long as the node wasn't told all that the file has, the file is to have that, too.
+abbrev pub all_to_keep : Giving → (found : Closings) → Closings → Closings
+all_to_keep giving.Lines found closings = either closings found
+all_to_keep giving.Told found closings = closings
+all_to_keep giving.Over found closings = closings
+
+-- ---- the lives of processes, call by call
+
+-- How a keep goes on the disk: it fails at this call and leaves this of the new file, where the old one may have been replaced all
+-- the same; or it fails at none.
+pub record Outcome : Type 0 where
+  pub left : Option DiskFile
+  pub happened : Bool
+  pub failing : Option FileCall
+
+-- What happens to the processes of an interlocking, one after another, and to the disk.
+pub data Moment : Type 0 where
+  -- a process makes a call; where that keeps closings, it goes so on the disk
+  Makes : (call : Call) → (outcome : Outcome) → Moment
+  -- a process ends between two calls, and a new one begins
+  Ends : Moment
+  -- it ends within a keep that would go so, when so many moves were made of it, and a new one begins
+  EndsWithin : (closings : Closings) → (outcome : Outcome) → (made : ℕ) → Moment
+  -- the power is cut, and then a new process begins; the new name may lead to anything, and bytes that weren't synced may be any
+  PowerFails : (fresh : Option DiskFile) → (any : List ℕ) → Moment
+
+-- ---- what the calls say of the file
+
+-- What surely is closed in a process that begins after these moments, where this is so before them: all that the last keep wanted that
+-- was done, as far as each later one wanted it too.
+abbrev pub surely_behind : Moment → (Thing → Bool) → Thing → Bool
+surely_behind (Makes (Keeps closings true) outcome) closed = is_closed closings
+surely_behind (Makes (Keeps closings false) outcome) closed = λ t. closed t && is_closed closings t
+surely_behind (EndsWithin closings outcome made) closed = λ t. closed t && is_closed closings t
+surely_behind moment closed = closed
+
+abbrev pub surely : (Thing → Bool) → List Moment → Thing → Bool
+surely closed [] = closed
+surely closed (moment ∷ more) = surely (surely_behind moment closed) more
+
+-- ---- the file itself
+
+-- what the process knows the file to have, and the file
+pub record Held : Type 0 where
+  pub known : Option (List ℕ)
+  pub file : Kept
+
+abbrev pub known_after : (text : List ℕ) → Option FileCall → Option (List ℕ)
+known_after text None = Some text
+known_after text (Some call) = None
+
+abbrev pub is_done : Option FileCall → Bool
+is_done None = true
+is_done (Some call) = false
+
+-- what happens to the file alone, and then a process begins that knows nothing of it
+abbrev pub begun_after : List Move → Held → Held
+begun_after moves held = record { known = None; file = run moves held.file }
+
+-- a file of these bytes is there, or none is, and anything is under the new name
+abbrev pub held_at_first : Option DiskFile → Option (List ℕ) → Held
+held_at_first fresh bytes = record { known = None; file = begins fresh bytes }
+
+module _ (l : Site) (head : List ℕ) where
+  -- the moves of the file by which closings are kept: none where the file is known to have them
+  abbrev pub moves_of_keep : Closings → Outcome → Held → List Move
+  moves_of_keep closings outcome held =
+      let text = writing l head closings
+      in if is_known text held.known then [] else keep_moves text outcome.left outcome.happened outcome.failing
+
+  abbrev pub after_keep : Closings → Outcome → Held → Held
+  after_keep closings outcome held =
+      let text = writing l head closings
+      in if is_known text held.known then held else record { known = known_after text outcome.failing; file = run (moves_of_keep closings outcome held) held.file }
+
+  -- a keep is answered by whether all its calls were done
+  abbrev pub answer_of_keep : Closings → Outcome → Held → Bool
+  answer_of_keep closings outcome held = is_known (writing l head closings) held.known || is_done outcome.failing
+
+  -- no other call changes the file
+  abbrev pub after_call : Call → Outcome → Held → Held
+  after_call (Keeps closings kept) outcome held = after_keep closings outcome held
+  after_call call outcome held = held
+
+  abbrev pub after_moment : Moment → Held → Held
+  after_moment (Makes call outcome) held = after_call call outcome held
+  after_moment Ends held = begun_after (Stops ∷ []) held
+  after_moment (EndsWithin closings outcome made) held = begun_after (take made (moves_of_keep closings outcome held) ++ Stops ∷ []) held
+  after_moment (PowerFails fresh any) held = begun_after (Cuts fresh any ∷ []) held
+
+  abbrev pub after_all : List Moment → Held → Held
+  after_all [] held = held
+  after_all (moment ∷ more) held = after_all more (after_moment moment held)
+
+  -- each keep is answered as it went
+  abbrev pub IsAnswered : Moment → Held → Type 0
+  IsAnswered (Makes (Keeps closings kept) outcome) held = kept ≡ answer_of_keep closings outcome held
+  IsAnswered moment held = Unit {0}
+
+  abbrev pub AreAnswered : List Moment → Held → Type 0
+  AreAnswered [] held = Unit {0}
+  AreAnswered (moment ∷ more) held = IsAnswered moment held × AreAnswered more (after_moment moment held)
+
+  -- ---- what is promised
+
+  -- A process that begins now closes a thing, and so does one that begins after a cut of the power.
+  pub record IsFound (disk : Disk) (t : Thing) : Type 0 where
+    pub now : FindsClosed l head disk t
+    pub after_cut : (left : Option DiskFile) (any : List ℕ) → FindsClosed l head (cut left any disk) t
