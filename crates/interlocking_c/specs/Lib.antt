@@ -6,4 +6,3 @@ pub mod Known
 pub mod Lending
 pub mod Owned
 pub mod Places
-pub mod Things

@@ -12,4 +12,3 @@ pub mod Refused
 pub mod Reported
 pub mod UnsoundAspect
 pub mod WholeStep
-pub mod Operations

@@ -10,4 +10,3 @@ pub mod Made
 pub mod StepParts
 pub mod Looks
 pub mod Heard
-pub mod ThingsFew

@@ -1,15 +1,15 @@
 //! One route, and how far it is.
 
-ghost use Rattle.std.specs.Prelude.{◌≡◌, ℕ, ◌<◌, ◌≤◌, ◌||◌, not, true, false, [], IfSome, None};
+ghost use Rattle.std.specs.Prelude.{◌≡◌, ℕ, ◌<◌, ◌≤◌, ◌||◌, not, true, false, [], IfSome};
 ghost use Rattle.release.specs.Passage.{passage_after};
-ghost use Rattle.ixl_spec.specs.Commands.{is_ended, released_at, set_anew};
+ghost use Rattle.ixl_spec.specs.Commands.{set_anew};
 ghost use Rattle.ixl_spec.specs.Rules.{come_to, freed};
 ghost use Rattle.ixl_spec.specs.Step.{route_looks};
 ghost use Rattle.ixl_spec.specs.Table.{Row};
-ghost use Rattle.ixl_spec.specs.View.{freed_sections, has_authority, is_set, place_in, was_authorised};
+ghost use Rattle.ixl_spec.specs.View.{has_authority, is_set, place_in, was_authorised};
 ghost use Rattle.ixl_spec.specs.declared.phase.Phase.TheVariants as phase;
 
-use ixl_spec::{Millis, Phase};
+use ixl_spec::Phase;
 use release::{Approach, Passage};
 use std::marker::Model;
 
@@ -20,8 +20,6 @@ pub struct Route {
     cancelled: bool,
     passage: Passage,
     approach: Approach,
-    /// The clock reading at which it was released in its present setting.
-    released: Option<Millis>,
 }
 
 impl Model for Route {
@@ -33,9 +31,9 @@ impl Model for Route {
 
     ghost coded = { Prim.hlevel (codes, places_code) };
 
-    ghost view = { λ r. record { phase = r.phase; cancelled = r.cancelled; passage = r.passage; approached = r.approach; released = r.released } };
+    ghost view = { λ r. record { phase = r.phase; cancelled = r.cancelled; passage = r.passage; approached = r.approach } };
 
-    ghost inverse = { λ s. record { phase = s.phase; cancelled = s.cancelled; passage = s.passage; approach = s.approached; released = s.released } };
+    ghost inverse = { λ s. record { phase = s.phase; cancelled = s.cancelled; passage = s.passage; approach = s.approached } };
 }
 
 impl Route {
@@ -44,14 +42,13 @@ impl Route {
     pub(crate) fn new(sections: usize) -> Route
         requires some { 1 ≤ sections }
         requires within { sections ≤ 64 }
-        ensures { result ≡ record { phase = phase.Free; cancelled = false; passage = passage_after sections []; approached = false; released = None } }
+        ensures { result ≡ record { phase = phase.Free; cancelled = false; passage = passage_after sections []; approached = false } }
     {
         Route {
             phase: Phase::Free,
             cancelled: false,
             passage: Passage::new(sections),
             approach: Approach::new(),
-            released: None,
         }
     }
 
@@ -88,30 +85,6 @@ impl Route {
         ensures { result ≡ self.cancelled }
     {
         self.cancelled
-    }
-
-    /// Whether its authority was given in its present setting, and is ended.
-    pub fn is_ended(self) -> bool
-        ensures { result ≡ is_ended self.phase }
-    {
-        matches!(self.phase, Phase::Ended { .. })
-    }
-
-    /// How many of its sections are freed.
-    pub fn freed_sections(self) -> usize
-        ensures { result ≡ freed_sections self.phase }
-    {
-        match self.phase {
-            Phase::Ended { freed, .. } => freed,
-            _ => 0,
-        }
-    }
-
-    /// The clock reading at which it was released in its present setting, if it was.
-    pub fn released(self) -> Option<Millis>
-        ensures { result ≡ self.released }
-    {
-        self.released
     }
 
     /// What was seen of its sections since it was given authority.
@@ -153,7 +126,6 @@ impl Route {
         Route {
             phase: Phase::Waiting,
             cancelled: false,
-            released: None,
             ..self
         }
     }
@@ -164,16 +136,6 @@ impl Route {
     {
         Route {
             cancelled: true,
-            ..self
-        }
-    }
-
-    /// It is released at this clock, unless it was released before.
-    pub(crate) fn released_at(self, now: Millis) -> Route
-        ensures { result ≡ released_at now self }
-    {
-        Route {
-            released: self.released.or(Some(now)),
             ..self
         }
     }
@@ -192,7 +154,6 @@ impl Route {
             cancelled: self.cancelled,
             passage,
             approach,
-            released: self.released,
         }
     }
 

@@ -2,7 +2,6 @@
 use Rattle.std.specs.Prelude.{◌≡◌, ◌≤◌, ℕ, Bool, List, [], ◌∷◌, ◌++◌, Option, Some, None, string_bytes}
 use Rattle.node_lines.specs.replay_words.declared.fault.Fault.{Fault}
 use Rattle.node_lines.specs.simulator_event.layout.declared.ids.NodeId.{NodeId}
-use Rattle.node_lines.specs.ixl_spec.closings.declared.closed.Closings.{Closings}
 use Rattle.node_drive.specs.declared.outside.NextLine.{NextLine}
 use Rattle.node_drive.specs.declared.outside.NextLine.TheVariants as next
 use Rattle.node_drive.specs.declared.outside.NextDatagram.{NextDatagram}
@@ -51,8 +50,6 @@ pub data Call : Type 0 where
   Sends : (to : NodeId) (bytes : List ℕ) → Call
   -- a faulty line is told on standard error, by its number
   Complains : (line : ℕ) (fault : Fault) → Call
-  -- all that is to be closed in a process that begins later was to be kept in a file; and whether it is there
-  Keeps : (closings : Closings) (kept : Bool) → Call
 
 -- The list of what was told grows by these. Who told nothing goes on to tell nothing, and who told may stop telling.
 abbrev pub Grows : {A : Type 0} → Option (List A) → Option (List A) → List A → Type 0

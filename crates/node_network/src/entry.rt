@@ -1,12 +1,9 @@
 //! The lines of a record.
 
-ghost use Rattle.std.specs.Prelude.{◌≡◌, ◌++◌, ◌∷◌, IfOk, OnOk, Some, string_bytes};
-ghost use Rattle.std.specs.List.{flat_map};
-ghost use Rattle.node_network.specs.Records.{bytes_words, call_line, call_with, kept_words, over_words, sender_word, thing_words, thrown_words};
+ghost use Rattle.std.specs.Prelude.{◌≡◌, ◌++◌, ◌∷◌, IfOk, Some, string_bytes};
+ghost use Rattle.node_network.specs.Records.{bytes_words, call_line, call_with, over_words, sender_word, thrown_words};
 
-use node_drive::{
-    Closings, Fault, Layout, Named, Network, NodeId, Origin, Thing, ThrownAway, hex_word,
-};
+use node_drive::{Fault, Layout, Network, NodeId, Origin, ThrownAway, hex_word};
 use std::alloc::{AllocError, Global};
 
 /// A call of a node's process that has a line in its record.
@@ -34,8 +31,6 @@ pub enum Entry<'a> {
     Sends(NodeId, &'a [u8]),
     /// A line was faulty, by its number.
     Complains(u64, Fault),
-    /// These closings were to be kept, and whether they are.
-    Keeps(Closings, bool),
 }
 
 /// The line of a call, without a line feed.
@@ -60,7 +55,6 @@ pub fn entry_line(alloc: Global, layout: &Layout, entry: Entry<'_>) -> Result<St
             let number = fault.number();
             format!(in alloc; "complains {line} {number}")
         }
-        Entry::Keeps(closings, kept) => kept_line(alloc, layout, &closings, kept),
     }
 }
 
@@ -74,34 +68,6 @@ fn thrown_line(alloc: Global, thrown: ThrownAway) -> Result<String, AllocError>
     } else {
         format!(in alloc; "throws away {count}")
     }
-}
-
-/// Adds the words of things, each behind a comma.
-fn add_things(layout: &Layout, line: &mut String, things: &[Thing]) -> Result<(), AllocError>
-    ensures { OnOk result (string_bytes line.new ≡ string_bytes line.old ++ flat_map (thing_words layout.now) things.now) }
-{
-    for thing in things {
-        line.push_str(", ")?;
-        Named::One(*thing).write(layout, line)?;
-    }
-    Ok(())
-}
-
-/// The line of closings that were to be kept.
-fn kept_line(
-    alloc: Global,
-    layout: &Layout,
-    closings: &Closings,
-    kept: bool,
-) -> Result<String, AllocError>
-    ensures { IfOk result (λ line. string_bytes line ≡ kept_words layout.now closings.now kept) }
-{
-    let things = closings.things(alloc, layout)?;
-    let count = things.len();
-    let what = if kept { "keeps" } else { "fails to keep" };
-    let mut line = format!(in alloc; "{what} {count}")?;
-    add_things(layout, &mut line, &things)?;
-    Ok(line)
 }
 
 /// The words for the network over which a datagram came.

@@ -5,8 +5,8 @@ ghost use Rattle.std.specs.Prelude.{◌≡◌, ◌≤◌};
 use crate::entry::{Entry, entry_line};
 use crate::record_lines::RecordLines;
 use node_drive::{
-    Arrived, BrokenOff, Closings, Fault, Layout, Lines, Network, NextDatagram, NextLine, NodeId,
-    Origin, Outside, ThrownAway, decimal, hexadecimal_or_none, node_named,
+    Arrived, BrokenOff, Fault, Layout, Lines, Network, NextDatagram, NextLine, NodeId, Origin,
+    Outside, ThrownAway, decimal, hexadecimal_or_none, node_named,
 };
 use std::alloc::{AllocError, Global};
 
@@ -211,13 +211,5 @@ impl<'a> Outside for Replayed<'a> {
 
     fn complain(&mut self, line: u64, fault: Fault) {
         self.does(Entry::Complains(line, fault));
-    }
-
-    fn keep(&mut self, closings: Closings) -> bool {
-        if self.is_next(Entry::Keeps(closings, false)) {
-            return false;
-        }
-        self.does(Entry::Keeps(closings, true));
-        true
     }
 }

@@ -1,5 +1,5 @@
--- A node's record: its first line, as `node S1 first 7 for 60000` or `node IXL1 first 7 keeps closings`, and the lines after it.
-use Rattle.std.specs.Prelude.{ℕ, ◌^◌, ◌==◌, ◌&&◌, ◌||◌, nat_lt, if◌then◌else◌, Bool, List, [], ◌∷◌, codes, Option, Some, None, Result, Ok, Err}
+-- A node's record: its first line, as `node S1 first 7 for 60000`, and the lines after it.
+use Rattle.std.specs.Prelude.{ℕ, ◌^◌, ◌==◌, ◌&&◌, nat_lt, if◌then◌else◌, Bool, List, [], ◌∷◌, codes, Option, Some, None, Result, Ok, Err}
 use Rattle.std.specs.List.{enumerate_from, slice_split}
 use Rattle.std.specs.Str.{bytes_eq}
 use Rattle.control_table.specs.layout.Entries.{Site}
@@ -26,19 +26,10 @@ whole_lines text = but_last (slice_split (λ b. b == 10) text)
 
 -- ---- the first one
 
--- what the process of an interlocking kept of it in a file: its closings, or its locks, too
-abbrev pub is_kept : List ℕ → List ℕ → Bool
-is_kept word what = bytes_eq word (codes "keeps") && (bytes_eq what (codes "closings") || bytes_eq what (codes "locks"))
-
 -- for how many milliseconds the node was to run, if that is told
 abbrev pub time_said : List (List ℕ) → Result (Option ℕ) Fault
 time_said [] = Ok None
-time_said (word ∷ number ∷ []) =
-    if bytes_eq word (codes "for") then (decimal number >>= λ time. Ok (Some time))
-    else if is_kept word number then Ok None
-    else Err Words
-time_said (word ∷ number ∷ keeps ∷ what ∷ []) =
-    if bytes_eq word (codes "for") && is_kept keeps what then (decimal number >>= λ time. Ok (Some time)) else Err Words
+time_said (word ∷ number ∷ []) = if bytes_eq word (codes "for") then (decimal number >>= λ time. Ok (Some time)) else Err Words
 time_said other = Err Words
 
 -- the number of the node's first PDU

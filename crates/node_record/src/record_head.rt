@@ -1,8 +1,8 @@
 //! The first line of a node's record.
 
-ghost use Rattle.std.specs.Prelude.{◌≡◌, ◌∷◌, codes};
+ghost use Rattle.std.specs.Prelude.{◌≡◌};
 ghost use Rattle.replay_words.specs.Cut.{words};
-ghost use Rattle.node_record.specs.Records.{head_said, is_kept, time_said};
+ghost use Rattle.node_record.specs.Records.{head_said, time_said};
 
 use control_table::Layout;
 use replay_lines::node_named;
@@ -50,25 +50,6 @@ fn time_said(mut words: Words<'_>) -> Result<Option<u64>, Fault>
     match (words.next(), words.next(), words.next()) {
         (None, _, _) => Ok(None),
         (Some("for"), Some(number), None) => Ok(Some(decimal(number)?)),
-        (Some("for"), Some(number), Some(keeps)) => time_before(number, keeps, words),
-        (Some(keeps), Some(what), None) if is_kept(keeps, what) => Ok(None),
         _ => Err(Fault::Words),
     }
-}
-
-/// For how many milliseconds a node was to run, where it is told behind that what was kept of it.
-fn time_before(number: &str, keeps: &str, mut words: Words<'_>) -> Result<Option<u64>, Fault>
-    ensures { result ≡ time_said (codes "for" ∷ number.now ∷ keeps.now ∷ words.entry) }
-{
-    match (words.next(), words.next()) {
-        (Some(what), None) if is_kept(keeps, what) => Ok(Some(decimal(number)?)),
-        _ => Err(Fault::Words),
-    }
-}
-
-/// Whether these words tell what a process kept in a file.
-fn is_kept(keeps: &str, what: &str) -> bool
-    ensures { result ≡ is_kept keeps.now what.now }
-{
-    keeps == "keeps" && (what == "closings" || what == "locks")
 }

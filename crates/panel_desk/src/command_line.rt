@@ -2,13 +2,11 @@
 
 ghost use Rattle.std.specs.Prelude.{◌≡◌};
 ghost use Rattle.node_lines.specs.replay_words.Cut.{words};
-ghost use Rattle.panel_desk.specs.CommandLines.{automatic, cancel, cut, delay, dropped, event, jam, manual, mend, panel_said, queue, route_there, unjam, up_to};
+ghost use Rattle.panel_desk.specs.CommandLines.{cancel, cut, delay, dropped, event, jam, mend, panel_said, unjam, up_to};
 
 use crate::panel_command::{Disturbance, PanelCommand};
-use crate::standing_order::StandingOrder;
 use node_lines::{
-    Fault, LIFETIME, Layout, RouteId, Words, decimal, node_named, point_named, read_script_event,
-    route_named,
+    Fault, LIFETIME, Layout, Words, decimal, node_named, point_named, read_script_event,
 };
 
 /// What a line asks for, or the lowest fault of its words.
@@ -24,9 +22,6 @@ pub fn read_panel_command(layout: &Layout, line: &str) -> Result<PanelCommand, F
         Some("delay") => delay(rest),
         Some("jam") => jam(layout, rest),
         Some("unjam") => unjam(layout, rest),
-        Some("automatic") => automatic(layout, rest),
-        Some("queue") => queue(layout, rest),
-        Some("manual") => manual(layout, rest),
         _ => event(layout, Words::of(line)),
     }
 }
@@ -117,40 +112,4 @@ fn unjam(layout: &Layout, mut words: Words<'_>) -> Result<PanelCommand, Fault>
     };
     let point = point_named(layout, point)?;
     Ok(PanelCommand::Disturb(Disturbance::Unjam(point)))
-}
-
-/// The route of the table that words name, and nothing more.
-fn route_there(layout: &Layout, mut words: Words<'_>) -> Result<RouteId, Fault>
-    ensures { result ≡ route_there layout.now words.entry }
-{
-    let (Some(route), None) = (words.next(), words.next()) else {
-        return Err(Fault::Words);
-    };
-    let route = route_named(layout, route);
-    if route.0 < layout.routes().len() {
-        Ok(route)
-    } else {
-        Err(Fault::Name)
-    }
-}
-
-fn automatic(layout: &Layout, words: Words<'_>) -> Result<PanelCommand, Fault>
-    ensures { result ≡ automatic layout.now words.entry }
-{
-    let route = route_there(layout, words)?;
-    Ok(PanelCommand::Stand(StandingOrder::Automatic(route)))
-}
-
-fn queue(layout: &Layout, words: Words<'_>) -> Result<PanelCommand, Fault>
-    ensures { result ≡ queue layout.now words.entry }
-{
-    let route = route_there(layout, words)?;
-    Ok(PanelCommand::Stand(StandingOrder::Queue(route)))
-}
-
-fn manual(layout: &Layout, words: Words<'_>) -> Result<PanelCommand, Fault>
-    ensures { result ≡ manual layout.now words.entry }
-{
-    let route = route_there(layout, words)?;
-    Ok(PanelCommand::Stand(StandingOrder::Manual(route)))
 }

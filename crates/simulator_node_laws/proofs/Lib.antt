@@ -23,5 +23,4 @@ pub mod PointsAgain
 pub mod PointsDrive
 pub mod DetectorsAgain
 pub mod Events
-pub mod WorkedRequest
 pub mod WorkedLives

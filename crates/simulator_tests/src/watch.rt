@@ -170,7 +170,7 @@ impl Watch {
                 }
             }
             Command::Cancel(route) => self.cancelled |= bit(route.0),
-            _ => {}
+            Command::Resume => {}
         }
     }
 

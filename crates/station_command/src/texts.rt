@@ -97,8 +97,6 @@ pub(crate) enum Help {
     Addresses,
     Operator,
     RecordOfNode,
-    Closings,
-    KeepLocks,
     Clock,
     Hold,
     ForOfNode,
@@ -141,8 +139,6 @@ impl Help {
             Help::Addresses => ADDRESSES,
             Help::Operator => OPERATOR,
             Help::RecordOfNode => RECORD_OF_NODE,
-            Help::Closings => CLOSINGS,
-            Help::KeepLocks => KEEP_LOCKS,
             Help::Clock => CLOCK,
             Help::Hold => HOLD,
             Help::ForOfNode => FOR_OF_NODE,
@@ -431,11 +427,6 @@ const OPERATOR: &str =
 
 const RECORD_OF_NODE: &str = "The file to which what came and what was done is written";
 
-const CLOSINGS: &str = "The file in which what is closed outlives the interlocking's process";
-
-const KEEP_LOCKS: &str =
-    "What set routes lock is kept in the file too, and closed in the next process";
-
 const CLOCK: &str =
     "Where the node's clock begins, from 0 to 9000000000000 milliseconds, else at 0";
 
@@ -477,10 +468,6 @@ The interlocking serves an operator, in lines on standard input and output, or a
   resume                      it takes `set` and `cancel` from now on
   set R, cancel R             sets a route, or lets it go
   cancel all                  lets each route go
-  release R                   frees a route that is cancelled, 120 s later
-  move P left|right           moves a point
-  close X, close P left       keeps routes and moves off a section, point, signal or route
-  open X, open P left         ends that
 
 It answers `accepted`, or `refused N` with the cause, and tells what it knows whenever that changes:
 
@@ -491,12 +478,7 @@ It answers `accepted`, or `refused N` with the cause, and tells what it knows wh
   indicates S ASPECT                      what a signal is reported to show
   route R set|free                        whether a route is set
   holding                                 it was made anew, and takes no command yet
-  closed X, open X                        whether something is closed; a point with its side
   waiting for resume                      it takes no command but `resume`
-
-With --closings what is closed is in FILE before `accepted` is told, and the next process closes it
-before it hears anything. It answers `not kept X` where FILE can't be written. Where FILE can't be read
-whole, or is of another layout, every section and every point is closed, and `closings lost` tells why.
 
 With --stop-file it ends where that file is there, as it does after --for: what it drives is told to rest.
 With --record-size its record stands in parts, as for run.

@@ -1,9 +1,9 @@
 //! What the commands of a round ask for.
 
-ghost use Rattle.std.specs.Prelude.{◌≡◌, ◌++◌, OnOk, map};
+ghost use Rattle.std.specs.Prelude.{◌≡◌, ◌++◌, OnOk};
 ghost use Rattle.std.specs.List.{flat_map};
 ghost use Rattle.panel_desk.specs.declared.panel_command.PanelCommand.TheVariants.{Event as Wants};
-ghost use Rattle.station_panel.specs.Asked.{cancels, events_by, faults_after, faults_by, may_be_asked, requested};
+ghost use Rattle.station_panel.specs.Asked.{cancels, events_by, faults_after, faults_by, may_be_asked};
 
 use crate::faults::Faults;
 use panel_desk::{Command, Event, PanelCommand, RouteId};
@@ -44,7 +44,7 @@ fn add_events_by(
     match command {
         PanelCommand::Event(event) => add_event(events, event),
         PanelCommand::CancelAll => add_cancels(events, routes),
-        PanelCommand::Disturb(_) | PanelCommand::Stand(_) => Ok(()),
+        PanelCommand::Disturb(_) => Ok(()),
     }
 }
 
@@ -70,16 +70,6 @@ fn add_event(events: &mut Vec<Event>, event: &Event) -> Result<(), AllocError>
         _ => return Ok(()),
     };
     events.push(copy)?;
-    Ok(())
-}
-
-/// Adds a request of each of these routes, in their order.
-pub(crate) fn add_requests(events: &mut Vec<Event>, routes: &[RouteId]) -> Result<(), AllocError>
-    ensures { OnOk result (events.new.items ≡ events.old.items ++ map requested routes.now) }
-{
-    for route in routes {
-        events.push(Event::Request(Command::Request(*route)))?;
-    }
     Ok(())
 }
 

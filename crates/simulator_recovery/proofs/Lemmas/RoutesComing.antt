@@ -1,7 +1,6 @@
 pub mod NothingDueProceeds
 pub mod NothingDueMoves
 pub mod DueCourse
-pub mod NeedsUsed
 pub mod DueAccepted
 pub mod NothingDueStops
 pub mod DueRoutes
