@@ -68,7 +68,7 @@ pub fn what_is_kept_is_found()
 }
 
 /// Whatever happens: a process that finds the file at any moment counts on from as many auxiliary commands as were counted when the last
-/// keep answered Ok, or from more, also after a cut of the power. No count falls.
+/// keep answered Ok, or from more, also after a cut of the power. Nor has one that runs counted fewer than these.
 pub fn what_is_counted_is_found()
     ensures now { (l : Site) (head : List ℕ) (fresh : Option DiskFile) (bytes : Option (List ℕ)) (moves : List Move)
         → Once l → IsStation l → let course = run l head moves (starts l head fresh bytes) in FindsCounted l head course.file.disk course.counted }
