@@ -4,7 +4,7 @@
    The loop. All readings are those of one clock of yours, in milliseconds, which never falls and never stands still while the program
    does.
 
-       static void after_step(void)                             // after each accepted hear, tick, request, cancel or resume
+       static void after_step(void)                             // after each accepted hear, tick or command
        {
            while (zendurai_interlocking_next(&ixl, clock_ms(), out, sizeof out, &size, &to) == ZENDURAI_OK && size)
                send(to, out, size);                             // at once, to the controller of this node
@@ -67,11 +67,14 @@ struct zendurai_interlocking {
     uint32_t state;
 };
 
-/* Why a command is refused: 0 it is obeyed, else 1 to 10 as docs/OPERATING.md lists them; and the place of the route (5), the section (6)
-   or the point (7) that it names, else 0. */
+/* Why a command is refused: 0 it is obeyed, else 1 to 14 as docs/OPERATING.md lists them; and the kind and the place of the route (5, 14),
+   the section (6), the point (7) or the closed thing (13) that it names, else 0 and 0. A closed point has its side beside it, which is
+   ZENDURAI_NEITHER for all else. */
 struct zendurai_cause {
     uint32_t number;
+    uint32_t kind;
     size_t place;
+    uint32_t side;
 };
 
 struct zendurai_authority {
@@ -101,6 +104,18 @@ uint32_t zendurai_interlocking_request(struct zendurai_interlocking *interlockin
 uint32_t zendurai_interlocking_cancel(struct zendurai_interlocking *interlocking, uint64_t now, size_t route, struct zendurai_cause *cause);
 uint32_t zendurai_interlocking_resume(struct zendurai_interlocking *interlocking, uint64_t now, struct zendurai_cause *cause);
 
+/* The operator wants a route that has ended its authority, and was cancelled, to be freed 120000 ms later; a point to be moved to LEFT or
+   RIGHT; or a signal, a section, a route, or a point at LEFT, at RIGHT or at both (NEITHER) to be closed or opened; and then the clock was
+   read: OK, NOT_STARTED, VALUE (no such side, or no such kind) or CLOCK. With OK *cause says why the interlocking refuses it, if it does.
+   Closings live as long as the interlocking: a program that starts one anew gives it `close` for each thing that was closed before. */
+uint32_t zendurai_interlocking_release(struct zendurai_interlocking *interlocking, uint64_t now, size_t route, struct zendurai_cause *cause);
+uint32_t zendurai_interlocking_move(struct zendurai_interlocking *interlocking, uint64_t now, size_t point, uint32_t side,
+                                    struct zendurai_cause *cause);
+uint32_t zendurai_interlocking_close(struct zendurai_interlocking *interlocking, uint64_t now, uint32_t kind, size_t place, uint32_t side,
+                                     struct zendurai_cause *cause);
+uint32_t zendurai_interlocking_open(struct zendurai_interlocking *interlocking, uint64_t now, uint32_t kind, size_t place, uint32_t side,
+                                    struct zendurai_cause *cause);
+
 /* The next datagram of the last step, its size, 0 where none is left, and the node to which it goes: OK, NOT_STARTED, TOO_SMALL, CLOCK or
    SOON. */
 uint32_t zendurai_interlocking_next(struct zendurai_interlocking *interlocking, uint64_t now, uint8_t *out, size_t room, size_t *size,
@@ -113,6 +128,10 @@ uint32_t zendurai_interlocking_place(struct zendurai_interlocking *interlocking,
                                      size_t *place);
 uint32_t zendurai_interlocking_name(struct zendurai_interlocking *interlocking, uint32_t kind, size_t place, uint8_t *out, size_t room,
                                     size_t *size);
+
+/* Whether a signal, a section, a route, or a point at LEFT or RIGHT is closed: OK, NOT_STARTED or VALUE (no such side, or no such kind). */
+uint32_t zendurai_interlocking_closed(struct zendurai_interlocking *interlocking, uint32_t kind, size_t place, uint32_t side,
+                                      uint32_t *closed);
 
 /* For a display, each OK or NOT_STARTED: which route has authority from a signal; the aspect that a signal told last, or NOT_INDICATED;
    whether a section is CLEAR, OCCUPIED or UNKNOWN; whether a point is known to lie LEFT or RIGHT, or NEITHER; whether a route is set;
@@ -127,10 +146,10 @@ uint32_t zendurai_interlocking_readiness(struct zendurai_interlocking *interlock
 
 #ifdef __cplusplus
 }
-static_assert(sizeof(struct zendurai_interlocking) == 16 && sizeof(struct zendurai_cause) == 16 && sizeof(struct zendurai_authority) == 16,
+static_assert(sizeof(struct zendurai_interlocking) == 16 && sizeof(struct zendurai_cause) == 24 && sizeof(struct zendurai_authority) == 16,
               "a 64-bit target");
 #else
-_Static_assert(sizeof(struct zendurai_interlocking) == 16 && sizeof(struct zendurai_cause) == 16 && sizeof(struct zendurai_authority) == 16,
+_Static_assert(sizeof(struct zendurai_interlocking) == 16 && sizeof(struct zendurai_cause) == 24 && sizeof(struct zendurai_authority) == 16,
                "a 64-bit target");
 #endif
 #endif

@@ -26,8 +26,8 @@ use crate::start_fault::StartFault;
 use ixl::{Input, Interlocking, Reply, steps_may_follow_at_later_clocks};
 use ixl_state::ixl_spec::control_table::check;
 use ixl_state::{
-    Aspect, Command, Datagram, Layout, Millis, Name, NodeId, Occupancy, Refusal, Side, SignalId,
-    receiver_of,
+    Aspect, Closings, Command, Datagram, Layout, Millis, Name, NodeId, Occupancy, Refusal, Side,
+    SignalId, receiver_of,
 };
 use std::alloc::Global;
 use std::marker::Model;
@@ -331,6 +331,13 @@ impl EmbeddedInterlocking {
         ensures { result ≡ is_set_at self.now.interlocking.state.ixl place }
     {
         is_set(self.interlocking.state(), place)
+    }
+
+    /// What is closed.
+    pub fn closed(&self) -> Closings
+        ensures { result ≡ self.now.interlocking.state.ixl.closed }
+    {
+        self.interlocking.closed()
     }
 
     /// Whether requests are taken at a reading.

@@ -22,4 +22,7 @@ pub use places::Kind;
 pub use start_fault::StartFault;
 
 // The everyday items of the crates below.
-pub use ixl_state::{Aspect, Command, Name, Occupancy, Refusal, RouteId, Side};
+pub use ixl_state::{
+    Aspect, Closings, Command, Name, Named, Occupancy, PointId, Refusal, RouteId, SectionId, Side,
+    SignalId, Thing,
+};

@@ -1,10 +1,11 @@
 -- The numbers that calls from C answer with, and what a call from C does by the rules of a loop.
 use Rattle.std.specs.Prelude.{ℕ, nat_lt, Option, Some, None, Result, Ok, Err, if◌then◌else◌}
-use Rattle.embedded_ixl.specs.Calls.{Call, Takes, after_call, answer_to}
+use Rattle.embedded_ixl.specs.Calls.{Call, Obeys, Takes, after_call, answer_to}
 use Rattle.embedded_ixl.specs.Embedded.{EmbeddedIxlState}
 use Rattle.embedded_ixl.specs.declared.call_refusal.CallRefusal.{CallRefusal}
 use Rattle.embedded_ixl.specs.declared.call_refusal.CallRefusal.TheVariants.{ClockFell, TooSoon, TooOld}
-use Rattle.interlocking_c.specs.declared.answers.TheConstants.{OK, NOT_STARTED, ROOM, CLOCK, SOON, OLD, LONGEST}
+use Rattle.embedded_ixl.specs.ixl_state.ixl_spec.declared.command.Command.{Command}
+use Rattle.interlocking_c.specs.declared.answers.TheConstants.{OK, NOT_STARTED, ROOM, CLOCK, SOON, OLD, VALUE, LONGEST}
 
 -- the number of an answer
 abbrev pub number_of : Result Unit CallRefusal → ℕ
@@ -17,6 +18,16 @@ number_of (Err TooOld) = OLD
 abbrev pub answer_in : Call → Option EmbeddedIxlState → ℕ
 answer_in call None = NOT_STARTED
 answer_in call (Some it) = number_of (answer_to call it)
+
+-- to a command, whose numbers may be those of none
+abbrev pub answer_to_command : ℕ → Option Command → Option EmbeddedIxlState → ℕ
+answer_to_command now command None = NOT_STARTED
+answer_to_command now None (Some it) = VALUE
+answer_to_command now (Some command) (Some it) = number_of (answer_to (Obeys now command) it)
+
+abbrev pub after_command : ℕ → Option Command → EmbeddedIxlState → EmbeddedIxlState
+after_command now None it = it
+after_command now (Some command) it = after_call (Obeys now command) it
 
 -- to a question that is answered wherever there is one
 abbrev pub answer_where_there : Option EmbeddedIxlState → ℕ

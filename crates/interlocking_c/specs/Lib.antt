@@ -6,3 +6,4 @@ pub mod Known
 pub mod Lending
 pub mod Owned
 pub mod Places
+pub mod Things

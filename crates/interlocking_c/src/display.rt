@@ -3,17 +3,22 @@
 
 ghost use Rattle.std.specs.Prelude.{◌≡◌, ◌≢◌, Some};
 ghost use Rattle.embedded_ixl.specs.Embedded.{EmbeddedIxlState};
+ghost use Rattle.embedded_ixl.specs.ixl_state.ixl_spec.closings.Closed.{is_closed};
+ghost use Rattle.embedded_ixl.specs.ixl_state.ixl_spec.closings.declared.thing.Thing.{Thing as Meant};
 ghost use Rattle.interlocking_c.specs.Answers.{answer_where_there};
 ghost use Rattle.interlocking_c.specs.Kept.{held_interlocking};
 ghost use Rattle.interlocking_c.specs.Known.{aspect_told, authority_at, authority_told, indicated_at, is_linked_at, is_set, occupancy_told, readiness_at, readiness_told, section_at, side_at, side_told, truth_told};
+ghost use Rattle.interlocking_c.specs.Things.{answer_to_thing, thing_of};
 
-use crate::answers::{NOT_STARTED, OK};
+use crate::answers::{NOT_STARTED, OK, VALUE};
 use crate::handle::Handle;
 use crate::held::Held;
 use crate::known::{
     AuthorityTold, aspect_told, authority_told, occupancy_told, readiness_told, side_told,
     truth_told,
 };
+use crate::things::thing_of;
+use embedded_ixl::Thing;
 
 impl Held {
     fn authority(&self, signal: usize) -> AuthorityTold
@@ -44,6 +49,12 @@ impl Held {
         ensures { result ≡ truth_told (is_set self.now.embedded route) }
     {
         truth_told(self.embedded.is_set(route))
+    }
+
+    fn closed(&self, thing: Thing) -> u32
+        ensures { result ≡ truth_told (is_closed self.now.embedded.interlocking.state.ixl.closed thing) }
+    {
+        truth_told(self.embedded.closed().is_closed(thing))
     }
 
     fn link(&self, node: usize) -> u32
@@ -152,6 +163,32 @@ pub extern "C" fn zendurai_interlocking_route(
     }
     *set = handle.get().route(route);
     OK
+}
+
+/// Whether a signal, 0, a point at a side, 1, a section, 2, or a route, 3, is closed. The side is 1 left or 2 right.
+#[unsafe(no_mangle)]
+pub extern "C" fn zendurai_interlocking_closed(
+    handle: &mut Handle,
+    kind: u32,
+    place: usize,
+    side: u32,
+    closed: &mut u32,
+) -> u32
+    ensures answer { result ≡ answer_to_thing (thing_of kind place side) (held_interlocking handle.old.held) }
+    ensures held { handle.new.held ≡ handle.old.held }
+    ensures closed { result ≡ 0 → (it : EmbeddedIxlState) (thing : Meant) → held_interlocking handle.old.held ≡ Some it → thing_of kind place side ≡ Some thing → closed.new ≡ truth_told (is_closed it.interlocking.state.ixl.closed thing) }
+    ensures same { result ≢ 0 → closed.new ≡ closed.old }
+{
+    if !handle.is_started() {
+        return NOT_STARTED;
+    }
+    match thing_of(kind, place, side) {
+        Some(thing) => {
+            *closed = handle.get().closed(thing);
+            OK
+        }
+        None => VALUE,
+    }
 }
 
 /// Whether the initialisation of the controller of a node is completed in its present connection.

@@ -15,16 +15,19 @@ mod loop_calls;
 mod places;
 mod room;
 mod start;
+mod things;
 
 pub use cause::CauseTold;
 pub use commands::{
-    zendurai_interlocking_cancel, zendurai_interlocking_request, zendurai_interlocking_resume,
+    zendurai_interlocking_cancel, zendurai_interlocking_close, zendurai_interlocking_move,
+    zendurai_interlocking_open, zendurai_interlocking_release, zendurai_interlocking_request,
+    zendurai_interlocking_resume,
 };
 pub use datagram::zendurai_interlocking_next;
 pub use display::{
-    zendurai_interlocking_authority, zendurai_interlocking_indicated, zendurai_interlocking_link,
-    zendurai_interlocking_point, zendurai_interlocking_readiness, zendurai_interlocking_route,
-    zendurai_interlocking_section,
+    zendurai_interlocking_authority, zendurai_interlocking_closed, zendurai_interlocking_indicated,
+    zendurai_interlocking_link, zendurai_interlocking_point, zendurai_interlocking_readiness,
+    zendurai_interlocking_route, zendurai_interlocking_section,
 };
 pub use handle::Handle;
 pub use known::AuthorityTold;

@@ -13,7 +13,7 @@ use crate::held::Held;
 use embedded_ixl::Kind;
 
 /// The kind of a number, if it is that of one.
-fn kind_of(number: u32) -> Option<Kind>
+pub(crate) fn kind_of(number: u32) -> Option<Kind>
     ensures { result ≡ kind_of number }
 {
     match number {

@@ -3,6 +3,7 @@ use Rattle.std.proofs.Common.{◌≡◌, ℕ, zero, suc, ◌+◌, ◌<◌, Bool,
 use Rattle.std.specs.Prelude.{◌&&◌, nat_eq, not, slice_get}
 use Rattle.std.proofs.lemmas.Bool.{eqb-false, eqb-true, false≢true}
 use Rattle.ixl_state.specs.rasta_core.Outbox.{OutboxState}
+use Rattle.ixl_state.specs.ixl_spec.Operations.{lies_in_closed}
 use Rattle.ixl_state.specs.ixl_spec.Table.{Row, Table}
 use Rattle.ixl_state.specs.ixl_spec.State.{IxlState, RouteState}
 use Rattle.ixl_state.specs.ixl_spec.View.{all_clear, all_known, is_at_known_stop, is_held_with_authority, is_known, is_point_available, is_signal_ready}
@@ -78,6 +79,7 @@ none_moves now old rest number less part is = at_still old.sited.table number _ 
     rest_still old number _ rest less (λ row route part at_rest.
     of_resting (λ p. (if is_waiting p && not route.cancelled && is_point_available part.ixl need.point && not (is_known part.ixl need.point need.side)
     && is_over_clear old.sited.table part.ixl need.point && not (is_held_with_authority old.sited.table part.ixl need.point) && is_unmoved part.ixl need.point number
+    && not (lies_in_closed old.sited.table part.ixl need.point)
     then giving_move now need.point need.side part else part) ≡ part) refl refl route.phase at_rest) part is))
 
 none_proceeds : (now : ℕ) (old : StateView) → AllRest (count old.sited.table) old → (number : ℕ) → number < count old.sited.table → StaysAt old (proceeding now old.sited.table number)

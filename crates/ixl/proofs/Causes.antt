@@ -2,11 +2,18 @@
 use Rattle.std.proofs.Common.{◌≡◌, ℕ, zero, suc, ◌<◌, Bool, true, false, not, if◌then◌else◌, List, [], ◌∷◌, length, get_or, drop, arith, refl, ap, sym, ◌∙◌, subst}
 use Rattle.std.specs.Prelude.{◌&&◌, ◌||◌, Option, Some, None, slice_get}
 use Rattle.std.specs.List.{list_all}
+use Rattle.std.specs.Option.{option_or}
 use Rattle.std.proofs.lemmas.Bool.{true≢false, false≢true}
-use Rattle.ixl_state.specs.ixl_spec.Commands.{cancel_refusal, conflict_told, first_failing, is_point_wanting, locking_refusal, refused_where, request_refusal}
+use Rattle.ixl_state.specs.sci_telegram.declared.message.Side.{Side}
+use Rattle.ixl_state.specs.layout.declared.ids.PointId.{PointId}
+use Rattle.ixl_state.specs.ixl_spec.closings.Closed.{is_closed}
+use Rattle.ixl_state.specs.ixl_spec.closings.declared.thing.Thing.{Thing}
+use Rattle.ixl_state.specs.ixl_spec.closings.declared.thing.Thing.TheVariants.{Point}
+use Rattle.ixl_state.specs.ixl_spec.Commands.{cancel_refusal, closed_refusal, conflict_told, first_failing, held_told, is_ended, is_point_wanting, locking_refusal, moving_refusal, own_section_refusal, refused_where, release_refusal, request_refusal}
+use Rattle.ixl_state.specs.ixl_spec.Operations.{counts_as_closed, first_holding, things_used}
 use Rattle.ixl_state.specs.ixl_spec.State.{IxlState, RouteState}
 use Rattle.ixl_state.specs.ixl_spec.Table.{Need, Row, Table}
-use Rattle.ixl_state.specs.ixl_spec.View.{first_blocking, is_at_known_stop, is_holding, is_occupied, is_set, is_signal_ready, is_unknown}
+use Rattle.ixl_state.specs.ixl_spec.View.{first_blocking, is_at_known_stop, is_holding, is_occupied, is_point_available, is_set, is_signal_ready, is_unknown}
 use Rattle.ixl_state.specs.ixl_spec.declared.command.Refusal.{Refusal}
 use Rattle.ixl_state.specs.ixl_spec.declared.command.Refusal.TheVariants as refusals
 use Rattle.ixl.specs.inside.Parts.{first_where}
@@ -121,6 +128,11 @@ pub locking_passed : (now : ℕ) (table : Table) (ixl : IxlState) (number : ℕ)
 unfolding locking_refusal
 locking_passed now table ixl number row is = conflict_passed (first_blocking number row 0 table.rows ixl.routes) _ is
 
+-- neither of two causes is given
+first_passed : (one other : Option Refusal) → option_or one other ≡ None → one ≡ None
+first_passed None other is = refl
+first_passed (Some one) other is = absurd (none_refused is)
+
 -- the route is there, isn't set, and nothing blocks it
 pub record MaySet (table : Table) (ixl : IxlState) (number : ℕ) (row_there : Option Row) (route_there : Option RouteState) : Type 0 where
   pub row : Row
@@ -138,7 +150,7 @@ request_passed now table ixl number (Some row) (Some route) is =
     let held = where_passed (is_holding now ixl) refusals.Holding _ is
     in let resumed = where_passed (not ixl.resumed) refusals.NotResumed _ held.1
     in let free = where_passed (is_set route.phase) refusals.AlreadySet _ resumed.1
-    in record { row = row; route = route; is_row = refl; is_route = refl; free = free.0; unblocked = locking_passed now table ixl number row free.1 }
+    in record { row = row; route = route; is_row = refl; is_route = refl; free = free.0; unblocked = locking_passed now table ixl number row (first_passed _ _ free.1) }
 
 -- a route that is cancelled is there
 pub cancel_passed : (now : ℕ) (ixl : IxlState) (route : Option RouteState) → cancel_refusal now ixl route ≡ None → (one : RouteState) × (route ≡ Some one)
@@ -158,7 +170,7 @@ get_inside (first ∷ others) (suc place) one is = let within = get_inside other
 
 -- ---- what is told past the first two tests
 
-passed_to : (a b : Bool) (one other : Refusal) (rest : Option Refusal) → a ≡ false → b ≡ false → rest ≡ refused_where a one (refused_where b other rest)
+pub passed_to : (a b : Bool) (one other : Refusal) (rest : Option Refusal) → a ≡ false → b ≡ false → rest ≡ refused_where a one (refused_where b other rest)
 passed_to true b one other rest is also = cc
 passed_to false true one other rest is also = cc
 passed_to false false one other rest is also = refl
@@ -170,20 +182,24 @@ cancel_told now ixl found route set is over resumed phase_is =
     ∙ passed_to (is_holding now ixl) (not ixl.resumed) refusals.Holding refusals.NotResumed (refused_where (not (is_set route.phase)) refusals.NotSet None) over (ap not resumed)
     ∙ ap (cancel_refusal now ixl) (sym is)
 
+-- what stands against a route that isn't set: its locking, or else what is closed
+abbrev pub past_set : ℕ → Table → IxlState → ℕ → Row → Option Refusal
+past_set now table ixl number row = option_or (locking_refusal now table ixl number row) (closed_refusal table ixl number row)
+
 pub request_told : (now : ℕ) (table : Table) (ixl : IxlState) (number : ℕ) (found_row : Option Row) (found : Option RouteState) (row : Row) (route : RouteState) (set : Bool) →
     found_row ≡ Some row → found ≡ Some route → is_holding now ixl ≡ false → ixl.resumed ≡ true → is_set route.phase ≡ set →
-    refused_where set refusals.AlreadySet (locking_refusal now table ixl number row) ≡ request_refusal now table ixl number found_row found
+    refused_where set refusals.AlreadySet (past_set now table ixl number row) ≡ request_refusal now table ixl number found_row found
 request_told now table ixl number found_row found row route set is_row is over resumed phase_is =
-    ap (λ b. refused_where b refusals.AlreadySet (locking_refusal now table ixl number row)) (sym phase_is)
-    ∙ passed_to (is_holding now ixl) (not ixl.resumed) refusals.Holding refusals.NotResumed (refused_where (is_set route.phase) refusals.AlreadySet (locking_refusal now table ixl number row)) over (ap not resumed)
+    ap (λ b. refused_where b refusals.AlreadySet (past_set now table ixl number row)) (sym phase_is)
+    ∙ passed_to (is_holding now ixl) (not ixl.resumed) refusals.Holding refusals.NotResumed (refused_where (is_set route.phase) refusals.AlreadySet (past_set now table ixl number row)) over (ap not resumed)
     ∙ ap (λ f. request_refusal now table ixl number f (Some route)) (sym is_row) ∙ ap (request_refusal now table ixl number found_row) (sym is)
 
 -- ---- what refuses every command for a route
 
-abbrev of_any : Bool → Bool → Option Refusal → Option Refusal
+abbrev pub of_any : Bool → Bool → Option Refusal → Option Refusal
 of_any holding resumed rest = refused_where holding refusals.Holding (refused_where (not resumed) refusals.NotResumed rest)
 
-any_refuses : (holding resumed : Bool) (cause : Refusal) (rest : Option Refusal) → Some cause ≡ of_any holding resumed None → Some cause ≡ of_any holding resumed rest
+pub any_refuses : (holding resumed : Bool) (cause : Refusal) (rest : Option Refusal) → Some cause ≡ of_any holding resumed None → Some cause ≡ of_any holding resumed rest
 any_refuses true resumed cause rest is = is
 any_refuses false false cause rest is = is
 any_refuses false true cause rest is = absurd (none_refused is)
@@ -196,10 +212,69 @@ any_allows false true is = (refl, refl)
 pub any_request_refused : (now : ℕ) (table : Table) (ixl : IxlState) (number : ℕ) (found_row : Option Row) (found : Option RouteState) (row : Row) (route : RouteState) (cause : Refusal) → found_row ≡ Some row → found ≡ Some route →
     Some cause ≡ of_any (is_holding now ixl) ixl.resumed None → Some cause ≡ request_refusal now table ixl number found_row found
 any_request_refused now table ixl number found_row found row route cause is_row is told =
-    any_refuses (is_holding now ixl) ixl.resumed cause (refused_where (is_set route.phase) refusals.AlreadySet (locking_refusal now table ixl number row)) told
+    any_refuses (is_holding now ixl) ixl.resumed cause (refused_where (is_set route.phase) refusals.AlreadySet (past_set now table ixl number row)) told
     ∙ ap (λ f. request_refusal now table ixl number f (Some route)) (sym is_row) ∙ ap (request_refusal now table ixl number found_row) (sym is)
 
 pub any_cancel_refused : (now : ℕ) (ixl : IxlState) (found : Option RouteState) (route : RouteState) (cause : Refusal) → found ≡ Some route →
     Some cause ≡ of_any (is_holding now ixl) ixl.resumed None → Some cause ≡ cancel_refusal now ixl found
 any_cancel_refused now ixl found route cause is told =
     any_refuses (is_holding now ixl) ixl.resumed cause (refused_where (not (is_set route.phase)) refusals.NotSet None) told ∙ ap (cancel_refusal now ixl) (sym is)
+
+-- ---- of a release
+
+-- what stands against the release of a route that is set
+abbrev pub past_unset : RouteState → Option Refusal
+past_unset route = refused_where (not (route.cancelled && is_ended route.phase)) refusals.NotEnded None
+
+pub release_told : (now : ℕ) (ixl : IxlState) (found : Option RouteState) (route : RouteState) (set : Bool) → found ≡ Some route → is_holding now ixl ≡ false → ixl.resumed ≡ true → is_set route.phase ≡ set →
+    refused_where (not set) refusals.NotSet (past_unset route) ≡ release_refusal now ixl found
+release_told now ixl found route set is over resumed phase_is =
+    ap (λ b. refused_where (not b) refusals.NotSet (past_unset route)) (sym phase_is)
+    ∙ passed_to (is_holding now ixl) (not ixl.resumed) refusals.Holding refusals.NotResumed (refused_where (not (is_set route.phase)) refusals.NotSet (past_unset route)) over (ap not resumed)
+    ∙ ap (release_refusal now ixl) (sym is)
+
+pub any_release_refused : (now : ℕ) (ixl : IxlState) (found : Option RouteState) (route : RouteState) (cause : Refusal) → found ≡ Some route →
+    Some cause ≡ of_any (is_holding now ixl) ixl.resumed None → Some cause ≡ release_refusal now ixl found
+any_release_refused now ixl found route cause is told =
+    any_refuses (is_holding now ixl) ixl.resumed cause (refused_where (not (is_set route.phase)) refusals.NotSet (past_unset route)) told ∙ ap (release_refusal now ixl) (sym is)
+
+-- a route that is released is there
+pub release_passed : (now : ℕ) (ixl : IxlState) (route : Option RouteState) → release_refusal now ixl route ≡ None → (one : RouteState) × (route ≡ Some one)
+release_passed now ixl None is = absurd (none_refused is)
+release_passed now ixl (Some route) is = (route, refl)
+
+-- what a command closes or opens is there
+pub thing_passed : (there : Bool) (cause : Refusal) (otherwise : Option Refusal) → refused_where (not there) cause otherwise ≡ None → there ≡ true
+thing_passed true cause otherwise is = refl
+thing_passed false cause otherwise is = absurd (none_refused is)
+
+pub thing_missing : (there : Bool) (otherwise : Option Refusal) → there ≡ false → Some refusals.NoSuchThing ≡ refused_where (not there) refusals.NoSuchThing otherwise
+thing_missing there otherwise is = ap (λ b. refused_where (not b) refusals.NoSuchThing otherwise) (sym is)
+
+pub thing_there : (there : Bool) (otherwise : Option Refusal) → there ≡ true → otherwise ≡ refused_where (not there) refusals.NoSuchThing otherwise
+thing_there there otherwise is = ap (λ b. refused_where (not b) refusals.NoSuchThing otherwise) (sym is)
+
+-- ---- of a request, at last
+
+pub closed_told : (table : Table) (ixl : IxlState) (number : ℕ) (row : Row) (first : Option Thing) → first ≡ first_where (counts_as_closed table ixl) (things_used number row) →
+    told_of refusals.Closed first None ≡ closed_refusal table ixl number row
+unfolding closed_refusal
+closed_told table ixl number row first is =
+    ap (λ one. told_of refusals.Closed one None) is ∙ sym (failing_is (counts_as_closed table ixl) refusals.Closed (things_used number row) None)
+
+-- ---- of a move
+
+abbrev pub moving_by : PointId → Side → Bool → Option ℕ → Bool → Option Refusal → Option Refusal
+moving_by point side closed holder available own =
+    refused_where closed (refusals.Closed (Point point side)) (held_told holder (refused_where (not available) (refusals.PointUnavailable point) own))
+
+-- it is enough to know the tests up to the one that fails
+pub moving_told : (table : Table) (ixl : IxlState) (point : PointId) (side : Side) (closed : Bool) (holder : Option ℕ) (available : Bool) (own : Option Refusal) →
+    closed ≡ is_closed ixl.closed (Point point side) → holder ≡ first_holding table ixl point.0 → available ≡ is_point_available ixl point.0 → own ≡ own_section_refusal table ixl point.0 →
+    moving_by point side closed holder available own ≡ moving_refusal table ixl point side
+unfolding moving_refusal
+moving_told table ixl point side closed holder available own one two three four =
+    ap (λ c. moving_by point side c holder available own) one
+    ∙ ap (λ h. moving_by point side (is_closed ixl.closed (Point point side)) h available own) two
+    ∙ ap (λ a. moving_by point side (is_closed ixl.closed (Point point side)) (first_holding table ixl point.0) a own) three
+    ∙ ap (moving_by point side (is_closed ixl.closed (Point point side)) (first_holding table ixl point.0) (is_point_available ixl point.0)) four

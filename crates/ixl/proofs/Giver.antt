@@ -6,7 +6,7 @@ use Rattle.ixl_state.specs.ixl_spec.State.{RouteState}
 use Rattle.ixl_state.specs.ixl_spec.Table.{Row}
 use Rattle.ixl_state.specs.ixl_spec.View.{authority_from, has_authority}
 
-drop_at : {A : Type 0} (list : List A) (place : ℕ) (one : A) → slice_get list place ≡ Some one → drop place list ≡ one ∷ drop (suc place) list
+pub drop_at : {A : Type 0} (list : List A) (place : ℕ) (one : A) → slice_get list place ≡ Some one → drop place list ≡ one ∷ drop (suc place) list
 drop_at [] place one is = cc
 drop_at (first ∷ others) zero one is = let same : first ≡ one = cc in ap (λ o. o ∷ others) same
 drop_at (first ∷ others) (suc place) one is = drop_at others place one is

@@ -13,7 +13,6 @@ use Rattle.ixl.specs.Interlocking.{meant}
 use Rattle.ixl.specs.declared.input.Input.{Input as GivenInput}
 use Rattle.ixl.specs.declared.input.Input.TheVariants as inputs
 use Rattle.ixl_state.specs.State.{AllAt, Goes, StateView, heard_from}
-use Rattle.ixl.specs.inside.Parts.{Passes}
 use Rattle.ixl.proofs.StepParts.{goes_as, goes_nowhere, goes_within, leads_at, part_at}
 
 -- a tick gives nothing
@@ -35,10 +34,10 @@ unfolding given
 fault_given now table key bytes fault old box at is =
     goes_nowhere now 30 (given now table key (Datagram bytes)) old box at (leads_at (given now table key (Datagram bytes)) old.ixl box old.ixl box (λ calls acted. rw (← is) (refl, refl)))
 
--- a command hands out nothing
-pub command_given : (now : ℕ) (table : Table) (key : Key) (command : Command) (old : StateView) (box : OutboxState) (new : StateView) →
-    ((k : Key) → Passes now (given now table k (Commands command)) old new) → Goes now 30 (given now table key (Commands command)) old box new box
-command_given now table key command old box new passes = goes_within now 0 30 (given now table key (Commands command)) old box new box (omega arith) (passes key box)
+-- a command hands out what a move does at most
+pub command_given : (now : ℕ) (table : Table) (key : Key) (command : Command) (old : StateView) (box : OutboxState) (new : StateView) (out : OutboxState) →
+    ((k : Key) → Goes now 2 (given now table k (Commands command)) old box new out) → Goes now 30 (given now table key (Commands command)) old box new out
+command_given now table key command old box new out goes = goes_within now 2 30 (given now table key (Commands command)) old box new out (omega arith) (goes key)
 
 -- what isn't a tick is over
 pub not_ticked : (now : ℕ) (input : GivenInput) (old : StateView) (box : OutboxState) → AllAt now old → (input ≡ inputs.Tick → ⊥) → Goes now 160 (ticked now (meant input)) old box old box

@@ -11,5 +11,8 @@ pub mod Unread
 pub mod Judged
 pub mod Looks
 pub mod CommandEffects
+pub mod FirstRoutes
+pub mod ClosedThings
+pub mod UsedThings
 pub mod Views
 pub mod Whole

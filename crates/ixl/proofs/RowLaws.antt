@@ -45,21 +45,26 @@ and_then value test other first second is passed one two = is ∙ two ∙ sym (a
 pub same_row : (rows : List Row) (number : ℕ) (one row : Row) → slice_get rows number ≡ Some one → slice_get rows number ≡ Some row → one ≡ row
 same_row rows number one row is also = same_Some _ _ (sym is ∙ also)
 
+-- a fact of a route, read of its row and of what is kept of it
+pub for_route : {A : Type 0} (read : Row → RouteState → A) (value : A) (rows : List Row) (number : ℕ) (one row : Row) (old route : RouteState) → value ≡ read one old →
+    slice_get rows number ≡ Some one → slice_get rows number ≡ Some row → old ≡ route → value ≡ read row route
+for_route read value rows number one row old route is at also same = is ∙ ap (λ (r : Row). read r old) (same_row rows number one row at also) ∙ ap (read row) same
+
 -- a test of what stands at a place
 pub at_place : {A : Type 0} (list : List A) (place : ℕ) (one : A) (test : A → Bool) → slice_get list place ≡ Some one → test one ≡ at list place test
 unfolding at
 at_place list place one test is = sym (ap (passes test) is)
 
-contains-none : {A : Type 0} (x : A) → Contains [] x → ⊥
+pub contains-none : {A : Type 0} (x : A) → Contains [] x → ⊥
 contains-none x h = absurd (omega (arith, h.1))
 
-contains-here : {A : Type 0} (x : A) (xs : List A) → Contains (x ∷ xs) x
+pub contains-here : {A : Type 0} (x : A) (xs : List A) → Contains (x ∷ xs) x
 contains-here x xs = (0, omega arith, refl)
 
-contains-there : {A : Type 0} (x y : A) (xs : List A) → Contains xs y → Contains (x ∷ xs) y
+pub contains-there : {A : Type 0} (x y : A) (xs : List A) → Contains xs y → Contains (x ∷ xs) y
 contains-there x y xs (k, lt, at) = (suc k, omega (arith, lt), at)
 
-contains-cases : {A : Type 0} (x y : A) (xs : List A) → Contains (x ∷ xs) y → (x ≡ y) ⊎ Contains xs y
+pub contains-cases : {A : Type 0} (x y : A) (xs : List A) → Contains (x ∷ xs) y → (x ≡ y) ⊎ Contains xs y
 contains-cases x y xs (zero, lt, at) = inl at
 contains-cases x y xs (suc k, lt, at) = inr (k, omega (arith, lt), at)
 
@@ -133,6 +138,16 @@ pub not_over_clear : (state : StateView) (sections : List ℕ) (point : ℕ) →
 unfolding at
 not_over_clear state sections point are beyond =
     le-ltb point (length sections) beyond ∙ sym (ap (λ found. passes (is_clear state.sited.table state.ixl) found) (slice_get_past sections point beyond)) ∙ ap (λ list. at list point (is_clear state.sited.table state.ixl)) are
+
+-- a test of the section in which a point lies
+pub own_section : (test : ℕ → Bool) (list sections : List ℕ) (point : ℕ) (value : Bool) → sections ≡ list → point < length sections → value ≡ test (get_or sections point 0) → value ≡ at list point test
+own_section test list sections point value are within is =
+    is ∙ at_place sections point (get_or sections point 0) test (slice_get-get_or sections point 0 within) ∙ ap (λ one. at one point test) are
+
+pub no_section : (test : ℕ → Bool) (list sections : List ℕ) (point : ℕ) → sections ≡ list → length sections ≤ point → nat_lt point (length sections) ≡ at list point test
+unfolding at
+no_section test list sections point are beyond =
+    le-ltb point (length sections) beyond ∙ sym (ap (passes test) (slice_get_past sections point beyond)) ∙ ap (λ one. at one point test) are
 
 -- ---- passage
 

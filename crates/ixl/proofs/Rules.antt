@@ -13,6 +13,7 @@ use Rattle.ixl_state.specs.ixl_spec.Table.{Need, Row, Table}
 use Rattle.ixl_state.specs.ixl_spec.State.{IxlState, RouteState}
 use Rattle.ixl_state.specs.ixl_spec.View.{all_known, is_approach_clear, is_at_known_stop, is_held_with_authority, is_known, is_point_available, is_signal_ready}
 use Rattle.ixl_state.specs.ixl_spec.StepSoFar.{StepSoFar, along, at_route, giving_aspect, giving_move, over, with_route}
+use Rattle.ixl_state.specs.ixl_spec.Operations.{lies_in_closed}
 use Rattle.ixl_state.specs.ixl_spec.Rules.{come_to, count, ending_authority, freed, freeing_by_cancel, freeing_by_passage, freeing_next, frees_cancelled, frees_next, is_move_due, is_over_clear, is_proceed_due, is_proceeding, is_stop_due, is_unmoved, is_waiting, is_withdrawn, moving, moving_one, one_freed, proceeding, repeated, ruled, withdrawing}
 use Rattle.ixl_state.specs.ixl_spec.declared.phase.Phase.{Phase}
 use Rattle.ixl_state.specs.ixl_spec.declared.phase.Phase.TheVariants as phase
@@ -228,22 +229,22 @@ along_last does [] last part = refl
 along_last does (first ∷ others) last part = along_last does others last (does first part)
 
 -- no point of a route is to be moved that doesn't wait, or whose points are known
-not_due : (waits available known over_clear held unmoved : Bool) → waits ≡ false → waits && available && not known && over_clear && not held && unmoved ≡ false
-not_due true available known over_clear held unmoved is = absurd (true≢false is)
-not_due false available known over_clear held unmoved is = refl
+not_due : (waits available known over_clear held unmoved closed : Bool) → waits ≡ false → waits && available && not known && over_clear && not held && unmoved && not closed ≡ false
+not_due true available known over_clear held unmoved closed is = absurd (true≢false is)
+not_due false available known over_clear held unmoved closed is = refl
 
-none_due : (waits available known over_clear held unmoved : Bool) → known ≡ true → waits && available && not known && over_clear && not held && unmoved ≡ false
-none_due waits available false over_clear held unmoved is = absurd (false≢true is)
-none_due false available true over_clear held unmoved is = refl
-none_due true false true over_clear held unmoved is = refl
-none_due true true true over_clear held unmoved is = refl
+none_due : (waits available known over_clear held unmoved closed : Bool) → known ≡ true → waits && available && not known && over_clear && not held && unmoved && not closed ≡ false
+none_due waits available false over_clear held unmoved closed is = absurd (false≢true is)
+none_due false available true over_clear held unmoved closed is = refl
+none_due true false true over_clear held unmoved closed is = refl
+none_due true true true over_clear held unmoved closed is = refl
 
 pub no_route_moved : (now number : ℕ) (old : StateView) (box : OutboxState) (waits : Bool) → HasRoute old number → AllAt now old → AtRoute old number (λ row route. waits ≡ (is_waiting route.phase && not route.cancelled)) → waits ≡ false →
     Goes now 64 (moving now old.sited.table number) old box old box
 unfolding moving moving_one
 no_route_moved now number old box waits there at is fails = goes_nowhere now 64 _ old box at (route_does old number _ (λ part. part) there
     (λ row route kept part same. along_still _ row.needs part (λ need has. route_does old number _ (λ p. p) there
-    (λ row route kept part same. if_not _ _ part (not_due _ _ _ _ _ _ (sym (is row route kept) ∙ fails))) part same)))
+    (λ row route kept part same. if_not _ _ part (not_due _ _ _ _ _ _ _ (sym (is row route kept) ∙ fails))) part same)))
 
 pub no_point_moved : (now number : ℕ) (old : StateView) (box : OutboxState) (known : Bool) → HasRoute old number → AllAt now old → AtRoute old number (λ row route. known ≡ all_known old.ixl row.needs) → known ≡ true →
     Goes now 64 (moving now old.sited.table number) old box old box
@@ -252,7 +253,7 @@ no_point_moved now number old box known there at is holds = goes_nowhere now 64 
     (λ row route kept part same. along_still _ row.needs part (λ need has. route_does old number _ (λ p. p) there
     (λ other state other_kept part same. if_not (is_move_due old.sited.table part.ixl number state need) (giving_move now need.point need.side part) part
     (none_due (is_waiting state.phase && not state.cancelled) (is_point_available part.ixl need.point) (is_known part.ixl need.point need.side) (is_over_clear old.sited.table part.ixl need.point)
-    (is_held_with_authority old.sited.table part.ixl need.point) (is_unmoved part.ixl need.point number)
+    (is_held_with_authority old.sited.table part.ixl need.point) (is_unmoved part.ixl need.point number) (lies_in_closed old.sited.table part.ixl need.point)
     (ap (λ ixl. is_known ixl need.point need.side) same ∙ all_pass (λ (need : Need). is_known old.ixl need.point need.side) row.needs (sym (is row route kept) ∙ holds) need has))) part same)))
 
 -- so many of the points that a route requires had their turn

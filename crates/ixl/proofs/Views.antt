@@ -1,6 +1,6 @@
 -- What the controllers tell, as facts of all that is kept.
 use Rattle.std.proofs.Common.{◌≡◌, ◌∙◌, ℕ, zero, suc, Bool, true, false, not, List, [], ◌∷◌, get_or, refl, ap, sym, subst}
-use Rattle.std.specs.Prelude.{◌&&◌, Some, slice_get}
+use Rattle.std.specs.Prelude.{◌&&◌, ◌||◌, Some, slice_get}
 use Rattle.ixl_state.specs.ixl_spec.State.{IxlState}
 use Rattle.ixl_state.specs.ixl_spec.Table.{Row, Table}
 use Rattle.ixl_state.specs.ixl_table.Table.{SitedTable}
@@ -27,6 +27,20 @@ both_first a one other is fails = fails ∙ ap (λ b. b && other) (sym fails ∙
 
 pub both_then : (a b one other : Bool) → a ≡ one → b ≡ other → a ≡ true → b ≡ (one && other)
 both_then a b one other is also holds = also ∙ ap (λ x. x && other) (sym holds ∙ is)
+
+-- either of two tests passes
+pub either_first : (a one other : Bool) → a ≡ one → a ≡ true → a ≡ (one || other)
+either_first a one other is holds = holds ∙ ap (λ b. b || other) (sym holds ∙ is)
+
+pub either_then : (a b one other : Bool) → a ≡ one → b ≡ other → a ≡ false → b ≡ (one || other)
+either_then a b one other is also fails = also ∙ ap (λ x. x || other) (sym fails ∙ is)
+
+-- one test passes, and not the other
+pub unless_first : (a one other : Bool) → a ≡ one → a ≡ true → not a ≡ (not one && other)
+unless_first a one other is holds = ap not holds ∙ ap (λ b. not b && other) (sym holds ∙ is)
+
+pub unless_then : (a b one other : Bool) → a ≡ one → b ≡ other → a ≡ false → b ≡ (not one && other)
+unless_then a b one other is also fails = also ∙ ap (λ x. not x && other) (sym fails ∙ is)
 
 -- what was read at a place stands there
 pub get_read : {A : Type 0} (list : List A) (place : ℕ) (one found : A) → slice_get list place ≡ Some found → one ≡ get_or list place one → one ≡ found

@@ -6,7 +6,11 @@ ghost use Rattle.ixl_state.specs.bit_row.Places.{Has};
 ghost use Rattle.ixl_state.specs.layout.declared.ids.RouteId.{RouteId};
 ghost use Rattle.ixl_state.specs.ixl_spec.Commands.{refusal, refused_where};
 ghost use Rattle.ixl_state.specs.ixl_spec.Due.{HoldsSection};
+ghost use Rattle.ixl_state.specs.ixl_spec.Operations.{has_named, has_thing};
 ghost use Rattle.ixl_state.specs.ixl_spec.View.{authority_from, indicated, is_holding, is_set};
+ghost use Rattle.ixl_state.specs.ixl_spec.closings.Things.{HasNamed, HasThing};
+ghost use Rattle.ixl_state.specs.ixl_spec.closings.declared.thing.Named.{Named};
+ghost use Rattle.ixl_state.specs.ixl_spec.closings.declared.thing.Thing.{Thing};
 ghost use Rattle.ixl_state.specs.ixl_spec.declared.command.Refusal.TheVariants as refusals;
 ghost use Rattle.ixl_state.specs.State.{AtRoute, MayStepAll};
 ghost use Rattle.ixl_state.specs.ixl_spec.StepSoFar.{empty_outbox};
@@ -19,8 +23,8 @@ use crate::refusals::{is_holding, refusal, refusal_of_any};
 use crate::step::step;
 use ixl_state::ixl_table::Table;
 use ixl_state::{
-    Aspect, BitRow, Checked, Command, Datagram, Key, Millis, Outbox, Refusal, RouteId, SignalId,
-    State, key_of,
+    Aspect, BitRow, Checked, Closings, Command, Datagram, Key, Millis, Outbox, Refusal, RouteId,
+    SignalId, State, key_of,
 };
 use std::alloc::{AllocError, Global};
 use std::marker::Model;
@@ -172,8 +176,8 @@ impl Interlocking {
         refusal(&self.state, now, command)
     }
 
-    /// Why each command for a route of the table is refused, whatever it is: nothing is set or cancelled in the hold, nor
-    /// before it was told to resume.
+    /// Why each command for a route of the table or for a point is refused, whatever it is: nothing is set, cancelled, released
+    /// or moved in the hold, nor before it was told to resume.
     pub fn refusal_of_any(&self, now: Millis) -> Option<Refusal>
         ensures { result ≡ refused_where (is_holding now self.now.state.ixl) refusals.Holding (refused_where (not self.now.state.ixl.resumed) refusals.NotResumed None) }
     {
@@ -185,6 +189,30 @@ impl Interlocking {
         ensures { result ≡ is_holding now self.now.state.ixl }
     {
         is_holding(&self.state, now)
+    }
+
+    /// What is closed.
+    pub fn closed(&self) -> Closings
+        ensures { result ≡ self.now.state.ixl.closed }
+    {
+        self.state.closed()
+    }
+
+    /// A station has the things of its layout, and no others: so a close and an open are refused as `NoSuchThing` exactly where
+    /// the layout lacks what they name.
+    pub fn has_what_its_layout_has(&self)
+        ensures thing { (thing : Thing) → IsTrue (has_thing self.now.state.sited.table self.now.state.ixl thing) ↔ HasThing self.now.state.sited.site thing }
+        ensures named { (named : Named) → IsTrue (has_named self.now.state.sited.table self.now.state.ixl named) ↔ HasNamed self.now.state.sited.site named }
+    {
+        self.state.has_what_its_layout_has();
+    }
+
+    /// The clock reading at which a route was released in its present setting, if it was.
+    pub fn released(&self, route: RouteId) -> Option<Millis>
+        requires { route.0 < length self.now.state.sited.table.rows }
+        ensures { AtRoute self.now.state route.0 (λ row kept. result ≡ kept.released) }
+    {
+        self.state.route(route.0).released()
     }
 
     /// Whether a route is set.

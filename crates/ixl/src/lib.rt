@@ -12,6 +12,8 @@ mod idle_routes;
 mod input;
 mod interlocking;
 mod laws;
+mod operation_refusals;
+mod operations;
 mod passage;
 mod point_moves;
 mod proceed_rule;

@@ -10,6 +10,7 @@ ghost use Rattle.ixl_state.specs.State.{AllAt, AtRoute, Goes};
 use crate::field_known::{
     are_points_known, is_over_clear, is_point_available, is_point_known, is_point_unmoved, row_of,
 };
+use crate::operations::lies_in_closed;
 use ixl_state::ixl_table::Need;
 use ixl_state::{Millis, Outbox, Phase, State};
 
@@ -37,6 +38,7 @@ fn is_move_due(state: &State, number: usize, need: Need) -> bool
         && is_over_clear(state, point)
         && !state.is_held_with_authority(point)
         && is_point_unmoved(state, point, number)
+        && !lies_in_closed(state, point)
 }
 
 /// A point is moved for a route where that is due.

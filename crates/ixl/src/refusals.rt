@@ -2,12 +2,14 @@
 
 ghost use Rattle.std.specs.Prelude.{None, ◌≡◌, ◌<◌, ◌&&◌, ◌||◌, not, false, length, slice_get};
 ghost use Rattle.std.specs.List.{list_all};
-ghost use Rattle.ixl_state.specs.ixl_spec.Commands.{cancel_refusal, is_point_wanting, locking_refusal, refusal, refused_where, request_refusal};
+ghost use Rattle.ixl_state.specs.ixl_spec.Commands.{cancel_refusal, closed_refusal, is_point_wanting, locking_refusal, refusal, refused_where, request_refusal};
 ghost use Rattle.ixl_state.specs.ixl_spec.declared.command.Refusal.TheVariants as refusals;
 ghost use Rattle.ixl_state.specs.ixl_spec.View.{is_at_known_stop, is_holding, is_occupied, is_set, is_signal_ready, is_unknown};
 ghost use Rattle.ixl_state.specs.State.{AtRoute};
 ghost use Rattle.ixl.specs.inside.Parts.{first_where};
 
+use crate::operation_refusals::{close_refusal, move_refusal, open_refusal, release_refusal};
+use crate::operations::first_closed;
 use ixl_state::ixl_table::Need;
 use ixl_state::{Command, HOLD_TIME, Millis, PointId, Refusal, RouteId, SectionId, State};
 
@@ -19,14 +21,14 @@ pub(crate) fn is_holding(state: &State, now: Millis) -> bool
 }
 
 /// Whether a section was last told as occupied, by a detector that is ready.
-fn is_occupied(state: &State, section: usize) -> bool
+pub(crate) fn is_occupied(state: &State, section: usize) -> bool
     ensures { result ≡ is_occupied state.now.sited.table state.now.ixl section }
 {
     state.field().is_occupied(section)
 }
 
 /// Whether the detector of a section isn't ready.
-fn is_unknown(state: &State, section: usize) -> bool
+pub(crate) fn is_unknown(state: &State, section: usize) -> bool
     ensures { result ≡ is_unknown state.now.sited.table state.now.ixl section }
 {
     !state.field().is_clear(section) && !state.field().is_occupied(section)
@@ -107,7 +109,18 @@ fn locking_refusal(state: &State, now: Millis, number: usize) -> Option<Refusal>
     }
 }
 
-/// Why each command for a route of the table is refused, whatever it is.
+/// Why a route isn't set that could be locked: a thing that it would use counts as closed.
+fn closed_refusal(state: &State, number: usize) -> Option<Refusal>
+    requires { number < length state.now.sited.table.rows }
+    ensures { AtRoute state.now number (λ row route. result ≡ closed_refusal state.now.sited.table state.now.ixl number row) }
+{
+    match first_closed(state, number) {
+        Some(thing) => Some(Refusal::Closed(thing)),
+        None => None,
+    }
+}
+
+/// Why each command for a route of the table or for a point is refused, whatever it is.
 pub(crate) fn refusal_of_any(state: &State, now: Millis) -> Option<Refusal>
     ensures { result ≡ refused_where (is_holding now state.now.ixl) refusals.Holding (refused_where (not state.now.ixl.resumed) refusals.NotResumed None) }
 {
@@ -133,7 +146,10 @@ fn request_refusal(state: &State, now: Millis, number: usize) -> Option<Refusal>
     if state.route(number).is_set() {
         return Some(Refusal::AlreadySet);
     }
-    locking_refusal(state, now, number)
+    match locking_refusal(state, now, number) {
+        Some(cause) => Some(cause),
+        None => closed_refusal(state, number),
+    }
 }
 
 /// Why a cancel is refused.
@@ -171,5 +187,9 @@ pub(crate) fn refusal(state: &State, now: Millis, command: Command) -> Option<Re
         Command::Request(route) => request_refusal(state, now, route.0),
         Command::Cancel(route) => cancel_refusal(state, now, route.0),
         Command::Resume => resume_refusal(state, now),
+        Command::Release(route) => release_refusal(state, now, route.0),
+        Command::Move(point, side) => move_refusal(state, now, point, side),
+        Command::Close(named) => close_refusal(state, named),
+        Command::Open(named) => open_refusal(state, named),
     }
 }

@@ -28,7 +28,7 @@ fn give(state: &mut State, now: Millis, key: &Key, input: &Input, outbox: &mut O
     match input {
         Input::Tick => Reply::Ticked,
         Input::Datagram(datagram) => Reply::Received(hear(state, now, key, datagram, outbox)),
-        Input::Command(wanted) => match command(state, now, *wanted) {
+        Input::Command(wanted) => match command(state, now, *wanted, outbox) {
             Some(refusal) => Reply::Refused(refusal),
             None => Reply::Accepted,
         },

@@ -4,6 +4,7 @@ use Rattle.std.specs.List.{All}
 use Rattle.ixl_spec.specs.rasta_core.Calls.{MayStep}
 use Rattle.ixl_spec.specs.rasta_core.Outbox.{OutboxState}
 use Rattle.ixl_spec.specs.rasta_pdu.declared.key.Key.{Key}
+use Rattle.ixl_spec.specs.closings.declared.closed.Closings.{Closings}
 use Rattle.ixl_spec.specs.ixl_client.Client.{ClientState}
 use Rattle.ixl_spec.specs.ixl_client.ClientSoFar.{begun}
 use Rattle.ixl_spec.specs.ixl_client.Step.{hearing}
@@ -26,6 +27,7 @@ pub record Rest : Type 0 where
   pub routes : List RouteState
   pub created : ℕ
   pub resumed : Bool
+  pub closed : Closings
 
 -- both together
 abbrev pub kept : FieldState → Rest → IxlState
@@ -36,6 +38,7 @@ kept field rest = record {
   routes = rest.routes;
   created = rest.created;
   resumed = rest.resumed;
+  closed = rest.closed;
 }
 
 -- ---- nodes by their places

@@ -120,7 +120,7 @@ stays_answered now input old new answer place before after moves told hears says
     so_far = ticked_stays place _ _ _ now input (ruled now table (over (watching table) (count table) heard)) more
         (ruled_stays place _ _ _ now table (over (watching table) (count table) heard) says
         (seen_stays place _ _ _ table heard
-        (given_stays place _ _ _ now table (key_of old.state.sited.site) input begun hears
+        (given_stays place _ _ _ now table (key_of old.state.sited.site) input begun says hears
         (begins now before moves told was place begun (mapped (clocked_known_point now) place old.state.ixl.known_points before is) refl refl))))
 
 -- ---- an interlocking that was just made

@@ -25,7 +25,7 @@ use Rattle.ixl_laws.proofs.PickedByTest.{none_is, some_same}
 
 -- ---- what a route holds, it held before in its setting
 
-contains_there : {A : Type 0} (first one : A) (others : List A) → Contains others one → Contains (first ∷ others) one
+pub contains_there : {A : Type 0} (first one : A) (others : List A) → Contains others one → Contains (first ∷ others) one
 contains_there first one others (k, lt, at) = (suc k, omega (arith, lt), at)
 
 from_drop : {A : Type 0} (n : ℕ) (list : List A) (one : A) → Contains (drop n list) one → Contains list one
@@ -33,7 +33,7 @@ from_drop zero list one is = is
 from_drop (suc n) [] one is = is
 from_drop (suc n) (first ∷ others) one is = contains_there first one others (from_drop n others one is)
 
-from_later : {A : Type 0} (less more : ℕ) (list : List A) (one : A) → less ≤ more → Contains (drop more list) one → Contains (drop less list) one
+pub from_later : {A : Type 0} (less more : ℕ) (list : List A) (one : A) → less ≤ more → Contains (drop more list) one → Contains (drop less list) one
 from_later zero more list one fewer is = from_drop more list one is
 from_later (suc less) zero list one fewer is = absurd (omega (arith, fewer))
 from_later (suc less) (suc more) [] one fewer is = is
@@ -61,11 +61,11 @@ freed_back (phase.Ended clock done) phase.Waiting onward set = absurd (omega (ar
 freed_back (phase.Ended clock done) phase.Proceeding onward set = absurd (omega (arith, onward.order))
 freed_back (phase.Ended clock done) phase.Withdrawn onward set = absurd (omega (arith, onward.order))
 
-section_back : (row : Row) (old new : Phase) (section : ℕ) → IsOnward old new → HoldsSection row new section → HoldsSection row old section
+pub section_back : (row : Row) (old new : Phase) (section : ℕ) → IsOnward old new → HoldsSection row new section → HoldsSection row old section
 section_back row old new section onward holds =
     (set_back old new onward holds.0, from_later (freed_sections old) (freed_sections new) row.sections section (freed_back old new onward holds.0) holds.1)
 
-point_back : (row : Row) (old new : Phase) (point : ℕ) (side : Side) → IsOnward old new → HoldsPoint row new point side → HoldsPoint row old point side
+pub point_back : (row : Row) (old new : Phase) (point : ℕ) (side : Side) → IsOnward old new → HoldsPoint row new point side → HoldsPoint row old point side
 point_back row old new point side onward holds =
     (set_back old new onward holds.0, (holds.1.0, holds.1.1, holds.1.2, holds.1.3, omega (arith, freed_back old new onward holds.0, holds.1.4)))
 

@@ -2,9 +2,9 @@
 use Rattle.std.proofs.Common.{◌≡◌, inr, ℕ, List, refl, ap, sym, ◌∙◌, subst}
 use Rattle.std.specs.Prelude.{Option, Some, None, is_some, option_map, slice_get}
 use Rattle.ixl_state.specs.rasta_pdu.PduRead.{reading}
-use Rattle.ixl_state.specs.ixl_client.ClientSoFar.{begun}
+use Rattle.ixl_state.specs.ixl_client.ClientSoFar.{LinkCall, begun}
 use Rattle.ixl_state.specs.ixl_client.Step.{hearing}
-use Rattle.ixl_state.specs.ixl_spec.Commands.{commanded_by, obeyed, refusal, unmoved_for}
+use Rattle.ixl_state.specs.ixl_spec.Commands.{commanded_by, moved_at_once, obeyed, refusal, unmoved_for}
 use Rattle.ixl_state.specs.ixl_spec.StepSoFar.{Detector, Node, StepSoFar, Point, Signal, begun_with, detector_after, empty_outbox, known_signal_after, known_point_after, with_one}
 use Rattle.ixl_state.specs.ixl_spec.State.{KnownDetectorState, IxlState, KnownSignalState, KnownPointState, changed}
 use Rattle.ixl_state.specs.ixl_spec.Step.{Commands, Datagram, Input, Tick, addressed, all_clocked, client_at, detector_hearing, given, indicated_heard, known_signal_hearing, looking, looks, node_hearing, occupied_heard, side_heard, known_point_hearing}
@@ -17,7 +17,7 @@ use Rattle.ixl.specs.Interlocking.{InterlockingState}
 use Rattle.ixl_laws.specs.Called.{receipt_at, receipt_by}
 use Rattle.ixl_laws.proofs.CalledReceipt.{nobody, nothing_called, received, unlisted}
 use Rattle.ixl_laws.proofs.CalledSoFar.{SoFar, same_clients}
-use Rattle.ixl_laws.proofs.CalledSteps.{ClientLaws, route_called}
+use Rattle.ixl_laws.proofs.CalledSteps.{ClientLaws, move_called, route_called}
 use Rattle.ixl_laws.proofs.Clients.{Puts, detection_at, detector_client, detector_kept, detector_put, known_signal_client, known_signal_kept, known_signal_put, mapped_option, point_at, signal_at, known_point_client, known_point_kept, known_point_put}
 use Rattle.ixl_laws.proofs.Ruled.{along_holds, looking_holds, with_one_or_none}
 
@@ -77,28 +77,52 @@ module _ (now : ℕ) (laws : ClientLaws now) (first : IxlState) (table : Table) 
   datagram_called None = nothing_called now first (receipt_by table bytes None) (λ node. inr refl)
   datagram_called (Some sender) = node_called sender
 
--- ---- a command changes no client
+-- ---- a command changes no client, but a move that of its point
 
 unmoved_clients : (number : ℕ) (kept : Option KnownPointState) → known_point_kept (option_map (unmoved_for number) kept) ≡ known_point_kept kept
 unmoved_clients number None = refl
 unmoved_clients number (Some known_point) = refl
 
-obeyed_clients : (command : Command) (ixl : IxlState) (node : Node) → client_at node (obeyed command ixl) ≡ client_at node ixl
+obeyed_clients : (now : ℕ) (command : Command) (ixl : IxlState) (node : Node) → client_at node (obeyed now command ixl) ≡ client_at node ixl
 unfolding obeyed
-obeyed_clients (commands.Request route) ixl (Signal place) = refl
-obeyed_clients (commands.Request route) ixl (Point place) =
-    point_at place (obeyed (commands.Request route) ixl) ∙ ap known_point_kept (mapped_option (unmoved_for route.0) place ixl.known_points) ∙ unmoved_clients route.0 (slice_get ixl.known_points place) ∙ sym (point_at place ixl)
-obeyed_clients (commands.Request route) ixl (Detector place) = refl
-obeyed_clients (commands.Cancel route) ixl (Signal place) = refl
-obeyed_clients (commands.Cancel route) ixl (Point place) = refl
-obeyed_clients (commands.Cancel route) ixl (Detector place) = refl
-obeyed_clients commands.Resume ixl (Signal place) = refl
-obeyed_clients commands.Resume ixl (Point place) = refl
-obeyed_clients commands.Resume ixl (Detector place) = refl
+obeyed_clients now (commands.Request route) ixl (Signal place) = refl
+obeyed_clients now (commands.Request route) ixl (Point place) =
+    point_at place (obeyed now (commands.Request route) ixl) ∙ ap known_point_kept (mapped_option (unmoved_for route.0) place ixl.known_points) ∙ unmoved_clients route.0 (slice_get ixl.known_points place) ∙ sym (point_at place ixl)
+obeyed_clients now (commands.Request route) ixl (Detector place) = refl
+obeyed_clients now (commands.Cancel route) ixl (Signal place) = refl
+obeyed_clients now (commands.Cancel route) ixl (Point place) = refl
+obeyed_clients now (commands.Cancel route) ixl (Detector place) = refl
+obeyed_clients now commands.Resume ixl (Signal place) = refl
+obeyed_clients now commands.Resume ixl (Point place) = refl
+obeyed_clients now commands.Resume ixl (Detector place) = refl
+obeyed_clients now (commands.Release route) ixl (Signal place) = refl
+obeyed_clients now (commands.Release route) ixl (Point place) = refl
+obeyed_clients now (commands.Release route) ixl (Detector place) = refl
+obeyed_clients now (commands.Move point side) ixl (Signal place) = refl
+obeyed_clients now (commands.Move point side) ixl (Point place) = refl
+obeyed_clients now (commands.Move point side) ixl (Detector place) = refl
+obeyed_clients now (commands.Close named) ixl (Signal place) = refl
+obeyed_clients now (commands.Close named) ixl (Point place) = refl
+obeyed_clients now (commands.Close named) ixl (Detector place) = refl
+obeyed_clients now (commands.Open named) ixl (Signal place) = refl
+obeyed_clients now (commands.Open named) ixl (Point place) = refl
+obeyed_clients now (commands.Open named) ixl (Detector place) = refl
 
-pub commanded_clients : (cause : Option Refusal) (command : Command) (ixl : IxlState) (node : Node) → client_at node (commanded_by cause command ixl) ≡ client_at node ixl
-commanded_clients None command ixl node = obeyed_clients command ixl node
-commanded_clients (Some refused) command ixl node = refl
+pub commanded_clients : (now : ℕ) (cause : Option Refusal) (command : Command) (ixl : IxlState) (node : Node) → client_at node (commanded_by now cause command ixl) ≡ client_at node ixl
+commanded_clients now None command ixl node = obeyed_clients now command ixl node
+commanded_clients now (Some refused) command ixl node = refl
+
+moved_called : (now : ℕ) (laws : ClientLaws now) (first : IxlState) (receipt : Node → List LinkCall) (cause : Option Refusal) (command : Command) (part : StepSoFar) →
+    SoFar now first receipt part → SoFar now first receipt (moved_at_once now cause command part)
+unfolding moved_at_once
+moved_called now laws first receipt (Some refused) command part so_far = so_far
+moved_called now laws first receipt None (commands.Move point side) part so_far = move_called now laws first receipt point.0 side part so_far
+moved_called now laws first receipt None (commands.Request route) part so_far = so_far
+moved_called now laws first receipt None (commands.Cancel route) part so_far = so_far
+moved_called now laws first receipt None commands.Resume part so_far = so_far
+moved_called now laws first receipt None (commands.Release route) part so_far = so_far
+moved_called now laws first receipt None (commands.Close named) part so_far = so_far
+moved_called now laws first receipt None (commands.Open named) part so_far = so_far
 
 -- ---- an input
 
@@ -106,9 +130,10 @@ pub given_called : (now : ℕ) → ClientLaws now → (old : InterlockingState) 
     SoFar now (all_clocked now old.state.ixl) (receipt_at now input old) (given now old.state.sited.table (key_of old.state.sited.site) input (begun_with (all_clocked now old.state.ixl) empty_outbox))
 unfolding given
 given_called now laws old Tick = nothing_called now (all_clocked now old.state.ixl) (receipt_at now Tick old) (λ node. inr refl)
-given_called now laws old (Commands command) = same_clients now first (receipt_at now (Commands command) old) (begun_with first empty_outbox) _
-    (λ node. commanded_clients (refusal now old.state.sited.table command first) command first node)
-    (nothing_called now first (receipt_at now (Commands command) old) (λ node. inr refl))
+given_called now laws old (Commands command) = moved_called now laws first (receipt_at now (Commands command) old) (refusal now old.state.sited.table command first) command _
+    (same_clients now first (receipt_at now (Commands command) old) (begun_with first empty_outbox) _
+    (λ node. commanded_clients now (refusal now old.state.sited.table command first) command first node)
+    (nothing_called now first (receipt_at now (Commands command) old) (λ node. inr refl)))
   where
     first : IxlState
     first = all_clocked now old.state.ixl

@@ -106,7 +106,7 @@ module _ (now : ℕ) (laws : ClientLaws now) (first : IxlState) (receipt : Node 
       let done = commanding now (commands.Indicate aspect) (begun known_signal.client part.outbox)
       in known_signal_next signal known_signal part there done (Some aspect) done.client.link.given known_signal.indicated (commanded (Signal signal) known_signal.client part.outbox (commands.Indicate aspect)) on) on
 
-  move_called : (point : ℕ) (side : Side) (part : StepSoFar) → On part → On (giving_move now point side part)
+  pub move_called : (point : ℕ) (side : Side) (part : StepSoFar) → On part → On (giving_move now point side part)
   unfolding giving_move
   move_called point side part on = with_one_holds On (slice_get part.ixl.known_points point) _ part (λ known_point there.
       known_point_next point known_point part there (commanding now (commands.Move side) (begun known_point.client part.outbox)) known_point.side (all_below (length part.ixl.routes))

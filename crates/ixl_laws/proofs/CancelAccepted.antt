@@ -51,6 +51,10 @@ none_against now ixl number (refusals.NotClear section) may is = is
 none_against now ixl number (refusals.PointUnavailable point) may is = is
 none_against now ixl number refusals.SignalUnavailable may is = is
 none_against now ixl number refusals.DetectionDown may is = is
+none_against now ixl number refusals.NoSuchThing may is = is
+none_against now ixl number refusals.NotEnded may is = is
+none_against now ixl number (refusals.Closed thing) may is = is
+none_against now ixl number (refusals.Held route) may is = is
 
 is_accepted : Reply → Bool
 is_accepted Accepted = true

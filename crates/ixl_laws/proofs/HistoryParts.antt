@@ -115,7 +115,7 @@ module _ (number : ℕ) where
   unfolding giving_aspect
   aspect_of fact now signal aspect part is = with_one_holds (Of number fact) (slice_get part.ixl.known_signals signal) _ part (λ known_signal there. (is.0, is.1, is.2)) is
 
-  move_of : (fact : RouteState → Type 0) (now point : ℕ) (side : _) (part : StepSoFar) → Of number fact part → Of number fact (giving_move now point side part)
+  pub move_of : (fact : RouteState → Type 0) (now point : ℕ) (side : _) (part : StepSoFar) → Of number fact part → Of number fact (giving_move now point side part)
   unfolding giving_move
   move_of fact now point side part is = with_one_holds (Of number fact) (slice_get part.ixl.known_points point) _ part (λ known_point there. (is.0, is.1, is.2)) is
 

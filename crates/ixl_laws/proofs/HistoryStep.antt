@@ -15,7 +15,7 @@ use Rattle.ixl_state.specs.ixl_client.ClientSoFar.{begun}
 use Rattle.ixl_state.specs.ixl_client.Step.{commanding, hearing}
 use Rattle.ixl_state.specs.ixl_client.declared.command.Command.TheVariants as given_commands
 use Rattle.ixl_state.specs.ixl_client.declared.indication.Indication.{Indication}
-use Rattle.ixl_state.specs.ixl_spec.Commands.{commanded_by, obeyed, refusal, set_anew}
+use Rattle.ixl_state.specs.ixl_spec.Commands.{commanded_by, moved_at_once, obeyed, refusal, released_at, set_anew}
 use Rattle.ixl_state.specs.ixl_spec.Due.{At, IsClear}
 use Rattle.ixl_state.specs.ixl_spec.StepSoFar.{Detector, Node, Point, Signal, StepSoFar, along, begun_with, detector_after, empty_outbox, giving_aspect, giving_move, noted, with_detector, with_one}
 use Rattle.ixl_state.specs.ixl_spec.Rules.{count}
@@ -36,7 +36,7 @@ use Rattle.ixl_laws.proofs.Clients.{becomes_there, detection_at, detector_client
 use Rattle.ixl_laws.proofs.RoutesGoOn.{request_free}
 use Rattle.ixl_laws.proofs.OnPath.{found_at}
 use Rattle.ixl_laws.proofs.HistoryLists.{approached_more, before_told, begins_approached, look_all, looks_at, looks_joined, now_told, occupied_is, seen_after, seen_is, seen_more, told_last}
-use Rattle.ixl_laws.proofs.HistoryParts.{Has, HasBegun, IsKept, IsUnauthorised, Keeps, Of, along_looks, along_unauthorised, authorised_set, changes_has, changing_all, ruled_begins, ruled_kept, seen_unauthorised, seen_watched, ticked_of, watched}
+use Rattle.ixl_laws.proofs.HistoryParts.{Has, HasBegun, IsKept, IsUnauthorised, Keeps, Of, along_looks, along_unauthorised, authorised_set, changes_has, changing_all, move_of, ruled_begins, ruled_kept, seen_unauthorised, seen_watched, ticked_of, watched}
 use Rattle.ixl_laws.proofs.Nodes.{node_self, of_itself}
 use Rattle.ixl_laws.proofs.PickedByTest.{both, none_is, some_same}
 use Rattle.ixl_laws.proofs.Ruled.{IsKeptByChanges, looking_holds, along_holds, ruled_holds, seen_holds, with_one_holds}
@@ -148,6 +148,18 @@ module _ (now : ℕ) (acts : (bytes : List ℕ) (part : client.ClientSoFar) → 
 
     -- ---- a route that was authorised
 
+    -- a move by command changes no route
+    moved_of_route : (fact : RouteState → Type 0) (cause : Option Refusal) (command : Command) (part : StepSoFar) → Of number fact part → Of number fact (moved_at_once now cause command part)
+    unfolding moved_at_once
+    moved_of_route fact (Some refused) command part is = is
+    moved_of_route fact None (commands.Move point side) part is = move_of number fact now point.0 side part is
+    moved_of_route fact None (commands.Request route) part is = is
+    moved_of_route fact None (commands.Cancel route) part is = is
+    moved_of_route fact None commands.Resume part is = is
+    moved_of_route fact None (commands.Release route) part is = is
+    moved_of_route fact None (commands.Close named) part is = is
+    moved_of_route fact None (commands.Open named) part is = is
+
     module _ (before : RouteState) (is : slice_get old.state.ixl.routes number ≡ Some before) (authorised : was_authorised before.phase ≡ true) where
       abbrev Looked : PassageState → RouteState → Type 0
       Looked passage = Keeps before.phase passage before.approached
@@ -165,18 +177,26 @@ module _ (now : ℕ) (acts : (bytes : List ℕ) (part : client.ClientSoFar) → 
       unfolding given look_all looks_at
       told_tick new = record { looks = []; of = starts; are = λ section. refl }
 
-      -- a command changes no route that is authorised, but for being cancelled
-      obeyed_keeps : (command : Command) → refusal now table command clocked ≡ None → Of number (Looked before.passage) (record first { ixl = obeyed command clocked })
+      -- a command changes no route that is authorised, but for being cancelled and released
+      obeyed_keeps : (command : Command) → refusal now table command clocked ≡ None → Of number (Looked before.passage) (record first { ixl = obeyed now command clocked })
       unfolding obeyed
       obeyed_keeps (commands.Request route) none = changing_all number (Looked before.passage) route.0 set_anew first (λ same other kept. absurd (true≢false
           (sym (authorised_set before.phase authorised) ∙ request_free now table route clocked before (ap (slice_get clocked.routes) same ∙ starts.1) none))) starts
       obeyed_keeps (commands.Cancel route) none = changing_all number (Looked before.passage) route.0 (λ old. record old { cancelled = true }) first (λ same other kept. kept) starts
       obeyed_keeps commands.Resume none = starts
+      obeyed_keeps (commands.Release route) none = changing_all number (Looked before.passage) route.0 (released_at now) first (λ same other kept. kept) starts
+      obeyed_keeps (commands.Move point side) none = starts
+      obeyed_keeps (commands.Close named) none = starts
+      obeyed_keeps (commands.Open named) none = starts
 
       told_command : (command : Command) (new : InterlockingState) → Told (Commands command) new
       unfolding given look_all looks_at
-      told_command command new = record { looks = []; of = by_cause (refusal now table command clocked) refl; are = λ section. refl } where
-        by_cause : (cause : Option Refusal) → refusal now table command clocked ≡ cause → Of number (Looked before.passage) (record first { ixl = commanded_by cause command clocked })
+      told_command command new = record {
+        looks = [];
+        of = moved_of_route (Looked before.passage) (refusal now table command clocked) command _ (by_cause (refusal now table command clocked) refl);
+        are = λ section. refl;
+      } where
+        by_cause : (cause : Option Refusal) → refusal now table command clocked ≡ cause → Of number (Looked before.passage) (record first { ixl = commanded_by now cause command clocked })
         by_cause None none = obeyed_keeps command none
         by_cause (Some refused) is = starts
 
@@ -338,12 +358,16 @@ module _ (now : ℕ) (acts : (bytes : List ℕ) (part : client.ClientSoFar) → 
       starts_without : Of number IsUnauthorised first
       starts_without = (before, ap (λ routes. slice_get routes number) same_routes ∙ is, not_yet)
 
-      commanded_without : (cause : Option Refusal) (command : Command) → Of number IsUnauthorised (record first { ixl = commanded_by cause command clocked })
+      commanded_without : (cause : Option Refusal) (command : Command) → Of number IsUnauthorised (record first { ixl = commanded_by now cause command clocked })
       unfolding obeyed
       commanded_without (Some refused) command = starts_without
       commanded_without None (commands.Request route) = changing_all number IsUnauthorised route.0 set_anew first (λ same other kept. refl) starts_without
       commanded_without None (commands.Cancel route) = changing_all number IsUnauthorised route.0 (λ old. record old { cancelled = true }) first (λ same other kept. kept) starts_without
       commanded_without None commands.Resume = starts_without
+      commanded_without None (commands.Release route) = changing_all number IsUnauthorised route.0 (released_at now) first (λ same other kept. kept) starts_without
+      commanded_without None (commands.Move point side) = starts_without
+      commanded_without None (commands.Close named) = starts_without
+      commanded_without None (commands.Open named) = starts_without
 
       node_without : (bytes : List ℕ) (node : Node) → Of number IsUnauthorised (node_hearing now table bytes node first)
       unfolding node_hearing known_signal_hearing known_point_hearing detector_hearing
@@ -358,7 +382,7 @@ module _ (now : ℕ) (acts : (bytes : List ℕ) (part : client.ClientSoFar) → 
       heard_without : (input : Input) → Of number IsUnauthorised (heard input)
       unfolding given
       heard_without Tick = starts_without
-      heard_without (Commands command) = commanded_without (refusal now table command clocked) command
+      heard_without (Commands command) = moved_of_route IsUnauthorised (refusal now table command clocked) command _ (commanded_without (refusal now table command clocked) command)
       heard_without (Datagram bytes) = with_one_holds (Of number IsUnauthorised) (addressed (reading (key_of old.state.sited.site) bytes) clocked) (node_hearing now table bytes) first (λ node found. node_without bytes node) starts_without
 
       module _ (input : Input) (new : InterlockingState) (answer : Reply) (step : HasStepped now input old new answer) (after : RouteState) (also : slice_get new.state.ixl.routes number ≡ Some after)

@@ -1,4 +1,5 @@
 pub mod Answered
+pub mod Moved
 pub mod PointAnswers
 pub mod Apart
 pub mod Blind
@@ -54,3 +55,14 @@ pub mod WholeInput
 pub mod WholeRules
 pub mod WholeSteps
 pub mod WholeTicks
+pub mod Following
+pub mod KeptBehind
+pub mod OperationAnswers
+pub mod UsedLess
+pub mod InputUses
+pub mod TurnFollows
+pub mod NeededPoints
+pub mod GivenOver
+pub mod Released
+pub mod ReleasedSteps
+pub mod ClosingsFirst

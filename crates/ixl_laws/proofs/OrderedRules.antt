@@ -11,7 +11,7 @@ use Rattle.ixl_state.specs.sci_telegram.declared.message.Aspect.TheVariants as a
 use Rattle.ixl_state.specs.sci_telegram.declared.message.Side.{Side}
 use Rattle.ixl_state.specs.ixl_client.Client.{ClientState, PeerState}
 use Rattle.ixl_state.specs.ixl_client.ClientSoFar as client
-use Rattle.ixl_state.specs.ixl_client.ClientSoFar.{Closes, LinkCall, Sends, begun, calling}
+use Rattle.ixl_state.specs.ixl_client.ClientSoFar.{Closes, Sends, begun, calling}
 use Rattle.ixl_state.specs.ixl_client.Step.{commanding, is_refused_by_window, message_of, posting, telegram_to}
 use Rattle.ixl_state.specs.ixl_client.declared.command.Command.{Command}
 use Rattle.ixl_state.specs.ixl_client.declared.command.Command.TheVariants as commands
@@ -71,7 +71,7 @@ module _ (now : ℕ) (laws : ClientLaws now) (links : Node → Option LinkState)
       in let makes = laws.command (commands.Indicate aspect) before
       in signal_next now links start signal known_signal part done (Some aspect) done.client.link.given known_signal.indicated makes.0 there (makes.1, laws.same_command (commands.Indicate aspect) before) is) is
 
-  move_ordered : (point : ℕ) (side : Side) (part : StepSoFar) → Is part → Is (giving_move now point side part)
+  pub move_ordered : (point : ℕ) (side : Side) (part : StepSoFar) → Is part → Is (giving_move now point side part)
   unfolding giving_move
   move_ordered point side part is = with_one_holds Is (slice_get part.ixl.known_points point) _ part (λ known_point there.
       let before = begun known_point.client part.outbox
@@ -90,7 +90,7 @@ module _ (now : ℕ) (laws : ClientLaws now) (links : Node → Option LinkState)
       (gives now start (Signal signal) known_signal.client (commands.Indicate aspect) part.outbox (is.peers (Signal signal) known_signal.client (signal_at signal part.ixl ∙ ap known_signal_kept there))))
       (λ none. grows_nothing _ part part refl (inl refl))
 
-  move_grows : (point : ℕ) (side : Side) (part : StepSoFar) → Is part → Grows (AtMostOne (Gives start (Point point) (commands.Move side))) part (giving_move now point side part)
+  pub move_grows : (point : ℕ) (side : Side) (part : StepSoFar) → Is part → Grows (AtMostOne (Gives start (Point point) (commands.Move side))) part (giving_move now point side part)
   unfolding giving_move
   move_grows point side part is = with_one_or_none (Grows (AtMostOne (Gives start (Point point) (commands.Move side))) part) (slice_get part.ixl.known_points point) _ part (λ known_point there.
       grows_one (Gives start (Point point) (commands.Move side)) part _ (record { node = Point point; calls = (commanding now (commands.Move side) (begun known_point.client part.outbox)).calls }) refl

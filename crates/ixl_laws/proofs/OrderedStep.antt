@@ -8,7 +8,7 @@ use Rattle.ixl_state.specs.rasta_core.State.{LinkState}
 use Rattle.ixl_state.specs.ixl_client.Client.{ClientState}
 use Rattle.ixl_state.specs.ixl_client.Step.{clocked, hearing, ticking}
 use Rattle.ixl_state.specs.ixl_client.ClientSoFar.{Opens, Receives, Ticks, begun, calling}
-use Rattle.ixl_state.specs.ixl_spec.Commands.{commanded_by, obeyed, refusal, unmoved_for}
+use Rattle.ixl_state.specs.ixl_spec.Commands.{commanded_by, moved_at_once, obeyed, refusal, unmoved_for}
 use Rattle.ixl_state.specs.ixl_spec.StepSoFar.{Detector, Node, Point, Signal, StepSoFar, begun_with, empty_outbox, over, with_one, with_route}
 use Rattle.ixl_state.specs.ixl_spec.Rules.{count, ruled}
 use Rattle.ixl_state.specs.ixl_spec.State.{IxlState, RouteState}
@@ -20,14 +20,14 @@ use Rattle.ixl_state.specs.ixl_spec.declared.command.Refusal.{Refusal}
 use Rattle.ixl_state.specs.First.{key_of}
 use Rattle.ixl.specs.Interlocking.{HasStepped, InterlockingState, step_of}
 use Rattle.ixl_laws.specs.Called.{ReceivesFirst}
-use Rattle.ixl_laws.specs.Order.{AreOfInput, AtMostOne, CallsAtLink, CallsInOrder, beats, beats_of, calls_of, handed_out, links_at}
+use Rattle.ixl_laws.specs.Order.{AreOfCommand, AreOfInput, AtMostOne, CallsAtLink, CallsInOrder, beats, beats_of, calls_of, handed_out, links_at}
 use Rattle.ixl_laws.proofs.Called.{clocked_clients, clocked_link, clocked_peer}
 use Rattle.ixl_laws.proofs.CalledGiven.{commanded_clients}
 use Rattle.ixl_laws.proofs.CalledSteps.{ClientLaws}
-use Rattle.ixl_laws.proofs.InOrder.{Grows, calls_joined, grows_nothing, grows_one}
+use Rattle.ixl_laws.proofs.InOrder.{Grows, calls_joined, grows_from, grows_nothing, grows_one}
 use Rattle.ixl_laws.proofs.Ordered.{Ordered, SameSizes, SpeaksAs, begins_ordered, changed_length, link_of, same_ordered, sizes_then}
 use Rattle.ixl_laws.proofs.OrderedNext.{Made, detector_next, point_next, signal_next}
-use Rattle.ixl_laws.proofs.OrderedRules.{RulesGrow, route_ordered, rules_grow}
+use Rattle.ixl_laws.proofs.OrderedRules.{RulesGrow, move_grows, move_ordered, route_ordered, rules_grow}
 use Rattle.ixl_laws.proofs.PickedByTest.{none_is, some_same}
 use Rattle.ixl_laws.proofs.Ruled.{along_holds, looking_holds, seen_holds, with_one_or_none}
 
@@ -266,26 +266,53 @@ module _ (now : ℕ) (laws : ClientLaws now) (old : InterlockingState) where
   begins = begins_ordered now (links_at now old.state.ixl) old.state.ixl first refl refl
       (λ node. kept_links now (client_at node old.state.ixl) ∙ ap link_of (sym (clocked_clients now node old.state.ixl))) speaks clocked_sizes
 
-  obeyed_sizes : (command : Command) (ixl : IxlState) → SameSizes ixl (obeyed command ixl)
+  obeyed_sizes : (command : Command) (ixl : IxlState) → SameSizes ixl (obeyed now command ixl)
   unfolding obeyed
   obeyed_sizes (commands.Request route) ixl = record { signals = refl; points = mapped_length (unmoved_for route.0) ixl.known_points; detectors = refl }
   obeyed_sizes (commands.Cancel route) ixl = record { signals = refl; points = refl; detectors = refl }
   obeyed_sizes commands.Resume ixl = record { signals = refl; points = refl; detectors = refl }
+  obeyed_sizes (commands.Release route) ixl = record { signals = refl; points = refl; detectors = refl }
+  obeyed_sizes (commands.Move point side) ixl = record { signals = refl; points = refl; detectors = refl }
+  obeyed_sizes (commands.Close named) ixl = record { signals = refl; points = refl; detectors = refl }
+  obeyed_sizes (commands.Open named) ixl = record { signals = refl; points = refl; detectors = refl }
 
-  commanded_sizes : (cause : Option Refusal) (command : Command) (ixl : IxlState) → SameSizes ixl (commanded_by cause command ixl)
+  commanded_sizes : (cause : Option Refusal) (command : Command) (ixl : IxlState) → SameSizes ixl (commanded_by now cause command ixl)
   commanded_sizes None command ixl = obeyed_sizes command ixl
   commanded_sizes (Some refused) command ixl = record { signals = refl; points = refl; detectors = refl }
+
+  -- a move calls the link of its point, and no other command any
+  no_calls : (command : Command) → AreOfCommand old.state.ixl command []
+  no_calls (commands.Request route) = refl
+  no_calls (commands.Cancel route) = refl
+  no_calls commands.Resume = refl
+  no_calls (commands.Release route) = refl
+  no_calls (commands.Move point side) = inl refl
+  no_calls (commands.Close named) = refl
+  no_calls (commands.Open named) = refl
+
+  moved_heard : (cause : Option Refusal) (command : Command) (part : StepSoFar) → part.calls ≡ first.calls → OnStep part →
+      OnStep (moved_at_once now cause command part) × Grows (AreOfCommand old.state.ixl command) first (moved_at_once now cause command part)
+  unfolding moved_at_once
+  moved_heard (Some refused) command part same on = (on, grows_nothing (AreOfCommand old.state.ixl command) first part same (no_calls command))
+  moved_heard None (commands.Move point side) part same on = (
+    move_ordered now laws (links_at now old.state.ixl) old.state.ixl point.0 side part on,
+    grows_from (AreOfCommand old.state.ixl (commands.Move point side)) part first _ same (move_grows now laws (links_at now old.state.ixl) old.state.ixl point.0 side part on),
+  )
+  moved_heard None (commands.Request route) part same on = (on, grows_nothing (AreOfCommand old.state.ixl (commands.Request route)) first part same refl)
+  moved_heard None (commands.Cancel route) part same on = (on, grows_nothing (AreOfCommand old.state.ixl (commands.Cancel route)) first part same refl)
+  moved_heard None commands.Resume part same on = (on, grows_nothing (AreOfCommand old.state.ixl commands.Resume) first part same refl)
+  moved_heard None (commands.Release route) part same on = (on, grows_nothing (AreOfCommand old.state.ixl (commands.Release route)) first part same refl)
+  moved_heard None (commands.Close named) part same on = (on, grows_nothing (AreOfCommand old.state.ixl (commands.Close named)) first part same refl)
+  moved_heard None (commands.Open named) part same on = (on, grows_nothing (AreOfCommand old.state.ixl (commands.Open named)) first part same refl)
 
   input_heard : (input : Input) → OnStep (given now old.state.sited.table (key_of old.state.sited.site) input first) × Grows (AreOfInput now input old) first (given now old.state.sited.table (key_of old.state.sited.site) input first)
   unfolding given
   input_heard Tick = (begins, grows_nothing (AreOfInput now Tick old) first first refl refl)
   input_heard (Commands command) =
       let cause = refusal now old.state.sited.table command (all_clocked now old.state.ixl)
-      in (
-        same_ordered now (links_at now old.state.ixl) old.state.ixl first (commanded_by cause command (all_clocked now old.state.ixl))
-            (λ node. commanded_clients cause command (all_clocked now old.state.ixl) node) (commanded_sizes cause command (all_clocked now old.state.ixl)) begins,
-        grows_nothing (AreOfInput now (Commands command) old) first _ refl refl,
-      )
+      in moved_heard cause command (record first { ixl = commanded_by now cause command (all_clocked now old.state.ixl) }) refl
+      (same_ordered now (links_at now old.state.ixl) old.state.ixl first (commanded_by now cause command (all_clocked now old.state.ixl))
+      (λ node. commanded_clients now cause command (all_clocked now old.state.ixl) node) (commanded_sizes cause command (all_clocked now old.state.ixl)) begins)
   input_heard (Datagram bytes) = datagram_heard now laws (links_at now old.state.ixl) old.state.ixl old.state.sited.table bytes first begins (addressed (reading (key_of old.state.sited.site) bytes) (all_clocked now old.state.ixl))
 
   module _ (input : Input) where

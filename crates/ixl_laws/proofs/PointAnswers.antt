@@ -21,7 +21,7 @@ use Rattle.ixl_state.specs.ixl_client.declared.stage.Stage.{Stage}
 use Rattle.ixl_state.specs.ixl_client.declared.stage.Stage.TheVariants as stage
 use Rattle.ixl_state.specs.ixl_client.LinkClosed.{telegram_of}
 use Rattle.ixl_state.specs.ixl_client.ItemsSaid.{SaysCommand, SaysInOrder, SaysNothing, items_said, items_sent}
-use Rattle.ixl_state.specs.ixl_spec.Commands.{commanded_by, obeyed, refusal, unmoved_for}
+use Rattle.ixl_state.specs.ixl_spec.Commands.{commanded_by, moved_at_once, obeyed, refusal, unmoved_for}
 use Rattle.ixl_state.specs.ixl_spec.StepSoFar.{Detector, Node, StepSoFar, Point, Signal, all_below, giving_aspect, giving_move, noted, over, known_point_after, with_one, with_route, with_known_point}
 use Rattle.ixl_state.specs.ixl_spec.Rules.{count, ruled}
 use Rattle.ixl_state.specs.ixl_spec.State.{RouteState, KnownPointState}
@@ -36,6 +36,7 @@ use Rattle.ixl_laws.specs.Nodes.{is_node, of_node}
 use Rattle.ixl_laws.proofs.Clients.{becomes_there, mapped, known_point_client}
 use Rattle.ixl_laws.proofs.Hears.{Counts, HearsBehind, fallen_peer, hearing_hears, inside_stays, posting_posts}
 use Rattle.ixl_laws.proofs.Nodes.{noted_elsewhere, noted_here}
+use Rattle.ixl_laws.proofs.Moved.{moved_available}
 use Rattle.ixl_laws.proofs.PickedByTest.{changed_elsewhere, none_is, some_same}
 use Rattle.ixl_laws.proofs.Ruled.{along_holds, looking_holds, over_holds, ruled_holds, seen_holds, with_one_holds}
 
@@ -446,20 +447,39 @@ module _ (place : ℕ) (start : KnownPointState) (moves : List Side) (told : Lis
         stays_elsewhere (Point point) (hearing now bytes (begun known_point.client part.outbox)) part _ apart
         (changed_elsewhere _ point place part.ixl.known_points (λ same. false≢true (sym apart ∙ eq-eqb point place (sym same)))) refl refl (at_first part begins)) (at_first part begins)
 
-  command_stays : (cause : Option Refusal) (command : RouteCommand) (part : StepSoFar) → Begins part → SoFar (record part { ixl = commanded_by cause command part.ixl })
+  command_stays : (now : ℕ) (cause : Option Refusal) (command : RouteCommand) (part : StepSoFar) → Begins part → SoFar (record part { ixl = commanded_by now cause command part.ixl })
   unfolding obeyed
-  command_stays (Some refused) command part begins = at_first part begins
-  command_stays None (given_commands.Cancel route) part begins = stays part _ refl refl refl (at_first part begins)
-  command_stays None given_commands.Resume part begins = stays part _ refl refl refl (at_first part begins)
-  command_stays None (given_commands.Request route) part begins = record {
+  command_stays now (Some refused) command part begins = at_first part begins
+  command_stays now None (given_commands.Cancel route) part begins = stays part _ refl refl refl (at_first part begins)
+  command_stays now None given_commands.Resume part begins = stays part _ refl refl refl (at_first part begins)
+  command_stays now None (given_commands.Release route) part begins = stays part _ refl refl refl (at_first part begins)
+  command_stays now None (given_commands.Move point side) part begins = at_first part begins
+  command_stays now None (given_commands.Close named) part begins = stays part _ refl refl refl (at_first part begins)
+  command_stays now None (given_commands.Open named) part begins = stays part _ refl refl refl (at_first part begins)
+  command_stays now None (given_commands.Request route) part begins = record {
     known_point = unmoved_for route.0 start;
     more = [];
     there = mapped (unmoved_for route.0) place part.ixl.known_points start begins.there;
     fine = alike (of_node (Point place) part.calls) (of_node (Point place) part.acted) start (unmoved_for route.0 start) [] refl refl (first_fine part begins);
   }
 
-  pub given_stays : (now : ℕ) (table : Table) (key : Key) (input : Input) (part : StepSoFar) → Hears now → Begins part → SoFar (given now table key input part)
+  -- a move by command is given to a point that is available
+  moved_stays : (now : ℕ) (table : Table) (cause : Option Refusal) (command : RouteCommand) (part : StepSoFar) → Says now → refusal now table command part.ixl ≡ cause →
+      SoFar (record part { ixl = commanded_by now cause command part.ixl }) → SoFar (moved_at_once now cause command (record part { ixl = commanded_by now cause command part.ixl }))
+  unfolding moved_at_once obeyed
+  moved_stays now table (Some refused) command part says is so_far = so_far
+  moved_stays now table None (given_commands.Move point side) part says is so_far = giving_move_stays now point.0 side part says (moved_available now table point side part.ixl is) so_far
+  moved_stays now table None (given_commands.Request route) part says is so_far = so_far
+  moved_stays now table None (given_commands.Cancel route) part says is so_far = so_far
+  moved_stays now table None given_commands.Resume part says is so_far = so_far
+  moved_stays now table None (given_commands.Release route) part says is so_far = so_far
+  moved_stays now table None (given_commands.Close named) part says is so_far = so_far
+  moved_stays now table None (given_commands.Open named) part says is so_far = so_far
+
+  pub given_stays : (now : ℕ) (table : Table) (key : Key) (input : Input) (part : StepSoFar) → Says now → Hears now → Begins part → SoFar (given now table key input part)
   unfolding given
-  given_stays now table key Tick part hears begins = at_first part begins
-  given_stays now table key (Commands command) part hears begins = command_stays (refusal now table command part.ixl) command part begins
-  given_stays now table key (Datagram bytes) part hears begins = with_one_holds SoFar (addressed (reading key bytes) part.ixl) (node_hearing now table bytes) part (λ node there. node_stays now table bytes part hears begins node) (at_first part begins)
+  given_stays now table key Tick part says hears begins = at_first part begins
+  given_stays now table key (Commands command) part says hears begins =
+      let cause = refusal now table command part.ixl
+      in moved_stays now table cause command part says refl (command_stays now cause command part begins)
+  given_stays now table key (Datagram bytes) part says hears begins = with_one_holds SoFar (addressed (reading key bytes) part.ixl) (node_hearing now table bytes) part (λ node there. node_stays now table bytes part hears begins node) (at_first part begins)

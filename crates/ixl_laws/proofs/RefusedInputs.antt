@@ -3,7 +3,7 @@ use Rattle.std.proofs.Common.{◌≡◌, ℕ, Bool, true, false, List, refl, ap,
 use Rattle.std.specs.Prelude.{Option, Some, None}
 use Rattle.std.proofs.lemmas.Bool.{false≢true}
 use Rattle.ixl_state.specs.rasta_pdu.PduRead.{reading}
-use Rattle.ixl_state.specs.ixl_spec.Commands.{commanded_by, refusal}
+use Rattle.ixl_state.specs.ixl_spec.Commands.{commanded_by, moved_at_once, refusal}
 use Rattle.ixl_state.specs.ixl_spec.StepSoFar.{Node, StepSoFar, begun_with, empty_outbox, over, with_one}
 use Rattle.ixl_state.specs.ixl_spec.Rules.{count, ruled}
 use Rattle.ixl_state.specs.ixl_spec.State.{IxlState}
@@ -25,7 +25,7 @@ without : (now : ℕ) (old new : InterlockingState) (behind : StepSoFar) → new
 without now old new behind ixl outbox is = record { ixl = ixl ∙ ap (λ (p : StepSoFar). p.ixl) is; outbox = outbox ∙ ap (λ (p : StepSoFar). p.outbox) is }
 
 pub refused_command_is_without : (now : ℕ) (command : Command) (old new : InterlockingState) (cause : Refusal) → HasStepped now (Commands command) old new (Refused cause) → IsWithoutInput now old new
-unfolding stepped given ticked reply is_refused
+unfolding stepped given ticked reply is_refused moved_at_once
 refused_command_is_without now command old new cause step = by_refusal (refusal now table command clocked) refl where
   table : Table
   table = old.state.sited.table
@@ -34,7 +34,7 @@ refused_command_is_without now command old new cause step = by_refusal (refusal 
   clocked = all_clocked now old.state.ixl
 
   behind : Option Refusal → StepSoFar
-  behind told = ruled now table (over (watching table) (count table) (record (begun_with clocked empty_outbox) { ixl = commanded_by told command clocked }))
+  behind told = ruled now table (over (watching table) (count table) (moved_at_once now told command (record (begun_with clocked empty_outbox) { ixl = commanded_by now told command clocked })))
 
   by_refusal : (told : Option Refusal) → refusal now table command clocked ≡ told → IsWithoutInput now old new
   by_refusal None is = absurd (false≢true (sym (ap is_refused (step.answered ∙ ap answer_by is))))

@@ -16,7 +16,7 @@ use Rattle.ixl_state.specs.ixl_client.ClientSoFar as client
 use Rattle.ixl_state.specs.ixl_client.ClientSoFar.{begun, calling}
 use Rattle.ixl_state.specs.ixl_client.Step.{clocked, hearing, ticking}
 use Rattle.ixl_state.specs.ixl_client.declared.indication.Indication.{Indication}
-use Rattle.ixl_state.specs.ixl_spec.Commands.{commanded_by, obeyed, refusal}
+use Rattle.ixl_state.specs.ixl_spec.Commands.{commanded_by, moved_at_once, obeyed, refusal}
 use Rattle.ixl_state.specs.ixl_spec.StepSoFar.{Detector, Node, Point, Signal, StepSoFar, begun_with, detector_after, empty_outbox, giving_aspect, giving_move, noted, with_detector, with_route}
 use Rattle.ixl_state.specs.ixl_spec.State.{IxlState, KnownDetectorState, RouteState}
 use Rattle.ixl_state.specs.ixl_spec.Step.{Commands, Datagram, Input, Reply, Tick, addressed, all_clocked, clocked_detector, detector_hearing, detector_ticking, given, is_told_occupied, known_point_hearing, known_point_ticking, known_signal_hearing, known_signal_ticking, looking, looks, node_hearing, occupied_heard, stepped, ticked}
@@ -228,26 +228,44 @@ module _ (now place : ℕ) (before : KnownDetectorState) (told : List Indication
 
     -- ---- the input, the rules and ticks
 
-    commanded_detectors : (cause : Option Refusal) (command : Command) (ixl : IxlState) → (commanded_by cause command ixl).detectors ≡ ixl.detectors
+    commanded_detectors : (cause : Option Refusal) (command : Command) (ixl : IxlState) → (commanded_by now cause command ixl).detectors ≡ ixl.detectors
     unfolding obeyed
     commanded_detectors (Some refused) command ixl = refl
     commanded_detectors None (commands.Request route) ixl = refl
     commanded_detectors None (commands.Cancel route) ixl = refl
     commanded_detectors None commands.Resume ixl = refl
+    commanded_detectors None (commands.Release route) ixl = refl
+    commanded_detectors None (commands.Move point side) ixl = refl
+    commanded_detectors None (commands.Close named) ixl = refl
+    commanded_detectors None (commands.Open named) ixl = refl
+
+    move_fine : (point : ℕ) (side : _) (part : StepSoFar) → Fine part → Fine (giving_move now point side part)
+    unfolding giving_move
+    move_fine point side part is = with_one_holds Fine (slice_get part.ixl.known_points point) _ part (λ known_point found. same_fine part _ refl (noted_elsewhere (Detector place) (Point point) part.acted _ refl) is) is
+
+    moved_fine : (cause : Option Refusal) (command : Command) (part : StepSoFar) → Fine part → Fine (moved_at_once now cause command part)
+    unfolding moved_at_once
+    moved_fine (Some refused) command part is = is
+    moved_fine None (commands.Move point side) part is = move_fine point.0 side part is
+    moved_fine None (commands.Request route) part is = is
+    moved_fine None (commands.Cancel route) part is = is
+    moved_fine None commands.Resume part is = is
+    moved_fine None (commands.Release route) part is = is
+    moved_fine None (commands.Close named) part is = is
+    moved_fine None (commands.Open named) part is = is
 
     given_fine : (input : Input) → Fine (given now table (key_of old.state.sited.site) input first)
     unfolding given
     given_fine Tick = begins
-    given_fine (Commands command) = same_fine first (record first { ixl = commanded_by (refusal now table command first.ixl) command first.ixl }) (commanded_detectors (refusal now table command first.ixl) command first.ixl) refl begins
+    given_fine (Commands command) =
+        let cause = refusal now table command first.ixl
+        in moved_fine cause command (record first { ixl = commanded_by now cause command first.ixl })
+        (same_fine first (record first { ixl = commanded_by now cause command first.ixl }) (commanded_detectors cause command first.ixl) refl begins)
     given_fine (Datagram bytes) = with_one_holds Fine (addressed (reading (key_of old.state.sited.site) bytes) first.ixl) (node_hearing now table bytes) first (λ node found. node_fine bytes node) begins
 
     aspect_fine : (signal : ℕ) (aspect : _) (part : StepSoFar) → Fine part → Fine (giving_aspect now signal aspect part)
     unfolding giving_aspect
     aspect_fine signal aspect part is = with_one_holds Fine (slice_get part.ixl.known_signals signal) _ part (λ known_signal found. same_fine part _ refl (noted_elsewhere (Detector place) (Signal signal) part.acted _ refl) is) is
-
-    move_fine : (point : ℕ) (side : _) (part : StepSoFar) → Fine part → Fine (giving_move now point side part)
-    unfolding giving_move
-    move_fine point side part is = with_one_holds Fine (slice_get part.ixl.known_points point) _ part (λ known_point found. same_fine part _ refl (noted_elsewhere (Detector place) (Point point) part.acted _ refl) is) is
 
     changes_fine : IsKeptByChanges now Fine
     changes_fine = record { route = λ number change part is. same_fine part (with_route number change part) refl refl is; aspect = aspect_fine; move = λ point side part available is. move_fine point side part is }

@@ -4,7 +4,8 @@ use Rattle.std.specs.Prelude.{◌&&◌, ◌||◌, ◌==◌, not, Option, Some, N
 use Rattle.std.proofs.lemmas.Bool.{false≢true}
 use Rattle.ixl_state.specs.rasta_pdu.PduRead.{reading}
 use Rattle.ixl_state.specs.rasta_pdu.declared.key.Key.{Key}
-use Rattle.ixl_state.specs.ixl_spec.Commands.{commanded_by, locking_refusal, obeyed, refusal, refused_where, request_refusal, set_anew}
+use Rattle.std.specs.Option.{option_or}
+use Rattle.ixl_state.specs.ixl_spec.Commands.{closed_refusal, commanded_by, locking_refusal, moved_at_once, obeyed, refusal, refused_where, released_at, request_refusal, set_anew}
 use Rattle.ixl_state.specs.ixl_client.ClientSoFar.{begun}
 use Rattle.ixl_state.specs.ixl_client.Step.{hearing}
 use Rattle.ixl_state.specs.ixl_spec.StepSoFar.{Detector, Node, StepSoFar, Point, Signal, along, at_route, begun_with, detector_after, empty_outbox, giving_aspect, giving_move, noted, over, with_detector, with_one, with_route}
@@ -85,21 +86,21 @@ giving_move_goes : (now point : ℕ) (side : _) (part : StepSoFar) → PartGoes 
 unfolding giving_move
 giving_move_goes now point side part = same_goes part _ (with_one_keeps (slice_get part.ixl.known_points point) _ part (λ known_point. refl))
 
-from_proceeding : (p : Phase) → is_proceeding p ≡ true → IsOnward p phase.Withdrawn
+pub from_proceeding : (p : Phase) → is_proceeding p ≡ true → IsOnward p phase.Withdrawn
 from_proceeding phase.Free is = absurd (false≢true is)
 from_proceeding phase.Waiting is = absurd (false≢true is)
 from_proceeding phase.Proceeding is = record { order = omega arith; freed = tt }
 from_proceeding phase.Withdrawn is = absurd (false≢true is)
 from_proceeding (phase.Ended clock done) is = absurd (false≢true is)
 
-from_withdrawn : (now : ℕ) (p : Phase) → is_withdrawn p ≡ true → IsOnward p (phase.Ended now 0)
+pub from_withdrawn : (now : ℕ) (p : Phase) → is_withdrawn p ≡ true → IsOnward p (phase.Ended now 0)
 from_withdrawn now phase.Free is = absurd (false≢true is)
 from_withdrawn now phase.Waiting is = absurd (false≢true is)
 from_withdrawn now phase.Proceeding is = absurd (false≢true is)
 from_withdrawn now phase.Withdrawn is = record { order = omega arith; freed = tt }
 from_withdrawn now (phase.Ended clock done) is = absurd (false≢true is)
 
-from_waiting : (p : Phase) → is_waiting p ≡ true → IsOnward p phase.Proceeding
+pub from_waiting : (p : Phase) → is_waiting p ≡ true → IsOnward p phase.Proceeding
 from_waiting phase.Free is = absurd (false≢true is)
 from_waiting phase.Waiting is = record { order = omega arith; freed = tt }
 from_waiting phase.Proceeding is = absurd (false≢true is)
@@ -320,22 +321,43 @@ becomes_same : (command : Command) (number : ℕ) (before mid : RouteState) → 
 unfolding Becomes
 becomes_same command number before mid same = inl (subst (λ (r : RouteState). IsOnward before.phase r.phase) (sym same) (onward_same before.phase))
 
-command_becomes : (command : Command) (ixl : IxlState) (number : ℕ) (before mid : RouteState) → slice_get ixl.routes number ≡ Some before → slice_get (obeyed command ixl).routes number ≡ Some mid →
+command_becomes : (now : ℕ) (command : Command) (ixl : IxlState) (number : ℕ) (before mid : RouteState) → slice_get ixl.routes number ≡ Some before → slice_get (obeyed now command ixl).routes number ≡ Some mid →
     Becomes command number before mid
 unfolding obeyed Becomes OnwardAll
-command_becomes (commands.Request route) ixl number before mid is also = by_place (set_one route.0 number ixl.routes before mid is also) where
+command_becomes now (commands.Request route) ixl number before mid is also = by_place (set_one route.0 number ixl.routes before mid is also) where
   by_place : ((number ≡ route.0) × (mid.phase ≡ phase.Waiting)) ⊎ (mid ≡ before) → Becomes (commands.Request route) number before mid
   by_place (inl there) = inr (ap (λ n. commands.Request (record { 0 = n })) (sym there.0), there.1)
   by_place (inr same) = becomes_same (commands.Request route) number before mid same
-command_becomes (commands.Cancel route) ixl number before mid is also =
+command_becomes now (commands.Cancel route) ixl number before mid is also =
     let old = one_cancelled number mid also
     in inl (subst (λ (r : RouteState). IsOnward r.phase mid.phase) (some_same (sym old.1 ∙ is)) old.2)
   where
     one_cancelled : OnwardAll ixl.routes (changed (λ old. record old { cancelled = true }) route.0 ixl.routes)
     one_cancelled = one_changes (λ old. record old { cancelled = true }) route.0 ixl.routes (λ other there. onward_same other.phase)
-command_becomes commands.Resume ixl number before mid is also = becomes_same commands.Resume number before mid (some_same (sym also ∙ is))
+command_becomes now commands.Resume ixl number before mid is also = becomes_same commands.Resume number before mid (some_same (sym also ∙ is))
+command_becomes now (commands.Release route) ixl number before mid is also =
+    let old = one_released number mid also
+    in inl (subst (λ (r : RouteState). IsOnward r.phase mid.phase) (some_same (sym old.1 ∙ is)) old.2)
+  where
+    one_released : OnwardAll ixl.routes (changed (released_at now) route.0 ixl.routes)
+    one_released = one_changes (released_at now) route.0 ixl.routes (λ other there. onward_same other.phase)
+command_becomes now (commands.Move point side) ixl number before mid is also = becomes_same (commands.Move point side) number before mid (some_same (sym also ∙ is))
+command_becomes now (commands.Close named) ixl number before mid is also = becomes_same (commands.Close named) number before mid (some_same (sym also ∙ is))
+command_becomes now (commands.Open named) ixl number before mid is also = becomes_same (commands.Open named) number before mid (some_same (sym also ∙ is))
 
-where_none : (fails : Bool) (told : Refusal) (rest : Option Refusal) → refused_where fails told rest ≡ None → (fails ≡ false) × (rest ≡ None)
+-- a move by command changes no route
+moved_routes : (now : ℕ) (cause : Option Refusal) (command : Command) (part : StepSoFar) → (moved_at_once now cause command part).ixl.routes ≡ part.ixl.routes
+unfolding moved_at_once giving_move
+moved_routes now (Some refused) command part = refl
+moved_routes now None (commands.Move point side) part = with_one_keeps (slice_get part.ixl.known_points point.0) _ part (λ known_point. refl)
+moved_routes now None (commands.Request route) part = refl
+moved_routes now None (commands.Cancel route) part = refl
+moved_routes now None commands.Resume part = refl
+moved_routes now None (commands.Release route) part = refl
+moved_routes now None (commands.Close named) part = refl
+moved_routes now None (commands.Open named) part = refl
+
+pub where_none : (fails : Bool) (told : Refusal) (rest : Option Refusal) → refused_where fails told rest ≡ None → (fails ≡ false) × (rest ≡ None)
 where_none true told rest is = absurd (some_is is)
 where_none false told rest is = (refl, is)
 
@@ -346,7 +368,7 @@ request_free now table route ixl before is none = by_row (slice_get table.rows r
   by_row : (row : Option Row) → request_refusal now table ixl route.0 row (Some before) ≡ None → is_set before.phase ≡ false
   by_row None told = absurd (some_is told)
   by_row (Some row) told =
-      let locking : Option Refusal = locking_refusal now table ixl route.0 row
+      let locking : Option Refusal = option_or (locking_refusal now table ixl route.0 row) (closed_refusal table ixl route.0 row)
       in let set : Option Refusal = refused_where (is_set before.phase) refusals.AlreadySet locking
       in let over = where_none (is_holding now ixl) refusals.Holding (refused_where (not ixl.resumed) refusals.NotResumed set) told
       in let resumed = where_none (not ixl.resumed) refusals.NotResumed set over.1
@@ -369,21 +391,26 @@ command_goes now command old new answer number before after step is also = by_re
   clocked : IxlState
   clocked = all_clocked now old.state.ixl
 
+  kept_by : Option Refusal → StepSoFar
+  kept_by cause = record (begun_with clocked empty_outbox) { ixl = commanded_by now cause command clocked }
+
   heard_by : Option Refusal → StepSoFar
-  heard_by cause = record (begun_with clocked empty_outbox) { ixl = commanded_by cause command clocked }
+  heard_by cause = moved_at_once now cause command (kept_by cause)
 
   mid_of : (cause : Option Refusal) → refusal now table command clocked ≡ cause →
-      (mid : RouteState) × (slice_get (commanded_by cause command clocked).routes number ≡ Some mid) × IsOnward mid.phase after.phase
-  mid_of cause told = behind_goes now table (Commands command) (heard_by cause) number after
+      (mid : RouteState) × (slice_get (commanded_by now cause command clocked).routes number ≡ Some mid) × IsOnward mid.phase after.phase
+  mid_of cause told =
+      let mid = behind_goes now table (Commands command) (heard_by cause) number after
       (ap (λ (c : Option Refusal). slice_get (behind now table (Commands command) (heard_by c)).ixl.routes number) (sym told)
       ∙ ap (λ (i : IxlState). slice_get i.routes number) (sym step.ixl) ∙ also)
+      in (mid.0, ap (λ (routes : List RouteState). slice_get routes number) (sym (moved_routes now cause command (kept_by cause))) ∙ mid.1, mid.2)
 
   by_refusal : (cause : Option Refusal) → refusal now table command clocked ≡ cause → GoesOn (Commands command) answer number before.phase after.phase
   by_refusal (Some cause) told =
       let mid = mid_of (Some cause) told
       in inl (subst (λ (r : RouteState). IsOnward r.phase after.phase) (some_same (sym mid.1 ∙ is)) mid.2)
-  by_refusal None told = by_becoming (command_becomes command clocked number before mid.0 is mid.1) where
-    mid : (mid : RouteState) × (slice_get (obeyed command clocked).routes number ≡ Some mid) × IsOnward mid.phase after.phase
+  by_refusal None told = by_becoming (command_becomes now command clocked number before mid.0 is mid.1) where
+    mid : (mid : RouteState) × (slice_get (obeyed now command clocked).routes number ≡ Some mid) × IsOnward mid.phase after.phase
     mid = mid_of None told
 
     by_becoming : Becomes command number before mid.0 → GoesOn (Commands command) answer number before.phase after.phase
@@ -423,20 +450,27 @@ was_there change zero (suc place) (first ∷ others) after is = (after, is)
 was_there change (suc number) zero (first ∷ others) after is = (first, refl)
 was_there change (suc number) (suc place) (first ∷ others) after is = was_there change number place others after is
 
-command_kept : (cause : Option Refusal) (command : Command) (ixl : IxlState) (number : ℕ) (after : RouteState) → slice_get (commanded_by cause command ixl).routes number ≡ Some after →
+command_kept : (now : ℕ) (cause : Option Refusal) (command : Command) (ixl : IxlState) (number : ℕ) (after : RouteState) → slice_get (commanded_by now cause command ixl).routes number ≡ Some after →
     (before : RouteState) × (slice_get ixl.routes number ≡ Some before)
 unfolding obeyed
-command_kept (Some refused) command ixl number after is = (after, is)
-command_kept None (commands.Request route) ixl number after is = was_there set_anew route.0 number ixl.routes after is
-command_kept None (commands.Cancel route) ixl number after is = was_there (λ old. record old { cancelled = true }) route.0 number ixl.routes after is
-command_kept None commands.Resume ixl number after is = (after, is)
+command_kept now (Some refused) command ixl number after is = (after, is)
+command_kept now None (commands.Request route) ixl number after is = was_there set_anew route.0 number ixl.routes after is
+command_kept now None (commands.Cancel route) ixl number after is = was_there (λ old. record old { cancelled = true }) route.0 number ixl.routes after is
+command_kept now None commands.Resume ixl number after is = (after, is)
+command_kept now None (commands.Release route) ixl number after is = was_there (released_at now) route.0 number ixl.routes after is
+command_kept now None (commands.Move point side) ixl number after is = (after, is)
+command_kept now None (commands.Close named) ixl number after is = (after, is)
+command_kept now None (commands.Open named) ixl number after is = (after, is)
 
 given_kept : (now : ℕ) (table : Table) (key : Key) (input : Input) (part : StepSoFar) (number : ℕ) (after : RouteState) → slice_get (given now table key input part).ixl.routes number ≡ Some after →
     (before : RouteState) × (slice_get part.ixl.routes number ≡ Some before)
 unfolding given PartGoes OnwardAll
 given_kept now table key Tick part number after is = (after, is)
 given_kept now table key (Datagram bytes) part number after is = let before = datagram_goes now table key bytes part number after is in (before.0, before.1)
-given_kept now table key (Commands command) part number after is = command_kept (refusal now table command part.ixl) command part.ixl number after is
+given_kept now table key (Commands command) part number after is =
+    let cause = refusal now table command part.ixl
+    in command_kept now cause command part.ixl number after
+    (ap (λ (routes : List RouteState). slice_get routes number) (sym (moved_routes now cause command (record part { ixl = commanded_by now cause command part.ixl }))) ∙ is)
 
 pub routes_were_there : (now : ℕ) (input : Input) (old new : InterlockingState) (answer : Reply) (number : ℕ) (after : RouteState) → HasStepped now input old new answer →
     slice_get new.state.ixl.routes number ≡ Some after → (before : RouteState) × (slice_get old.state.ixl.routes number ≡ Some before)
@@ -463,13 +497,17 @@ pub given_goes : (now : ℕ) (table : Table) (key : Key) (input : Input) (part :
 unfolding given PartGoes OnwardAll Becomes
 given_goes now table key Tick part number after is = (after, is, inl (onward_same after.phase))
 given_goes now table key (Datagram bytes) part number after is = let before = datagram_goes now table key bytes part number after is in (before.0, before.1, inl before.2)
-given_goes now table key (Commands command) part number after is = by_cause (refusal now table command part.ixl) refl is where
+given_goes now table key (Commands command) part number after is = by_cause (refusal now table command part.ixl) refl (unmoved (refusal now table command part.ixl) is) where
+  unmoved : (cause : Option Refusal) → slice_get (moved_at_once now cause command (record part { ixl = commanded_by now cause command part.ixl })).ixl.routes number ≡ Some after →
+      slice_get (commanded_by now cause command part.ixl).routes number ≡ Some after
+  unmoved cause at = ap (λ (routes : List RouteState). slice_get routes number) (sym (moved_routes now cause command (record part { ixl = commanded_by now cause command part.ixl }))) ∙ at
+
   by_becoming : (before : RouteState) → refusal now table command part.ixl ≡ None → Becomes command number before after → IsOnward before.phase after.phase ⊎ IsOwnRequest now table part.ixl (Commands command) number
   by_becoming before told (inl onward) = inl onward
   by_becoming before told (inr there) = inr (ap Commands there.0, ap (λ (c : Command). refusal now table c part.ixl) (sym there.0) ∙ told)
 
-  by_cause : (cause : Option Refusal) → refusal now table command part.ixl ≡ cause → slice_get (commanded_by cause command part.ixl).routes number ≡ Some after → GoesBehindInput now table key (Commands command) part number after
+  by_cause : (cause : Option Refusal) → refusal now table command part.ixl ≡ cause → slice_get (commanded_by now cause command part.ixl).routes number ≡ Some after → GoesBehindInput now table key (Commands command) part number after
   by_cause (Some refused) told same = (after, same, inl (onward_same after.phase))
   by_cause None told changed_to =
-      let before = command_kept None command part.ixl number after changed_to
-      in (before.0, before.1, by_becoming before.0 told (command_becomes command part.ixl number before.0 after before.1 changed_to))
+      let before = command_kept now None command part.ixl number after changed_to
+      in (before.0, before.1, by_becoming before.0 told (command_becomes now command part.ixl number before.0 after before.1 changed_to))

@@ -13,7 +13,7 @@ use Rattle.ixl_laws.proofs.PickedByTest.{both, either, picked}
 
 -- a move is given only where the point is available
 due_available : (table : Table) (ixl : IxlState) (number : ℕ) (route : RouteState) (need : Need) → is_move_due table ixl number route need ≡ true → is_point_available ixl need.point ≡ true
-due_available table ixl number route need due = (both _ _ (both _ _ (both _ _ (both _ _ (both _ _ due).0).0).0).0).1
+due_available table ixl number route need due = (both _ _ (both _ _ (both _ _ (both _ _ (both _ _ (both _ _ due).0).0).0).0).0).1
 
 -- this stays so whatever becomes of a route
 abbrev pub IsKeptByRoutes : (StepSoFar → Type 0) → Type 0

@@ -141,7 +141,7 @@ in_second : {A : Type 0} (some more : List A) (place : ℕ) (one : A) → slice_
 in_second [] more place one is = (place, is)
 in_second (first ∷ others) more place one is = let found = in_second others more place one is in (suc found.0, found.1)
 
-mapped_from : {A B : Type 0} (f : A → B) (list : List A) (place : ℕ) (image : B) → slice_get (map f list) place ≡ Some image → (one : A) × (slice_get list place ≡ Some one) × (f one ≡ image)
+pub mapped_from : {A B : Type 0} (f : A → B) (list : List A) (place : ℕ) (image : B) → slice_get (map f list) place ≡ Some image → (one : A) × (slice_get list place ≡ Some one) × (f one ≡ image)
 mapped_from f [] place image is = absurd (none_is is)
 mapped_from f (first ∷ others) zero image is = (first, refl, some_same is)
 mapped_from f (first ∷ others) (suc place) image is = mapped_from f others place image is

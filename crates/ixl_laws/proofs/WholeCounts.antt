@@ -6,7 +6,7 @@ use Rattle.ixl_state.specs.rasta_pdu.PduRead.{reading}
 use Rattle.ixl_state.specs.rasta_pdu.declared.key.Key.{Key}
 use Rattle.ixl_state.specs.ixl_client.ClientSoFar.{begun}
 use Rattle.ixl_state.specs.ixl_client.Step.{hearing}
-use Rattle.ixl_state.specs.ixl_spec.Commands.{commanded_by, obeyed, refusal}
+use Rattle.ixl_state.specs.ixl_spec.Commands.{commanded_by, moved_at_once, obeyed, refusal}
 use Rattle.ixl_state.specs.ixl_spec.StepSoFar.{Detector, Node, Point, Signal, StepSoFar, along, detector_after, giving_aspect, giving_move, noted, over, with_detector}
 use Rattle.ixl_state.specs.ixl_spec.Rules.{count, ruled}
 use Rattle.ixl_state.specs.ixl_spec.State.{IxlState, KnownDetectorState}
@@ -71,21 +71,19 @@ module _ (first : IxlState) where
   node_on now table bytes (Point place) part on = point_on now bytes place part on
   node_on now table bytes (Detector place) part on = detector_on now table bytes place part on
 
-  obeyed_on : (command : Command) (ixl : IxlState) → SameCounts first ixl → SameCounts first (obeyed command ixl)
+  obeyed_on : (now : ℕ) (command : Command) (ixl : IxlState) → SameCounts first ixl → SameCounts first (obeyed now command ixl)
   unfolding obeyed
-  obeyed_on (commands.Request route) ixl on = record { known_signals = on.known_signals; known_points = length-map ixl.known_points _ ∙ on.known_points; detectors = on.detectors }
-  obeyed_on (commands.Cancel route) ixl on = record { known_signals = on.known_signals; known_points = on.known_points; detectors = on.detectors }
-  obeyed_on commands.Resume ixl on = record { known_signals = on.known_signals; known_points = on.known_points; detectors = on.detectors }
+  obeyed_on now (commands.Request route) ixl on = record { known_signals = on.known_signals; known_points = length-map ixl.known_points _ ∙ on.known_points; detectors = on.detectors }
+  obeyed_on now (commands.Cancel route) ixl on = record { known_signals = on.known_signals; known_points = on.known_points; detectors = on.detectors }
+  obeyed_on now commands.Resume ixl on = record { known_signals = on.known_signals; known_points = on.known_points; detectors = on.detectors }
+  obeyed_on now (commands.Release route) ixl on = record { known_signals = on.known_signals; known_points = on.known_points; detectors = on.detectors }
+  obeyed_on now (commands.Move point side) ixl on = record { known_signals = on.known_signals; known_points = on.known_points; detectors = on.detectors }
+  obeyed_on now (commands.Close named) ixl on = record { known_signals = on.known_signals; known_points = on.known_points; detectors = on.detectors }
+  obeyed_on now (commands.Open named) ixl on = record { known_signals = on.known_signals; known_points = on.known_points; detectors = on.detectors }
 
-  commanded_on : (cause : Option Refusal) (command : Command) (ixl : IxlState) → SameCounts first ixl → SameCounts first (commanded_by cause command ixl)
-  commanded_on None command ixl on = obeyed_on command ixl on
-  commanded_on (Some refused) command ixl on = on
-
-  given_on : (now : ℕ) (table : Table) (key : Key) (input : Input) (part : StepSoFar) → On part → On (given now table key input part)
-  unfolding given
-  given_on now table key Tick part on = on
-  given_on now table key (Datagram bytes) part on = with_one_holds On (addressed (reading key bytes) part.ixl) _ part (λ node there. node_on now table bytes node part on) on
-  given_on now table key (Commands command) part on = commanded_on (refusal now table command part.ixl) command part.ixl on
+  commanded_on : (now : ℕ) (cause : Option Refusal) (command : Command) (ixl : IxlState) → SameCounts first ixl → SameCounts first (commanded_by now cause command ixl)
+  commanded_on now None command ixl on = obeyed_on now command ixl on
+  commanded_on now (Some refused) command ixl on = on
 
   -- ---- the rules
 
@@ -98,6 +96,27 @@ module _ (first : IxlState) where
   unfolding giving_move
   move_on now point side part on = with_one_holds On (slice_get part.ixl.known_points point) _ part (λ known_point there.
       record { known_signals = on.known_signals; known_points = changed_length _ point part.ixl.known_points ∙ on.known_points; detectors = on.detectors }) on
+
+  -- ---- the input
+
+  moved_on : (now : ℕ) (cause : Option Refusal) (command : Command) (part : StepSoFar) → On part → On (moved_at_once now cause command part)
+  unfolding moved_at_once
+  moved_on now (Some refused) command part on = on
+  moved_on now None (commands.Move point side) part on = move_on now point.0 side part on
+  moved_on now None (commands.Request route) part on = on
+  moved_on now None (commands.Cancel route) part on = on
+  moved_on now None commands.Resume part on = on
+  moved_on now None (commands.Release route) part on = on
+  moved_on now None (commands.Close named) part on = on
+  moved_on now None (commands.Open named) part on = on
+
+  given_on : (now : ℕ) (table : Table) (key : Key) (input : Input) (part : StepSoFar) → On part → On (given now table key input part)
+  unfolding given
+  given_on now table key Tick part on = on
+  given_on now table key (Datagram bytes) part on = with_one_holds On (addressed (reading key bytes) part.ixl) _ part (λ node there. node_on now table bytes node part on) on
+  given_on now table key (Commands command) part on =
+      let cause = refusal now table command part.ixl
+      in moved_on now cause command (record part { ixl = commanded_by now cause command part.ixl }) (commanded_on now cause command part.ixl on)
 
   changes_on : (now : ℕ) → IsKeptByChanges now On
   changes_on now = record { route = routes_on; aspect = aspect_on now; move = λ point side part available on. move_on now point side part on }

@@ -6,7 +6,7 @@ use Rattle.ixl_state.specs.rasta_pdu.declared.key.Key.{Key}
 use Rattle.ixl_state.specs.release.Passage.{PassageState, after_look}
 use Rattle.ixl_state.specs.ixl_client.ClientSoFar.{begun}
 use Rattle.ixl_state.specs.ixl_client.Step.{hearing}
-use Rattle.ixl_state.specs.ixl_spec.Commands.{commanded_by, obeyed, refusal}
+use Rattle.ixl_state.specs.ixl_spec.Commands.{commanded_by, moved_at_once, obeyed, refusal}
 use Rattle.ixl_state.specs.ixl_spec.StepSoFar.{Detector, Node, Point, Signal, StepSoFar, detector_after, noted, with_detector}
 use Rattle.ixl_state.specs.ixl_spec.Rules.{count}
 use Rattle.ixl_state.specs.ixl_spec.State.{IxlState, KnownDetectorState, RouteState}
@@ -20,7 +20,7 @@ use Rattle.ixl_laws.specs.WholeStep.{Fits, beaten}
 use Rattle.ixl_laws.proofs.PickedByTest.{either}
 use Rattle.ixl_laws.proofs.Ruled.{along_holds, at_route_holds, over_holds, with_one_holds}
 use Rattle.ixl_laws.proofs.WholeCounts.{heard_by}
-use Rattle.ixl_laws.proofs.WholeFits.{fits_same, kept_fits, with_one_keeps}
+use Rattle.ixl_laws.proofs.WholeFits.{fits_same, kept_fits, move_keeps, with_one_keeps}
 
 look_keeps : (p : PassageState) (place : ℕ) (occupied : Bool) → (after_look p place occupied).sections ≡ p.sections
 look_keeps p place true = refl
@@ -62,21 +62,38 @@ module _ (table : Table) where
   node_fits now bytes (Point place) part fits = fits_same table part.ixl _ (with_one_keeps (slice_get part.ixl.known_points place) _ part (λ known_point. refl)) fits
   node_fits now bytes (Detector place) part fits = detector_fits now bytes place part fits
 
-  obeyed_fits : (command : Command) (ixl : IxlState) → Fits table ixl → Fits table (obeyed command ixl)
+  obeyed_fits : (now : ℕ) (command : Command) (ixl : IxlState) → Fits table ixl → Fits table (obeyed now command ixl)
   unfolding obeyed
-  obeyed_fits (commands.Request route) ixl fits = fits_same table _ _ refl (kept_fits table route.0 _ ixl (λ other. refl) fits)
-  obeyed_fits (commands.Cancel route) ixl fits = kept_fits table route.0 _ ixl (λ other. refl) fits
-  obeyed_fits commands.Resume ixl fits = fits_same table ixl _ refl fits
+  obeyed_fits now (commands.Request route) ixl fits = fits_same table _ _ refl (kept_fits table route.0 _ ixl (λ other. refl) fits)
+  obeyed_fits now (commands.Cancel route) ixl fits = kept_fits table route.0 _ ixl (λ other. refl) fits
+  obeyed_fits now commands.Resume ixl fits = fits_same table ixl _ refl fits
+  obeyed_fits now (commands.Release route) ixl fits = kept_fits table route.0 _ ixl (λ other. refl) fits
+  obeyed_fits now (commands.Move point side) ixl fits = fits
+  obeyed_fits now (commands.Close named) ixl fits = fits_same table ixl _ refl fits
+  obeyed_fits now (commands.Open named) ixl fits = fits_same table ixl _ refl fits
 
-  commanded_fits : (cause : Option Refusal) (command : Command) (ixl : IxlState) → Fits table ixl → Fits table (commanded_by cause command ixl)
-  commanded_fits None command ixl fits = obeyed_fits command ixl fits
-  commanded_fits (Some refused) command ixl fits = fits
+  commanded_fits : (now : ℕ) (cause : Option Refusal) (command : Command) (ixl : IxlState) → Fits table ixl → Fits table (commanded_by now cause command ixl)
+  commanded_fits now None command ixl fits = obeyed_fits now command ixl fits
+  commanded_fits now (Some refused) command ixl fits = fits
+
+  moved_fits : (now : ℕ) (cause : Option Refusal) (command : Command) (part : StepSoFar) → On part → On (moved_at_once now cause command part)
+  unfolding moved_at_once
+  moved_fits now (Some refused) command part fits = fits
+  moved_fits now None (commands.Move point side) part fits = fits_same table part.ixl _ (move_keeps now point.0 side part) fits
+  moved_fits now None (commands.Request route) part fits = fits
+  moved_fits now None (commands.Cancel route) part fits = fits
+  moved_fits now None commands.Resume part fits = fits
+  moved_fits now None (commands.Release route) part fits = fits
+  moved_fits now None (commands.Close named) part fits = fits
+  moved_fits now None (commands.Open named) part fits = fits
 
   pub given_fits : (now : ℕ) (key : Key) (input : Input) (part : StepSoFar) → On part → On (given now table key input part)
   unfolding given
   given_fits now key Tick part fits = fits
   given_fits now key (Datagram bytes) part fits = with_one_holds On (addressed (reading key bytes) part.ixl) _ part (λ node there. node_fits now bytes node part fits) fits
-  given_fits now key (Commands command) part fits = commanded_fits (refusal now table command part.ixl) command part.ixl fits
+  given_fits now key (Commands command) part fits =
+      let cause = refusal now table command part.ixl
+      in moved_fits now cause command (record part { ixl = commanded_by now cause command part.ixl }) (commanded_fits now cause command part.ixl fits)
 
   pub clocked_fits : (now : ℕ) (ixl : IxlState) → Fits table ixl → Fits table (all_clocked now ixl)
   unfolding all_clocked

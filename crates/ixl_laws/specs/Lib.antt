@@ -12,3 +12,4 @@ pub mod Refused
 pub mod Reported
 pub mod UnsoundAspect
 pub mod WholeStep
+pub mod Operations

@@ -11,6 +11,8 @@ use Rattle.ixl_state.specs.ixl_client.ClientSoFar.{LinkCall, Closes, Opens, Rece
 use Rattle.ixl_state.specs.ixl_client.Step.{message_of, telegram_to}
 use Rattle.ixl_state.specs.ixl_client.declared.command.Command.{Command}
 use Rattle.ixl_state.specs.ixl_client.declared.command.Command.TheVariants as commands
+use Rattle.ixl_state.specs.ixl_spec.declared.command.Command.{Command as Wanted}
+use Rattle.ixl_state.specs.ixl_spec.declared.command.Command.TheVariants as wanted
 use Rattle.ixl_state.specs.ixl_spec.State.{IxlState}
 use Rattle.ixl_state.specs.ixl_spec.StepSoFar.{Detector, Node, Point, Signal}
 use Rattle.ixl_state.specs.ixl_spec.Step.{Commands, Datagram, Input, Tick, addressed, all_clocked, client_at}
@@ -69,10 +71,15 @@ pub record Gives (ixl : IxlState) (to : Node) (command : Command) (group : Calls
   pub calls : (group.calls ≡ Sends (writing (telegram_to client.peer (message_of command))) ∷ [])
       ⊎ (group.calls ≡ Sends (writing (telegram_to client.peer (message_of command))) ∷ Closes reason.Window ∷ [])
 
+-- a command calls no link, but a move that of its point
+abbrev pub AreOfCommand : IxlState → Wanted → List CallsAtLink → Type 0
+AreOfCommand ixl (wanted.Move point side) groups = AtMostOne (Gives ixl (Point point.0) (commands.Move side)) groups
+AreOfCommand ixl _ groups = groups ≡ []
+
 -- a datagram is received by its sender's link, and is answered
 abbrev pub AreOfInput : ℕ → Input → InterlockingState → List CallsAtLink → Type 0
 AreOfInput now Tick old groups = groups ≡ []
-AreOfInput now (Commands command) old groups = groups ≡ []
+AreOfInput now (Commands command) old groups = AreOfCommand old.state.ixl command groups
 AreOfInput now (Datagram bytes) old groups = AtMostOne (λ group.
     (addressed (reading (key_of old.state.sited.site) bytes) (all_clocked now old.state.ixl) ≡ Some group.node) × ReceivesFirst (Receives bytes ∷ []) group.calls) groups
 

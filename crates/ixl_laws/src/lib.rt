@@ -2,6 +2,7 @@
 #![tactic(auto)]
 
 mod laws;
+mod operations;
 mod whole_step;
 
 pub use laws::{
@@ -11,6 +12,12 @@ pub use laws::{
     routes_keep_what_was_told_since_authority, routes_with_authority_hold_all,
     sections_are_kept_as_they_were_told_last, set_routes_stand_apart, steps_are_calls,
     the_last_report_answers_the_last_move, ticks_leave_no_link_down,
+};
+pub use operations::{
+    a_release_frees_only_after_its_time, closings_that_are_given_first_are_closed,
+    moves_by_command_go_to_points_that_nothing_holds, nothing_closed_is_used,
+    nothing_is_given_over_what_is_closed, operations_are_accepted_where_they_may_be,
+    releases_are_noted_with_their_clock, what_is_closed_changes_by_command_alone,
 };
 pub use whole_step::{
     a_step_gives_each_once, an_unsound_aspect_falls, aspects_and_moves_are_telegrams,

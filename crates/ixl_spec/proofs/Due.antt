@@ -1,22 +1,25 @@
 -- What the tests of the rules decide, and what each rule does at one route.
 use Rattle.std.proofs.Common.{inl, inr, ◌≡◌, ◌⊎◌, ℕ, suc, zero, ◌<◌, ◌≤◌, Bool, true, false, if◌then◌else◌, length, arith, refl, ap, sym, ◌∙◌, subst}
-use Rattle.std.specs.Prelude.{◌&&◌, nat_lt, IsTrue}
+use Rattle.std.specs.Prelude.{◌&&◌, ◌||◌, nat_lt, IsTrue}
 use Rattle.std.specs.FinSet.{contains}
 use Rattle.std.proofs.lemmas.Bool.{false≢true, le-leb, leb-true, ltb-false, ltb-true}
+use Rattle.std.proofs.lemmas.Option.{same_Some}
+use Rattle.std.specs.Prelude.{Option, Some, None}
 use Rattle.release.specs.Approach.{approach_end, is_due}
 use Rattle.release.specs.Passage.{PassageState, is_freeable}
 use Rattle.ixl_spec.specs.Table.{Need, Row, Table, at}
 use Rattle.ixl_spec.specs.State.{IxlState, RouteState}
 use Rattle.ixl_spec.specs.View.{all_clear, is_at_known_stop, is_clear}
-use Rattle.ixl_spec.specs.Due.{AllClear, AllKnown, At, DoesWhere, FreeByCancel, IsAvailable, IsClear, IsHeldWithAuthority, IsRouteOf, IsSignalReady, Known, KnownStop, LetsGo, MoveDue, ProceedDue, StopDue}
+use Rattle.ixl_spec.specs.Due.{AllClear, AllKnown, At, DoesWhere, FreeByCancel, IsAvailable, IsClear, IsHeldWithAuthority, IsReleaseOver, IsRouteOf, IsSignalReady, Known, KnownStop, LetsGo, LiesInClosed, MoveDue, ProceedDue, StopDue}
 use Rattle.ixl_spec.specs.StepSoFar.{StepSoFar, at_route, giving_aspect, giving_move, with_route}
-use Rattle.ixl_spec.specs.Rules.{authorised, come_to, ending_authority, freed, freeing_by_cancel, freeing_next, frees_cancelled, frees_next, is_move_due, is_over_clear, is_proceed_due, is_proceeding, is_stop_due, is_unmoved, is_waiting, is_withdrawn, moving_one, none_seen, one_freed, proceeding, stopped, withdrawing}
+use Rattle.ixl_spec.specs.Rules.{authorised, come_to, ending_authority, freed, freeing_by_cancel, freeing_next, frees_cancelled, frees_next, is_move_due, is_over_clear, is_proceed_due, is_proceeding, is_release_over, is_stop_due, is_unmoved, is_waiting, is_withdrawn, moving_one, none_seen, one_freed, proceeding, stopped, withdrawing}
 use Rattle.ixl_spec.specs.declared.phase.Phase.{Phase}
 use Rattle.ixl_spec.specs.declared.phase.Phase.TheVariants as phase
 use Rattle.ixl_spec.specs.EndDue.{EndDue, SomeFreeable}
 use Rattle.ixl_spec.proofs.Decide.{Decides, and_shown, and_yes, at_decides, both_decide, equal_decides, equally, itself_decides, negation_decides, not_decides, or_decide}
 use Rattle.ixl_spec.proofs.Knows.{all_clear_decides, all_known_decides, available_decides, clear_decides, known_decides, known_stop_decides, signal_ready_decides}
-use Rattle.ixl_spec.proofs.HoldTests.{held_with_authority_decides}
+use Rattle.ixl_spec.proofs.HoldTests.{held_with_authority_decides, none_is}
+use Rattle.ixl_spec.proofs.Closed.{lies_in_closed_decides}
 
 waiting_decides : (p : Phase) → Decides (is_waiting p) (p ≡ phase.Waiting)
 waiting_decides phase.Free = record { yes = λ is. absurd (false≢true is); shown = λ is. ap is_waiting is }
@@ -121,13 +124,27 @@ lets_go_decides now table ixl row route ended_at = record {
       ((((place : ℕ) → place < length row.sections → contains route.passage.seen place ≡ false) × AllClear table ixl row.sections) × ((route.approached ≡ false) ⊎ (approach_end ended_at ≤ now)))
   parts = both_decide _ _ _ _ (both_decide _ _ _ _ (none_seen_decides (length row.sections) route.passage) (all_clear_decides table ixl row.sections)) (due_decides route.approached ended_at now)
 
+release_decides : (now : ℕ) (route : RouteState) → Decides (is_release_over now route.released) (IsReleaseOver now route)
+release_decides now route = by_note route.released refl where
+  by_note : (note : Option ℕ) → route.released ≡ note → Decides (is_release_over now note) (IsReleaseOver now route)
+  by_note None is = record { yes = λ b. absurd (false≢true b); shown = λ over. absurd (none_is (sym is ∙ over.1)) }
+  by_note (Some clock) is = record {
+    yes = λ b. (clock, is, leb-true _ _ b);
+    shown = λ over. le-leb _ _ (subst (λ c. approach_end c ≤ now) (same_Some _ _ (sym over.1 ∙ is)) over.2);
+  }
+
 pub cancel_decides : (now : ℕ) (table : Table) (ixl : IxlState) (row : Row) (route : RouteState) →
     Decides (route.cancelled && frees_cancelled now table ixl row route route.phase) (FreeByCancel now table ixl row route)
 unfolding is_ended clock_of
 cancel_decides now table ixl row route = both_decide _ _ _ _ (itself_decides route.cancelled) (by_phase route.phase refl) where
   Either : Type 0
   Either = ((route.phase ≡ phase.Waiting) × KnownStop now ixl row.entry)
-      ⊎ ((clock : ℕ) × (done : ℕ) × (route.phase ≡ phase.Ended clock done) × LetsGo now table ixl row route clock)
+      ⊎ ((clock : ℕ) × (done : ℕ) × (route.phase ≡ phase.Ended clock done) × (LetsGo now table ixl row route clock ⊎ IsReleaseOver now route))
+
+  ended_decides : (clock : ℕ) →
+      Decides ((none_seen (length row.sections) route.passage && all_clear table ixl row.sections && is_due route.approached clock now) || is_release_over now route.released)
+      (LetsGo now table ixl row route clock ⊎ IsReleaseOver now route)
+  ended_decides clock = or_decide _ _ _ _ (lets_go_decides now table ixl row route clock) (release_decides now route)
 
   neither : (p : Phase) → route.phase ≡ p → is_waiting p ≡ false → is_ended p ≡ false → Either → false ≡ true
   neither p is waits ends (inl e) = sym waits ∙ ap is_waiting (sym is ∙ e.0)
@@ -138,16 +155,16 @@ cancel_decides now table ixl row route = both_decide _ _ _ _ (itself_decides rou
   waiting is (inr e) = absurd (false≢true (ap is_ended (sym is ∙ e.2)))
 
   gone : (clock done : ℕ) → route.phase ≡ phase.Ended clock done → Either →
-      none_seen (length row.sections) route.passage && all_clear table ixl row.sections && is_due route.approached clock now ≡ true
+      (none_seen (length row.sections) route.passage && all_clear table ixl row.sections && is_due route.approached clock now) || is_release_over now route.released ≡ true
   gone clock done is (inl e) = absurd (false≢true (ap is_waiting (sym is ∙ e.0)))
-  gone clock done is (inr e) = (lets_go_decides now table ixl row route clock).shown (subst (LetsGo now table ixl row route) (ap clock_of (sym e.2 ∙ is)) e.3)
+  gone clock done is (inr e) = (ended_decides clock).shown (subst (λ c. LetsGo now table ixl row route c ⊎ IsReleaseOver now route) (ap clock_of (sym e.2 ∙ is)) e.3)
 
   by_phase : (p : Phase) → route.phase ≡ p → Decides (frees_cancelled now table ixl row route p) Either
   by_phase phase.Free is = record { yes = λ b. absurd (false≢true b); shown = neither phase.Free is refl refl }
   by_phase phase.Waiting is = record { yes = λ b. inl (is, (known_stop_decides now ixl row.entry).yes b); shown = waiting is }
   by_phase phase.Proceeding is = record { yes = λ b. absurd (false≢true b); shown = neither phase.Proceeding is refl refl }
   by_phase phase.Withdrawn is = record { yes = λ b. absurd (false≢true b); shown = neither phase.Withdrawn is refl refl }
-  by_phase (phase.Ended clock done) is = record { yes = λ b. inr (clock, done, is, (lets_go_decides now table ixl row route clock).yes b); shown = gone clock done is }
+  by_phase (phase.Ended clock done) is = record { yes = λ b. inr (clock, done, is, (ended_decides clock).yes b); shown = gone clock done is }
 
 pub frees_where_due : (now : ℕ) (table : Table) (number : ℕ) (part : StepSoFar) (row : Row) (route : RouteState) → IsRouteOf table part.ixl number row route →
     DoesWhere (FreeByCancel now table part.ixl row route) part (with_route number freed part) (freeing_by_cancel now table number part)
@@ -237,15 +254,17 @@ unmoved_decides ixl point number = at_decides ixl.known_points point _ _ (λ kno
 pub move_decides : (table : Table) (ixl : IxlState) (number : ℕ) (route : RouteState) (need : Need) →
     Decides (is_move_due table ixl number route need) (MoveDue table ixl number route need)
 move_decides table ixl number route need = equally _ _ _ parts
-    (λ h. record { waits = h.0.0.0.0.0.0; goes_on = h.0.0.0.0.0.1; available = h.0.0.0.0.1; elsewhere = h.0.0.0.1; over_clear = h.0.0.1; unheld = h.0.1; once = h.1 })
-    (λ m. ((((((m.waits, m.goes_on), m.available), m.elsewhere), m.over_clear), m.unheld), m.once))
+    (λ h. record { waits = h.0.0.0.0.0.0.0; goes_on = h.0.0.0.0.0.0.1; available = h.0.0.0.0.0.1; elsewhere = h.0.0.0.0.1; over_clear = h.0.0.0.1; unheld = h.0.0.1; once = h.0.1; unclosed = h.1 })
+    (λ m. (((((((m.waits, m.goes_on), m.available), m.elsewhere), m.over_clear), m.unheld), m.once), m.unclosed))
   where
     parts : Decides (is_move_due table ixl number route need)
-        (((((((route.phase ≡ phase.Waiting) × (route.cancelled ≡ false)) × IsAvailable ixl need.point) × (Known ixl need.point need.side → ⊥))
+        ((((((((route.phase ≡ phase.Waiting) × (route.cancelled ≡ false)) × IsAvailable ixl need.point) × (Known ixl need.point need.side → ⊥))
         × At table.point_sections need.point (IsClear table ixl)) × (IsHeldWithAuthority table ixl need.point → ⊥)) × At ixl.known_points need.point (λ known_point. contains known_point.moved number ≡ false))
-    parts = both_decide _ _ _ _ (both_decide _ _ _ _ (both_decide _ _ _ _ (both_decide _ _ _ _ (both_decide _ _ _ _ (both_decide _ _ _ _
+        × (LiesInClosed table ixl need.point → ⊥))
+    parts = both_decide _ _ _ _ (both_decide _ _ _ _ (both_decide _ _ _ _ (both_decide _ _ _ _ (both_decide _ _ _ _ (both_decide _ _ _ _ (both_decide _ _ _ _
         (waiting_decides route.phase) (not_decides route.cancelled)) (available_decides ixl need.point)) (negation_decides _ _ (known_decides ixl need.point need.side)))
-        (over_clear_decides table ixl need.point)) (negation_decides _ _ (held_with_authority_decides table ixl need.point))) (unmoved_decides ixl need.point number)
+        (over_clear_decides table ixl need.point)) (negation_decides _ _ (held_with_authority_decides table ixl need.point))) (unmoved_decides ixl need.point number))
+        (negation_decides _ _ (lies_in_closed_decides table ixl need.point))
 
 pub moves_where_due : (now : ℕ) (table : Table) (number : ℕ) (need : Need) (part : StepSoFar) (row : Row) (route : RouteState) → IsRouteOf table part.ixl number row route →
     DoesWhere (MoveDue table part.ixl number route need) part (giving_move now need.point need.side part) (moving_one now table number need part)

@@ -4,7 +4,7 @@ use Rattle.std.specs.Prelude.{◌||◌, ◌==◌, IsTrue, Option, Some, None, is
 use Rattle.std.specs.List.{Contains, list_any}
 use Rattle.std.proofs.lemmas.Bool.{false≢true}
 use Rattle.std.proofs.lemmas.Option.{same_Some}
-use Rattle.control_table.specs.sci_telegram.declared.message.Side.{Side}
+use Rattle.closings.specs.sci_telegram.declared.message.Side.{Side}
 use Rattle.ixl_spec.specs.Table.{Need, Row, Table, is_same_side}
 use Rattle.ixl_spec.specs.State.{IxlState, RouteState}
 use Rattle.ixl_spec.specs.View.{blocks, first_blocking, freed_sections, holds_need, holds_point, holds_point_at, holds_point_elsewhere, holds_section, is_held_at, is_held_with_authority, is_set, some_route, was_authorised}
@@ -20,12 +20,12 @@ none_is is = false≢true (ap is_some is)
 same_side_decides : (a b : Side) → Decides (is_same_side a b) (a ≡ b)
 same_side_decides a b = record { yes = same_side a b; shown = λ is. subst (λ s. is_same_side a s ≡ true) is (itself a) }
 
-section_decides : (row : Row) (phase : Phase) (section : ℕ) → Decides (holds_section row phase section) (HoldsSection row phase section)
+pub section_decides : (row : Row) (phase : Phase) (section : ℕ) → Decides (holds_section row phase section) (HoldsSection row phase section)
 section_decides row phase section = both_decide _ _ _ _ (itself_decides (is_set phase))
     (equally _ _ _ (any_decides _ (λ other. other ≡ section) (drop (freed_sections phase) row.sections) (λ other. equal_decides other section))
     (λ h. subst (Contains (drop (freed_sections phase) row.sections)) h.2 h.1) (λ h. (section, h, refl)))
 
-need_decides : (phase : Phase) (need : Need) → Decides (holds_need phase need) (IsTrue (is_set phase) × (freed_sections phase < need.until))
+pub need_decides : (phase : Phase) (need : Need) → Decides (holds_need phase need) (IsTrue (is_set phase) × (freed_sections phase < need.until))
 need_decides phase need = both_decide _ _ _ _ (itself_decides (is_set phase)) (less_decides (freed_sections phase) need.until)
 
 pub point_at_decides : (row : Row) (phase : Phase) (point : ℕ) (side : Side) → Decides (holds_point_at row phase point side) (HoldsPoint row phase point side)

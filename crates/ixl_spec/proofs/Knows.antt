@@ -3,10 +3,10 @@ use Rattle.std.proofs.Common.{inl, inr, ◌≡◌, ◌⊎◌, ℕ, ◌≤◌, Bo
 use Rattle.std.specs.Prelude.{nat_le, Option, Some, None, is_some}
 use Rattle.std.specs.FinSet.{contains}
 use Rattle.std.proofs.lemmas.Bool.{true≢false, false≢true, le-leb, leb-true}
-use Rattle.control_table.specs.sci_telegram.declared.message.Aspect.{Aspect}
-use Rattle.control_table.specs.sci_telegram.declared.message.Aspect.TheVariants as aspects
-use Rattle.control_table.specs.sci_telegram.declared.message.Side.{Side}
-use Rattle.control_table.specs.sci_telegram.declared.message.Side.TheVariants as sides
+use Rattle.closings.specs.sci_telegram.declared.message.Aspect.{Aspect}
+use Rattle.closings.specs.sci_telegram.declared.message.Aspect.TheVariants as aspects
+use Rattle.closings.specs.sci_telegram.declared.message.Side.{Side}
+use Rattle.closings.specs.sci_telegram.declared.message.Side.TheVariants as sides
 use Rattle.rasta_core.specs.Clock.{quiet_until}
 use Rattle.rasta_core.specs.State.{confirmed_items, is_up}
 use Rattle.ixl_client.specs.Client.{is_available, is_ready}

@@ -1,7 +1,11 @@
 pub mod Lists
 pub mod Decide
 pub mod Knows
+pub mod Closed
 pub mod HoldTests
 pub mod Due
 pub mod FreedByPassage
+pub mod FirstRoute
+pub mod Uses
 pub mod Requests
+pub mod Operations

@@ -2,15 +2,17 @@
 use Rattle.std.proofs.Common.{inl, inr, ◌≡◌, ◌↔◌, ℕ, Bool, true, false, not, if◌then◌else◌, List, [], ◌∷◌, refl, ap, sym, ◌∙◌, subst}
 use Rattle.std.specs.Prelude.{◌||◌, Option, Some, None, slice_get}
 use Rattle.std.specs.List.{All, Contains, list_all}
+use Rattle.std.specs.Option.{option_or}
 use Rattle.std.proofs.lemmas.Bool.{true≢false, false≢true}
 use Rattle.std.proofs.lemmas.List.Elements.{All-cons, All-contains_itself, All-nil, Contains-append_right}
 use Rattle.std.proofs.lemmas.Option.{same_Some}
-use Rattle.control_table.specs.layout.declared.ids.RouteId.{RouteId}
+use Rattle.closings.specs.layout.declared.ids.RouteId.{RouteId}
 use Rattle.ixl_spec.specs.Table.{Need, Row, Table}
 use Rattle.ixl_spec.specs.State.{IxlState, RouteState}
 use Rattle.ixl_spec.specs.View.{first_blocking, is_at_known_stop, is_holding, is_occupied, is_set, is_signal_ready, is_unknown}
-use Rattle.ixl_spec.specs.Due.{Admissible, AllClear, At, IsAvailable, IsClear, IsHeldAt, IsOccupied, IsRouteOf}
-use Rattle.ixl_spec.specs.Commands.{conflict_told, first_failing, is_point_wanting, locking_refusal, refusal, refused_where, request_refusal}
+use Rattle.ixl_spec.specs.Operations.{counts_as_closed, things_used}
+use Rattle.ixl_spec.specs.Due.{Admissible, AllClear, At, CountsAsClosed, IsAvailable, IsClear, IsHeldAt, IsOccupied, IsRouteOf}
+use Rattle.ixl_spec.specs.Commands.{closed_refusal, conflict_told, first_failing, is_point_wanting, locking_refusal, refusal, refused_where, request_refusal}
 use Rattle.ixl_spec.specs.declared.command.Command.TheVariants as commands
 use Rattle.ixl_spec.specs.declared.command.Refusal.{Refusal}
 use Rattle.ixl_spec.specs.declared.command.Refusal.TheVariants as refusals
@@ -18,13 +20,14 @@ use Rattle.ixl_spec.specs.Refusals.{AreThere, IsCause, IsFirstOf, IsRequestRefus
 use Rattle.ixl_spec.proofs.Lists.{contains-here}
 use Rattle.ixl_spec.proofs.Decide.{Decides, all_decides, both_decide, equally, negation_decides, no, one_fails, or_decide}
 use Rattle.ixl_spec.proofs.Knows.{available_decides, clear_decides, known_stop_decides, occupied_decides, signal_ready_decides}
+use Rattle.ixl_spec.proofs.Closed.{counts_decides}
 use Rattle.ixl_spec.proofs.HoldTests.{first_found, held_at_decides, none_found, none_is}
 
 -- two facts of what a list has at a place are facts of one
 at_one_place : {A : Type 0} (list : List A) (place : ℕ) (P Q : A → Type 0) → At list place P → At list place Q → (one : A) × (P one × Q one)
 at_one_place list place P Q p q = (p.0, (p.2, subst Q (same_Some _ _ (sym q.1 ∙ p.1)) q.2))
 
-clear_or_occupied : (table : Table) (ixl : IxlState) (section : ℕ) → IsClear table ixl section → IsOccupied table ixl section → ⊥
+pub clear_or_occupied : (table : Table) (ixl : IxlState) (section : ℕ) → IsClear table ixl section → IsOccupied table ixl section → ⊥
 clear_or_occupied table ixl section clear occupied =
     let reporter = at_one_place table.reporters section _ _ clear occupied
     in let detector = at_one_place ixl.detectors reporter.0.0 _ _ reporter.1.0 reporter.1.1
@@ -53,7 +56,7 @@ by_first_failing {A} Tells fails Fails told (first ∷ others) otherwise each fa
         (λ one found. failing one (first ∷ found.0, found.1, ap (λ l. first ∷ l) found.2, All-cons (λ one. Fails one → ⊥) first found.0 (no (fails first) (Fails first) (each first) is) found.3, found.4))
         (λ none. passing (All-cons (λ one. Fails one → ⊥) first others (no (fails first) (Fails first) (each first) is) none))
 
-by_refused_where : (Tells : Option Refusal → Type 0) (fails : Bool) (Fails : Type 0) (told : Refusal) (otherwise : Option Refusal) → Decides fails Fails →
+pub by_refused_where : (Tells : Option Refusal → Type 0) (fails : Bool) (Fails : Type 0) (told : Refusal) (otherwise : Option Refusal) → Decides fails Fails →
     (Fails → Tells (Some told)) → ((Fails → ⊥) → Tells otherwise) → Tells (refused_where fails told otherwise)
 by_refused_where Tells true Fails told otherwise is failing passing = failing (is.yes refl)
 by_refused_where Tells false Fails told otherwise is failing passing = passing (no _ _ is refl)
@@ -70,7 +73,7 @@ wanting_decides table ixl need = equally _ _ _
     neither none (inr is) = none.1 is
 
 -- what is decided holds or doesn't
-stands : (test : Bool) (fact : Type 0) → Decides test fact → ((fact → ⊥) → ⊥) → fact
+pub stands : (test : Bool) (fact : Type 0) → Decides test fact → ((fact → ⊥) → ⊥) → fact
 stands true fact is doubly = is.yes refl
 stands false fact is doubly = absurd (doubly (no _ _ is refl))
 
@@ -146,7 +149,7 @@ Answers now table ixl number None = Admissible now table ixl number
 Answers now table ixl number (Some cause) = IsRequestRefused now table ixl number cause
 
 pub request_answers : (now : ℕ) (table : Table) (ixl : IxlState) (route : RouteId) → Answers now table ixl route.0 (refusal now table (commands.Request route) ixl)
-unfolding refusal
+unfolding refusal closed_refusal
 request_answers now table ixl route = by_row (slice_get table.rows route.0) (slice_get ixl.routes route.0) refl refl where
   by_row : (row : Option Row) (state : Option RouteState) → slice_get table.rows route.0 ≡ row → slice_get ixl.routes route.0 ≡ state →
       Answers now table ixl route.0 (request_refusal now table ixl route.0 row state)
@@ -154,22 +157,22 @@ request_answers now table ixl route = by_row (slice_get table.rows route.0) (sli
   by_row (Some row) None is also = λ known. none_is (sym also ∙ known.2.1)
   by_row (Some row) (Some state) is also = by_hold (is_holding now ixl) refl where
     by_hold : (b : Bool) → is_holding now ixl ≡ b → Answers now table ixl route.0 (refused_where b refusals.Holding
-        (refused_where (not ixl.resumed) refusals.NotResumed (refused_where (is_set state.phase) refusals.AlreadySet (locking_refusal now table ixl route.0 row))))
+        (refused_where (not ixl.resumed) refusals.NotResumed (refused_where (is_set state.phase) refusals.AlreadySet (option_or (locking_refusal now table ixl route.0 row) (closed_refusal table ixl route.0 row)))))
     by_hold true holding = ((row, state, (is, also)), holding)
     by_hold false over = by_resumed ixl.resumed refl where
       by_resumed : (b : Bool) → ixl.resumed ≡ b → Answers now table ixl route.0
-          (refused_where (not b) refusals.NotResumed (refused_where (is_set state.phase) refusals.AlreadySet (locking_refusal now table ixl route.0 row)))
+          (refused_where (not b) refusals.NotResumed (refused_where (is_set state.phase) refusals.AlreadySet (option_or (locking_refusal now table ixl route.0 row) (closed_refusal table ixl route.0 row))))
       by_resumed false waits = ((row, state, (is, also)), over, waits)
       by_resumed true resumed = by_set (is_set state.phase) refl where
-        by_set : (b : Bool) → is_set state.phase ≡ b → Answers now table ixl route.0 (refused_where b refusals.AlreadySet (locking_refusal now table ixl route.0 row))
+        by_set : (b : Bool) → is_set state.phase ≡ b → Answers now table ixl route.0 (refused_where b refusals.AlreadySet (option_or (locking_refusal now table ixl route.0 row) (closed_refusal table ixl route.0 row)))
         by_set true set = ((over, resumed), (row, state, (is, also), set))
         by_set false free = told (locking_refusal now table ixl route.0 row) (locking_tells now table ixl route.0 row) where
           past : (cause : Refusal) → IsCause now table ixl route.0 row cause →
               Obeys now ixl × ((row : Row) × (state : RouteState) × IsRouteOf table ixl route.0 row state × (is_set state.phase ≡ false) × IsCause now table ixl route.0 row cause)
           past cause why = ((over, resumed), (row, state, (is, also), free, why))
 
-          told : (found : Option Refusal) → Tells now table ixl route.0 row found → Answers now table ixl route.0 found
-          told None can = record {
+          admissible : Lockable now table ixl route.0 row → All (λ thing. CountsAsClosed table ixl thing → ⊥) (things_used route.0 row) → Admissible now table ixl route.0
+          admissible can none = record {
             row = row;
             route = state;
             known = (is, also);
@@ -181,17 +184,30 @@ request_answers now table ixl route = by_row (slice_get table.rows route.0) (sli
             points = of_all (IsThere table ixl) row.needs can.1.0;
             ready = can.1.1.0;
             at_stop = can.1.1.1;
+            unclosed = of_all (λ thing. CountsAsClosed table ixl thing → ⊥) (things_used route.0 row) none;
           }
+
+          -- nothing but what is closed stands against it
+          unclosed : Lockable now table ixl route.0 row → Answers now table ixl route.0 (closed_refusal table ixl route.0 row)
+          unclosed can = by_first_failing (Answers now table ixl route.0) (counts_as_closed table ixl) (CountsAsClosed table ixl) refusals.Closed (things_used route.0 row) None (counts_decides table ixl)
+              (λ thing first. past (refusals.Closed thing) (can.0.0, can.0.1, can.1.0, can.1.1, first)) (admissible can)
+
+          told : (found : Option Refusal) → Tells now table ixl route.0 row found → Answers now table ixl route.0 (option_or found (closed_refusal table ixl route.0 row))
+          told None can = unclosed can
           told (Some (refusals.Conflict a)) why = past (refusals.Conflict a) why
           told (Some (refusals.NotClear section)) why = past (refusals.NotClear section) why
           told (Some (refusals.PointUnavailable point)) why = past (refusals.PointUnavailable point) why
           told (Some refusals.SignalUnavailable) why = past refusals.SignalUnavailable why
           told (Some refusals.DetectionDown) why = past refusals.DetectionDown why
+          told (Some (refusals.Closed thing)) why = past (refusals.Closed thing) why
           told (Some refusals.UnknownRoute) why = absurd why
           told (Some refusals.Holding) why = absurd why
           told (Some refusals.NotResumed) why = absurd why
           told (Some refusals.AlreadySet) why = absurd why
           told (Some refusals.NotSet) why = absurd why
+          told (Some refusals.NoSuchThing) why = absurd why
+          told (Some refusals.NotEnded) why = absurd why
+          told (Some (refusals.Held a)) why = absurd why
 
 pub refuses_for_cause : (now : ℕ) (table : Table) (ixl : IxlState) (route : RouteId) (cause : Refusal) → refusal now table (commands.Request route) ixl ≡ Some cause → IsRequestRefused now table ixl route.0 cause
 refuses_for_cause now table ixl route cause is = subst (Answers now table ixl route.0) is (request_answers now table ixl route)
@@ -210,6 +226,11 @@ cause_is_not now table ixl number can (refusals.PointUnavailable point) why =
 cause_is_not now table ixl number can refusals.SignalUnavailable why = why.3 (can.ready, can.at_stop)
 cause_is_not now table ixl number can refusals.DetectionDown why =
     why.4.2.0 (of_all (IsClear table ixl) can.row.sections can.clear why.4.0 why.4.1)
+cause_is_not now table ixl number can (refusals.Closed thing) why =
+    let one = first_of (CountsAsClosed table ixl) (things_used number can.row) thing why.4 in can.unclosed thing one.0 one.1
+cause_is_not now table ixl number can refusals.NoSuchThing why = why
+cause_is_not now table ixl number can refusals.NotEnded why = why
+cause_is_not now table ixl number can (refusals.Held a) why = why
 cause_is_not now table ixl number can refusals.UnknownRoute why = why
 cause_is_not now table ixl number can refusals.Holding why = why
 cause_is_not now table ixl number can refusals.NotResumed why = why
@@ -233,6 +254,10 @@ never_refused now table ixl number can (refusals.PointUnavailable point) why = s
 never_refused now table ixl number can refusals.SignalUnavailable why = same_row now table ixl number can why.1.0 why.1.1 why.1.2 refusals.SignalUnavailable why.1.4
 never_refused now table ixl number can refusals.DetectionDown why = same_row now table ixl number can why.1.0 why.1.1 why.1.2 refusals.DetectionDown why.1.4
 never_refused now table ixl number can refusals.NotSet why = same_row now table ixl number can why.1.0 why.1.1 why.1.2 refusals.NotSet why.1.4
+never_refused now table ixl number can (refusals.Closed thing) why = same_row now table ixl number can why.1.0 why.1.1 why.1.2 (refusals.Closed thing) why.1.4
+never_refused now table ixl number can refusals.NoSuchThing why = same_row now table ixl number can why.1.0 why.1.1 why.1.2 refusals.NoSuchThing why.1.4
+never_refused now table ixl number can refusals.NotEnded why = same_row now table ixl number can why.1.0 why.1.1 why.1.2 refusals.NotEnded why.1.4
+never_refused now table ixl number can (refusals.Held a) why = same_row now table ixl number can why.1.0 why.1.1 why.1.2 (refusals.Held a) why.1.4
 
 pub accepts_admissible : (now : ℕ) (table : Table) (ixl : IxlState) (route : RouteId) → refusal now table (commands.Request route) ixl ≡ None ↔ Admissible now table ixl route.0
 accepts_admissible now table ixl route = (λ is. subst (Answers now table ixl route.0) is (request_answers now table ixl route), back) where

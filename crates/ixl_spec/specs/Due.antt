@@ -1,16 +1,20 @@
 -- What the rules come to, in the words of the field.
-use Rattle.std.specs.Prelude.{◌≡◌, ◌≢◌, ◌⊎◌, ℕ, suc, ◌+◌, ◌<◌, ◌≤◌, Bool, true, false, List, [], ◌∷◌, length, drop, Option, Some, None, slice_get, IsTrue}
+use Rattle.std.specs.Prelude.{◌≡◌, ◌≢◌, ◌⊎◌, ℕ, suc, ◌<◌, ◌≤◌, true, false, List, length, drop, Some, None, slice_get, IsTrue}
 use Rattle.std.specs.FinSet.{contains}
-use Rattle.std.specs.List.{All, Any, Contains}
-use Rattle.control_table.specs.sci_telegram.declared.message.Aspect.TheVariants as aspects
-use Rattle.control_table.specs.sci_telegram.declared.message.Side.{Side}
+use Rattle.std.specs.List.{All, Contains}
+use Rattle.closings.specs.sci_telegram.declared.message.Aspect.TheVariants as aspects
+use Rattle.closings.specs.sci_telegram.declared.message.Side.{Side}
+use Rattle.closings.specs.declared.thing.Thing.{Thing}
+use Rattle.closings.specs.declared.thing.Thing.TheVariants.{Section, Point, Signal, Route}
+use Rattle.closings.specs.Closed.{IsClosed}
 use Rattle.rasta_core.specs.Clock.{quiet_until}
 use Rattle.rasta_core.specs.State.{confirmed_items, is_up}
 use Rattle.release.specs.Approach.{approach_end}
 use Rattle.ixl_client.specs.Client.{is_available, is_ready}
 use Rattle.ixl_spec.specs.Table.{Need, Row, Table}
-use Rattle.ixl_spec.specs.State.{KnownDetectorState, IxlState, KnownSignalState, RouteState, KnownPointState}
+use Rattle.ixl_spec.specs.State.{KnownDetectorState, IxlState, KnownSignalState, RouteState}
 use Rattle.ixl_spec.specs.View.{freed_sections, is_holding, is_set, was_authorised}
+use Rattle.ixl_spec.specs.Operations.{section_thing, things_used}
 use Rattle.ixl_spec.specs.StepSoFar.{StepSoFar}
 use Rattle.ixl_spec.specs.declared.phase.Phase.{Phase}
 use Rattle.ixl_spec.specs.declared.phase.Phase.TheVariants as phase
@@ -86,6 +90,24 @@ abbrev pub IsHeldWithAuthority : Table → IxlState → ℕ → Type 0
 IsHeldWithAuthority table ixl point = (number : ℕ) × (row : Row) × (route : RouteState) × (side : Side)
     × IsRouteOf table ixl number row route × IsTrue (was_authorised route.phase) × HoldsPoint row route.phase point side
 
+-- a set route uses itself, its entry signal, each of its sections that isn't freed, and each point that it holds, at the
+-- side at which it holds it
+abbrev pub Uses : ℕ → Row → RouteState → Thing → Type 0
+Uses number row route (Section s) = HoldsSection row route.phase s.0
+Uses number row route (Point p side) = HoldsPoint row route.phase p.0 side
+Uses number row route (Signal s) = IsTrue (is_set route.phase) × (row.entry ≡ s.0)
+Uses number row route (Route r) = IsTrue (is_set route.phase) × (number ≡ r.0)
+
+-- a point lies in a section that is closed
+abbrev pub LiesInClosed : Table → IxlState → ℕ → Type 0
+LiesInClosed table ixl point = At table.point_sections point (λ section. IsClosed ixl.closed (section_thing section))
+
+-- a thing counts as closed for a route that is to be set: it is closed, or it is a point in a closed section at a side at
+-- which it isn't known
+abbrev pub CountsAsClosed : Table → IxlState → Thing → Type 0
+CountsAsClosed table ixl (Point p side) = IsClosed ixl.closed (Point p side) ⊎ (LiesInClosed table ixl p.0 × (Known ixl p.0 side → ⊥))
+CountsAsClosed table ixl thing = IsClosed ixl.closed thing
+
 abbrev pub AllClear : Table → IxlState → List ℕ → Type 0
 AllClear table ixl sections = All (IsClear table ixl) sections
 
@@ -105,6 +127,7 @@ pub record Admissible (now : ℕ) (table : Table) (ixl : IxlState) (number : ℕ
   pub points : (need : Need) → Contains row.needs need → IsAvailable ixl need.point ⊎ IsHeldAt table ixl need.point need.side
   pub ready : IsSignalReady ixl row.entry
   pub at_stop : KnownStop now ixl row.entry
+  pub unclosed : (thing : Thing) → Contains (things_used number row) thing → CountsAsClosed table ixl thing → ⊥
 
 -- Stop is due: the route's aspect was given and not withdrawn, and a required point isn't known at its side, a section
 -- isn't clear, the signal's link isn't ready, or the route is cancelled.
@@ -113,8 +136,8 @@ pub record StopDue (table : Table) (ixl : IxlState) (row : Row) (route : RouteSt
   pub why : (((route.cancelled ≡ true) ⊎ (AllKnown ixl row.needs → ⊥)) ⊎ (AllClear table ixl row.sections → ⊥)) ⊎ (IsSignalReady ixl row.entry → ⊥)
 
 -- A move is due: the route is set, isn't cancelled and had no authority; the point is available and isn't known at its
--- side, its own section is clear, no route with authority holds it, and it got no move in this connection since the route
--- was set.
+-- side, its own section is clear and isn't closed, no route with authority holds it, and it got no move in this connection
+-- since the route was set.
 pub record MoveDue (table : Table) (ixl : IxlState) (number : ℕ) (route : RouteState) (need : Need) : Type 0 where
   pub waits : route.phase ≡ phase.Waiting
   pub goes_on : route.cancelled ≡ false
@@ -123,6 +146,7 @@ pub record MoveDue (table : Table) (ixl : IxlState) (number : ℕ) (route : Rout
   pub over_clear : At table.point_sections need.point (IsClear table ixl)
   pub unheld : IsHeldWithAuthority table ixl need.point → ⊥
   pub once : At ixl.known_points need.point (λ known_point. contains known_point.moved number ≡ false)
+  pub unclosed : LiesInClosed table ixl need.point → ⊥
 
 -- Proceed is due.
 pub record ProceedDue (now : ℕ) (table : Table) (ixl : IxlState) (row : Row) (route : RouteState) : Type 0 where
@@ -150,12 +174,16 @@ pub record LetsGo (now : ℕ) (table : Table) (ixl : IxlState) (row : Row) (rout
   pub clear : AllClear table ixl row.sections
   pub approach : (route.approached ≡ false) ⊎ (approach_end ended_at ≤ now)
 
+-- A release is over: the approach time has passed since its clock.
+abbrev pub IsReleaseOver : ℕ → RouteState → Type 0
+IsReleaseOver now route = (clock : ℕ) × (route.released ≡ Some clock) × (approach_end clock ≤ now)
+
 -- A route may be freed by cancel: it is cancelled, and without authority in this setting at known stop; or its authority
--- is ended and lets it go.
+-- is ended, and it lets itself be freed, or its release is over.
 abbrev pub FreeByCancel : ℕ → Table → IxlState → Row → RouteState → Type 0
 FreeByCancel now table ixl row route = (route.cancelled ≡ true)
     × (((route.phase ≡ phase.Waiting) × KnownStop now ixl row.entry)
-    ⊎ ((clock : ℕ) × (freed : ℕ) × (route.phase ≡ phase.Ended clock freed) × LetsGo now table ixl row route clock))
+    ⊎ ((clock : ℕ) × (freed : ℕ) × (route.phase ≡ phase.Ended clock freed) × (LetsGo now table ixl row route clock ⊎ IsReleaseOver now route)))
 
 -- A part of a step does this where something is due, and else nothing.
 pub record DoesWhere (Due : Type 0) (before done after : StepSoFar) : Type 0 where

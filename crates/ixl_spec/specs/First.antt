@@ -2,15 +2,16 @@
 use Rattle.std.specs.Prelude.{ℕ, false, List, [], ◌∷◌, length, map, None, slice_index_or, unwrap_or}
 use Rattle.std.specs.FinSet.{empty}
 use Rattle.md4.specs.declared.message.TheConstants.{STANDARD}
-use Rattle.control_table.specs.sci_telegram.declared.message.Protocol.{Protocol}
-use Rattle.control_table.specs.sci_telegram.declared.message.Protocol.TheVariants as protocols
+use Rattle.closings.specs.sci_telegram.declared.message.Protocol.{Protocol}
+use Rattle.closings.specs.sci_telegram.declared.message.Protocol.TheVariants as protocols
 use Rattle.rasta_pdu.specs.declared.key.Key.{Key}
 use Rattle.rasta_core.specs.Names.{Names, identity_of}
 use Rattle.rasta_core.specs.identity.Role.TheVariants as role
-use Rattle.control_table.specs.layout.declared.entries.Point.{Point}
-use Rattle.control_table.specs.layout.declared.entries.Signal.{Signal}
-use Rattle.control_table.specs.layout.Entries.{DetectorEntry, Site}
-use Rattle.control_table.specs.Table.{telegram_version}
+use Rattle.closings.specs.layout.declared.entries.Point.{Point}
+use Rattle.closings.specs.layout.declared.entries.Signal.{Signal}
+use Rattle.closings.specs.layout.Entries.{DetectorEntry, Site}
+use Rattle.closings.specs.control_table.Table.{telegram_version}
+use Rattle.closings.specs.Closed.{nothing}
 use Rattle.release.specs.Passage.{passage_after}
 use Rattle.ixl_client.specs.Client.{ClientState, new_client}
 use Rattle.ixl_spec.specs.State.{KnownDetectorState, IxlState, KnownSignalState, RouteState, KnownPointState}
@@ -60,9 +61,9 @@ new_detector_of site begins detector = record {
 }
 
 abbrev pub new_route_of : Row → RouteState
-new_route_of row = record { phase = phase.Free; cancelled = false; passage = passage_after (length row.sections) []; approached = false }
+new_route_of row = record { phase = phase.Free; cancelled = false; passage = passage_after (length row.sections) []; approached = false; released = None }
 
--- no route is set, and every link is in no connection
+-- no route is set, nothing is closed, and every link is in no connection
 unfoldable pub new_ixl : Site → Table → Beginning → IxlState
 new_ixl site table begins = record {
   known_signals = map (new_known_signal_of site begins) site.signals;
@@ -71,4 +72,5 @@ new_ixl site table begins = record {
   routes = map new_route_of table.rows;
   created = begins.clock;
   resumed = false;
+  closed = nothing;
 }

@@ -1,6 +1,7 @@
 pub mod Table
 pub mod State
 pub mod View
+pub mod Operations
 pub mod StepSoFar
 pub mod Rules
 pub mod Commands
@@ -9,11 +10,13 @@ pub mod Due
 pub mod First
 pub mod EndDue
 pub mod Refusals
+pub mod OperationCauses
 -- what crates above need of the crates below
-pub use Rattle.control_table.specs as control_table
+pub use Rattle.closings.specs as closings
+pub use Rattle.closings.specs.control_table as control_table
 pub use Rattle.ixl_client.specs as ixl_client
 pub use Rattle.rasta_core.specs as rasta_core
 pub use Rattle.rasta_pdu.specs as rasta_pdu
-pub use Rattle.control_table.specs.bit_row as bit_row
-pub use Rattle.control_table.specs.layout as layout
-pub use Rattle.control_table.specs.sci_telegram as sci_telegram
+pub use Rattle.closings.specs.control_table.bit_row as bit_row
+pub use Rattle.closings.specs.layout as layout
+pub use Rattle.closings.specs.sci_telegram as sci_telegram

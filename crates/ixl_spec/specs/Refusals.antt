@@ -4,7 +4,8 @@ use Rattle.std.specs.List.{All, Contains}
 use Rattle.ixl_spec.specs.Table.{Need, Row, Table}
 use Rattle.ixl_spec.specs.State.{IxlState, RouteState}
 use Rattle.ixl_spec.specs.View.{is_holding, is_set}
-use Rattle.ixl_spec.specs.Due.{Blocks, IsAvailable, IsClear, IsHeldAt, IsOccupied, IsRouteOf, IsSignalReady, KnownStop}
+use Rattle.ixl_spec.specs.Due.{AllClear, Blocks, CountsAsClosed, IsAvailable, IsClear, IsHeldAt, IsOccupied, IsRouteOf, IsSignalReady, KnownStop}
+use Rattle.ixl_spec.specs.Operations.{things_used}
 use Rattle.ixl_spec.specs.declared.command.Refusal.{Refusal}
 use Rattle.ixl_spec.specs.declared.command.Refusal.TheVariants as refusals
 
@@ -54,6 +55,9 @@ IsCause now table ixl number row refusals.SignalUnavailable =
 IsCause now table ixl number row refusals.DetectionDown =
     IsUnblocked table ixl number row × NoneOccupied table ixl row.sections × AreThere table ixl row.needs × IsSignalThere now ixl row.entry
     × ((section : ℕ) × Contains row.sections section × IsUnknown table ixl section)
+IsCause now table ixl number row (refusals.Closed thing) =
+    IsUnblocked table ixl number row × AllClear table ixl row.sections × AreThere table ixl row.needs × IsSignalThere now ixl row.entry
+    × IsFirstOf (CountsAsClosed table ixl) (things_used number row) thing
 IsCause now table ixl number row _ = ⊥
 
 -- The interlocking obeys: its hold is over, and it was told to resume.

@@ -1,13 +1,14 @@
 -- The six rules of a step. Each is for all routes in table order, and then the next. What a rule does for one route
 -- stands here by itself, and the state after each rule has a name.
-use Rattle.std.specs.Prelude.{ℕ, zero, suc, ◌==◌, nat_lt, ◌&&◌, ◌||◌, not, Bool, true, false, List, [], ◌∷◌, length, if◌then◌else◌}
+use Rattle.std.specs.Prelude.{ℕ, zero, suc, ◌==◌, nat_le, ◌&&◌, ◌||◌, not, Bool, true, false, [], length, Option, Some, None, if◌then◌else◌}
 use Rattle.std.specs.FinSet.{contains}
-use Rattle.control_table.specs.sci_telegram.declared.message.Aspect.TheVariants as aspects
-use Rattle.release.specs.Approach.{is_due}
+use Rattle.closings.specs.sci_telegram.declared.message.Aspect.TheVariants as aspects
+use Rattle.release.specs.Approach.{approach_end, is_due}
 use Rattle.release.specs.Passage.{PassageState, is_freeable, passage_after}
 use Rattle.ixl_spec.specs.Table.{Need, Row, Table, at}
-use Rattle.ixl_spec.specs.State.{IxlState, RouteState, KnownPointState}
+use Rattle.ixl_spec.specs.State.{IxlState, RouteState}
 use Rattle.ixl_spec.specs.View.{all_clear, all_known, is_approach_clear, is_at_known_stop, is_clear, is_held_with_authority, is_known, is_point_available, is_signal_ready}
+use Rattle.ixl_spec.specs.Operations.{lies_in_closed}
 use Rattle.ixl_spec.specs.StepSoFar.{StepSoFar, along, at_route, giving_aspect, giving_move, over, with_route}
 use Rattle.ixl_spec.specs.declared.phase.Phase.{Phase}
 use Rattle.ixl_spec.specs.declared.phase.Phase.TheVariants as phase
@@ -88,12 +89,18 @@ abbrev pub none_seen : ℕ → PassageState → Bool
 none_seen zero passage = true
 none_seen (suc place) passage = not (contains passage.seen place) && none_seen place passage
 
+-- the approach time is over since a route was released
+abbrev pub is_release_over : ℕ → Option ℕ → Bool
+is_release_over now None = false
+is_release_over now (Some clock) = nat_le (approach_end clock) now
+
 -- without authority in this setting at known stop; else once authority has ended, where no train came and the approach
--- lets it go
+-- lets it go, or where its release is over, whatever was reported of its sections
 abbrev pub frees_cancelled : ℕ → Table → IxlState → Row → RouteState → Phase → Bool
 frees_cancelled now table ixl row route phase.Waiting = is_at_known_stop now ixl row.entry
 frees_cancelled now table ixl row route (phase.Ended clock done) =
-    none_seen (length row.sections) route.passage && all_clear table ixl row.sections && is_due route.approached clock now
+    (none_seen (length row.sections) route.passage && all_clear table ixl row.sections && is_due route.approached clock now)
+    || is_release_over now route.released
 frees_cancelled now table ixl row route _ = false
 
 unfoldable pub freeing_by_cancel : ℕ → Table → ℕ → StepSoFar → StepSoFar
@@ -115,6 +122,7 @@ is_move_due table ixl number route need =
     is_waiting route.phase && not route.cancelled
     && is_point_available ixl need.point && not (is_known ixl need.point need.side)
     && is_over_clear table ixl need.point && not (is_held_with_authority table ixl need.point) && is_unmoved ixl need.point number
+    && not (lies_in_closed table ixl need.point)
 
 unfoldable pub moving_one : ℕ → Table → ℕ → Need → StepSoFar → StepSoFar
 moving_one now table number need = at_route table number (λ row route part.

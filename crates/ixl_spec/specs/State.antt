@@ -1,8 +1,9 @@
 -- What an interlocking keeps.
-use Rattle.std.specs.Prelude.{ℕ, zero, suc, Bool, true, false, List, [], ◌∷◌, Option, Some, None, if◌then◌else◌}
-use Rattle.control_table.specs.sci_telegram.declared.message.Aspect.{Aspect}
-use Rattle.control_table.specs.sci_telegram.declared.message.Side.{Side}
-use Rattle.control_table.specs.bit_row.Places.{Places}
+use Rattle.std.specs.Prelude.{ℕ, zero, suc, Bool, List, [], ◌∷◌, Option}
+use Rattle.closings.specs.sci_telegram.declared.message.Aspect.{Aspect}
+use Rattle.closings.specs.sci_telegram.declared.message.Side.{Side}
+use Rattle.closings.specs.control_table.bit_row.Places.{Places}
+use Rattle.closings.specs.declared.closed.Closings.{Closings}
 use Rattle.release.specs.Passage.{PassageState}
 use Rattle.ixl_client.specs.Client.{ClientState}
 use Rattle.ixl_spec.specs.declared.phase.Phase.{Phase}
@@ -14,6 +15,8 @@ pub record RouteState : Type 0 where
   pub passage : PassageState
   -- whether an approach section was occupied or unknown in some step since authority was given
   pub approached : Bool
+  -- the clock reading at which it was released in its present setting, if it was
+  pub released : Option ℕ
 
 pub record KnownSignalState : Type 0 where
   pub client : ClientState
@@ -43,6 +46,8 @@ pub record IxlState : Type 0 where
   -- the clock reading of its creation, and whether it was told to resume
   pub created : ℕ
   pub resumed : Bool
+  -- what is closed
+  pub closed : Closings
 
 -- one of a list is changed
 abbrev pub changed : {A : Type 0} → (A → A) → ℕ → List A → List A

@@ -1,9 +1,9 @@
 -- A step of an interlocking: the clock, the input, what is seen of routes with authority, the six rules, and on a tick
 -- each link's.
-use Rattle.std.specs.Prelude.{ℕ, zero, suc, ◌==◌, ◌&&◌, ◌||◌, not, Bool, true, false, List, [], ◌∷◌, ◌++◌, length, map, Option, Some, None, slice_get, Result, Ok, Err, if◌then◌else◌}
+use Rattle.std.specs.Prelude.{ℕ, suc, ◌==◌, ◌||◌, not, Bool, true, false, List, [], ◌∷◌, ◌++◌, length, map, Option, Some, None, slice_get, Result, Ok, Err, if◌then◌else◌}
 use Rattle.std.specs.FinSet.{contains, insert, remove}
 use Rattle.std.specs.List.{position}
-use Rattle.control_table.specs.bit_row.Places.{Places}
+use Rattle.closings.specs.control_table.bit_row.Places.{Places}
 use Rattle.rasta_pdu.specs.PduRead.{reading}
 use Rattle.rasta_pdu.specs.declared.fault.PduFault.{PduFault}
 use Rattle.rasta_pdu.specs.declared.key.Key.{Key}
@@ -11,14 +11,13 @@ use Rattle.rasta_pdu.specs.declared.pdu.Pdu.{Pdu}
 use Rattle.rasta_core.specs.Calls.{receiving}
 use Rattle.rasta_core.specs.verdict.Verdict.{Verdict}
 use Rattle.rasta_core.specs.verdict.Verdict.TheVariants as verdicts
-use Rattle.control_table.specs.sci_telegram.declared.message.Aspect.{Aspect}
-use Rattle.control_table.specs.sci_telegram.declared.message.Occupancy.TheVariants as occupancy
-use Rattle.control_table.specs.sci_telegram.declared.message.Position.{Position}
-use Rattle.control_table.specs.sci_telegram.declared.message.Position.TheVariants as positions
-use Rattle.control_table.specs.sci_telegram.declared.message.Side.{Side}
-use Rattle.control_table.specs.sci_telegram.declared.message.Side.TheVariants as sides
+use Rattle.closings.specs.sci_telegram.declared.message.Aspect.{Aspect}
+use Rattle.closings.specs.sci_telegram.declared.message.Occupancy.TheVariants as occupancy
+use Rattle.closings.specs.sci_telegram.declared.message.Position.TheVariants as positions
+use Rattle.closings.specs.sci_telegram.declared.message.Side.{Side}
+use Rattle.closings.specs.sci_telegram.declared.message.Side.TheVariants as sides
 use Rattle.release.specs.Passage.{after_look}
-use Rattle.ixl_client.specs.Client.{ClientState, is_outside, is_ready}
+use Rattle.ixl_client.specs.Client.{ClientState, is_ready}
 use Rattle.ixl_client.specs.ClientSoFar.{begun}
 use Rattle.ixl_client.specs.Step.{clocked, hearing, ticking}
 use Rattle.ixl_client.specs.declared.indication.Indication.{Indication}
@@ -29,7 +28,7 @@ use Rattle.ixl_spec.specs.State.{KnownDetectorState, IxlState, KnownSignalState,
 use Rattle.ixl_spec.specs.View.{is_approach_clear, place_in, was_authorised}
 use Rattle.ixl_spec.specs.StepSoFar.{Node, Signal, Point, Detector, StepSoFar, along, at_route, detector_after, known_signal_after, noted, over, known_point_after, with_detector, with_known_signal, with_one, with_route, with_known_point}
 use Rattle.ixl_spec.specs.Rules.{count, is_proceeding, is_withdrawn, ruled}
-use Rattle.ixl_spec.specs.Commands.{commanded_by, refusal}
+use Rattle.ixl_spec.specs.Commands.{commanded_by, moved_at_once, refusal}
 use Rattle.ixl_spec.specs.declared.command.Command.{Command}
 use Rattle.ixl_spec.specs.declared.command.Refusal.{Refusal}
 
@@ -199,7 +198,8 @@ unfoldable pub given : ℕ → Table → Key → Input → StepSoFar → StepSoF
 given now table key Tick part = part
 given now table key (Datagram bytes) part = with_one (addressed (reading key bytes) part.ixl) (node_hearing now table bytes) part
 given now table key (Commands command) part =
-    record part { ixl = commanded_by (refusal now table command part.ixl) command part.ixl }
+    let cause = refusal now table command part.ixl
+    in moved_at_once now cause command (record part { ixl = commanded_by now cause command part.ixl })
 
 -- ---- ticks
 

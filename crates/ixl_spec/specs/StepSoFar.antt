@@ -1,9 +1,9 @@
 -- What a step has done so far. Each part of a step leads from one to the next.
-use Rattle.std.specs.Prelude.{◌≡◌, ℕ, zero, suc, List, [], ◌∷◌, ◌++◌, map, length, Bool, true, false, Option, Some, None, slice_get, if◌then◌else◌}
+use Rattle.std.specs.Prelude.{◌≡◌, ℕ, zero, suc, List, [], ◌∷◌, ◌++◌, map, length, Option, Some, None, slice_get, if◌then◌else◌}
 use Rattle.std.specs.FinSet.{empty, insert}
-use Rattle.control_table.specs.bit_row.Places.{Places}
-use Rattle.control_table.specs.sci_telegram.declared.message.Aspect.{Aspect}
-use Rattle.control_table.specs.sci_telegram.declared.message.Side.{Side}
+use Rattle.closings.specs.control_table.bit_row.Places.{Places}
+use Rattle.closings.specs.sci_telegram.declared.message.Aspect.{Aspect}
+use Rattle.closings.specs.sci_telegram.declared.message.Side.{Side}
 use Rattle.rasta_core.specs.Outbox.{OutboxState}
 use Rattle.ixl_client.specs.Client.{ClientState, is_outside}
 use Rattle.ixl_client.specs.ClientSoFar as client

@@ -1,10 +1,10 @@
 -- The control table, as the rules read it. Signals, points, detectors, sections and routes are numbers: their places in
 -- the layout.
-use Rattle.std.specs.Prelude.{ℕ, Bool, true, false, ◌&&◌, List, Option, Some, None, slice_get}
-use Rattle.control_table.specs.layout.Entries.{Site}
-use Rattle.control_table.specs.sci_telegram.declared.message.Aspect.{Aspect}
-use Rattle.control_table.specs.sci_telegram.declared.message.Side.{Side}
-use Rattle.control_table.specs.sci_telegram.declared.message.Side.TheVariants as sides
+use Rattle.std.specs.Prelude.{ℕ, Bool, true, false, List, Option, Some, None, slice_get}
+use Rattle.closings.specs.layout.Entries.{Site}
+use Rattle.closings.specs.sci_telegram.declared.message.Aspect.{Aspect}
+use Rattle.closings.specs.sci_telegram.declared.message.Side.{Side}
+use Rattle.closings.specs.sci_telegram.declared.message.Side.TheVariants as sides
 
 -- A point that a route requires. The route holds it until this many of its sections are freed: a point on the path until
 -- its own section is, and a flank point until the sections of all points that it protects are.

@@ -2,15 +2,15 @@
 use Rattle.std.specs.Prelude.{ℕ, suc, ◌+◌, ◌==◌, nat_le, nat_lt, ◌&&◌, ◌||◌, not, Bool, true, false, List, [], ◌∷◌, length, drop, Option, Some, None, slice_get, if◌then◌else◌}
 use Rattle.std.specs.FinSet.{contains}
 use Rattle.std.specs.List.{list_all, list_any, position}
-use Rattle.control_table.specs.sci_telegram.declared.message.Aspect.{Aspect}
-use Rattle.control_table.specs.sci_telegram.declared.message.Aspect.TheVariants as aspects
-use Rattle.control_table.specs.sci_telegram.declared.message.Side.{Side}
+use Rattle.closings.specs.sci_telegram.declared.message.Aspect.{Aspect}
+use Rattle.closings.specs.sci_telegram.declared.message.Aspect.TheVariants as aspects
+use Rattle.closings.specs.sci_telegram.declared.message.Side.{Side}
 use Rattle.rasta_core.specs.Clock.{quiet_until}
 use Rattle.rasta_core.specs.Parameters.{stops_at_greatest}
 use Rattle.rasta_core.specs.State.{confirmed_items, is_up}
-use Rattle.ixl_client.specs.Client.{ClientState, is_available, is_ready}
+use Rattle.ixl_client.specs.Client.{is_available, is_ready}
 use Rattle.ixl_spec.specs.Table.{Need, Row, Table, at, is_same_side}
-use Rattle.ixl_spec.specs.State.{KnownDetectorState, IxlState, KnownSignalState, RouteState, KnownPointState}
+use Rattle.ixl_spec.specs.State.{KnownDetectorState, IxlState, KnownSignalState, RouteState}
 use Rattle.ixl_spec.specs.declared.command.TheConstants.{HOLD_TIME}
 use Rattle.ixl_spec.specs.declared.phase.Phase.{Phase}
 use Rattle.ixl_spec.specs.declared.phase.Phase.TheVariants as phase

@@ -1,6 +1,6 @@
 //! What an interlocking is told to do, and why it refuses.
 
-use control_table::{PointId, RouteId, SectionId};
+use closings::{Named, PointId, RouteId, SectionId, Side, Thing};
 use rasta_core::Millis;
 use thiserror::Error;
 
@@ -16,6 +16,14 @@ pub enum Command {
     Cancel(RouteId),
     /// To take requests and cancels.
     Resume,
+    /// To free a route that was cancelled and whose authority is ended, once the approach time is over.
+    Release(RouteId),
+    /// To move a point to a side.
+    Move(PointId, Side),
+    /// To close a thing, or a point at both sides.
+    Close(Named),
+    /// To open it.
+    Open(Named),
 }
 
 /// Why a command is refused. The first test in this order that fails is told.
@@ -51,13 +59,25 @@ pub enum Refusal {
     /// A section of the route is unknown.
     #[error("a section is unknown")]
     DetectionDown,
+    /// The station has no such thing.
+    #[error("no such thing")]
+    NoSuchThing,
+    /// The route isn't cancelled, or its authority wasn't given in this setting, or isn't ended.
+    #[error("the route isn't cancelled with its authority ended")]
+    NotEnded,
+    /// The first closed thing that the route would use; or the point that was to be moved, at that side.
+    #[error("a thing is closed")]
+    Closed(Thing),
+    /// The first set route that holds the point; or that isn't cancelled and uses what was to be closed.
+    #[error("a set route holds it")]
+    Held(RouteId),
 }
 
 impl Refusal {
     ghost use Rattle.std.specs.Prelude.{◌≡◌};
     ghost use Rattle.ixl_spec.specs.Commands.{refusal_number};
 
-    /// Its number, 1 to 10.
+    /// Its number, 1 to 14.
     pub fn number(self) -> u8
         ensures { result ≡ refusal_number self }
     {
@@ -72,6 +92,10 @@ impl Refusal {
             Refusal::SignalUnavailable => 8,
             Refusal::NotSet => 9,
             Refusal::DetectionDown => 10,
+            Refusal::NoSuchThing => 11,
+            Refusal::NotEnded => 12,
+            Refusal::Closed(_) => 13,
+            Refusal::Held(_) => 14,
         }
     }
 }

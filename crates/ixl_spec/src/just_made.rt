@@ -1,7 +1,7 @@
 //! What holds of every interlocking that was just made.
 
 ghost use Rattle.std.specs.Prelude.{◌≡◌, ◌≤◌, true};
-ghost use Rattle.control_table.specs.layout.Entries.{Site};
+ghost use Rattle.closings.specs.layout.Entries.{Site};
 ghost use Rattle.rasta_core.specs.time.TheConstants.{LATEST_CLOCK};
 ghost use Rattle.ixl_spec.specs.Table.{Table};
 ghost use Rattle.ixl_spec.specs.View.{is_holding};

@@ -3,7 +3,7 @@
 ghost use Rattle.std.specs.Prelude.{◌≡◌};
 ghost use Rattle.ixl_spec.specs.First.{key_of};
 
-use control_table::Layout;
+use closings::Layout;
 use rasta_pdu::Key;
 
 /// The key of the network: that of the layout, and otherwise the standard start of MD4.

@@ -11,7 +11,7 @@ ghost use Rattle.ixl_spec.specs.State.{IxlState, RouteState};
 ghost use Rattle.ixl_spec.specs.Table.{Need, Row, Table};
 ghost use Rattle.ixl_spec.specs.declared.command.Command.TheVariants as commands;
 ghost use Rattle.ixl_spec.specs.declared.command.Refusal.{Refusal};
-ghost use Rattle.control_table.specs.layout.declared.ids.RouteId.{RouteId};
+ghost use Rattle.closings.specs.layout.declared.ids.RouteId.{RouteId};
 ghost use Rattle.ixl_spec.specs.declared.phase.Phase.TheVariants as phase;
 
 /// A route is withdrawn, and its signal is given stop where its link is ready, exactly where stop is due.

@@ -10,3 +10,4 @@ pub mod Made
 pub mod StepParts
 pub mod Looks
 pub mod Heard
+pub mod ThingsFew

@@ -15,6 +15,7 @@ use Rattle.ixl_spec.specs.layout.Entries.{DetectorEntry, Site}
 use Rattle.ixl_spec.specs.layout.Station.{IsDetectorOf, IsStation}
 use Rattle.release.specs.Passage.{passage_after}
 use Rattle.route_lock.specs.Locks.{IsSet, LockState}
+use Rattle.ixl_spec.specs.closings.Closed.{nothing}
 use Rattle.ixl_spec.specs.ixl_client.Client.{new_client}
 use Rattle.ixl_spec.specs.State.{RouteState}
 use Rattle.ixl_spec.specs.Table.{Row, Table}
@@ -82,7 +83,7 @@ module _ (sited : SitedTable) (routes : List RouteState) (new : routes ≡ map n
   }
 
 pub first-ixl : (site : Site) (table : Table) (begins : Beginning) (field : FieldState) (routes : List RouteState) → field.known_signals ≡ map (new_known_signal_of site begins) site.signals → field.known_points ≡ map (new_known_point_of site begins) site.points
-    → field.detectors ≡ map (new_detector_of site begins) site.detectors → routes ≡ map new_route_of table.rows → kept field (record { routes = routes; created = begins.clock; resumed = false }) ≡ new_ixl site table begins
+    → field.detectors ≡ map (new_detector_of site begins) site.detectors → routes ≡ map new_route_of table.rows → kept field (record { routes = routes; created = begins.clock; resumed = false; closed = nothing }) ≡ new_ixl site table begins
 unfolding new_ixl
 first-ixl site table begins field routes known_signals known_points detectors new =
-    λ i. record { known_signals = known_signals i; known_points = known_points i; detectors = detectors i; routes = new i; created = begins.clock; resumed = false }
+    λ i. record { known_signals = known_signals i; known_points = known_points i; detectors = detectors i; routes = new i; created = begins.clock; resumed = false; closed = nothing }

@@ -6,6 +6,7 @@ use Rattle.std.specs.FinSet.{empty}
 use Rattle.std.proofs.lemmas.List.{get_or-set_other, get_or-set_same, length-map, length-set}
 use Rattle.std.proofs.lemmas.Option.{same_Some, slice_get_read, slice_get_within}
 use Rattle.ixl_spec.specs.bit_row.Places.{Has, Places}
+use Rattle.ixl_spec.specs.closings.declared.closed.Closings.{Closings}
 use Rattle.route_lock.specs.Locks.{LockState, locked_by, locking}
 use Rattle.ixl_spec.specs.layout.Entries.{Site}
 use Rattle.ixl_spec.specs.Commands.{unmoved_for}
@@ -23,14 +24,14 @@ use Rattle.ixl_state.proofs.Lists.{changed-is-set, get-below, set-cases}
 use Rattle.ixl_spec.specs.First.{key_of}
 use Rattle.ixl_state.proofs.Keys.{unmoved-under}
 
-abbrev pub view_of : SitedTable → FieldState → List RouteState → ℕ → Bool → StateView
-view_of sited field routes created resumed = record { sited = sited; ixl = kept field (record { routes = routes; created = created; resumed = resumed }) }
+abbrev pub view_of : SitedTable → FieldState → List RouteState → ℕ → Bool → Closings → StateView
+view_of sited field routes created resumed closed = record { sited = sited; ixl = kept field (record { routes = routes; created = created; resumed = resumed; closed = closed }) }
 
 -- ---- where a route is
 
-pub place-below : (sited : SitedTable) (field : FieldState) (routes : List RouteState) (created : ℕ) (resumed : Bool) (now : StateView) (number : ℕ) → view_of sited field routes created resumed ≡ now
+pub place-below : (sited : SitedTable) (field : FieldState) (routes : List RouteState) (created : ℕ) (resumed : Bool) (closed : Closings) (now : StateView) (number : ℕ) → view_of sited field routes created resumed closed ≡ now
     → AreRoutesOf sited routes → number < length now.sited.table.rows → (number < length sited.table.rows) × (number < length routes)
-place-below sited field routes created resumed now number is are there =
+place-below sited field routes created resumed closed now number is are there =
     let same = ap (λ (s : StateView). length s.sited.table.rows) is in
     let each = are.each in
     (omega (arith, same, there), omega (arith, same, each, there))
@@ -87,16 +88,16 @@ module _ (sited : SitedTable) (routes : List RouteState) (number : ℕ) (row : R
         are.no_other m section past (subst (λ (x : Places). Has x section) (get_or-set_other locks.locked number m sections empty (λ same. absurd (omega (arith, lt, past, same)))) h);
   }
 
-  pub view-changed : (field : FieldState) (created : ℕ) (resumed : Bool) (now : StateView) → view_of sited field routes created resumed ≡ now → (change : RouteState → RouteState) → new ≡ change old
-      → view_of sited field (slice_set routes number new) created resumed ≡ route_changed change number now
-  view-changed field created resumed now same change changes =
-      ap (λ (rs : List RouteState). view_of sited field rs created resumed) (changed-is-set change routes number old new is.1 changes) ∙ ap (route_changed change number) same
+  pub view-changed : (field : FieldState) (created : ℕ) (resumed : Bool) (closed : Closings) (now : StateView) → view_of sited field routes created resumed closed ≡ now → (change : RouteState → RouteState) → new ≡ change old
+      → view_of sited field (slice_set routes number new) created resumed closed ≡ route_changed change number now
+  view-changed field created resumed closed now same change changes =
+      ap (λ (rs : List RouteState). view_of sited field rs created resumed closed) (changed-is-set change routes number old new is.1 changes) ∙ ap (route_changed change number) same
 
 -- ---- a whole state of which one route is changed
 
-pub at-inside : (sited : SitedTable) (field : FieldState) (routes : List RouteState) (created : ℕ) (resumed : Bool) (now : StateView) (number : ℕ) → view_of sited field routes created resumed ≡ now
-    → (F : Row → RouteState → Type 0) → AtRoute now number F → AtRoute (view_of sited field routes created resumed) number F
-at-inside sited field routes created resumed now number is F at = subst (λ (s : StateView). AtRoute s number F) (sym is) at
+pub at-inside : (sited : SitedTable) (field : FieldState) (routes : List RouteState) (created : ℕ) (resumed : Bool) (closed : Closings) (now : StateView) (number : ℕ) → view_of sited field routes created resumed closed ≡ now
+    → (F : Row → RouteState → Type 0) → AtRoute now number F → AtRoute (view_of sited field routes created resumed closed) number F
+at-inside sited field routes created resumed closed now number is F at = subst (λ (s : StateView). AtRoute s number F) (sym is) at
 
 pub kept-state : (sited : SitedTable) (field : FieldState) (routes : List RouteState) (locks : LockState) (number : ℕ) (row : Row) (old new : RouteState) → IsKeptRoute sited.table routes number row old
     → IsState sited field routes locks → HoldsAlike old.phase new.phase → IsPassageOf row new.passage → IsState sited field (slice_set routes number new) locks

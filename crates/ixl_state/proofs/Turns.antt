@@ -29,7 +29,7 @@ few-controllers sited f is station =
 
 module _ (sited : SitedTable) (rest : Rest) where
   abbrev with : FieldState → StateView
-  with f = view_of sited f rest.routes rest.created rest.resumed
+  with f = view_of sited f rest.routes rest.created rest.resumed rest.closed
 
   pub at-field : (now : ℕ) (f : FieldState) (view : StateView) → with f ≡ view → AllAt now view → field.AllAt now f
   at-field now f view is all = let at : AllAt now (with f) = subst (AllAt now) (sym is) all in record { known_signals = at.known_signals; known_points = at.known_points; detectors = at.detectors }

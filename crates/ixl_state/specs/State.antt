@@ -25,7 +25,7 @@ field_of state = record {
 
 -- and what is kept beside them
 abbrev pub rest_of : StateView → Rest
-rest_of state = record { routes = state.ixl.routes; created = state.ixl.created; resumed = state.ixl.resumed }
+rest_of state = record { routes = state.ixl.routes; created = state.ixl.created; resumed = state.ixl.resumed; closed = state.ixl.closed }
 
 -- the clock of no link has fallen
 abbrev pub MayStepAll : ℕ → StateView → Type 0

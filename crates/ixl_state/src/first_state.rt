@@ -5,6 +5,7 @@ ghost use Rattle.std.specs.List.{All};
 ghost use Rattle.ixl_spec.specs.layout.declared.ids.SectionId.{SectionId as Section};
 ghost use Rattle.ixl_spec.specs.sci_telegram.declared.message.Protocol.TheVariants as protocols;
 ghost use Rattle.ixl_spec.specs.Table.{Row as RowAt};
+ghost use Rattle.ixl_spec.specs.closings.Closed.{nothing};
 ghost use Rattle.ixl_known.specs.Field.{kept};
 ghost use Rattle.ixl_spec.specs.First.{Beginning, client_of, new_detector_of, new_ixl, new_known_signal_of, new_route_of, new_known_point_of};
 ghost use Rattle.ixl_state.specs.inside.Kept.{IsState};
@@ -13,7 +14,7 @@ use crate::route::Route;
 use crate::state::State;
 use ixl_known::{Field, KnownDetector, KnownPoint, KnownSignal};
 use ixl_spec::ixl_client::{Client, Peer};
-use ixl_spec::{Checked, Layout, Millis, Name, Protocol, SectionId, Start, key_of};
+use ixl_spec::{Checked, Closings, Layout, Millis, Name, Protocol, SectionId, Start, key_of};
 use ixl_table::{Row, Table};
 use route_lock::Locks;
 use std::alloc::{AllocError, Global};
@@ -178,7 +179,7 @@ struct Begun {
 
 /// What is kept where no route is set and every link is in no connection.
 fn begun_of(alloc: Global, table: &Table, start: Start) -> Result<Begun, AllocError>
-    ensures ixl { IfOk result (λ b. kept b.field (record { routes = b.routes.items; created = start.now; resumed = false }) ≡ new_ixl table.now.site table.now.table (record { clock = start.now; first = start.first_sequence_number })) }
+    ensures ixl { IfOk result (λ b. kept b.field (record { routes = b.routes.items; created = start.now; resumed = false; closed = nothing }) ≡ new_ixl table.now.site table.now.table (record { clock = start.now; first = start.first_sequence_number })) }
     ensures whole { IfOk result (λ b. IsState table.now b.field b.routes.items b.locks) }
 {
     let checked = table.checked();
@@ -197,7 +198,7 @@ fn begun_of(alloc: Global, table: &Table, start: Start) -> Result<Begun, AllocEr
 }
 
 impl State {
-    /// The state in which no route is set and every link is in no connection.
+    /// The state in which no route is set, nothing is closed, and every link is in no connection.
     pub fn new(
         alloc: Global,
         checked: Checked,
@@ -220,6 +221,7 @@ impl State {
             routes: begun.routes,
             created: now,
             resumed: false,
+            closed: Closings::none(),
         })
     }
 
@@ -244,6 +246,7 @@ impl State {
         self.routes = begun.routes;
         self.created = now;
         self.resumed = false;
+        self.closed = Closings::none();
         Ok(())
     }
 }

@@ -2,7 +2,7 @@
 
 ghost use Rattle.std.specs.Prelude.{◌≡◌, ℕ, ◌+◌, ◌<◌, ◌||◌, not, true, false, [], None, length};
 ghost use Rattle.release.specs.Passage.{passage_after};
-ghost use Rattle.ixl_spec.specs.Commands.{route_set};
+ghost use Rattle.ixl_spec.specs.Commands.{released_at, route_set};
 ghost use Rattle.ixl_spec.specs.Rules.{come_to, freed, one_freed};
 ghost use Rattle.ixl_spec.specs.State.{RouteState};
 ghost use Rattle.ixl_spec.specs.Step.{route_looks};
@@ -183,7 +183,16 @@ impl State {
         self.keep(number, route);
     }
 
-    /// Requests and cancels are taken from now on.
+    /// It is released at this clock.
+    pub fn release(&mut self, number: usize, now: Millis)
+        requires there { number < length self.old.sited.table.rows }
+        ensures { self.new ≡ route_changed (released_at now) number self.old }
+    {
+        let route = self.route(number).released_at(now);
+        self.keep(number, route);
+    }
+
+    /// Commands for routes and points are taken from now on.
     pub fn resume(&mut self)
         ensures { self.new ≡ record self.old { ixl = record self.old.ixl { resumed = true } } }
     {

@@ -1,15 +1,15 @@
 //! One route, and how far it is.
 
-ghost use Rattle.std.specs.Prelude.{◌≡◌, ℕ, ◌<◌, ◌≤◌, ◌||◌, not, true, false, [], IfSome};
+ghost use Rattle.std.specs.Prelude.{◌≡◌, ℕ, ◌<◌, ◌≤◌, ◌||◌, not, true, false, [], IfSome, None};
 ghost use Rattle.release.specs.Passage.{passage_after};
-ghost use Rattle.ixl_spec.specs.Commands.{set_anew};
+ghost use Rattle.ixl_spec.specs.Commands.{is_ended, released_at, set_anew};
 ghost use Rattle.ixl_spec.specs.Rules.{come_to, freed};
 ghost use Rattle.ixl_spec.specs.Step.{route_looks};
 ghost use Rattle.ixl_spec.specs.Table.{Row};
-ghost use Rattle.ixl_spec.specs.View.{has_authority, is_set, place_in, was_authorised};
+ghost use Rattle.ixl_spec.specs.View.{freed_sections, has_authority, is_set, place_in, was_authorised};
 ghost use Rattle.ixl_spec.specs.declared.phase.Phase.TheVariants as phase;
 
-use ixl_spec::Phase;
+use ixl_spec::{Millis, Phase};
 use release::{Approach, Passage};
 use std::marker::Model;
 
@@ -20,6 +20,8 @@ pub struct Route {
     cancelled: bool,
     passage: Passage,
     approach: Approach,
+    /// The clock reading at which it was released in its present setting.
+    released: Option<Millis>,
 }
 
 impl Model for Route {
@@ -31,9 +33,9 @@ impl Model for Route {
 
     ghost coded = { Prim.hlevel (codes, places_code) };
 
-    ghost view = { λ r. record { phase = r.phase; cancelled = r.cancelled; passage = r.passage; approached = r.approach } };
+    ghost view = { λ r. record { phase = r.phase; cancelled = r.cancelled; passage = r.passage; approached = r.approach; released = r.released } };
 
-    ghost inverse = { λ s. record { phase = s.phase; cancelled = s.cancelled; passage = s.passage; approach = s.approached } };
+    ghost inverse = { λ s. record { phase = s.phase; cancelled = s.cancelled; passage = s.passage; approach = s.approached; released = s.released } };
 }
 
 impl Route {
@@ -42,13 +44,14 @@ impl Route {
     pub(crate) fn new(sections: usize) -> Route
         requires some { 1 ≤ sections }
         requires within { sections ≤ 64 }
-        ensures { result ≡ record { phase = phase.Free; cancelled = false; passage = passage_after sections []; approached = false } }
+        ensures { result ≡ record { phase = phase.Free; cancelled = false; passage = passage_after sections []; approached = false; released = None } }
     {
         Route {
             phase: Phase::Free,
             cancelled: false,
             passage: Passage::new(sections),
             approach: Approach::new(),
+            released: None,
         }
     }
 
@@ -85,6 +88,30 @@ impl Route {
         ensures { result ≡ self.cancelled }
     {
         self.cancelled
+    }
+
+    /// Whether its authority was given in its present setting, and is ended.
+    pub fn is_ended(self) -> bool
+        ensures { result ≡ is_ended self.phase }
+    {
+        matches!(self.phase, Phase::Ended { .. })
+    }
+
+    /// How many of its sections are freed.
+    pub fn freed_sections(self) -> usize
+        ensures { result ≡ freed_sections self.phase }
+    {
+        match self.phase {
+            Phase::Ended { freed, .. } => freed,
+            _ => 0,
+        }
+    }
+
+    /// The clock reading at which it was released in its present setting, if it was.
+    pub fn released(self) -> Option<Millis>
+        ensures { result ≡ self.released }
+    {
+        self.released
     }
 
     /// What was seen of its sections since it was given authority.
@@ -126,6 +153,7 @@ impl Route {
         Route {
             phase: Phase::Waiting,
             cancelled: false,
+            released: None,
             ..self
         }
     }
@@ -136,6 +164,16 @@ impl Route {
     {
         Route {
             cancelled: true,
+            ..self
+        }
+    }
+
+    /// It is released at this clock, unless it was released before.
+    pub(crate) fn released_at(self, now: Millis) -> Route
+        ensures { result ≡ released_at now self }
+    {
+        Route {
+            released: self.released.or(Some(now)),
             ..self
         }
     }
@@ -154,6 +192,7 @@ impl Route {
             cancelled: self.cancelled,
             passage,
             approach,
+            released: self.released,
         }
     }
 

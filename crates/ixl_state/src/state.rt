@@ -9,13 +9,13 @@ ghost use Rattle.ixl_state.specs.State.{AtRoute, HasRoute, field_of};
 
 use crate::route::Route;
 use ixl_known::Field;
-use ixl_spec::Millis;
+use ixl_spec::{Closings, Millis};
 use ixl_table::Table;
 use route_lock::Locks;
 use std::marker::Model;
 
 /// An interlocking's table, its controllers, what the set routes lock, how far each route is, the clock reading of its
-/// creation, and whether it was told to resume.
+/// creation, whether it was told to resume, and what is closed.
 #[derive(Debug)]
 pub struct State {
     pub(crate) table: Table,
@@ -24,6 +24,7 @@ pub struct State {
     pub(crate) routes: Vec<Route>,
     pub(crate) created: Millis,
     pub(crate) resumed: bool,
+    pub(crate) closed: Closings,
 }
 
 // Written by hand, so that it is proved and compiled here alone.
@@ -36,6 +37,7 @@ impl Drop for State {
             routes: _,
             created: _,
             resumed: _,
+            closed: _,
         } = self;
     }
 }
@@ -51,7 +53,7 @@ impl Model for State {
 
     ghost coded = { Prim.hlevel (codes, places_code) };
 
-    ghost view = { λ s. record { sited = s.table; ixl = kept s.field (record { routes = s.routes.items; created = s.created; resumed = s.resumed }) } };
+    ghost view = { λ s. record { sited = s.table; ixl = kept s.field (record { routes = s.routes.items; created = s.created; resumed = s.resumed; closed = s.closed }) } };
 
     ghost invariant = { λ s. IsState s.table s.field s.routes.items s.locks };
 }
@@ -132,5 +134,12 @@ impl State {
         ensures { result ≡ self.now.ixl.resumed }
     {
         self.resumed
+    }
+
+    /// What is closed.
+    pub fn closed(&self) -> Closings
+        ensures { result ≡ self.now.ixl.closed }
+    {
+        self.closed
     }
 }

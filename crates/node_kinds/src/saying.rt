@@ -54,6 +54,6 @@ pub(crate) fn say_answer_by_step(
 {
     match command {
         Command::Cancel(_) => Ok(()),
-        Command::Request(_) | Command::Resume => say_answer(alloc, layout, said, reply),
+        _ => say_answer(alloc, layout, said, reply),
     }
 }

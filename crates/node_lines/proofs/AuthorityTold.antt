@@ -1,10 +1,10 @@
 -- Authority, and none.
 use Rattle.std.proofs.Common.{◌≡◌, ◌≢◌, ℕ, List, [], ◌∷◌, ◌++◌, drop, codes, Some, None, slice_index_or, ap, arith, refl}
-use Rattle.ixl_spec.specs.layout.Entries.{Site}
-use Rattle.ixl_spec.specs.layout.declared.ids.SignalId.{SignalId}
-use Rattle.ixl_spec.specs.sci_telegram.Words.{aspect_word}
-use Rattle.ixl_spec.specs.sci_telegram.declared.message.Aspect.{Aspect}
-use Rattle.ixl_spec.specs.sci_telegram.declared.message.Aspect.TheVariants.{Stop, Proceed, Slow}
+use Rattle.replay_lines.specs.ixl_spec.layout.Entries.{Site}
+use Rattle.replay_lines.specs.ixl_spec.layout.declared.ids.SignalId.{SignalId}
+use Rattle.replay_lines.specs.ixl_spec.sci_telegram.Words.{aspect_word}
+use Rattle.replay_lines.specs.ixl_spec.sci_telegram.declared.message.Aspect.{Aspect}
+use Rattle.replay_lines.specs.ixl_spec.sci_telegram.declared.message.Aspect.TheVariants.{Stop, Proceed, Slow}
 use Rattle.replay_lines.specs.Names.{route_word}
 use Rattle.node_lines.specs.Known.{signal_text, signal_word}
 use Rattle.node_lines.specs.declared.operator_line.Authority.{Authority}

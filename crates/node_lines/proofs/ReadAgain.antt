@@ -1,5 +1,5 @@
 -- The words of a line say it again.
-use Rattle.std.proofs.Common.{◌≡◌, ◌<◌, ◌^◌, ◌∙◌, ℕ, zero, suc, ◌&&◌, nat_lt, Bool, true, false, List, [], ◌∷◌, codes, length, Option, Some, None, slice_get, Result, Ok, refl, sym, ap, arith, if◌then◌else◌}
+use Rattle.std.proofs.Common.{◌≡◌, ◌<◌, ◌^◌, ◌∙◌, ℕ, zero, suc, ◌&&◌, nat_lt, Bool, true, false, List, [], ◌∷◌, codes, length, Option, Some, None, slice_get, Result, Ok, Err, refl, sym, ap, arith, if◌then◌else◌}
 use Rattle.std.specs.Fmt.{decimal as written}
 use Rattle.std.specs.List.{join_with_byte}
 use Rattle.std.specs.Option.{option_map_or}
@@ -12,17 +12,27 @@ use Rattle.replay_words.specs.Cut.{words}
 use Rattle.replay_words.specs.Fault.{both, ◌>>=◌}
 use Rattle.replay_words.specs.Read.{decimal}
 use Rattle.replay_words.specs.Words.{are_words, is_without}
-use Rattle.ixl_spec.specs.layout.Entries.{RouteEntry, Site}
-use Rattle.ixl_spec.specs.layout.declared.ids.RouteId.{RouteId}
-use Rattle.ixl_spec.specs.layout.declared.ids.SectionId.{SectionId}
-use Rattle.ixl_spec.specs.declared.command.Command.TheVariants as command
-use Rattle.ixl_spec.specs.sci_telegram.declared.message.Occupancy.{Occupancy}
-use Rattle.ixl_spec.specs.sci_telegram.declared.message.Occupancy.TheVariants as occupancy
-use Rattle.ixl_spec.specs.sci_telegram.declared.message.Position.TheVariants as position
-use Rattle.ixl_spec.specs.sci_telegram.declared.message.Side.TheVariants as side
-use Rattle.replay_lines.specs.Names.{route_named, route_word, section_named, section_word}
-use Rattle.replay_lines.specs.ReadAgain.{route_read}
-use Rattle.node_lines.specs.Commands.{command_said, command_text, operator_read}
+use Rattle.replay_lines.specs.ixl_spec.layout.Entries.{RouteEntry, Site}
+use Rattle.replay_lines.specs.ixl_spec.layout.declared.ids.RouteId.{RouteId}
+use Rattle.replay_lines.specs.ixl_spec.layout.declared.ids.SectionId.{SectionId}
+use Rattle.replay_lines.specs.ixl_spec.layout.declared.entries.Point.{Point as LayoutPoint}
+use Rattle.replay_lines.specs.ixl_spec.layout.declared.ids.PointId.{PointId}
+use Rattle.replay_lines.specs.ixl_spec.closings.declared.thing.Named.{Named}
+use Rattle.replay_lines.specs.ixl_spec.closings.Words.{name_of, name_word, side_of, side_word}
+use Rattle.replay_lines.specs.ixl_spec.declared.command.Command.{Command}
+use Rattle.replay_lines.specs.ixl_spec.declared.command.Command.TheVariants as command
+use Rattle.replay_lines.specs.ixl_spec.sci_telegram.declared.message.Side.{Side}
+use Rattle.simulator_event.specs.declared.event.Event.{Event}
+use Rattle.simulator_event.specs.declared.event.Event.TheVariants.{Request}
+use Rattle.replay_lines.specs.ixl_spec.sci_telegram.declared.message.Occupancy.{Occupancy}
+use Rattle.replay_lines.specs.ixl_spec.sci_telegram.declared.message.Occupancy.TheVariants as occupancy
+use Rattle.replay_lines.specs.ixl_spec.sci_telegram.declared.message.Position.TheVariants as position
+use Rattle.replay_lines.specs.ixl_spec.sci_telegram.declared.message.Side.TheVariants as side
+use Rattle.replay_lines.specs.Events.{close_named, event as event_said, move_point, open_named, release, requested}
+use Rattle.replay_lines.specs.Names.{point_word, route_named, route_word, section_named, section_word}
+use Rattle.replay_lines.specs.ReadAgain.{command_read, route_read}
+use Rattle.replay_lines.specs.Written.{command_words, side_words}
+use Rattle.node_lines.specs.Commands.{command_said, command_text, one, operator_read}
 use Rattle.node_lines.specs.Orders.{line_of, order_line_said, order_line_words, order_said, order_text, order_words}
 use Rattle.node_lines.specs.ReadAgain.{IsOrder, IsOrderLine, IsReport}
 use Rattle.node_lines.specs.Reports.{report_said, report_text}
@@ -48,6 +58,12 @@ pub record Names (site : Site) : Type 0 where
   pub section_words : (k : ℕ) (name : List ℕ) → slice_get site.sections k ≡ Some name → is_without 32 name ≡ true
   pub route_words : (k : ℕ) (route : RouteEntry) → slice_get site.routes k ≡ Some route → is_without 32 route.name ≡ true
   pub unknown : route_named site (codes "_") ≡ record { 0 = length site.routes }
+
+-- what they say of the commands that operate a station through failures
+pub record Operations (site : Site) : Type 0 where
+  pub read : (asked : Command) → event_said site (words (join_with_byte 32 (command_words site asked))) ≡ Ok (Request (command_read site asked))
+  pub things : (n : Named) (name : List ℕ) → name_of site n ≡ Some name → is_without 32 name ≡ true
+  pub points : (k : ℕ) (point : LayoutPoint) → slice_get site.points k ≡ Some point → is_without 32 point.name ≡ true
 
 one_more : (w : List ℕ) (ws : List (List ℕ)) → is_without 32 w ≡ true → are_words ws ≡ true → are_words (w ∷ ws) ≡ true
 one_more w ws e f = ap (λ v. v && are_words ws) e ∙ f
@@ -122,7 +138,16 @@ cancelled v route = if v then Ok CancelAll else Ok (One (command.Cancel route))
 abbrev chosen : Bool → RouteId → OperatorCommand
 chosen v route = if v then CancelAll else One (command.Cancel route)
 
-module _ (site : Site) (names : Names site) where
+-- a command that the line of an event says is what is asked for
+asked-is : (said : Result Command Fault) (asked : Command) → requested said ≡ Ok (Request asked) → one said ≡ Ok (One asked)
+asked-is (Ok of) asked is = ap (λ (found : Result Event Fault). one (Ok (command_in found))) is
+  where
+    command_in : Result Event Fault → Command
+    command_in (Ok (Request found)) = found
+    command_in _ = of
+asked-is (Err fault) asked is = absurd (cc)
+
+module _ (site : Site) (names : Names site) (operations : Operations site) where
   route-says : (route : RouteId) → (route_named site (route_word site route) ≡ route_read site route) × (is_without 32 (route_word site route) ≡ true)
   route-says route = by (slice_get site.routes route.0) refl (nat_lt route.0 (length site.routes)) refl
     where
@@ -139,6 +164,37 @@ module _ (site : Site) (names : Names site) where
           (ap (route_named site) word ∙ names.unknown, ap (is_without 32) word)
       by None e true h = absurd (not_past site.routes route.0 (grind (arith, nat_tests, h)) e)
 
+  name-is-word : (n : Named) → is_without 32 (name_word site n) ≡ true
+  name-is-word n = by (name_of site n) refl
+    where
+      by : (found : Option (List ℕ)) → name_of site n ≡ found → is_without 32 (option_map_or (λ name. name) found (codes "_")) ≡ true
+      by (Some name) e = operations.things n name e
+      by None e = refl
+
+  point-is-word : (point : PointId) → is_without 32 (point_word site point) ≡ true
+  point-is-word point = by (slice_get site.points point.0) refl
+    where
+      by : (found : Option LayoutPoint) → slice_get site.points point.0 ≡ found → is_without 32 (option_map_or (λ (p : LayoutPoint). p.name) found (codes "_")) ≡ true
+      by (Some entry) e = operations.points point.0 entry e
+      by None e = refl
+
+  side-is-word : (at : Side) → is_without 32 (side_word at) ≡ true
+  side-is-word side.Left = refl
+  side-is-word side.Right = refl
+
+  -- a verb and what is named are words
+  named-words : (verb : List ℕ) (n : Named) → is_without 32 verb ≡ true → (at : Option Side) → are_words (verb ∷ name_word site n ∷ side_words at) ≡ true
+  named-words verb n is None = one_more verb (name_word site n ∷ []) is (one_more (name_word site n) [] (name-is-word n) refl)
+  named-words verb n is (Some at) = one_more verb (name_word site n ∷ side_word at ∷ []) is (one_more (name_word site n) (side_word at ∷ []) (name-is-word n) (one_more (side_word at) [] (side-is-word at) refl))
+
+  -- the words of a line, where they say a command
+  operation-read : (asked : Command) (said : Result Command Fault) → 0 < length (command_words site asked) → are_words (command_words site asked) ≡ true →
+      event_said site (command_words site asked) ≡ requested said → command_said site (command_words site asked) ≡ one said → command_said site (words (command_text site (One asked))) ≡ Ok (One (command_read site asked))
+  operation-read asked said some are event_is command_is =
+      let joined = names.joined (command_words site asked) some are in
+      ap (command_said site) joined ∙ command_is
+      ∙ asked-is said (command_read site asked) (sym event_is ∙ ap (event_said site) (sym joined) ∙ operations.read asked)
+
   pub command-read : (asked : OperatorCommand) → command_said site (words (command_text site asked)) ≡ Ok (operator_read site asked)
   command-read (One command.Resume) = ap (command_said site) (names.joined (codes "resume" ∷ []) (omega arith) refl)
   command-read (One (command.Request route)) =
@@ -153,3 +209,13 @@ module _ (site : Site) (names : Names site) where
       by true = refl
       by false = ap (λ (r : RouteId). Ok (One (command.Cancel r))) (route-says route).0
   command-read CancelAll = ap (command_said site) (names.joined (codes "cancel" ∷ codes "all" ∷ []) (omega arith) refl)
+  command-read (One (command.Release route)) =
+      operation-read (command.Release route) (release site (route_word site route ∷ [])) (omega arith)
+      (one_more (codes "release") (route_word site route ∷ []) refl (one_more (route_word site route) [] (route-says route).1 refl)) refl refl
+  command-read (One (command.Move point at)) =
+      operation-read (command.Move point at) (move_point site (point_word site point ∷ side_word at ∷ [])) (omega arith)
+      (one_more (codes "move") (point_word site point ∷ side_word at ∷ []) refl (one_more (point_word site point) (side_word at ∷ []) (point-is-word point) (one_more (side_word at) [] (side-is-word at) refl))) refl refl
+  command-read (One (command.Close n)) =
+      operation-read (command.Close n) (close_named site (name_word site n ∷ side_words (side_of n))) (omega arith) (named-words (codes "close") n refl (side_of n)) refl refl
+  command-read (One (command.Open n)) =
+      operation-read (command.Open n) (open_named site (name_word site n ∷ side_words (side_of n))) (omega arith) (named-words (codes "open") n refl (side_of n)) refl refl

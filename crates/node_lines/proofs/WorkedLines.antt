@@ -1,7 +1,7 @@
 -- The lines that were worked by hand.
 use Rattle.std.proofs.Common.{refl}
 use Rattle.std.specs.Fmt.{digits}
-use Rattle.ixl_spec.specs.layout.Entries.{Site}
+use Rattle.replay_lines.specs.ixl_spec.layout.Entries.{Site}
 use Rattle.node_lines.specs.Worked.{Worked}
 
 pub worked : (site : Site) → Worked site

@@ -13,11 +13,11 @@
 --     waiting for resume
 use Rattle.std.specs.Prelude.{ℕ, Bool, true, false, List, ◌∷◌, ◌++◌, codes, Option, Some, None, slice_get}
 use Rattle.std.specs.Option.{option_map_or}
-use Rattle.ixl_spec.specs.layout.Entries.{Site}
-use Rattle.ixl_spec.specs.layout.declared.ids.SignalId.{SignalId}
-use Rattle.ixl_spec.specs.sci_telegram.Words.{aspect_word, occupancy_word, side_word}
-use Rattle.ixl_spec.specs.sci_telegram.declared.message.Occupancy.{Occupancy}
-use Rattle.ixl_spec.specs.sci_telegram.declared.message.Side.{Side}
+use Rattle.replay_lines.specs.ixl_spec.layout.Entries.{Site}
+use Rattle.replay_lines.specs.ixl_spec.layout.declared.ids.SignalId.{SignalId}
+use Rattle.replay_lines.specs.ixl_spec.sci_telegram.Words.{aspect_word, occupancy_word, side_word}
+use Rattle.replay_lines.specs.ixl_spec.sci_telegram.declared.message.Occupancy.{Occupancy}
+use Rattle.replay_lines.specs.ixl_spec.sci_telegram.declared.message.Side.{Side}
 use Rattle.simulator_event.specs.layout.declared.ids.NodeId.{NodeId}
 use Rattle.replay_lines.specs.Answers.{refusal_text}
 use Rattle.replay_lines.specs.Names.{node_names, point_word, route_word, section_word}

@@ -5,10 +5,12 @@ pub mod Known
 pub mod ReadAgain
 pub mod Worked
 -- what crates above need of the crates below
-pub use Rattle.ixl_spec.specs as ixl_spec
+pub use Rattle.replay_lines.specs.ixl_spec as ixl_spec
 pub use Rattle.replay_lines.specs as replay_lines
 pub use Rattle.replay_words.specs as replay_words
 pub use Rattle.simulator_event.specs as simulator_event
-pub use Rattle.ixl_spec.specs.layout as layout
-pub use Rattle.ixl_spec.specs.rasta_pdu as rasta_pdu
-pub use Rattle.ixl_spec.specs.sci_telegram as sci_telegram
+pub use Rattle.replay_lines.specs.ixl_spec.closings as closings
+pub use Rattle.replay_lines.specs.ixl_spec.control_table as control_table
+pub use Rattle.replay_lines.specs.ixl_spec.layout as layout
+pub use Rattle.replay_lines.specs.ixl_spec.rasta_pdu as rasta_pdu
+pub use Rattle.replay_lines.specs.ixl_spec.sci_telegram as sci_telegram

@@ -13,10 +13,10 @@ use Rattle.replay_words.specs.declared.fault.Fault.{Fault}
 use Rattle.replay_words.specs.declared.fault.Fault.TheVariants.{Words}
 use Rattle.replay_words.specs.Fault.{both, ◌>>=◌}
 use Rattle.replay_words.specs.Read.{decimal}
-use Rattle.ixl_spec.specs.sci_telegram.Words.{aspect_of_word, side_of_word, side_word}
-use Rattle.ixl_spec.specs.sci_telegram.declared.message.Aspect.{Aspect}
-use Rattle.ixl_spec.specs.sci_telegram.declared.message.Aspect.TheVariants as aspects
-use Rattle.ixl_spec.specs.sci_telegram.declared.message.Side.{Side}
+use Rattle.replay_lines.specs.ixl_spec.sci_telegram.Words.{aspect_of_word, side_of_word, side_word}
+use Rattle.replay_lines.specs.ixl_spec.sci_telegram.declared.message.Aspect.{Aspect}
+use Rattle.replay_lines.specs.ixl_spec.sci_telegram.declared.message.Aspect.TheVariants as aspects
+use Rattle.replay_lines.specs.ixl_spec.sci_telegram.declared.message.Side.{Side}
 use Rattle.node_lines.specs.declared.order.Order.{Order}
 use Rattle.node_lines.specs.declared.order.Order.TheVariants.{ShowStop, ShowProceed, ShowSlow, DriveNone, Drive}
 use Rattle.node_lines.specs.declared.order.OrderLine.{OrderLine}

@@ -1,6 +1,6 @@
 -- What the code of a line can hold.
 use Rattle.std.specs.Prelude.{◌^◌, ◌<◌, length}
-use Rattle.ixl_spec.specs.layout.Entries.{Site}
+use Rattle.replay_lines.specs.ixl_spec.layout.Entries.{Site}
 use Rattle.node_lines.specs.declared.order.Order.{Order}
 use Rattle.node_lines.specs.declared.order.Order.TheVariants.{ShowStop, ShowProceed, ShowSlow, DriveNone, Drive}
 use Rattle.node_lines.specs.declared.order.OrderLine.{OrderLine}

@@ -11,13 +11,13 @@ use Rattle.replay_words.specs.declared.fault.Fault.{Fault}
 use Rattle.replay_words.specs.declared.fault.Fault.TheVariants.{Words}
 use Rattle.replay_words.specs.Fault.{◌>>=◌}
 use Rattle.replay_words.specs.Read.{decimal}
-use Rattle.ixl_spec.specs.layout.Entries.{Site}
-use Rattle.ixl_spec.specs.sci_telegram.declared.message.Occupancy.{Occupancy}
-use Rattle.ixl_spec.specs.sci_telegram.declared.message.Occupancy.TheVariants as occupancy
+use Rattle.replay_lines.specs.ixl_spec.layout.Entries.{Site}
+use Rattle.replay_lines.specs.ixl_spec.sci_telegram.declared.message.Occupancy.{Occupancy}
+use Rattle.replay_lines.specs.ixl_spec.sci_telegram.declared.message.Occupancy.TheVariants as occupancy
 use Rattle.replay_lines.specs.Events.{position_named}
 use Rattle.replay_lines.specs.Names.{section_named, section_word}
 use Rattle.replay_lines.specs.Written.{occupancy_verb}
-use Rattle.ixl_spec.specs.sci_telegram.Words.{position_word}
+use Rattle.replay_lines.specs.ixl_spec.sci_telegram.Words.{position_word}
 use Rattle.node_lines.specs.declared.report.FieldReport.{FieldReport}
 use Rattle.node_lines.specs.declared.report.FieldReport.TheVariants.{Done, Section, Point}
 

@@ -2,10 +2,10 @@
 use Rattle.std.specs.Prelude.{◌≡◌, codes, Some, None, Ok, Err}
 use Rattle.replay_words.specs.Cut.{words}
 use Rattle.replay_words.specs.declared.fault.Fault.TheVariants.{Words, Number}
-use Rattle.ixl_spec.specs.sci_telegram.declared.message.Aspect.TheVariants as aspects
-use Rattle.ixl_spec.specs.sci_telegram.declared.message.Position.TheVariants as position
-use Rattle.ixl_spec.specs.sci_telegram.declared.message.Side.TheVariants as side
-use Rattle.ixl_spec.specs.layout.Entries.{Site}
+use Rattle.replay_lines.specs.ixl_spec.sci_telegram.declared.message.Aspect.TheVariants as aspects
+use Rattle.replay_lines.specs.ixl_spec.sci_telegram.declared.message.Position.TheVariants as position
+use Rattle.replay_lines.specs.ixl_spec.sci_telegram.declared.message.Side.TheVariants as side
+use Rattle.replay_lines.specs.ixl_spec.layout.Entries.{Site}
 use Rattle.node_lines.specs.Orders.{aspect_ordered, order_line_said, order_text, side_ordered}
 use Rattle.node_lines.specs.Reports.{report_said}
 use Rattle.node_lines.specs.Commands.{command_said}

@@ -20,19 +20,19 @@ pub use order_read::read_order;
 pub use report::{FieldReport, ReportText, read_report};
 
 // What crates above need of the crates below.
-pub use ixl_spec;
 pub use replay_lines;
+pub use replay_lines::ixl_spec;
 pub use replay_words;
 pub use simulator_event;
 
 // The everyday items of the crates below.
-pub use ixl_spec::rasta_pdu::Received;
-pub use ixl_spec::{
-    Aspect, BitRow, BorderId, CLOCK_LIMIT, Checked, Command, Datagram, Detector, DetectorId, Key,
-    LATEST_CLOCK, LIFETIME, LIFETIME_MICROS, LONGEST_DATAGRAM, Layout, MICROS, Millis, Name, Node,
-    NodeId, Occupancy, Outbox, Point, PointId, Position, Protocol, QUIET_TIME, ROUND, ROUND_MICROS,
-    Role, Route, RouteId, SectionId, Side, Signal, SignalId, Start, Verdict, is_intact, is_request,
-    receiver_of, sender_of,
+pub use replay_lines::ixl_spec::rasta_pdu::Received;
+pub use replay_lines::ixl_spec::{
+    Aspect, BitRow, BorderId, CLOCK_LIMIT, Checked, Closings, Command, Datagram, Detector,
+    DetectorId, Key, LATEST_CLOCK, LIFETIME, LIFETIME_MICROS, LONGEST_DATAGRAM, Layout, MICROS,
+    Millis, Name, Named, Node, NodeId, Occupancy, Outbox, Point, PointId, Position, Protocol,
+    QUIET_TIME, ROUND, ROUND_MICROS, Role, Route, RouteId, SectionId, Side, Signal, SignalId,
+    Start, Thing, Verdict, is_intact, is_request, receiver_of, sender_of,
 };
 pub use replay_lines::{
     AnswerText, SessionFault, name_word, names_are_read_again, names_are_words, node_named,

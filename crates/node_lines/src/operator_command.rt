@@ -2,10 +2,12 @@
 
 ghost use Rattle.std.specs.Prelude.{◌≡◌};
 ghost use Rattle.replay_words.specs.Cut.{words};
-ghost use Rattle.node_lines.specs.Commands.{cancel, command_said, resume, set};
+ghost use Rattle.node_lines.specs.Commands.{cancel, command_said, one, resume, set};
 
-use ixl_spec::{Command, Layout};
-use replay_lines::{route_named, route_word};
+use replay_lines::ixl_spec::{Command, Layout, side_word};
+use replay_lines::{
+    close_named, move_point, open_named, point_word, release, route_named, route_word,
+};
 use replay_words::{Fault, Words};
 use std::fmt;
 
@@ -42,6 +44,35 @@ impl<'a> fmt::Display for CommandText<'a> {
                 write!(f, "cancel {route}")
             }
             OperatorCommand::One(Command::Resume) => write!(f, "resume"),
+            OperatorCommand::One(Command::Release(route)) => {
+                let route = route_word(self.layout, route);
+                write!(f, "release {route}")
+            }
+            OperatorCommand::One(Command::Move(point, side)) => {
+                let point = point_word(self.layout, point);
+                let side = side_word(side);
+                write!(f, "move {point} {side}")
+            }
+            OperatorCommand::One(Command::Close(named)) => {
+                let name = named.name_word(self.layout);
+                match named.side() {
+                    Some(side) => {
+                        let side = side_word(side);
+                        write!(f, "close {name} {side}")
+                    }
+                    None => write!(f, "close {name}"),
+                }
+            }
+            OperatorCommand::One(Command::Open(named)) => {
+                let name = named.name_word(self.layout);
+                match named.side() {
+                    Some(side) => {
+                        let side = side_word(side);
+                        write!(f, "open {name} {side}")
+                    }
+                    None => write!(f, "open {name}"),
+                }
+            }
             OperatorCommand::CancelAll => write!(f, "cancel all"),
         }
     }
@@ -57,8 +88,18 @@ pub fn read_command(layout: &Layout, line: &str) -> Result<OperatorCommand, Faul
         Some("resume") => resume(words),
         Some("set") => set(layout, words),
         Some("cancel") => cancel(layout, words),
+        Some("release") => one(release(layout, words)),
+        Some("move") => one(move_point(layout, words)),
+        Some("close") => one(close_named(layout, words)),
+        Some("open") => one(open_named(layout, words)),
         _ => Err(Fault::Words),
     }
+}
+
+fn one(command: Result<Command, Fault>) -> Result<OperatorCommand, Fault>
+    ensures { result ≡ one command }
+{
+    Ok(OperatorCommand::One(command?))
 }
 
 fn resume(mut words: Words<'_>) -> Result<OperatorCommand, Fault>

@@ -1,6 +1,6 @@
 //! What a controller tells its field equipment to do.
 
-use ixl_spec::Side;
+use replay_lines::ixl_spec::Side;
 use std::fmt;
 
 /// What field equipment is told to do. All moments are readings of the node's clock, in milliseconds. From the moment after

@@ -6,7 +6,7 @@ ghost use Rattle.node_lines.specs.Orders.{alone, driven, driven_to, line_of, num
 ghost use Rattle.node_lines.specs.declared.order.Order.TheVariants.{Drive, ShowProceed, ShowSlow};
 
 use crate::order::{Order, OrderLine};
-use ixl_spec::{Aspect, Side};
+use replay_lines::ixl_spec::{Aspect, Side};
 use replay_words::{Fault, Words, both, decimal};
 
 /// The order that a line says, or the lowest fault of its words.

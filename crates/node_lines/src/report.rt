@@ -4,7 +4,7 @@ ghost use Rattle.std.specs.Prelude.{◌≡◌};
 ghost use Rattle.replay_words.specs.Cut.{words};
 ghost use Rattle.node_lines.specs.Reports.{contact, done, reach, report_said};
 
-use ixl_spec::{Layout, Occupancy, Position, SectionId};
+use replay_lines::ixl_spec::{Layout, Occupancy, Position, SectionId};
 use replay_lines::{occupancy_verb, section_named, section_word};
 use replay_words::{Fault, Words, decimal};
 use std::fmt;

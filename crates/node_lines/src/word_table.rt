@@ -4,7 +4,7 @@ ghost use Rattle.std.specs.Prelude.{◌≡◌};
 ghost use Rattle.node_lines.specs.Known.{known_occupancy_word, known_side_word, link_word, route_state_word};
 
 use crate::operator_line::LinkState;
-use ixl_spec::{Occupancy, Side};
+use replay_lines::ixl_spec::{Occupancy, Side};
 
 pub(crate) fn link_word(state: LinkState) -> &'static str
     ensures { result.now ≡ link_word state }

@@ -23,7 +23,14 @@ use Rattle.ixl_spec.specs.layout.declared.ids.PointId.{PointId}
 use Rattle.ixl_spec.specs.layout.declared.ids.RouteId.{RouteId}
 use Rattle.ixl_spec.specs.layout.declared.ids.SectionId.{SectionId}
 use Rattle.ixl_spec.specs.layout.Entries.{Site, RouteEntry}
+use Rattle.ixl_spec.specs.closings.declared.thing.Named.{Named}
+use Rattle.ixl_spec.specs.closings.declared.thing.Named.TheVariants.{BothSides, One}
+use Rattle.ixl_spec.specs.closings.declared.thing.Thing.TheVariants as thing
+use Rattle.ixl_spec.specs.closings.Words.{name_of, name_word, named, side_of, side_word}
+use Rattle.ixl_spec.specs.declared.command.Command.{Command}
 use Rattle.ixl_spec.specs.declared.command.Command.TheVariants as command
+use Rattle.ixl_spec.specs.sci_telegram.declared.message.Side.{Side}
+use Rattle.ixl_spec.specs.sci_telegram.declared.message.Side.TheVariants as sides
 use Rattle.ixl_spec.specs.rasta_core.time.TheConstants.{LATEST_CLOCK}
 use Rattle.ixl_spec.specs.rasta_pdu.declared.writer.TheConstants.{LONGEST_DATAGRAM}
 use Rattle.ixl_spec.specs.sci_telegram.Words.{position_word}
@@ -33,10 +40,10 @@ use Rattle.ixl_spec.specs.sci_telegram.declared.message.Position.TheVariants as 
 use Rattle.simulator_event.specs.declared.event.Event.{Event}
 use Rattle.simulator_event.specs.declared.event.Event.TheVariants.{Request, Occupy, Tick, Time, Deliver, Lose, Reach, Restart}
 use Rattle.simulator_event.specs.layout.declared.ids.NodeId.{NodeId}
-use Rattle.replay_lines.specs.Names.{node_named, node_names, point_named, route_named, route_word, section_named}
-use Rattle.replay_lines.specs.Events.{are_formed, event as said, has_name, is_for, name_nodes, number_up_to, steps_set}
-use Rattle.replay_lines.specs.Written.{clock_words, event_line, event_words}
-use Rattle.replay_lines.specs.ReadAgain.{IsOfValues, event_read, route_read}
+use Rattle.replay_lines.specs.Names.{node_named, node_names, point_named, point_word, route_named, route_word, section_named}
+use Rattle.replay_lines.specs.Events.{are_formed, event as said, has_name, is_for, name_nodes, number_up_to, point_meant, point_or_last, sided_named, steps_set, whole_named}
+use Rattle.replay_lines.specs.Written.{clock_words, event_line, event_words, side_words}
+use Rattle.replay_lines.specs.ReadAgain.{IsOfValues, event_read, named_or_last, named_read, point_read, route_read}
 
 -- what the crates below say of names, numbers and bytes
 pub record Laws (site : Site) : Type 0 where
@@ -57,6 +64,10 @@ pub record Laws (site : Site) : Type 0 where
   pub point_words : (k : ℕ) (point : Point) → slice_get site.points k ≡ Some point → is_without 32 point.name ≡ true
   pub route_words : (k : ℕ) (route : RouteEntry) → slice_get site.routes k ≡ Some route → is_without 32 route.name ≡ true
   pub unknown : route_named site (codes "_") ≡ record { 0 = length site.routes }
+  pub no_point : point_named site (codes "_") ≡ Err Name
+  pub wholes : (n : Named) (name : List ℕ) → name_of site n ≡ Some name → side_of n ≡ None → named site name None ≡ Some n
+  pub whole_words : (n : Named) (name : List ℕ) → name_of site n ≡ Some name → is_without 32 name ≡ true
+  pub nothing : named site (codes "_") None ≡ None
 
 -- ---- options and tests
 
@@ -133,6 +144,119 @@ module _ (site : Site) (laws : Laws site) where
         some = omega arith;
         are = one_more (codes "cancel") (route_word site route ∷ []) refl (one_more (route_word site route) [] says.1 refl);
       }
+
+  release-says : (route : RouteId) → Says site (codes "release" ∷ route_word site route ∷ []) (Request (command.Release (route_read site route)))
+  release-says route =
+      let says = route-says route in
+      record {
+        said_is = ap (λ (r : RouteId). Ok (Request (command.Release r))) says.0;
+        some = omega arith;
+        are = one_more (codes "release") (route_word site route ∷ []) refl (one_more (route_word site route) [] says.1 refl);
+      }
+
+  point-says : (point : PointId) → (point_meant site (point_word site point) ≡ point_read site point) × (is_without 32 (point_word site point) ≡ true)
+  point-says point = by (slice_get site.points point.0) refl (nat_lt point.0 (length site.points)) refl
+    where
+      by : (found : Option Point) → slice_get site.points point.0 ≡ found → (v : Bool) → nat_lt point.0 (length site.points) ≡ v
+          → (point_meant site (point_word site point) ≡ (if v then point else record { 0 = length site.points })) × (is_without 32 (point_word site point) ≡ true)
+      by (Some entry) e true h =
+          let word : point_word site point ≡ entry.name = ap (λ f. option_map_or (λ p. p.name) f (codes "_")) e in
+          (ap (point_meant site) word ∙ ap (point_or_last site) (laws.points point.0 entry e), ap (is_without 32) word ∙ laws.point_words point.0 entry e)
+      by (Some entry) e false h =
+          let there = slice_get_within site.points point.0 entry e in
+          absurd (true≢false (sym (grind (arith, nat_tests, there)) ∙ h))
+      by None e false h =
+          let word : point_word site point ≡ codes "_" = ap (λ f. option_map_or (λ p. p.name) f (codes "_")) e in
+          (ap (point_meant site) word ∙ ap (point_or_last site) laws.no_point, ap (is_without 32) word)
+      by None e true h = absurd (not_past site.points point.0 (below point.0 (length site.points) h) e)
+
+  side-is-word : (side : Side) → is_without 32 (side_word side) ≡ true
+  side-is-word sides.Left = refl
+  side-is-word sides.Right = refl
+
+  move-says : (point : PointId) (side : Side) → Says site (codes "move" ∷ point_word site point ∷ side_word side ∷ []) (Request (command.Move (point_read site point) side))
+  move-says point side =
+      let says = point-says point in
+      record {
+        said_is = by side ∙ ap (λ (p : PointId). Ok (Request (command.Move p side))) says.0;
+        some = omega arith;
+        are = one_more (codes "move") (point_word site point ∷ side_word side ∷ []) refl (one_more (point_word site point) (side_word side ∷ []) says.1 (one_more (side_word side) [] (side-is-word side) refl));
+      }
+    where
+      by : (at : Side) → said site (codes "move" ∷ point_word site point ∷ side_word at ∷ []) ≡ Ok (Request (command.Move (point_meant site (point_word site point)) at))
+      by sides.Left = refl
+      by sides.Right = refl
+
+  -- what is named without a side
+  whole-says : (n : Named) → side_of n ≡ None → (whole_named site (name_word site n) ≡ named_or_last site n (name_of site n)) × (is_without 32 (name_word site n) ≡ true)
+  whole-says n none = by (name_of site n) refl
+    where
+      by : (found : Option (List ℕ)) → name_of site n ≡ found
+          → (whole_named site (option_map_or (λ name. name) found (codes "_")) ≡ named_or_last site n found) × (is_without 32 (option_map_or (λ name. name) found (codes "_")) ≡ true)
+      by (Some name) e = (ap (λ (o : Option Named). option_map_or (λ m. m) o (One (thing.Route (record { 0 = length site.routes })))) (laws.wholes n name e none), laws.whole_words n name e)
+      by None e = (ap (λ (o : Option Named). option_map_or (λ m. m) o (One (thing.Route (record { 0 = length site.routes })))) laws.nothing, refl)
+
+  -- the name of a point is its word
+  point-name : (point : PointId) (side : Side) → name_word site (One (thing.Point point side)) ≡ point_word site point
+  point-name point side = by (slice_get site.points point.0)
+    where
+      by : (found : Option Point) → option_map_or (λ name. name) (option_map (λ p. p.name) found) (codes "_") ≡ option_map_or (λ p. p.name) found (codes "_")
+      by (Some entry) = refl
+      by None = refl
+
+  -- what is named with one
+  sided-says : (point : PointId) (side : Side) → (point_meant site (name_word site (One (thing.Point point side))) ≡ point_read site point) × (is_without 32 (name_word site (One (thing.Point point side))) ≡ true)
+  sided-says point side =
+      let says = point-says point in
+      (ap (point_meant site) (point-name point side) ∙ says.0, ap (is_without 32) (point-name point side) ∙ says.1)
+
+  -- a verb that is said of what is named
+  abbrev IsSaid : List ℕ → (Named → Command) → Type 0
+  IsSaid verb asks =
+      ((word : List ℕ) → said site (verb ∷ word ∷ []) ≡ Ok (Request (asks (whole_named site word))))
+      × ((word : List ℕ) (side : Side) → said site (verb ∷ word ∷ side_word side ∷ []) ≡ Ok (Request (asks (sided_named site word side))))
+      × (is_without 32 verb ≡ true)
+
+  whole-said : (verb : List ℕ) (asks : Named → Command) → IsSaid verb asks → (n : Named) → side_of n ≡ None → Says site (verb ∷ name_word site n ∷ []) (Request (asks (named_or_last site n (name_of site n))))
+  whole-said verb asks is n none =
+      let says = whole-says n none in
+      record {
+        said_is = is.0 (name_word site n) ∙ ap (λ m. Ok (Request (asks m))) says.0;
+        some = omega arith;
+        are = one_more verb (name_word site n ∷ []) is.2 (one_more (name_word site n) [] says.1 refl);
+      }
+
+  sided-said : (verb : List ℕ) (asks : Named → Command) → IsSaid verb asks → (point : PointId) (side : Side)
+      → Says site (verb ∷ name_word site (One (thing.Point point side)) ∷ side_word side ∷ []) (Request (asks (One (thing.Point (point_read site point) side))))
+  sided-said verb asks is point side =
+      let says = sided-says point side in
+      let word = name_word site (One (thing.Point point side)) in
+      record {
+        said_is = is.1 word side ∙ ap (λ (p : PointId). Ok (Request (asks (One (thing.Point p side))))) says.0;
+        some = omega arith;
+        are = one_more verb (word ∷ side_word side ∷ []) is.2 (one_more word (side_word side ∷ []) says.1 (one_more (side_word side) [] (side-is-word side) refl));
+      }
+
+  named-said : (verb : List ℕ) (asks : Named → Command) → IsSaid verb asks → (n : Named) → Says site (verb ∷ name_word site n ∷ side_words (side_of n)) (Request (asks (named_read site n)))
+  named-said verb asks is (One (thing.Point point side)) = sided-said verb asks is point side
+  named-said verb asks is (One (thing.Section s)) = whole-said verb asks is (One (thing.Section s)) refl
+  named-said verb asks is (One (thing.Signal s)) = whole-said verb asks is (One (thing.Signal s)) refl
+  named-said verb asks is (One (thing.Route r)) = whole-said verb asks is (One (thing.Route r)) refl
+  named-said verb asks is (BothSides p) = whole-said verb asks is (BothSides p) refl
+
+  close-says : (n : Named) → Says site (codes "close" ∷ name_word site n ∷ side_words (side_of n)) (Request (command.Close (named_read site n)))
+  close-says = named-said (codes "close") command.Close ((λ word. refl), by, refl)
+    where
+      by : (word : List ℕ) (side : Side) → said site (codes "close" ∷ word ∷ side_word side ∷ []) ≡ Ok (Request (command.Close (sided_named site word side)))
+      by word sides.Left = refl
+      by word sides.Right = refl
+
+  open-says : (n : Named) → Says site (codes "open" ∷ name_word site n ∷ side_words (side_of n)) (Request (command.Open (named_read site n)))
+  open-says = named-said (codes "open") command.Open ((λ word. refl), by, refl)
+    where
+      by : (word : List ℕ) (side : Side) → said site (codes "open" ∷ word ∷ side_word side ∷ []) ≡ Ok (Request (command.Open (sided_named site word side)))
+      by word sides.Left = refl
+      by word sides.Right = refl
 
   -- ---- occupancies
 
@@ -356,6 +480,10 @@ module _ (site : Site) (laws : Laws site) where
   words-say (Request (command.Cancel route)) values ws e = says-same site ws _ _ (sym (same_Some _ ws e)) (cancel-says route)
   words-say (Request command.Resume) values ws e =
       says-same site ws _ _ (sym (same_Some _ ws e)) (record { said_is = refl; some = omega arith; are = refl })
+  words-say (Request (command.Release route)) values ws e = says-same site ws _ _ (sym (same_Some _ ws e)) (release-says route)
+  words-say (Request (command.Move point side)) values ws e = says-same site ws _ _ (sym (same_Some _ ws e)) (move-says point side)
+  words-say (Request (command.Close n)) values ws e = says-same site ws _ _ (sym (same_Some _ ws e)) (close-says n)
+  words-say (Request (command.Open n)) values ws e = says-same site ws _ _ (sym (same_Some _ ws e)) (open-says n)
   words-say (Occupy section occupancy.Occupied) values ws e =
       let found = mapped _ (slice_get site.sections section.0) ws e in
       says-same site ws _ _ found.2 (occupy-says section.0 found.0 found.1)

@@ -1,6 +1,7 @@
 -- The answer that the words of a line say of an event; fault 5 where they say none that the event can have. Numbers are
 -- decimal, and may have leading zeros. Which refusal can come for which command isn't looked at.
 use Rattle.std.specs.Prelude.{ℕ, ◌==◌, nat_lt, if◌then◌else◌, Bool, true, false, Option, Some, None, List, [], ◌∷◌, length, codes, Result, Ok, Err}
+use Rattle.std.specs.Option.{ok_or}
 use Rattle.std.specs.Str.{bytes_eq}
 use Rattle.replay_words.specs.declared.fault.Fault.{Fault}
 use Rattle.replay_words.specs.declared.fault.Fault.TheVariants as fault
@@ -8,6 +9,10 @@ use Rattle.replay_words.specs.Fault.{◌>>=◌}
 use Rattle.replay_words.specs.Read.{decimal}
 use Rattle.ixl_spec.specs.layout.Entries.{Site}
 use Rattle.ixl_spec.specs.layout.declared.ids.RouteId.{RouteId}
+use Rattle.ixl_spec.specs.closings.declared.thing.Named.{Named}
+use Rattle.ixl_spec.specs.closings.declared.thing.Named.TheVariants.{One}
+use Rattle.ixl_spec.specs.closings.declared.thing.Thing.TheVariants as thing
+use Rattle.ixl_spec.specs.closings.Words.{named, side_said}
 use Rattle.ixl_spec.specs.declared.command.Refusal.{Refusal}
 use Rattle.ixl_spec.specs.declared.command.Refusal.TheVariants as refusal
 use Rattle.simulator_event.specs.Refused.{numbered}
@@ -28,6 +33,8 @@ unnamed_refusal number =
     else if number == 8 then Ok refusal.SignalUnavailable
     else if number == 9 then Ok refusal.NotSet
     else if number == 10 then Ok refusal.DetectionDown
+    else if number == 11 then Ok refusal.NoSuchThing
+    else if number == 12 then Ok refusal.NotEnded
     else Err fault.Answer
 
 -- the route of a name, if the table has it
@@ -50,12 +57,37 @@ point_unavailable site name = do
   point ← point_named site name
   Ok (refusal.PointUnavailable point)
 
--- those that are told with one
+abbrev pub held : Site → List ℕ → Result Refusal Fault
+held site name = do
+  route ← route_in_table site name
+  Ok (refusal.Held route)
+
+-- a closed section, signal or route
+abbrev pub whole_closed : Option Named → Result Refusal Fault
+whole_closed (Some (One closed)) = Ok (refusal.Closed closed)
+whole_closed _ = Err fault.Answer
+
+abbrev pub closed_whole : Site → List ℕ → Result Refusal Fault
+closed_whole site name = whole_closed (named site name None)
+
+-- a closed point, which is told with its side
+abbrev pub closed_point : Site → List ℕ → List ℕ → Result Refusal Fault
+closed_point site name word = do
+  side ← ok_or (side_said word) fault.Answer
+  point ← point_named site name
+  Ok (refusal.Closed (thing.Point point side))
+
+abbrev pub sided_refusal : Site → ℕ → List ℕ → List ℕ → Result Refusal Fault
+sided_refusal site number name side = if number == 13 then closed_point site name side else Err fault.Answer
+
+-- those that are told with a name alone
 abbrev pub named_refusal : Site → ℕ → List ℕ → Result Refusal Fault
 named_refusal site number name =
     if number == 5 then conflict site name
     else if number == 6 then not_clear site name
     else if number == 7 then point_unavailable site name
+    else if number == 13 then closed_whole site name
+    else if number == 14 then held site name
     else Err fault.Answer
 
 -- ---- answers, by the words after the first
@@ -72,6 +104,7 @@ accepted other = Err fault.Answer
 abbrev pub refusal_of : Site → ℕ → List (List ℕ) → Result Refusal Fault
 refusal_of site number [] = unnamed_refusal number
 refusal_of site number (name ∷ []) = named_refusal site number name
+refusal_of site number (name ∷ side ∷ []) = sided_refusal site number name side
 refusal_of site number other = Err fault.Answer
 
 abbrev pub refused : Site → List (List ℕ) → Result (Result Answer Why) Fault

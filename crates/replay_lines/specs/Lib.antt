@@ -13,3 +13,5 @@ pub mod Replay
 pub mod Script
 pub mod Session
 pub mod ReadAgain
+-- what crates above need of the crate below
+pub use Rattle.ixl_spec.specs as ixl_spec

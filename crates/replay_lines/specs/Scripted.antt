@@ -11,6 +11,7 @@ use Rattle.replay_lines.specs.Events.{event}
 abbrev pub is_scripted : List ℕ → Bool
 is_scripted word =
     bytes_eq word (codes "set") || bytes_eq word (codes "cancel") || bytes_eq word (codes "resume")
+    || bytes_eq word (codes "release") || bytes_eq word (codes "move") || bytes_eq word (codes "close") || bytes_eq word (codes "open")
     || bytes_eq word (codes "occupy") || bytes_eq word (codes "clear") || bytes_eq word (codes "restart")
 
 -- the event that words say in a script

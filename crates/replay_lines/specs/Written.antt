@@ -1,14 +1,15 @@
 -- The line of an event: its words, parted by single spaces. Numbers have no leading zeros, and hexadecimal
 -- digits are in lower case.
-use Rattle.std.specs.Prelude.{ℕ, suc, ◌==◌, ◌&&◌, nat_lt, nat_le, if◌then◌else◌, Option, Some, None, List, [], ◌∷◌, ◌++◌, length, slice_get, codes}
+use Rattle.std.specs.Prelude.{ℕ, ◌==◌, ◌&&◌, nat_lt, nat_le, if◌then◌else◌, Option, Some, None, List, [], ◌∷◌, ◌++◌, length, slice_get, codes}
 use Rattle.std.specs.Option.{option_map}
 use Rattle.std.specs.List.{join_with_byte}
 use Rattle.std.specs.Fmt.{decimal}
 use Rattle.replay_words.specs.Read.{hex_word}
 use Rattle.ixl_spec.specs.layout.Entries.{Site}
-use Rattle.ixl_spec.specs.layout.declared.ids.RouteId.{RouteId}
 use Rattle.ixl_spec.specs.declared.command.Command.{Command}
 use Rattle.ixl_spec.specs.declared.command.Command.TheVariants as command
+use Rattle.ixl_spec.specs.closings.Words.{name_word, side_of, side_word}
+use Rattle.ixl_spec.specs.sci_telegram.declared.message.Side.{Side}
 use Rattle.ixl_spec.specs.sci_telegram.declared.message.Occupancy.{Occupancy}
 use Rattle.ixl_spec.specs.sci_telegram.declared.message.Occupancy.TheVariants as occupancy
 use Rattle.ixl_spec.specs.sci_telegram.Words.{position_word}
@@ -16,12 +17,21 @@ use Rattle.ixl_spec.specs.rasta_core.time.TheConstants.{LATEST_CLOCK}
 use Rattle.ixl_spec.specs.rasta_pdu.declared.writer.TheConstants.{LONGEST_DATAGRAM}
 use Rattle.simulator_event.specs.declared.event.Event.{Event}
 use Rattle.simulator_event.specs.declared.event.Event.TheVariants.{Request, Occupy, Tick, Time, Deliver, Lose, Reach, Restart}
-use Rattle.replay_lines.specs.Names.{node_names, route_word}
+use Rattle.replay_lines.specs.Names.{node_names, point_word, route_word}
+
+-- the word for a side, where there is one
+abbrev pub side_words : Option Side → List (List ℕ)
+side_words None = []
+side_words (Some side) = side_word side ∷ []
 
 abbrev pub command_words : Site → Command → List (List ℕ)
 command_words site (command.Request route) = codes "set" ∷ route_word site route ∷ []
 command_words site (command.Cancel route) = codes "cancel" ∷ route_word site route ∷ []
 command_words site command.Resume = codes "resume" ∷ []
+command_words site (command.Release route) = codes "release" ∷ route_word site route ∷ []
+command_words site (command.Move point side) = codes "move" ∷ point_word site point ∷ side_word side ∷ []
+command_words site (command.Close named) = codes "close" ∷ name_word site named ∷ side_words (side_of named)
+command_words site (command.Open named) = codes "open" ∷ name_word site named ∷ side_words (side_of named)
 
 -- an event and a contact say by a verb what becomes of a section
 abbrev pub occupancy_verb : Occupancy → List ℕ

@@ -1,10 +1,10 @@
 //! The answer that the words of a line say.
 
 ghost use Rattle.std.specs.Prelude.{◌≡◌};
-ghost use Rattle.replay_lines.specs.AnswerRead.{accepted, answer, can_answer, named_refusal, no, ok, refused, route_in_table, said, unnamed_refusal};
+ghost use Rattle.replay_lines.specs.AnswerRead.{accepted, answer, can_answer, closed_whole, named_refusal, no, ok, refused, route_in_table, said, sided_refusal, unnamed_refusal};
 
 use crate::{point_named, route_named, section_named};
-use ixl_spec::{Layout, Refusal, RouteId};
+use ixl_spec::{Layout, Named, Refusal, RouteId, Thing, side_said};
 use replay_words::{Fault, Words, decimal};
 use simulator_event::{Answer, Event, Refused};
 
@@ -80,10 +80,11 @@ fn refused(layout: &Layout, mut words: Words<'_>) -> Result<Result<Answer, Refus
         return Err(Fault::Answer);
     };
     let number = decimal(number)?;
-    let refusal = match (words.next(), words.next()) {
-        (None, _) => unnamed_refusal(number)?,
-        (Some(name), None) => named_refusal(layout, number, name)?,
-        (Some(_), Some(_)) => return Err(Fault::Answer),
+    let refusal = match (words.next(), words.next(), words.next()) {
+        (None, _, _) => unnamed_refusal(number)?,
+        (Some(name), None, _) => named_refusal(layout, number, name)?,
+        (Some(name), Some(side), None) => sided_refusal(layout, number, name, side)?,
+        (Some(_), Some(_), Some(_)) => return Err(Fault::Answer),
     };
     Ok(Ok(Answer::Refused(refusal)))
 }
@@ -112,11 +113,13 @@ fn unnamed_refusal(number: u64) -> Result<Refusal, Fault>
         8 => Ok(Refusal::SignalUnavailable),
         9 => Ok(Refusal::NotSet),
         10 => Ok(Refusal::DetectionDown),
+        11 => Ok(Refusal::NoSuchThing),
+        12 => Ok(Refusal::NotEnded),
         _ => Err(Fault::Answer),
     }
 }
 
-// The refusal of a number that is told with the name of a route, a section or a point.
+// The refusal of a number that is told with a name alone.
 fn named_refusal(layout: &Layout, number: u64, name: &str) -> Result<Refusal, Fault>
     ensures { result ≡ named_refusal layout.now number name.now }
 {
@@ -124,8 +127,32 @@ fn named_refusal(layout: &Layout, number: u64, name: &str) -> Result<Refusal, Fa
         5 => Ok(Refusal::Conflict(route_in_table(layout, name)?)),
         6 => Ok(Refusal::NotClear(section_named(layout, name)?)),
         7 => Ok(Refusal::PointUnavailable(point_named(layout, name)?)),
+        13 => closed_whole(layout, name),
+        14 => Ok(Refusal::Held(route_in_table(layout, name)?)),
         _ => Err(Fault::Answer),
     }
+}
+
+// The refusal for a closed section, signal or route. A closed point is told with its side.
+fn closed_whole(layout: &Layout, name: &str) -> Result<Refusal, Fault>
+    ensures { result ≡ closed_whole layout.now name.now }
+{
+    match Named::of(layout, name, None) {
+        Some(Named::One(thing)) => Ok(Refusal::Closed(thing)),
+        _ => Err(Fault::Answer),
+    }
+}
+
+// The refusal of a number that is told with the name of a point and a side.
+fn sided_refusal(layout: &Layout, number: u64, name: &str, side: &str) -> Result<Refusal, Fault>
+    ensures { result ≡ sided_refusal layout.now number name.now side.now }
+{
+    if number != 13 {
+        return Err(Fault::Answer);
+    }
+    let side = side_said(side).ok_or(Fault::Answer)?;
+    let point = point_named(layout, name)?;
+    Ok(Refusal::Closed(Thing::Point(point, side)))
 }
 
 // The route that a word names, if the table has it.

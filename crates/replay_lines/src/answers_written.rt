@@ -2,10 +2,10 @@
 
 ghost use Rattle.std.specs.Prelude.{◌≡◌, Some};
 ghost use Rattle.std.specs.Option.{option_map};
-ghost use Rattle.replay_lines.specs.Answers.{refusal_name};
+ghost use Rattle.replay_lines.specs.Answers.{refusal_name, refusal_side};
 
 use crate::{point_word, route_word, section_word};
-use ixl_spec::{Layout, Refusal};
+use ixl_spec::{Layout, Named, Refusal, Side, side_word};
 use simulator_event::{Answer, Refused};
 use std::fmt;
 
@@ -52,9 +52,14 @@ impl<'a> fmt::Display for RefusalText<'a> {
 
     fn fmt<W: fmt::Write>(&self, f: &mut fmt::Formatter<W>) -> fmt::Result {
         let number = self.refusal.number();
-        match refusal_name(self.layout, self.refusal) {
-            Some(name) => write!(f, "refused {number} {name}"),
-            None => write!(f, "refused {number}"),
+        let name = refusal_name(self.layout, self.refusal);
+        match (name, refusal_side(self.refusal)) {
+            (Some(name), Some(side)) => {
+                let side = side_word(side);
+                write!(f, "refused {number} {name} {side}")
+            }
+            (Some(name), None) => write!(f, "refused {number} {name}"),
+            (None, _) => write!(f, "refused {number}"),
         }
     }
 }
@@ -67,6 +72,18 @@ fn refusal_name(layout: &Layout, refusal: Refusal) -> Option<&str>
         Refusal::Conflict(route) => Some(route_word(layout, route)),
         Refusal::NotClear(section) => Some(section_word(layout, section)),
         Refusal::PointUnavailable(point) => Some(point_word(layout, point)),
+        Refusal::Closed(thing) => Some(Named::One(thing).name_word(layout)),
+        Refusal::Held(route) => Some(route_word(layout, route)),
+        _ => None,
+    }
+}
+
+// The side that is told behind the name, of a closed point.
+fn refusal_side(refusal: Refusal) -> Option<Side>
+    ensures { result ≡ refusal_side refusal }
+{
+    match refusal {
+        Refusal::Closed(thing) => Named::One(thing).side(),
         _ => None,
     }
 }

@@ -8,6 +8,7 @@ mod laws;
 mod line;
 mod lines_written;
 mod names;
+mod operation_words;
 mod outset;
 mod reply;
 mod round_trip;
@@ -26,6 +27,7 @@ pub use names::{
     name_word, node_named, point_named, point_word, route_named, route_word, section_named,
     section_word,
 };
+pub use operation_words::{close_named, move_point, open_named, release};
 pub use outset::Begun;
 pub use reply::recorded;
 pub use round_trip::written_events_are_read_again;
@@ -35,5 +37,6 @@ pub use text::{SessionFault, read_lines};
 pub use words::{read_event, read_script_event};
 
 // What crates above need of the crates below.
+pub use ixl_spec;
 pub use ixl_spec::rasta_core::{MICROS, ROUND, ROUND_MICROS};
 pub use ixl_spec::rasta_pdu::{LONGEST_DATAGRAM, Received};

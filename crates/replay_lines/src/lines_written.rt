@@ -4,14 +4,15 @@ ghost use Rattle.std.specs.Prelude.{◌≡◌, ◌++◌, IfOk, OnOk, slice_get, 
 ghost use Rattle.std.specs.Option.{option_map};
 ghost use Rattle.std.specs.List.{join_with_byte};
 ghost use Rattle.simulator_event.specs.declared.event.Event.TheVariants.{Deliver, Occupy, Reach, Restart, Tick, Time};
+ghost use Rattle.ixl_spec.specs.closings.Words.{words_of};
 ghost use Rattle.replay_lines.specs.Names.{node_names};
 ghost use Rattle.replay_lines.specs.Written.{command_words, event_line, lose_words, occupancy_verb};
 ghost use Rattle.replay_lines.specs.inside.Clocks.{clock_text};
 
-use crate::route_word;
+use crate::{point_word, route_word};
 use ixl_spec::{
-    Checked, Command, LATEST_CLOCK, LONGEST_DATAGRAM, Layout, Occupancy, PointId, Position,
-    SectionId,
+    Checked, Command, LATEST_CLOCK, LONGEST_DATAGRAM, Layout, Named, Occupancy, PointId, Position,
+    SectionId, side_word,
 };
 use replay_words::hex_word;
 use simulator_event::{Event, NodeId};
@@ -56,7 +57,32 @@ fn command_line(alloc: Global, layout: &Layout, command: Command) -> Result<Stri
             format!(in alloc; "cancel {route}")
         }
         Command::Resume => String::from_str(alloc, "resume"),
+        Command::Release(route) => {
+            let route = route_word(layout, route);
+            format!(in alloc; "release {route}")
+        }
+        Command::Move(point, side) => {
+            let point = point_word(layout, point);
+            let side = side_word(side);
+            format!(in alloc; "move {point} {side}")
+        }
+        Command::Close(named) => named_line(alloc, layout, "close ", named),
+        Command::Open(named) => named_line(alloc, layout, "open ", named),
     }
+}
+
+// The line of a close or an open.
+fn named_line(
+    alloc: Global,
+    layout: &Layout,
+    verb: &str,
+    named: Named,
+) -> Result<String, AllocError>
+    ensures { IfOk result (λ line. string_bytes line ≡ verb.now ++ words_of layout.now named) }
+{
+    let mut line = String::from_str(alloc, verb)?;
+    named.write(layout, &mut line)?;
+    Ok(line)
 }
 
 /// The verb by which an event and a contact say what becomes of a section. It isn't the word for its state.

@@ -1,12 +1,13 @@
 //! The event that the words of a line say.
 
-ghost use Rattle.std.specs.Prelude.{◌≡◌, IfOk, length, replicate};
+ghost use Rattle.std.specs.Prelude.{◌≡◌, ◌∷◌, IfOk, length, replicate};
 ghost use Rattle.std.specs.List.{list_any};
 ghost use Rattle.replay_lines.specs.Names.{node_names};
-ghost use Rattle.replay_lines.specs.Events.{are_formed, cancel, clear, deliver, event, has_name, lose, name_nodes, number_up_to, occupy, position_named, reach, restart, resume, set, steps_set, tick, time};
+ghost use Rattle.replay_lines.specs.Events.{are_formed, cancel, clear, deliver, event, has_name, lose, name_nodes, number_up_to, occupy, position_named, reach, requested, restart, resume, set, steps_set, tick, time};
 ghost use Rattle.replay_lines.specs.Given.{Gives};
 ghost use Rattle.replay_lines.specs.Scripted.{script_event};
 
+use crate::operation_words::{close_named, move_point, open_named, release};
 use crate::{node_named, point_named, route_named, section_named};
 use ixl_spec::{Command, LATEST_CLOCK, Layout, Occupancy, Position};
 use replay_words::{
@@ -22,17 +23,31 @@ pub fn read_event(alloc: Global, layout: &Layout, words: Words<'_>) -> Result<Ev
 {
     let mut words = words;
     match words.next() {
-        Some("set") => set(layout, words),
-        Some("cancel") => cancel(layout, words),
-        Some("resume") => resume(words),
-        Some("occupy") => occupy(layout, words),
-        Some("clear") => clear(layout, words),
-        Some("tick") => tick(layout, words),
-        Some("time") => time(alloc, layout, words),
-        Some("deliver") => deliver(alloc, layout, words),
-        Some("lose") => lose(alloc, words),
-        Some("reach") => reach(layout, words),
-        Some("restart") => restart(layout, words),
+        Some(first) => event_with(alloc, layout, first, words),
+        None => Err(Fault::Words),
+    }
+}
+
+/// The same by the first word, and those behind it.
+fn event_with(alloc: Global, layout: &Layout, first: &str, words: Words<'_>) -> Result<Event, Fault>
+    ensures { Gives (λ e. e) (event layout.now (first.now ∷ words.entry)) result }
+{
+    match first {
+        "set" => set(layout, words),
+        "cancel" => cancel(layout, words),
+        "resume" => resume(words),
+        "release" => requested(release(layout, words)),
+        "move" => requested(move_point(layout, words)),
+        "close" => requested(close_named(layout, words)),
+        "open" => requested(open_named(layout, words)),
+        "occupy" => occupy(layout, words),
+        "clear" => clear(layout, words),
+        "tick" => tick(layout, words),
+        "time" => time(alloc, layout, words),
+        "deliver" => deliver(alloc, layout, words),
+        "lose" => lose(alloc, words),
+        "reach" => reach(layout, words),
+        "restart" => restart(layout, words),
         _ => Err(Fault::Words),
     }
 }
@@ -47,6 +62,10 @@ pub fn read_script_event(layout: &Layout, words: Words<'_>) -> Result<Event, Fau
         Some("set") => set(layout, rest),
         Some("cancel") => cancel(layout, rest),
         Some("resume") => resume(rest),
+        Some("release") => requested(release(layout, rest)),
+        Some("move") => requested(move_point(layout, rest)),
+        Some("close") => requested(close_named(layout, rest)),
+        Some("open") => requested(open_named(layout, rest)),
         Some("occupy") => occupy(layout, rest),
         Some("clear") => clear(layout, rest),
         Some("restart") => restart(layout, rest),
@@ -79,6 +98,13 @@ fn resume(mut words: Words<'_>) -> Result<Event, Fault>
         None => Ok(Event::Request(Command::Resume)),
         Some(_) => Err(Fault::Words),
     }
+}
+
+/// The event in which a command comes.
+fn requested(command: Result<Command, Fault>) -> Result<Event, Fault>
+    ensures { result ≡ requested command }
+{
+    Ok(Event::Request(command?))
 }
 
 fn occupy(layout: &Layout, mut words: Words<'_>) -> Result<Event, Fault>

@@ -99,7 +99,11 @@ refused number =
     else if number == 7 then outcomes.Refused7
     else if number == 8 then outcomes.Refused8
     else if number == 9 then outcomes.Refused9
-    else outcomes.Refused10
+    else if number == 10 then outcomes.Refused10
+    else if number == 11 then outcomes.Refused11
+    else if number == 12 then outcomes.Refused12
+    else if number == 13 then outcomes.Refused13
+    else outcomes.Refused14
 
 abbrev pub outcome_word : Outcome → List ℕ
 outcome_word outcomes.Accepted = codes "accepted"
@@ -113,6 +117,10 @@ outcome_word outcomes.Refused7 = codes "refused_7"
 outcome_word outcomes.Refused8 = codes "refused_8"
 outcome_word outcomes.Refused9 = codes "refused_9"
 outcome_word outcomes.Refused10 = codes "refused_10"
+outcome_word outcomes.Refused11 = codes "refused_11"
+outcome_word outcomes.Refused12 = codes "refused_12"
+outcome_word outcomes.Refused13 = codes "refused_13"
+outcome_word outcomes.Refused14 = codes "refused_14"
 
 abbrev pub outcome_place : Outcome → ℕ
 outcome_place outcomes.Accepted = 0
@@ -126,3 +134,7 @@ outcome_place outcomes.Refused7 = 7
 outcome_place outcomes.Refused8 = 8
 outcome_place outcomes.Refused9 = 9
 outcome_place outcomes.Refused10 = 10
+outcome_place outcomes.Refused11 = 11
+outcome_place outcomes.Refused12 = 12
+outcome_place outcomes.Refused13 = 13
+outcome_place outcomes.Refused14 = 14

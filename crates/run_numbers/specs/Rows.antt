@@ -38,7 +38,7 @@ reasons_in_order = reasons.User ∷ reasons.State ∷ reasons.Sequence ∷ reaso
 abbrev pub outcomes_in_order : List Outcome
 outcomes_in_order =
     outcomes.Accepted ∷ outcomes.Refused1 ∷ outcomes.Refused2 ∷ outcomes.Refused3 ∷ outcomes.Refused4 ∷ outcomes.Refused5 ∷ outcomes.Refused6 ∷ outcomes.Refused7
-    ∷ outcomes.Refused8 ∷ outcomes.Refused9 ∷ outcomes.Refused10 ∷ []
+    ∷ outcomes.Refused8 ∷ outcomes.Refused9 ∷ outcomes.Refused10 ∷ outcomes.Refused11 ∷ outcomes.Refused12 ∷ outcomes.Refused13 ∷ outcomes.Refused14 ∷ []
 
 -- what a node counts of what comes to it
 abbrev pub node_rows : List Row
@@ -53,7 +53,7 @@ abbrev pub rows : List Row
 rows = node_rows ++ (process_rows ++ SentMemory ∷ [])
 
 abbrev pub row_count : ℕ
-row_count = 46
+row_count = 50
 
 -- the place of a row among all
 abbrev pub place_of : Row → ℕ
@@ -63,14 +63,14 @@ place_of (Datagrams fate) = 2 + fate_place fate
 place_of AsksTaken = 13
 place_of (ClosingsTaken reason) = 14 + reason_place reason
 place_of (Commands outcome) = 21 + outcome_place outcome
-place_of AsksSent = 32
-place_of (ClosingsSent reason) = 33 + reason_place reason
-place_of Strangers = 40
-place_of TooOld = 41
-place_of Rounds = 42
-place_of RoundsLate = 43
-place_of Memory = 44
-place_of SentMemory = 45
+place_of AsksSent = 36
+place_of (ClosingsSent reason) = 37 + reason_place reason
+place_of Strangers = 44
+place_of TooOld = 45
+place_of Rounds = 46
+place_of RoundsLate = 47
+place_of Memory = 48
+place_of SentMemory = 49
 
 -- ---- its words
 

@@ -50,6 +50,10 @@ pub enum Outcome {
     Refused8,
     Refused9,
     Refused10,
+    Refused11,
+    Refused12,
+    Refused13,
+    Refused14,
 }
 
 impl Fate {
@@ -174,7 +178,7 @@ impl Reason {
 }
 
 impl Outcome {
-    /// A refusal by its number, 1 to 10.
+    /// A refusal by its number, 1 to 14.
     pub fn refused(number: u8) -> Outcome
         ensures { result ≡ refused number }
     {
@@ -196,8 +200,16 @@ impl Outcome {
             Outcome::Refused8
         } else if number == 9 {
             Outcome::Refused9
-        } else {
+        } else if number == 10 {
             Outcome::Refused10
+        } else if number == 11 {
+            Outcome::Refused11
+        } else if number == 12 {
+            Outcome::Refused12
+        } else if number == 13 {
+            Outcome::Refused13
+        } else {
+            Outcome::Refused14
         }
     }
 
@@ -217,13 +229,17 @@ impl Outcome {
             Outcome::Refused8 => "refused_8",
             Outcome::Refused9 => "refused_9",
             Outcome::Refused10 => "refused_10",
+            Outcome::Refused11 => "refused_11",
+            Outcome::Refused12 => "refused_12",
+            Outcome::Refused13 => "refused_13",
+            Outcome::Refused14 => "refused_14",
         }
     }
 
     /// Its place among all.
     pub(crate) fn place(self) -> usize
         ensures place { result ≡ outcome_place self }
-        ensures within { result < 11 }
+        ensures within { result < 15 }
     {
         match self {
             Outcome::Accepted => 0,
@@ -237,6 +253,10 @@ impl Outcome {
             Outcome::Refused8 => 8,
             Outcome::Refused9 => 9,
             Outcome::Refused10 => 10,
+            Outcome::Refused11 => 11,
+            Outcome::Refused12 => 12,
+            Outcome::Refused13 => 13,
+            Outcome::Refused14 => 14,
         }
     }
 }

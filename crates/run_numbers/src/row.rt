@@ -143,14 +143,14 @@ impl Row {
             Row::AsksTaken => 13,
             Row::ClosingsTaken(reason) => 14 + reason.place(),
             Row::Commands(outcome) => 21 + outcome.place(),
-            Row::AsksSent => 32,
-            Row::ClosingsSent(reason) => 33 + reason.place(),
-            Row::Strangers => 40,
-            Row::TooOld => 41,
-            Row::Rounds => 42,
-            Row::RoundsLate => 43,
-            Row::Memory => 44,
-            Row::SentMemory => 45,
+            Row::AsksSent => 36,
+            Row::ClosingsSent(reason) => 37 + reason.place(),
+            Row::Strangers => 44,
+            Row::TooOld => 45,
+            Row::Rounds => 46,
+            Row::RoundsLate => 47,
+            Row::Memory => 48,
+            Row::SentMemory => 49,
         }
     }
 }

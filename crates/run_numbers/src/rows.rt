@@ -4,7 +4,7 @@ use crate::labels::{Fate, Outcome, Reason};
 use crate::row::Row;
 
 /// The numbers that a node counts of what comes to it.
-pub const NODE_ROWS: [Row; 32] = [
+pub const NODE_ROWS: [Row; 36] = [
     Row::LinksUp,
     Row::LinksLost,
     Row::Datagrams(Fate::Taken),
@@ -37,6 +37,10 @@ pub const NODE_ROWS: [Row; 32] = [
     Row::Commands(Outcome::Refused8),
     Row::Commands(Outcome::Refused9),
     Row::Commands(Outcome::Refused10),
+    Row::Commands(Outcome::Refused11),
+    Row::Commands(Outcome::Refused12),
+    Row::Commands(Outcome::Refused13),
+    Row::Commands(Outcome::Refused14),
 ];
 
 /// The numbers that its process counts of what it calls outside.
@@ -57,7 +61,7 @@ pub const PROCESS_ROWS: [Row; 13] = [
 ];
 
 /// All numbers, each at its place.
-pub const ROWS: [Row; 46] = [
+pub const ROWS: [Row; 50] = [
     Row::LinksUp,
     Row::LinksLost,
     Row::Datagrams(Fate::Taken),
@@ -90,6 +94,10 @@ pub const ROWS: [Row; 46] = [
     Row::Commands(Outcome::Refused8),
     Row::Commands(Outcome::Refused9),
     Row::Commands(Outcome::Refused10),
+    Row::Commands(Outcome::Refused11),
+    Row::Commands(Outcome::Refused12),
+    Row::Commands(Outcome::Refused13),
+    Row::Commands(Outcome::Refused14),
     Row::AsksSent,
     Row::ClosingsSent(Reason::User),
     Row::ClosingsSent(Reason::State),

@@ -14,7 +14,7 @@ use Rattle.simulator_spec.specs.ixl_client.ClientSoFar.{LinkCall, Receives, begu
 use Rattle.simulator_spec.specs.ixl_client.Step.{commanding, hearing, ticking}
 use Rattle.simulator_spec.specs.ixl_client.declared.command.Command.{Command as ClientCommand}
 use Rattle.simulator_spec.specs.ixl_client.declared.command.Command.TheVariants as commands
-use Rattle.simulator_spec.specs.ixl_spec.Commands.{commanded_by, obeyed, refusal, route_set, unmoved_for}
+use Rattle.simulator_spec.specs.ixl_spec.Commands.{commanded_by, moved_at_once, obeyed, refusal, route_set, unmoved_for}
 use Rattle.simulator_spec.specs.ixl_spec.StepSoFar.{Node, Signal, Point, Detector, StepSoFar, along, at_route, detector_after, giving_aspect, giving_move, known_signal_after, noted, over, known_point_after, with_detector, with_known_signal, with_one, with_route, with_known_point}
 use Rattle.simulator_spec.specs.ixl_spec.Rules.{authorised, come_to, count, ended, ending_authority, freed, freed_by_cancel, freed_by_passage, freeing_by_cancel, freeing_by_passage, freeing_next, frees_cancelled, frees_next, is_move_due, is_proceed_due, is_proceeding, is_stop_due, is_withdrawn, moved, moving, moving_one, one_freed, proceeding, repeated, ruled, stopped, withdrawing, withdrawn}
 use Rattle.simulator_spec.specs.ixl_spec.State.{KnownDetectorState, IxlState, KnownSignalState, RouteState, KnownPointState, changed}
@@ -376,17 +376,32 @@ module _ (laws : LinkLaws) (client_laws : ClientLaws) (site : Site) (are : AreLi
   unmoved_clients number [] = refl
   unmoved_clients number (first ∷ others) = ap (λ l. first.client ∷ l) (unmoved_clients number others)
 
-  obeys : (command : Command) (part : StepSoFar) → On part → On (record part { ixl = obeyed command part.ixl })
+  obeys : (command : Command) (part : StepSoFar) → On part → On (record part { ixl = obeyed now command part.ixl })
   unfolding obeyed
   obeys (requests.Request route) part on = ixl_kept part (route_set route.0 part.ixl)
       (ap (λ l. known_signal_clients part.ixl ++ (l ++ detector_clients part.ixl)) (unmoved_clients route.0 part.ixl.known_points))
       (record { known_signals = on.manned.known_signals; known_points = length_map (unmoved_for route.0) part.ixl.known_points ∙ on.manned.known_points; detectors = on.manned.detectors }) on
   obeys (requests.Cancel route) part on = ixl_kept part _ refl (record { known_signals = on.manned.known_signals; known_points = on.manned.known_points; detectors = on.manned.detectors }) on
   obeys requests.Resume part on = ixl_kept part _ refl (record { known_signals = on.manned.known_signals; known_points = on.manned.known_points; detectors = on.manned.detectors }) on
+  obeys (requests.Release route) part on = ixl_kept part _ refl (record { known_signals = on.manned.known_signals; known_points = on.manned.known_points; detectors = on.manned.detectors }) on
+  obeys (requests.Move point side) part on = on
+  obeys (requests.Close named) part on = ixl_kept part _ refl (record { known_signals = on.manned.known_signals; known_points = on.manned.known_points; detectors = on.manned.detectors }) on
+  obeys (requests.Open named) part on = ixl_kept part _ refl (record { known_signals = on.manned.known_signals; known_points = on.manned.known_points; detectors = on.manned.detectors }) on
 
-  commands_kept : (why : Option Refusal) (command : Command) (part : StepSoFar) → On part → On (record part { ixl = commanded_by why command part.ixl })
+  commands_kept : (why : Option Refusal) (command : Command) (part : StepSoFar) → On part → On (record part { ixl = commanded_by now why command part.ixl })
   commands_kept None command part on = obeys command part on
   commands_kept (Some refusal) command part on = on
+
+  moves_at_once : (why : Option Refusal) (command : Command) (part : StepSoFar) → On part → On (moved_at_once now why command part)
+  unfolding moved_at_once
+  moves_at_once (Some refusal) command part on = on
+  moves_at_once None (requests.Move point side) part on = move_given point.0 side part on
+  moves_at_once None (requests.Request route) part on = on
+  moves_at_once None (requests.Cancel route) part on = on
+  moves_at_once None requests.Resume part on = on
+  moves_at_once None (requests.Release route) part on = on
+  moves_at_once None (requests.Close named) part on = on
+  moves_at_once None (requests.Open named) part on = on
 
   hears : (bytes : List ℕ) → MayHear bytes → (node : Node) (part : StepSoFar) → On part → On (node_hearing now table bytes node part)
   unfolding node_hearing
@@ -404,7 +419,9 @@ module _ (laws : LinkLaws) (client_laws : ClientLaws) (site : Site) (are : AreLi
   unfolding given
   given_kept key Tick may part on = on
   given_kept key (Datagram bytes) may part on = one_kept On (addressed (reading key bytes) part.ixl) (node_hearing now table bytes) part (λ node found. hears bytes may node part on) on
-  given_kept key (Commands command) may part on = commands_kept (refusal now table command part.ixl) command part on
+  given_kept key (Commands command) may part on =
+      let why = refusal now table command part.ixl
+      in moves_at_once why command (record part { ixl = commanded_by now why command part.ixl }) (commands_kept why command part on)
 
   ticked_kept : (input : Input) (part : StepSoFar) → On part → On (ticked now input part)
   unfolding ticked

@@ -23,4 +23,5 @@ pub mod PointsAgain
 pub mod PointsDrive
 pub mod DetectorsAgain
 pub mod Events
+pub mod WorkedRequest
 pub mod WorkedLives

@@ -3,7 +3,7 @@ use Rattle.std.specs.Prelude.{◌≡◌, ◌≢◌, ◌⊎◌, ℕ, false, List,
 use Rattle.std.specs.FinSet.{contains}
 use Rattle.std.specs.List.{Contains}
 use Rattle.simulator_spec.specs.sci_telegram.declared.message.Side.{Side}
-use Rattle.simulator_spec.specs.ixl_spec.Due.{At, HoldsPoint, IsClear, IsRouteOf, Known}
+use Rattle.simulator_spec.specs.ixl_spec.Due.{At, HoldsPoint, IsClear, IsRouteOf, Known, LiesInClosed}
 use Rattle.simulator_spec.specs.ixl_spec.State.{IxlState, RouteState}
 use Rattle.simulator_spec.specs.ixl_spec.Table.{Need, Row, Table}
 use Rattle.simulator_spec.specs.ixl_spec.View.{was_authorised}
@@ -28,10 +28,11 @@ pub record MayCome (table : Table) (ixl : IxlState) (point : ℕ) : Type 0 where
   pub clear : At table.point_sections point (IsClear table ixl)
   pub unheld : IsHeldBehindAspect table ixl point → ⊥
 
--- It may come for this route: it got no move in this connection since the route was set.
+-- It may come for this route: it got no move in this connection since the route was set, and lies in no closed section.
 pub record IsFreeFor (table : Table) (ixl : IxlState) (number point : ℕ) : Type 0 where
   pub may : MayCome table ixl point
   pub unmoved : At ixl.known_points point (λ known. contains known.moved number ≡ false)
+  pub unclosed : LiesInClosed table ixl point → ⊥
 
 -- A point that a route requires is known at its side, or on its way: the interlocking awaits the report of its move.
 abbrev pub IsKnownOrOnItsWay : Need → WorldState → Type 0

@@ -2,7 +2,7 @@
 use Rattle.std.specs.Prelude.{◌≡◌, ◌⊎◌, ◌<◌, ℕ, false, IsTrue}
 use Rattle.std.specs.FinSet.{contains}
 use Rattle.std.specs.List.{Contains}
-use Rattle.simulator_spec.specs.ixl_spec.Due.{At, IsClear}
+use Rattle.simulator_spec.specs.ixl_spec.Due.{At, IsClear, LiesInClosed}
 use Rattle.simulator_spec.specs.ixl_spec.State.{RouteState}
 use Rattle.simulator_spec.specs.ixl_spec.Table.{Need, Row, Table}
 use Rattle.simulator_spec.specs.ixl_spec.View.{freed_sections, was_authorised}
@@ -18,8 +18,9 @@ HoldsWithAuthority need route = IsTrue (was_authorised route.phase) × (freed_se
 abbrev pub HasClearPoints : Table → Row → WorldState → Type 0
 HasClearPoints table row world = (need : Need) → Contains row.needs need → IsKnownOrOnItsWay need world ⊎ At table.point_sections need.point (IsClear table world.interlocking.ixl)
 
--- Each is so, and where its section is clear it got no move in this connection since the route was set.
+-- Each is so, and where its section is clear it isn't closed, and the point got no move in this connection since the route was set.
 abbrev pub HasClearPointsYet : Table → ℕ → Row → WorldState → Type 0
 HasClearPointsYet table number row world = (need : Need) → Contains row.needs need
     → IsKnownOrOnItsWay need world
-    ⊎ (At table.point_sections need.point (IsClear table world.interlocking.ixl) × At world.interlocking.ixl.known_points need.point (λ known. contains known.moved number ≡ false))
+    ⊎ (At table.point_sections need.point (IsClear table world.interlocking.ixl) × At world.interlocking.ixl.known_points need.point (λ known. contains known.moved number ≡ false)
+    × (LiesInClosed table world.interlocking.ixl need.point → ⊥))

@@ -294,7 +294,8 @@ pub(crate) fn driven_points_of_a_route_are_known()
 
 /// Set routes come in time: a route is set after a good round from the 1565th on (`StaysSet`), and each point that it requires is known at its side,
 /// or its move is out, or it may come for the route (`IsFreeFor`): its own section is clear, no route holds it that is withdrawn or whose
-/// authority has ended, and it got no move in this connection since the route was set. Then its points are known at their sides within 52
+/// authority has ended, its section isn't closed, and it got no move in this connection since the route was set. Then its points are known at
+/// their sides within 52
 /// rounds, 520 ms, and it has its aspect after these. So its lamp shows the aspect after the 53rd round, and goes on to. The premises are
 /// else those of `routes_come` and `moves_that_are_out_are_reported`.
 pub(crate) fn set_routes_come_in_time()
@@ -377,7 +378,7 @@ pub fn accepted_routes_come_over_clear_sections()
 }
 
 /// So it is of each set route: after a good round from the 1565th on it is set, and each point that it requires is known at its side, or its move is
-/// out, or its own section is clear and it got no move in this connection since the route was set. The premises are else those of
+/// out, or its own section is clear and isn't closed and it got no move in this connection since the route was set. The premises are else those of
 /// `set_routes_come_in_time`.
 pub fn set_routes_come_over_clear_sections()
     ensures { (between : List Event) (later more still : List (List Event)) (flowing : Flowing) (number : ℕ) (row : Row)

@@ -170,7 +170,7 @@ impl Watch {
                 }
             }
             Command::Cancel(route) => self.cancelled |= bit(route.0),
-            Command::Resume => {}
+            _ => {}
         }
     }
 

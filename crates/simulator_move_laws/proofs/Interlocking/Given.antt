@@ -1,6 +1,6 @@
 -- What an input leaves: a datagram at one node, or a command.
-use Rattle.std.proofs.Common.{◌≡◌, ℕ, Bool, true, false, not, List, map, refl, sym, ap, subst, ◌∙◌}
-use Rattle.std.specs.Prelude.{length, Option, Some, None, option_map, slice_get}
+use Rattle.std.proofs.Common.{◌≡◌, ℕ, suc, Bool, true, false, not, if◌then◌else◌, List, [], ◌∷◌, map, refl, sym, ap, subst, ◌∙◌}
+use Rattle.std.specs.Prelude.{◌&&◌, ◌||◌, length, Option, Some, None, option_map, slice_get}
 use Rattle.std.proofs.lemmas.Bool.{true≢false}
 use Rattle.std.proofs.lemmas.Option.{slice_get-map}
 use Rattle.ixl_spec.specs.rasta_pdu.declared.key.Key.{Key}
@@ -9,12 +9,18 @@ use Rattle.ixl_spec.specs.ixl_client.Made.{ActsOn, MakesAfterReceipt}
 use Rattle.ixl_spec.specs.ixl_client.ClientSoFar as client
 use Rattle.ixl_spec.specs.ixl_client.ClientSoFar.{LinkCall}
 use Rattle.ixl_spec.specs.ixl_client.Step.{hearing}
-use Rattle.ixl_spec.specs.Commands.{commanded_by, conflict_told, locking_refusal, obeyed, refusal, refused_where, request_refusal, route_set as set_here, set_anew, unmoved_for}
-use Rattle.ixl_spec.specs.StepSoFar.{Detector, Node, StepSoFar, Point, Signal, with_one}
+use Rattle.std.specs.Option.{option_or}
+use Rattle.ixl_spec.specs.closings.declared.thing.Thing.TheVariants.{Point as PointThing}
+use Rattle.ixl_spec.specs.closings.Closed.{is_closed}
+use Rattle.ixl_spec.specs.layout.declared.ids.PointId.{PointId}
+use Rattle.ixl_spec.specs.sci_telegram.declared.message.Side.{Side as TelegramSide}
+use Rattle.ixl_spec.specs.Operations.{first_holding, first_route, has_thing}
+use Rattle.ixl_spec.specs.Commands.{closed_refusal, commanded_by, conflict_told, held_told, locking_refusal, moved_at_once, moving_refusal, obeyed, own_section_refusal, refusal, refused_where, released_at, request_refusal, route_set as set_here, set_anew, unmoved_for}
+use Rattle.ixl_spec.specs.StepSoFar.{Detector, Node, StepSoFar, Point, Signal, giving_move, with_one}
 use Rattle.ixl_spec.specs.State.{IxlState, RouteState, KnownPointState}
 use Rattle.ixl_spec.specs.Step.{Commands, Datagram, Input, Tick, addressed, given as given_input, node_hearing}
 use Rattle.ixl_spec.specs.Table.{Row, Table as Rows}
-use Rattle.ixl_spec.specs.View.{first_blocking, is_holding, is_set}
+use Rattle.ixl_spec.specs.View.{first_blocking, holds_point, is_holding, is_point_available, is_set, some_route, was_authorised}
 use Rattle.ixl_spec.specs.declared.command.Command.{Command}
 use Rattle.ixl_spec.specs.declared.command.Command.TheVariants as commands
 use Rattle.ixl_spec.specs.declared.command.Refusal.{Refusal}
@@ -36,7 +42,7 @@ use Rattle.simulator_move_laws.specs.Sees.{Given}
 use Rattle.simulator_move_laws.proofs.Interlocking.Blocks.{unblocked}
 use Rattle.simulator_move_laws.proofs.Interlocking.Nodes.{known_signal_hears}
 use Rattle.simulator_move_laws.proofs.Interlocking.Routes.{route_on, route_same}
-use Rattle.simulator_move_laws.proofs.Interlocking.RulesKept.{one_move}
+use Rattle.simulator_move_laws.proofs.Interlocking.RulesKept.{moves_point, one_move}
 use Rattle.simulator_move_laws.proofs.Interlocking.KnownPointNodes.{known_point_hears}
 use Rattle.simulator_move_laws.proofs.Interlocking.UnseenWatches.{detector_hears}
 
@@ -47,6 +53,31 @@ not_refused false told otherwise is = (refl, is)
 no_conflict : (blocking : Option ℕ) (otherwise : Option Refusal) → conflict_told blocking otherwise ≡ None → blocking ≡ None
 no_conflict None otherwise is = refl
 no_conflict (Some blocking) otherwise is = absurd (cc (is))
+
+no_first : (one other : Option Refusal) → option_or one other ≡ None → one ≡ None
+no_first None other is = refl
+no_first (Some one) other is = absurd (cc (is))
+
+no_holder : (holder : Option ℕ) (otherwise : Option Refusal) → held_told holder otherwise ≡ None → (holder ≡ None) × (otherwise ≡ None)
+no_holder None otherwise is = (refl, is)
+no_holder (Some holder) otherwise is = absurd (cc (is))
+
+stands_so : (b : Bool) → not b ≡ false → b ≡ true
+stands_so true is = refl
+stands_so false is = absurd (true≢false is)
+
+-- a point that no set route holds is held by none with authority
+none_with_authority : (point number : ℕ) (rows : List Row) (routes : List RouteState) → first_route (λ number row route. holds_point row route.phase point) number rows routes ≡ None →
+    some_route (λ number row route. was_authorised route.phase && holds_point row route.phase point) number rows routes ≡ false
+none_with_authority point number [] routes none = refl
+none_with_authority point number (row ∷ rows) [] none = refl
+none_with_authority point number (row ∷ rows) (route ∷ routes) none = by_held (holds_point row route.phase point) (was_authorised route.phase) none (none_with_authority point (suc number) rows routes) where
+  by_held : (held authorised : Bool) → (if held then Some number else first_route (λ number row route. holds_point row route.phase point) (suc number) rows routes) ≡ None →
+      (first_route (λ number row route. holds_point row route.phase point) (suc number) rows routes ≡ None → some_route (λ number row route. was_authorised route.phase && holds_point row route.phase point) (suc number) rows routes ≡ false) →
+      (authorised && held) || some_route (λ number row route. was_authorised route.phase && holds_point row route.phase point) (suc number) rows routes ≡ false
+  by_held true authorised told behind = absurd (cc (told))
+  by_held false true told behind = behind told
+  by_held false false told behind = behind told
 
 free_at : (p : RoutePhase) → is_set p ≡ false → p ≡ phase.Free
 free_at phase.Free is = refl
@@ -113,8 +144,8 @@ module _ (now : ℕ) (input : Input) (rows : Rows) (ixl : IxlState) (given : Giv
   sets_route number part row route has is none (new, during) =
       let holds = not_refused (is_holding now part.ixl) refusals.Holding _ none
       in let resumed = not_refused (not part.ixl.resumed) refusals.NotResumed _ holds.1
-      in let free = not_refused (is_set route.phase) refusals.AlreadySet (locking_refusal now rows part.ixl number row) resumed.1
-      in let blocked = no_conflict (first_blocking number row 0 rows.rows part.ixl.routes) _ free.1
+      in let free = not_refused (is_set route.phase) refusals.AlreadySet (option_or (locking_refusal now rows part.ixl number row) (closed_refusal rows part.ixl number row)) resumed.1
+      in let blocked = no_conflict (first_blocking number row 0 rows.rows part.ixl.routes) _ (no_first (locking_refusal now rows part.ixl number row) (closed_refusal rows part.ixl number row) free.1)
       in let holding = during.holding ∙ ap (λ created. is_holding now (record ixl { created = created })) (sym during.created) ∙ holds.0
       in let may : MaySet (machine_table rows) new number = record {
         resumed = holding;
@@ -136,7 +167,7 @@ module _ (now : ℕ) (input : Input) (rows : Rows) (ixl : IxlState) (given : Giv
         },
       )
 
-  obeys : (command : Command) (part : StepSoFar) → refusal now rows command part.ixl ≡ None → On part → On (record part { ixl = obeyed command part.ixl })
+  obeys : (command : Command) (part : StepSoFar) → refusal now rows command part.ixl ≡ None → On part → On (record part { ixl = obeyed now command part.ixl })
   unfolding refusal obeyed
   obeys (commands.Request route) part none on = by_route (slice_get rows.rows route.0) refl (slice_get part.ixl.routes route.0) refl none where
     by_route : (row : Option Row) → slice_get rows.rows route.0 ≡ row → (state : Option RouteState) → slice_get part.ixl.routes route.0 ≡ state → request_refusal now rows part.ixl route.0 row state ≡ None →
@@ -158,6 +189,63 @@ module _ (now : ℕ) (input : Input) (rows : Rows) (ixl : IxlState) (given : Giv
       moves = during.moves;
     },
   )
+  obeys (commands.Release route) part none on = route_same now input (machine_table rows) ixl given machine onward route.0 (released_at now) part (λ other at. refl) on
+  obeys (commands.Move point side) part none on = on
+  obeys (commands.Close named) part none (new, during) = (
+    new,
+    record {
+      signals = during.signals;
+      points = during.points;
+      routes = during.routes;
+      count = during.count;
+      created = during.created;
+      holding = during.holding;
+      frozen = during.frozen;
+      moves = during.moves;
+    },
+  )
+  obeys (commands.Open named) part none (new, during) = (
+    new,
+    record {
+      signals = during.signals;
+      points = during.points;
+      routes = during.routes;
+      count = during.count;
+      created = during.created;
+      holding = during.holding;
+      frozen = during.frozen;
+      moves = during.moves;
+    },
+  )
+
+  -- a move that isn't refused is given to a point that is available, and that no set route holds
+  moving : (point : PointId) (side : TelegramSide) (part : StepSoFar) → moving_refusal rows part.ixl point side ≡ None → On part → On (giving_move now point.0 side part)
+  unfolding moving_refusal
+  moving point side part none on =
+      let own : Option Refusal = own_section_refusal rows part.ixl point.0
+      in let last : Option Refusal = refused_where (not (is_point_available part.ixl point.0)) (refusals.PointUnavailable point) own
+      in let held : Option Refusal = held_told (first_holding rows part.ixl point.0) last
+      in let opened = not_refused (is_closed part.ixl.closed (PointThing point side)) (refusals.Closed (PointThing point side)) held none
+      in let unheld = no_holder (first_holding rows part.ixl point.0) last opened.1
+      in let near = not_refused (not (is_point_available part.ixl point.0)) (refusals.PointUnavailable point) own unheld.1
+      in moves_point now input rows ixl given machine far chain_signal chain_point onward acts receipt at_first point.0 side part (stands_so _ near.0) (none_with_authority point.0 0 rows.rows part.ixl.routes unheld.0) on
+
+  moves : (cause : Option Refusal) (command : Command) (part : StepSoFar) → refusal now rows command part.ixl ≡ cause → On (record part { ixl = commanded_by now cause command part.ixl }) →
+      On (moved_at_once now cause command (record part { ixl = commanded_by now cause command part.ixl }))
+  unfolding refusal moved_at_once obeyed
+  moves (Some refused) command part is on = on
+  moves None (commands.Move point side) part is on =
+      let resumed : Option Refusal = refused_where (not part.ixl.resumed) refusals.NotResumed (moving_refusal rows part.ixl point side)
+      in let holding : Option Refusal = refused_where (is_holding now part.ixl) refusals.Holding resumed
+      in let there = not_refused (not (has_thing rows part.ixl (PointThing point side))) refusals.NoSuchThing holding is
+      in let over = not_refused (is_holding now part.ixl) refusals.Holding resumed there.1
+      in moving point side part (not_refused (not part.ixl.resumed) refusals.NotResumed (moving_refusal rows part.ixl point side) over.1).1 on
+  moves None (commands.Request route) part is on = on
+  moves None (commands.Cancel route) part is on = on
+  moves None commands.Resume part is on = on
+  moves None (commands.Release route) part is on = on
+  moves None (commands.Close named) part is on = on
+  moves None (commands.Open named) part is on = on
 
   pub inputs_kept : (key : Key) (part : StepSoFar) → On part → On (given_input now rows key input part)
   unfolding given_input
@@ -166,7 +254,7 @@ module _ (now : ℕ) (input : Input) (rows : Rows) (ixl : IxlState) (given : Giv
     heard bytes from None = on
     heard bytes from (Some node) = node_hears bytes node part from on
 
-    told : (command : Command) (refused : Option Refusal) → refusal now rows command part.ixl ≡ refused → On (record part { ixl = commanded_by refused command part.ixl })
+    told : (command : Command) (refused : Option Refusal) → refusal now rows command part.ixl ≡ refused → On (record part { ixl = commanded_by now refused command part.ixl })
     told command None none = obeys command part none on
     told command (Some why) none = (
       on.0,
@@ -185,4 +273,4 @@ module _ (now : ℕ) (input : Input) (rows : Rows) (ixl : IxlState) (given : Giv
     by_input : (which : Input) → input ≡ which → On (given_input now rows key which part)
     by_input Tick is = on
     by_input (Datagram bytes) is = heard bytes is (addressed (reading key bytes) part.ixl)
-    by_input (Commands command) is = told command (refusal now rows command part.ixl) refl
+    by_input (Commands command) is = moves (refusal now rows command part.ixl) command part refl (told command (refusal now rows command part.ixl) refl)

@@ -12,6 +12,8 @@ use Rattle.ixl_spec.specs.ixl_client.Made.{ActsOn, MakesAfterReceipt}
 use Rattle.ixl_spec.specs.ixl_client.ClientSoFar as client
 use Rattle.ixl_spec.specs.ixl_client.Step.{hearing}
 use Rattle.ixl_spec.specs.StepSoFar.{StepSoFar, Signal, Point, giving_aspect, giving_move, with_route}
+use Rattle.ixl_spec.specs.Operations.{lies_in_closed}
+use Rattle.ixl_spec.specs.sci_telegram.declared.message.Side.{Side as TelegramSide}
 use Rattle.ixl_spec.specs.Rules.{authorised, come_to, count, ended, ending_authority, freed, freed_by_cancel, freed_by_passage, freeing_by_cancel, freeing_by_passage, freeing_next, frees_cancelled, frees_next, is_move_due, is_over_clear, is_proceed_due, is_proceeding, is_stop_due, is_unmoved, is_waiting, is_withdrawn, moved, moving, moving_one, one_freed, proceeding, repeated, ruled, stopped, withdrawing, withdrawn}
 use Rattle.ixl_spec.specs.State.{IxlState, KnownSignalState, RouteState, KnownPointState}
 use Rattle.ixl_spec.specs.Step.{Input}
@@ -283,6 +285,24 @@ module _ (now : ℕ) (input : Input) (rows : Rows) (ixl : IxlState) (given : Giv
         held_one needs route holds all some = all_shown (λ (need : Need). need.point == point && is_side_seen (side_seen need.side) side) (λ (need : Need). nat_lt 0 need.until) (λ (need : Need). need.point == point && holds_need route.phase need) needs
             (λ need one until. true_both (need.point == point) (holds_need route.phase need) (both_true (need.point == point) (is_side_seen (side_seen need.side) side) one).0 (holds need until)) all some
 
+  -- a point that is available, and that no route with authority holds, is given a move
+  pub moves_point : (place : ℕ) (side : TelegramSide) (part : StepSoFar) → is_point_available part.ixl place ≡ true → is_held_with_authority rows part.ixl place ≡ false → On part → On (giving_move now place side part)
+  moves_point place side part available unheld (new, during) =
+      let known_point = at_true part.ixl.known_points place (λ (known_point : KnownPointState). is_available known_point.client.stage) available
+      in let here = known_point_here part new place known_point.0 during known_point.1
+      in let completed = is_ready_where_available known_point.0.client.stage known_point.2
+      in let up = up_where_inside (is_outside known_point.0.client.stage) (is_up known_point.0.client.link.phase) here.fits.client.steady.outside (ap is_outside completed)
+      in let opened = up_is_open known_point.0.client.link.phase up
+      in let client = here.fits.place ∙ inside_up now known_point.0.client.link (here.alive opened) up
+      in move_given_on now input (machine_table rows) ixl given machine far chain_point onward acts receipt place side part new known_point.0 during known_point.1 completed
+      (one_move (machine_table rows) new (GivesMove place) (client, none_holds part new place during (resumed known_point.0 here.held opened) unheld))
+    where
+      resumed : (known_point : KnownPointState) → (is_holding now ixl ≡ true → IsClosedSince ixl.created known_point.client.link) → is_open known_point.client.link.phase ≡ true → is_holding now ixl ≡ false
+      resumed known_point held opened = cases (is_holding now ixl) refl where
+        cases : (b : Bool) → is_holding now ixl ≡ b → is_holding now ixl ≡ false
+        cases true h = absurd (true≢false (sym opened ∙ ap is_open (held h).closed))
+        cases false h = h
+
   moves_one : (number : ℕ) (need : Need) (part : StepSoFar) → On part → On (moving_one now rows number need part)
   unfolding moving_one
   moves_one number need part (new, during) = at_kept On rows number _ part each (new, during) where
@@ -291,25 +311,13 @@ module _ (now : ℕ) (input : Input) (rows : Rows) (ixl : IxlState) (given : Giv
     each row route has is = by_test On (is_move_due rows part.ixl number route need) (giving_move now need.point need.side part) part due (λ e. (new, during)) where
       due : is_move_due rows part.ixl number route need ≡ true → On (giving_move now need.point need.side part)
       due e =
-          let six = both_true (is_waiting route.phase && not route.cancelled && is_point_available part.ixl need.point && not (is_known part.ixl need.point need.side) && is_over_clear rows part.ixl need.point && not (is_held_with_authority rows part.ixl need.point)) (is_unmoved part.ixl need.point number) e
+          let seven = both_true (is_waiting route.phase && not route.cancelled && is_point_available part.ixl need.point && not (is_known part.ixl need.point need.side) && is_over_clear rows part.ixl need.point && not (is_held_with_authority rows part.ixl need.point) && is_unmoved part.ixl need.point number) (not (lies_in_closed rows part.ixl need.point)) e
+          in let six = both_true (is_waiting route.phase && not route.cancelled && is_point_available part.ixl need.point && not (is_known part.ixl need.point need.side) && is_over_clear rows part.ixl need.point && not (is_held_with_authority rows part.ixl need.point)) (is_unmoved part.ixl need.point number) seven.0
           in let five = both_true (is_waiting route.phase && not route.cancelled && is_point_available part.ixl need.point && not (is_known part.ixl need.point need.side) && is_over_clear rows part.ixl need.point) (not (is_held_with_authority rows part.ixl need.point)) six.0
           in let four = both_true (is_waiting route.phase && not route.cancelled && is_point_available part.ixl need.point && not (is_known part.ixl need.point need.side)) (is_over_clear rows part.ixl need.point) five.0
           in let three = both_true (is_waiting route.phase && not route.cancelled && is_point_available part.ixl need.point) (not (is_known part.ixl need.point need.side)) four.0
           in let two = both_true (is_waiting route.phase && not route.cancelled) (is_point_available part.ixl need.point) three.0
-          in let known_point = at_true part.ixl.known_points need.point (λ (known_point : KnownPointState). is_available known_point.client.stage) two.1
-          in let here = known_point_here part new need.point known_point.0 during known_point.1
-          in let completed = is_ready_where_available known_point.0.client.stage known_point.2
-          in let up = up_where_inside (is_outside known_point.0.client.stage) (is_up known_point.0.client.link.phase) here.fits.client.steady.outside (ap is_outside completed)
-          in let opened = up_is_open known_point.0.client.link.phase up
-          in let client = here.fits.place ∙ inside_up now known_point.0.client.link (here.alive opened) up
-          in move_given_on now input (machine_table rows) ixl given machine far chain_point onward acts receipt need.point need.side part new known_point.0 during known_point.1 completed
-          (one_move (machine_table rows) new (GivesMove need.point) (client, none_holds part new need.point during (resumed known_point.0 here.held opened) (not_true (is_held_with_authority rows part.ixl need.point) five.1)))
-        where
-          resumed : (known_point : KnownPointState) → (is_holding now ixl ≡ true → IsClosedSince ixl.created known_point.client.link) → is_open known_point.client.link.phase ≡ true → is_holding now ixl ≡ false
-          resumed known_point held opened = cases (is_holding now ixl) refl where
-            cases : (b : Bool) → is_holding now ixl ≡ b → is_holding now ixl ≡ false
-            cases true h = absurd (true≢false (sym opened ∙ ap is_open (held h).closed))
-            cases false h = h
+          in moves_point need.point need.side part two.1 (not_true (is_held_with_authority rows part.ixl need.point) five.1) (new, during)
 
   moves_all : (number : ℕ) (part : StepSoFar) → On part → On (moving now rows number part)
   unfolding moving

@@ -1,5 +1,7 @@
 pub mod HostCalls
 pub mod ClientCalls
+pub mod MovedAtOnce
+pub mod ClosedKept
 pub mod Steps
 pub mod EndCalls
 pub mod NodeCalls

@@ -1,6 +1,7 @@
 pub mod NothingDueProceeds
 pub mod NothingDueMoves
 pub mod DueCourse
+pub mod NeedsUsed
 pub mod DueAccepted
 pub mod NothingDueStops
 pub mod DueRoutes

@@ -1,3 +1,4 @@
+use Rattle.std.specs.Prelude.{None}
 use Rattle.replay_lines.proofs.ReadAgain.{line-says}
 use Rattle.replay_lines.proofs.round_trip.written_events_are_read_again.Goals as goal
 
@@ -21,4 +22,8 @@ returns c site once station event values line e =
       point_words = c.names_are_words.ensures.points site station;
       route_words = c.names_are_words.ensures.routes site station;
       unknown = c.names_are_words.ensures.unknown site station;
+      no_point = c.names_are_words.ensures.no_point site station;
+      wholes = λ n name is none. (c.a_name_names_what_has_it.ensures site n name None once).1 (record { name = is; at = none });
+      whole_words = c.names_are_words.ensures.things site station;
+      nothing = c.names_are_words.ensures.nothing site station;
     }) event values line e

@@ -2,13 +2,14 @@
 use Rattle.simulator_recovery.proofs.Words.Basics.{◌≡◌, ℕ, Bool, true, false, ◌&&◌, List, ◌++◌, map, Option, Some, None, slice_get, refl, inl, false≢true, not}
 use Rattle.simulator_recovery.proofs.Words.Links.{OutboxState, reading, Key}
 use Rattle.simulator_recovery.proofs.Words.Controllers.{Aspect, Side}
-use Rattle.simulator_recovery.proofs.Words.Interlockings.{ClientState, is_ready, ClientSoFar, LinkCall, begun, commanding, hearing, ticking, commanded_by, obeyed, refusal, set_anew, authorised, come_to, count, is_move_due, is_proceed_due, is_proceeding, is_stop_due, is_waiting, moving_one, proceeding, ruled, withdrawing, IxlState, KnownSignalState, RouteState, changed, Commands, Datagram, Input, Tick, addressed, all_clocked, clocked_known_signal, detector_hearing, detector_ticking, given, known_point_hearing, known_point_ticking, known_signal_hearing, known_signal_ticking, looking, looks, node_hearing, occupied_heard, stepped, ticked, watching, Detector, Node, Point, Signal, StepSoFar, detector_after, giving_aspect, giving_move, known_signal_after, noted, with_detector, with_one, with_route, Need, Row, Table, at, all_clear, all_known, is_at_known_stop, is_known_signal_at_stop, is_signal_ready, Command, Refusal, Phase}
+use Rattle.simulator_recovery.proofs.Words.Interlockings.{ClientState, is_ready, ClientSoFar, LinkCall, begun, commanding, hearing, ticking, commanded_by, obeyed, refusal, released_at, set_anew, authorised, come_to, count, is_move_due, is_proceed_due, is_proceeding, is_stop_due, is_waiting, moving_one, proceeding, ruled, withdrawing, IxlState, KnownSignalState, RouteState, changed, Commands, Datagram, Input, Tick, addressed, all_clocked, clocked_known_signal, detector_hearing, detector_ticking, given, known_point_hearing, known_point_ticking, known_signal_hearing, known_signal_ticking, looking, looks, node_hearing, occupied_heard, stepped, ticked, watching, Detector, Node, Point, Signal, StepSoFar, detector_after, giving_aspect, giving_move, known_signal_after, noted, with_detector, with_one, with_route, Need, Row, Table, at, all_clear, all_known, is_at_known_stop, is_known_signal_at_stop, is_signal_ready, Command, Refusal, Phase}
 use Rattle.simulator_recovery.proofs.Words.Stations.{RouteId}
 use Rattle.simulator_spec.specs.ixl_client.declared.command.Command.{Command as ClientCommand}
 use Rattle.simulator_recovery.proofs.Lemmas.Ground.DueShapes.{along_keeps, either_keeps, one_keeps, over_keeps, ruled_keeps, there_keeps, ticked_keeps, where_keeps}
 use Rattle.simulator_recovery.proofs.Lemmas.Ground.IxlSoFar.{test_of}
 use Rattle.simulator_recovery.proofs.Lemmas.Ground.SignalParts.{AtRoute, IsQuiet, is_ready_there, is_waiting_there, new_signal, none_passes, not_cancelled_there, at_keeps, ending_keeps, next_keeps, cancel_keeps, watching_keeps, looking_keeps}
 use Rattle.simulator_recovery.proofs.Lemmas.Ground.DueTests.{first_true}
+use Rattle.simulator_recovery.proofs.Lemmas.Ground.MovedAtOnce.{moved_keeps}
 
 -- ---- what a part of a step does
 
@@ -130,13 +131,17 @@ module _ (now : ℕ) (table : Table) (P : List RouteState → List KnownSignalSt
 
   -- ---- the input
 
-  obeyed_held : (command : Command) (part : StepSoFar) → refusal now table command part.ixl ≡ None → Held part → Held (record part { ixl = obeyed command part.ixl })
+  obeyed_held : (command : Command) (part : StepSoFar) → refusal now table command part.ixl ≡ None → Held part → Held (record part { ixl = obeyed now command part.ixl })
   unfolding obeyed
   obeyed_held (Command.Request route) part none all = keep.sets route part.ixl part.calls none all
   obeyed_held (Command.Cancel route) part none all = keep.quiet route.0 (λ old. record old { cancelled = true }) part.ixl.routes part.ixl.known_signals part.calls (λ one e. inl (refl, λ cancelled. refl)) all
   obeyed_held Command.Resume part none all = all
+  obeyed_held (Command.Release route) part none all = keep.quiet route.0 (released_at now) part.ixl.routes part.ixl.known_signals part.calls (λ one e. inl (refl, λ cancelled. cancelled)) all
+  obeyed_held (Command.Move point side) part none all = all
+  obeyed_held (Command.Close named) part none all = all
+  obeyed_held (Command.Open named) part none all = all
 
-  commanded_held : (cause : Option Refusal) (command : Command) (part : StepSoFar) → refusal now table command part.ixl ≡ cause → Held part → Held (record part { ixl = commanded_by cause command part.ixl })
+  commanded_held : (cause : Option Refusal) (command : Command) (part : StepSoFar) → refusal now table command part.ixl ≡ cause → Held part → Held (record part { ixl = commanded_by now cause command part.ixl })
   commanded_held None command part is all = obeyed_held command part is all
   commanded_held (Some cause) command part is all = all
 
@@ -148,7 +153,8 @@ module _ (now : ℕ) (table : Table) (P : List RouteState → List KnownSignalSt
   unfolding given
   given_held key Tick part all = all
   given_held key (Datagram bytes) part all = heard_at bytes (addressed (reading key bytes) part.ixl) part all
-  given_held key (Commands command) part all = commanded_held (refusal now table command part.ixl) command part refl all
+  given_held key (Commands command) part all =
+      moved_keeps Held now table (λ point side part available. move_held point side part) (refusal now table command part.ixl) command part refl (commanded_held (refusal now table command part.ixl) command part refl all)
 
   clocked_held : (part : StepSoFar) → Held part → Held (record part { ixl = all_clocked now part.ixl })
   unfolding all_clocked

@@ -8,6 +8,7 @@ use Rattle.simulator_recovery.proofs.Words.Recovery.{EachClient}
 use Rattle.simulator_spec.specs.ixl_client.declared.command.Command.{Command as ClientCommand}
 use Rattle.simulator_recovery.proofs.Lemmas.Ground.DueShapes.{along_keeps, looking_turns, one_keeps, over_keeps, route_holds, ticked_keeps, turned_keeps, watching_turns, where_both}
 use Rattle.simulator_recovery.proofs.Lemmas.Ground.DueTests.{either}
+use Rattle.simulator_recovery.proofs.Lemmas.Ground.MovedAtOnce.{moved_keeps}
 
 -- ---- lists of which one is changed
 
@@ -154,7 +155,7 @@ module _ (now : ℕ) (P0 P1 : Node → ClientState → Type 0) (keep : ClientsKe
 
     -- ---- the input
 
-    obeyed_kept : (command : Command) (ixl : IxlState) → EachClient P0 ixl → EachClient P0 (obeyed command ixl)
+    obeyed_kept : (command : Command) (ixl : IxlState) → EachClient P0 ixl → EachClient P0 (obeyed now command ixl)
     unfolding obeyed
     obeyed_kept (Command.Request route) ixl all = record {
       signals = all.signals;
@@ -163,8 +164,12 @@ module _ (now : ℕ) (P0 P1 : Node → ClientState → Type 0) (keep : ClientsKe
     }
     obeyed_kept (Command.Cancel route) ixl all = record { signals = all.signals; points = all.points; detectors = all.detectors }
     obeyed_kept Command.Resume ixl all = record { signals = all.signals; points = all.points; detectors = all.detectors }
+    obeyed_kept (Command.Release route) ixl all = record { signals = all.signals; points = all.points; detectors = all.detectors }
+    obeyed_kept (Command.Move point side) ixl all = all
+    obeyed_kept (Command.Close named) ixl all = record { signals = all.signals; points = all.points; detectors = all.detectors }
+    obeyed_kept (Command.Open named) ixl all = record { signals = all.signals; points = all.points; detectors = all.detectors }
 
-    commanded_kept : (cause : Option Refusal) (command : Command) (ixl : IxlState) → EachClient P0 ixl → EachClient P0 (commanded_by cause command ixl)
+    commanded_kept : (cause : Option Refusal) (command : Command) (ixl : IxlState) → EachClient P0 ixl → EachClient P0 (commanded_by now cause command ixl)
     commanded_kept None command ixl all = obeyed_kept command ixl all
     commanded_kept (Some cause) command ixl all = all
 
@@ -176,7 +181,9 @@ module _ (now : ℕ) (P0 P1 : Node → ClientState → Type 0) (keep : ClientsKe
     unfolding given
     given_kept key Tick part all = weaker_all part.ixl all
     given_kept key (Datagram bytes) part all = heard_at bytes (addressed (reading key bytes) part.ixl) part all
-    given_kept key (Commands command) part all = commanded_kept (refusal now table command part.ixl) command part.ixl (weaker_all part.ixl all)
+    given_kept key (Commands command) part all =
+        moved_keeps Kept now table (λ point side part available. move_kept point side part) (refusal now table command part.ixl) command part refl
+        (commanded_kept (refusal now table command part.ixl) command part.ixl (weaker_all part.ixl all))
 
     clocked_kept : (ixl : IxlState) → EachClient P0 ixl → EachClient P1 (all_clocked now ixl)
     unfolding all_clocked

@@ -2,11 +2,12 @@
 use Rattle.simulator_recovery.proofs.Words.Basics.{◌≡◌, ◌≢◌, ℕ, zero, suc, ◌∙◌, ◌==◌, Bool, true, false, List, [], ◌∷◌, ◌++◌, map, Option, Some, None, slice_get, ◌⊎◌, inl, inr, if◌then◌else◌, refl, sym, ap, subst, arith, ◌&&◌, not, false≢true, nat_tests, none-some, same_Some}
 use Rattle.simulator_recovery.proofs.Words.Links.{OutboxState, reading, Key}
 use Rattle.simulator_recovery.proofs.Words.Controllers.{Aspect, Side}
-use Rattle.simulator_recovery.proofs.Words.Interlockings.{ClientState, is_available, is_ready, ClientSoFar, LinkCall, begun, clocked, commanding, hearing, ticking, commanded_by, obeyed, refusal, unmoved_for, count, is_move_due, is_over_clear, is_proceed_due, is_stop_due, is_unmoved, is_waiting, moving_one, proceeding, ruled, withdrawing, IxlState, KnownDetectorState, KnownPointState, KnownSignalState, RouteState, changed, Commands, Datagram, Input, Tick, addressed, all_clocked, clocked_detector, clocked_known_point, clocked_known_signal, detector_hearing, detector_ticking, given, known_point_hearing, known_point_ticking, known_signal_hearing, known_signal_ticking, looking, looks, node_hearing, occupied_heard, stepped, ticked, watching, Detector, Node, Point, Signal, StepSoFar, detector_after, giving_aspect, giving_move, noted, with_detector, with_one, with_route, Need, Row, Table, at, passes, all_clear, all_known, is_at_known_stop, is_held_with_authority, is_known, is_point_available, is_signal_ready, Command, Refusal}
+use Rattle.simulator_recovery.proofs.Words.Interlockings.{lies_in_closed, ClientState, is_available, is_ready, ClientSoFar, LinkCall, begun, clocked, commanding, hearing, ticking, commanded_by, obeyed, refusal, unmoved_for, count, is_move_due, is_over_clear, is_proceed_due, is_stop_due, is_unmoved, is_waiting, moving_one, proceeding, ruled, withdrawing, IxlState, KnownDetectorState, KnownPointState, KnownSignalState, RouteState, changed, Commands, Datagram, Input, Tick, addressed, all_clocked, clocked_detector, clocked_known_point, clocked_known_signal, detector_hearing, detector_ticking, given, known_point_hearing, known_point_ticking, known_signal_hearing, known_signal_ticking, looking, looks, node_hearing, occupied_heard, stepped, ticked, watching, Detector, Node, Point, Signal, StepSoFar, detector_after, giving_aspect, giving_move, noted, with_detector, with_one, with_route, Need, Row, Table, at, passes, all_clear, all_known, is_at_known_stop, is_held_with_authority, is_known, is_point_available, is_signal_ready, Command, Refusal}
 use Rattle.simulator_recovery.proofs.Words.Recovery.{EachClient}
 use Rattle.simulator_spec.specs.ixl_client.declared.command.Command.{Command as ClientCommand}
 use Rattle.simulator_recovery.proofs.Lemmas.Ground.DueShapes.{along_keeps, looking_turns, one_keeps, over_keeps, route_holds, ticked_keeps, turned_keeps, watching_turns, where_both, where_keeps}
 use Rattle.simulator_recovery.proofs.Lemmas.Ground.IxlClients.{detector_client, mapped_at, point_client, signal_client}
+use Rattle.simulator_recovery.proofs.Lemmas.Ground.MovedAtOnce.{moved_keeps}
 
 -- ---- the calls at one controller
 
@@ -183,13 +184,13 @@ module _ (now : ℕ) (Gives : ℕ → Aspect → Type 0) (Comes : List ℕ → T
 
     is_available_there : (ixl : IxlState) (number : ℕ) (route : RouteState) (need : Need) → is_move_due table ixl number route need ≡ true → is_point_available ixl need.point ≡ true
     is_available_there ixl number route need due = in_middle (is_waiting route.phase) (not route.cancelled) (is_point_available ixl need.point) (not (is_known ixl need.point need.side)) (is_over_clear table ixl need.point)
-        (not (is_held_with_authority table ixl need.point)) (is_unmoved ixl need.point number) due
+        (not (is_held_with_authority table ixl need.point)) (is_unmoved ixl need.point number) (not (lies_in_closed table ixl need.point)) due
       where
-        in_middle : (a b c d e f g : Bool) → (a && b && c && d && e && f && g) ≡ true → c ≡ true
-        in_middle true true true d e f g h = refl
-        in_middle true true false d e f g h = absurd (false≢true h)
-        in_middle true false c d e f g h = absurd (false≢true h)
-        in_middle false b c d e f g h = absurd (false≢true h)
+        in_middle : (a b c d e f g h : Bool) → (a && b && c && d && e && f && g && h) ≡ true → c ≡ true
+        in_middle true true true d e f g h is = refl
+        in_middle true true false d e f g h is = absurd (false≢true is)
+        in_middle true false c d e f g h is = absurd (false≢true is)
+        in_middle false b c d e f g h is = absurd (false≢true is)
 
     is_ready_there : (ixl : IxlState) (row : Row) (route : RouteState) → is_proceed_due now table ixl row route ≡ true → is_signal_ready ixl row.entry ≡ true
     is_ready_there ixl row route due = in_middle (is_waiting route.phase) (not route.cancelled) (all_known ixl row.needs) (all_clear table ixl row.sections) (is_signal_ready ixl row.entry) (is_at_known_stop now ixl row.entry) due
@@ -245,7 +246,7 @@ module _ (now : ℕ) (Gives : ℕ → Aspect → Type 0) (Comes : List ℕ → T
 
     -- ---- the input
 
-    obeyed_held : (command : Command) (part : StepSoFar) → Held part → Held (record part { ixl = obeyed command part.ixl })
+    obeyed_held : (command : Command) (part : StepSoFar) → Held part → Held (record part { ixl = obeyed now command part.ixl })
     unfolding obeyed
     obeyed_held (Command.Request route) part all = record {
       signals = all.signals;
@@ -254,8 +255,12 @@ module _ (now : ℕ) (Gives : ℕ → Aspect → Type 0) (Comes : List ℕ → T
     }
     obeyed_held (Command.Cancel route) part all = record { signals = all.signals; points = all.points; detectors = all.detectors }
     obeyed_held Command.Resume part all = record { signals = all.signals; points = all.points; detectors = all.detectors }
+    obeyed_held (Command.Release route) part all = record { signals = all.signals; points = all.points; detectors = all.detectors }
+    obeyed_held (Command.Move point side) part all = all
+    obeyed_held (Command.Close named) part all = record { signals = all.signals; points = all.points; detectors = all.detectors }
+    obeyed_held (Command.Open named) part all = record { signals = all.signals; points = all.points; detectors = all.detectors }
 
-    commanded_held : (cause : Option Refusal) (command : Command) (part : StepSoFar) → Held part → Held (record part { ixl = commanded_by cause command part.ixl })
+    commanded_held : (cause : Option Refusal) (command : Command) (part : StepSoFar) → Held part → Held (record part { ixl = commanded_by now cause command part.ixl })
     commanded_held None command part all = obeyed_held command part all
     commanded_held (Some cause) command part all = record { signals = all.signals; points = all.points; detectors = all.detectors }
 
@@ -267,7 +272,8 @@ module _ (now : ℕ) (Gives : ℕ → Aspect → Type 0) (Comes : List ℕ → T
     unfolding given
     given_held key Tick part comes all = weaker_all part all
     given_held key (Datagram bytes) part comes all = heard_at bytes (addressed (reading key bytes) part.ixl) part (comes bytes refl) all
-    given_held key (Commands command) part comes all = commanded_held (refusal now table command part.ixl) command part (weaker_all part all)
+    given_held key (Commands command) part comes all =
+        moved_keeps Held now table move_held (refusal now table command part.ixl) command part refl (commanded_held (refusal now table command part.ixl) command part (weaker_all part all))
 
     clocked_held : (part : StepSoFar) → part.calls ≡ [] → EachClient Before part.ixl → All Clocked (record part { ixl = all_clocked now part.ixl })
     unfolding all_clocked at_node

@@ -2,12 +2,13 @@
 use Rattle.simulator_recovery.proofs.Words.Basics.{◌≡◌, ℕ, suc, Bool, true, false, ◌&&◌, List, length, map, Option, Some, None, slice_get, if◌then◌else◌, refl, sym, ap, subst, ◌∙◌, ◌⊎◌, inl, inr, false≢true, same_Some, ◌||◌, ◌==◌, not}
 use Rattle.simulator_recovery.proofs.Words.Links.{OutboxState, reading, Key}
 use Rattle.simulator_recovery.proofs.Words.Controllers.{Aspect, Side}
-use Rattle.simulator_recovery.proofs.Words.Interlockings.{ClientState, is_ready, begun, commanding, hearing, ticking, commanded_by, obeyed, refusal, set_anew, authorised, come_to, count, ended, ending_authority, freed, freed_by_cancel, freed_by_passage, freeing_by_cancel, freeing_by_passage, freeing_next, frees_cancelled, frees_next, is_move_due, is_proceed_due, is_proceeding, is_stop_due, is_waiting, is_withdrawn, moved, moving, moving_one, one_freed, proceeding, ruled, withdrawing, withdrawn, IxlState, KnownSignalState, RouteState, changed, Commands, Datagram, Input, Tick, addressed, all_clocked, clocked_known_signal, detector_hearing, detector_ticking, given, known_point_hearing, known_point_ticking, known_signal_hearing, known_signal_ticking, looking, looking_by, looks, node_hearing, occupied_heard, route_looks, stepped, ticked, watching, Detector, Node, Point, Signal, StepSoFar, at_route, detector_after, giving_aspect, giving_move, known_signal_after, noted, over, with_detector, with_one, with_route, Need, Row, Table, at, passes, all_clear, all_known, is_at_known_stop, is_set, is_signal_ready, place_in, was_authorised, Command, Refusal, Phase}
+use Rattle.simulator_recovery.proofs.Words.Interlockings.{ClientState, is_ready, begun, commanding, hearing, ticking, commanded_by, obeyed, refusal, set_anew, authorised, come_to, count, ended, ending_authority, freed, freed_by_cancel, freed_by_passage, freeing_by_cancel, freeing_by_passage, freeing_next, frees_cancelled, frees_next, is_move_due, is_proceed_due, is_proceeding, is_stop_due, is_waiting, is_withdrawn, moved, moving, moving_one, one_freed, proceeding, ruled, withdrawing, withdrawn, IxlState, KnownSignalState, RouteState, changed, Commands, Datagram, Input, Tick, addressed, all_clocked, clocked_known_signal, detector_hearing, detector_ticking, given, known_point_hearing, known_point_ticking, known_signal_hearing, known_signal_ticking, looking, looking_by, looks, node_hearing, occupied_heard, route_looks, stepped, ticked, watching, Detector, Node, Point, Signal, StepSoFar, at_route, detector_after, giving_aspect, giving_move, known_signal_after, noted, over, with_detector, with_one, with_route, Need, Row, Table, at, passes, all_clear, all_known, is_at_known_stop, is_set, is_signal_ready, place_in, was_authorised, Command, Refusal, Phase, released_at, moved_at_once}
 use Rattle.simulator_recovery.proofs.Words.Stations.{RouteId}
 use Rattle.simulator_spec.specs.ixl_client.declared.command.Command.{Command as ClientCommand}
 use Rattle.simulator_recovery.proofs.Lemmas.Ground.DueShapes.{along_keeps, either_keeps, moving_keeps, one_keeps, over_keeps, passage_keeps, route_holds, there_keeps, ticked_keeps, where_keeps}
 use Rattle.simulator_recovery.proofs.Lemmas.Ground.IxlSoFar.{test_of}
 use Rattle.simulator_recovery.proofs.Lemmas.Ground.DueTests.{first_true, last_true}
+use Rattle.simulator_recovery.proofs.Lemmas.Ground.MovedAtOnce.{moved_keeps}
 
 -- ---- what a part of a step does
 
@@ -305,15 +306,26 @@ module _ (now : ℕ) (table : Table) (Obeys : Command → Type 0) (P : List Rout
 
   -- ---- the input
 
-  obeyed_held : (command : Command) (part : StepSoFar) → Obeys command → refusal now table command part.ixl ≡ None → Holds part → Holds (record part { ixl = obeyed command part.ixl })
+  obeyed_held : (command : Command) (part : StepSoFar) → Obeys command → refusal now table command part.ixl ≡ None → Holds part → Holds (record part { ixl = obeyed now command part.ixl })
   unfolding obeyed
   obeyed_held (Command.Request route) part obeys none all = keep.sets route part.ixl obeys none all
   obeyed_held (Command.Cancel route) part obeys none all = keep.rules.quiet route.0 (λ old. record old { cancelled = true }) part.ixl.routes part.ixl.known_signals (λ one e. inl (refl, λ cancelled. refl)) all
   obeyed_held Command.Resume part obeys none all = all
+  obeyed_held (Command.Release route) part obeys none all = keep.rules.quiet route.0 (released_at now) part.ixl.routes part.ixl.known_signals (λ one e. inl (refl, λ cancelled. cancelled)) all
+  obeyed_held (Command.Move point side) part obeys none all = all
+  obeyed_held (Command.Close named) part obeys none all = all
+  obeyed_held (Command.Open named) part obeys none all = all
 
-  pub commanded_held : (cause : Option Refusal) (command : Command) (part : StepSoFar) → refusal now table command part.ixl ≡ cause → Obeys command → Holds part → Holds (record part { ixl = commanded_by cause command part.ixl })
+  pub commanded_held : (cause : Option Refusal) (command : Command) (part : StepSoFar) → refusal now table command part.ixl ≡ cause → Obeys command → Holds part → Holds (record part { ixl = commanded_by now cause command part.ixl })
   commanded_held None command part is obeys all = obeyed_held command part obeys is all
   commanded_held (Some cause) command part is obeys all = all
+
+  -- a command, and its move
+  pub given_command : (command : Command) (part : StepSoFar) → Obeys command → Holds part
+      → Holds (moved_at_once now (refusal now table command part.ixl) command (record part { ixl = commanded_by now (refusal now table command part.ixl) command part.ixl }))
+  given_command command part obeys all =
+      moved_keeps Holds now table (λ point side q available. move_held now table P keep.rules point side q) (refusal now table command part.ixl) command part refl
+      (commanded_held (refusal now table command part.ixl) command part refl obeys all)
 
   heard_at : (bytes : List ℕ) (found : Option Node) (part : StepSoFar) → Holds part → Holds (with_one found (node_hearing now table bytes) part)
   heard_at bytes None part all = all
@@ -323,7 +335,7 @@ module _ (now : ℕ) (table : Table) (Obeys : Command → Type 0) (P : List Rout
   unfolding given
   given_held key Tick part obeys all = all
   given_held key (Datagram bytes) part obeys all = heard_at bytes (addressed (reading key bytes) part.ixl) part all
-  given_held key (Commands command) part obeys all = commanded_held (refusal now table command part.ixl) command part refl (obeys command refl) all
+  given_held key (Commands command) part obeys all = given_command command part (obeys command refl) all
 
   pub clocked_held : (part : StepSoFar) → Holds part → Holds (record part { ixl = all_clocked now part.ixl })
   unfolding all_clocked

@@ -2,7 +2,7 @@
 -- or closes links, and in a tick each of its links ticks and opens.
 use Rattle.simulator_recovery.proofs.Words.Basics.{◌≡◌, ℕ, zero, suc, ◌<◌, ◌≤◌, Bool, true, false, List, [], ◌∷◌, ◌++◌, append_assoc, append-nil, length, map, Option, Some, None, slice_get, refl, sym, ap, subst, ◌∙◌, if◌then◌else◌, arith, ◌&&◌, ◌||◌}
 use Rattle.simulator_recovery.proofs.Words.Links.{Each, reading, Key}
-use Rattle.simulator_recovery.proofs.Words.Interlockings.{LinkCall, Opens, Receives, Ticks, begun, hearing, commanded_by, obeyed, refusal, count, ended, ending_authority, freed_by_cancel, freed_by_passage, freeing_by_cancel, freeing_by_passage, freeing_next, frees_cancelled, frees_next, is_move_due, is_proceed_due, is_proceeding, is_stop_due, is_withdrawn, moved, moving, moving_one, proceeding, repeated, ruled, stopped, withdrawing, withdrawn, IxlState, KnownDetectorState, KnownPointState, KnownSignalState, RouteState, changed, Commands, Datagram, Input, Tick, addressed, all_clocked, detector_hearing, detector_ticking, given, known_point_hearing, known_point_ticking, known_signal_hearing, known_signal_ticking, looking, looking_by, looks, node_hearing, occupied_heard, stepped, ticked, watching, Detector, Node, Point, Signal, StepSoFar, along, at_route, detector_after, giving_aspect, giving_move, noted, over, with_detector, with_one, with_route, Need, Row, Table, Command, Refusal}
+use Rattle.simulator_recovery.proofs.Words.Interlockings.{LinkCall, Opens, Receives, Ticks, begun, hearing, commanded_by, moved_at_once, obeyed, refusal, count, ended, ending_authority, freed_by_cancel, freed_by_passage, freeing_by_cancel, freeing_by_passage, freeing_next, frees_cancelled, frees_next, is_move_due, is_proceed_due, is_proceeding, is_stop_due, is_withdrawn, moved, moving, moving_one, proceeding, repeated, ruled, stopped, withdrawing, withdrawn, IxlState, KnownDetectorState, KnownPointState, KnownSignalState, RouteState, changed, Commands, Datagram, Input, Tick, addressed, all_clocked, detector_hearing, detector_ticking, given, known_point_hearing, known_point_ticking, known_signal_hearing, known_signal_ticking, looking, looking_by, looks, node_hearing, occupied_heard, stepped, ticked, watching, Detector, Node, Point, Signal, StepSoFar, along, at_route, detector_after, giving_aspect, giving_move, noted, over, with_detector, with_one, with_route, Need, Row, Table, Command, Refusal}
 use Rattle.simulator_spec.specs.ixl_client.declared.command.Command.{Command as ClientCommand}
 use Rattle.simulator_recovery.proofs.Lemmas.Ground.ClientCalls.{IsSaid, commanding_calls, hearing_calls, ticking_calls}
 use Rattle.simulator_recovery.proofs.Lemmas.Ground.EndCalls.{Grows, at_place, each_both, each_mapped, grows_by, grows_none, grows_then, map_length}
@@ -259,33 +259,58 @@ module _ (now : ℕ) (table : Table) where
 
   -- ---- the input
 
-  obeyed_created : (command : Command) (ixl : IxlState) → (obeyed command ixl).created ≡ ixl.created
+  obeyed_created : (command : Command) (ixl : IxlState) → (obeyed now command ixl).created ≡ ixl.created
   unfolding obeyed
   obeyed_created (Command.Request route) ixl = refl
   obeyed_created (Command.Cancel route) ixl = refl
   obeyed_created Command.Resume ixl = refl
+  obeyed_created (Command.Release route) ixl = refl
+  obeyed_created (Command.Move point side) ixl = refl
+  obeyed_created (Command.Close named) ixl = refl
+  obeyed_created (Command.Open named) ixl = refl
 
   -- the same controllers
   abbrev SameSize : IxlState → IxlState → Type 0
   SameSize old new = (length new.known_signals ≡ length old.known_signals) × (length new.known_points ≡ length old.known_points) × (length new.detectors ≡ length old.detectors)
 
-  obeyed_size : (command : Command) (ixl : IxlState) → SameSize ixl (obeyed command ixl)
+  obeyed_size : (command : Command) (ixl : IxlState) → SameSize ixl (obeyed now command ixl)
   unfolding obeyed
   obeyed_size (Command.Request route) ixl = (refl, map_length _ ixl.known_points, refl)
   obeyed_size (Command.Cancel route) ixl = (refl, refl, refl)
   obeyed_size Command.Resume ixl = (refl, refl, refl)
+  obeyed_size (Command.Release route) ixl = (refl, refl, refl)
+  obeyed_size (Command.Move point side) ixl = (refl, refl, refl)
+  obeyed_size (Command.Close named) ixl = (refl, refl, refl)
+  obeyed_size (Command.Open named) ixl = (refl, refl, refl)
 
-  commanded_goes : (cause : Option Refusal) (command : Command) (part : StepSoFar) → GoesOn part (record part { ixl = commanded_by cause command part.ixl })
+  commanded_goes : (cause : Option Refusal) (command : Command) (part : StepSoFar) → GoesOn part (record part { ixl = commanded_by now cause command part.ixl })
   commanded_goes None command part =
       let size = obeyed_size command part.ixl
       in record { stays = record { created = obeyed_created command part.ixl; signals = size.0; points = size.1; detectors = size.2 }; says = grows_none IsSaidAt part.calls }
   commanded_goes (Some cause) command part = goes part
 
+  -- a move that isn't refused is given behind it
+  moved_goes : (cause : Option Refusal) (command : Command) (part : StepSoFar) → GoesOn part (moved_at_once now cause command part)
+  unfolding moved_at_once
+  moved_goes (Some cause) command part = goes part
+  moved_goes None (Command.Move point side) part = move_goes now point.0 side part
+  moved_goes None (Command.Request route) part = goes part
+  moved_goes None (Command.Cancel route) part = goes part
+  moved_goes None Command.Resume part = goes part
+  moved_goes None (Command.Release route) part = goes part
+  moved_goes None (Command.Close named) part = goes part
+  moved_goes None (Command.Open named) part = goes part
+
+  command_goes : (command : Command) (part : StepSoFar) → GoesOn part (moved_at_once now (refusal now table command part.ixl) command (record part { ixl = commanded_by now (refusal now table command part.ixl) command part.ixl }))
+  command_goes command part =
+      goes_then part _ _ (commanded_goes (refusal now table command part.ixl) command part)
+      (moved_goes (refusal now table command part.ixl) command (record part { ixl = commanded_by now (refusal now table command part.ixl) command part.ixl }))
+
   given_stays : (key : Key) (input : Input) (part : StepSoFar) → Stays part (given now table key input part)
   unfolding given
   given_stays key Tick part = stays part
   given_stays key (Datagram bytes) part = one_stays part (addressed (reading key bytes) part.ixl) (node_hearing now table bytes) part (λ node. hearing_stays bytes node part) (stays part)
-  given_stays key (Commands command) part = (commanded_goes (refusal now table command part.ixl) command part).stays
+  given_stays key (Commands command) part = (command_goes command part).stays
 
   -- ---- ticks
 
@@ -396,7 +421,7 @@ module _ (now : ℕ) (table : Table) where
     -- a command: something is said at most
     pub command_says : (command : Command) → Grows IsSaidAt part.calls (stepped now table key (Commands command) part).calls
     unfolding stepped given ticked
-    command_says command = grows_then IsSaidAt part.calls _ _ (commanded_goes (refusal now table command clocked.ixl) command clocked).says (ruled_so (Commands command)).says
+    command_says command = grows_then IsSaidAt part.calls _ _ (command_goes command clocked).says (ruled_so (Commands command)).says
 
     -- a datagram: the client that it is for receives it first
     pub datagram_hears : (bytes : List ℕ) (node : Node) → addressed (reading key bytes) (all_clocked now part.ixl) ≡ Some node → IsThere node (all_clocked now part.ixl)

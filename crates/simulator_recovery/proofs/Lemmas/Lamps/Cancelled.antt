@@ -2,7 +2,7 @@
 use Rattle.simulator_recovery.proofs.Words.Basics.{◌≡◌, ◌≢◌, ◌⊎◌, inl, inr, ℕ, zero, suc, ◌<◌, ◌==◌, ◌&&◌, Bool, true, false, if◌then◌else◌, List, [], ◌∷◌, Option, Some, None, slice_get, refl, sym, ap, subst, ◌∙◌, arith, ◌||◌, not, false≢true, nat_tests, none-some, same_Some}
 use Rattle.simulator_recovery.proofs.Words.Links.{reading_of}
 use Rattle.simulator_recovery.proofs.Words.Controllers.{Aspect}
-use Rattle.simulator_recovery.proofs.Words.Interlockings.{cancel_refusal, commanded_by, obeyed, refusal, refused_where, come_to, count, is_proceeding, is_stop_due, is_waiting, stopped, withdrawing, IxlState, KnownSignalState, RouteState, changed, Commands, all_clocked, answer_by, given, reply, stepped, ticked, watching, StepSoFar, at_route, begun_with, empty_outbox, giving_aspect, over, with_one, with_route, Row, Table, is_holding, is_set, is_signal_ready, Command, Refusal, Phase}
+use Rattle.simulator_recovery.proofs.Words.Interlockings.{cancel_refusal, commanded_by, moved_at_once, obeyed, refusal, refused_where, come_to, count, is_proceeding, is_stop_due, is_waiting, stopped, withdrawing, IxlState, KnownSignalState, RouteState, changed, Commands, all_clocked, answer_by, given, reply, stepped, ticked, watching, StepSoFar, at_route, begun_with, empty_outbox, giving_aspect, over, with_one, with_route, Row, Table, is_holding, is_set, is_signal_ready, Command, Refusal, Phase}
 use Rattle.simulator_recovery.proofs.Words.Stations.{Site, RouteId, Event, Answer, answered, answered_by, happens, interlocking_stepped, key_of, WorldState, IsReached}
 use Rattle.simulator_recovery.proofs.Words.Recovery.{NoneProceeds}
 use Rattle.simulator_recovery.proofs.Lemmas.Lamps.ConfirmedStops.{alone}
@@ -108,9 +108,9 @@ there_changed change zero (x ∷ xs) y e = (x, sym (same_Some (change x) y e))
 there_changed change (suc place) (x ∷ xs) y e = there_changed change place xs y e
 
 -- a cancelled route is cancelled
-cancelled_there : (ixl : IxlState) (route : RouteId) → OfRoute route.0 IsCancelled (obeyed (Command.Cancel route) ixl).routes []
+cancelled_there : (now : ℕ) (ixl : IxlState) (route : RouteId) → OfRoute route.0 IsCancelled (obeyed now (Command.Cancel route) ixl).routes []
 unfolding obeyed
-cancelled_there ixl route one e =
+cancelled_there now ixl route one e =
     let was = there_changed (λ old. record old { cancelled = true }) route.0 ixl.routes one e
     in let cancelled : one.cancelled ≡ true = ap (λ (r : RouteState). r.cancelled) was.1
     in (λ waits. cancelled, λ goes. cancelled)
@@ -174,7 +174,7 @@ falls_behind_rule now table number row (suc many) part there few of = decide (ma
 cancel_stepped : (site : Site) (table : Table) (world : WorldState) (route : RouteId) (row : Row) → slice_get table.rows route.0 ≡ Some row
     → refusal (reading_of world.interlocking.clock) table (Command.Cancel route) (all_clocked (reading_of world.interlocking.clock) world.interlocking.ixl) ≡ None
     → OfRoute route.0 HasFallen (interlocking_stepped site table (Commands (Command.Cancel route)) world).interlocking.ixl.routes []
-unfolding interlocking_stepped stepped ticked given
+unfolding interlocking_stepped stepped ticked given moved_at_once
 cancel_stepped site table world route row there none =
     behind_withdrawal now table NoCommand (OfRoute route.0 HasFallen) (route_keep now table NoCommand none_comes route.0 HasFallen fallen_keeps) watched
     (falls_behind_rule now table route.0 row (count table) watched there (within_some table.rows route.0 row there) watched_of)
@@ -185,17 +185,20 @@ cancel_stepped site table world route row there none =
     clocked : StepSoFar
     clocked = record (begun_with world.interlocking.ixl empty_outbox) { ixl = all_clocked now world.interlocking.ixl }
 
+    heard_by : Option Refusal → StepSoFar
+    heard_by cause = moved_at_once now cause (Command.Cancel route) (record clocked { ixl = commanded_by now cause (Command.Cancel route) clocked.ixl })
+
     heard : StepSoFar
-    heard = record clocked { ixl = commanded_by (refusal now table (Command.Cancel route) clocked.ixl) (Command.Cancel route) clocked.ixl }
+    heard = heard_by (refusal now table (Command.Cancel route) clocked.ixl)
 
     watched : StepSoFar
     watched = over (watching table) (count table) heard
 
-    obeyed_of : OfRoute route.0 IsCancelled (obeyed (Command.Cancel route) clocked.ixl).routes []
-    obeyed_of = cancelled_there clocked.ixl route
+    obeyed_of : OfRoute route.0 IsCancelled (heard_by None).ixl.routes []
+    obeyed_of = cancelled_there now clocked.ixl route
 
     heard_of : OfRoute route.0 IsCancelled heard.ixl.routes []
-    heard_of = subst (λ (cause : Option Refusal). OfRoute route.0 IsCancelled (commanded_by cause (Command.Cancel route) clocked.ixl).routes []) (sym none) obeyed_of
+    heard_of = subst (λ (cause : Option Refusal). OfRoute route.0 IsCancelled (heard_by cause).ixl.routes []) (sym none) obeyed_of
 
     watched_of : OfRoute route.0 IsCancelled watched.ixl.routes watched.ixl.known_signals
     watched_of = over_held now table (OfRoute route.0 IsCancelled) (route_keep now table NoCommand none_comes route.0 IsCancelled cancelled_keeps).rules (watching table)
@@ -208,6 +211,10 @@ abbrev IsCancel : Command → Type 0
 IsCancel (Command.Request route) = ⊥
 IsCancel (Command.Cancel route) = Unit {0}
 IsCancel Command.Resume = Unit {0}
+IsCancel (Command.Release route) = Unit {0}
+IsCancel (Command.Move point side) = Unit {0}
+IsCancel (Command.Close named) = Unit {0}
+IsCancel (Command.Open named) = Unit {0}
 
 abbrev IsUnset : RouteState → Type 0
 IsUnset route = is_set route.phase ≡ false

@@ -1,8 +1,8 @@
 -- A route that proceeds has given its aspect to its signal in the present connection: what a step of an interlocking does to that.
 use Rattle.simulator_recovery.proofs.Words.Basics.{◌≡◌, ◌≢◌, ◌⊎◌, inl, inr, ℕ, zero, suc, ◌<◌, ◌==◌, ◌&&◌, Bool, true, false, not, if◌then◌else◌, List, map, Option, Some, None, slice_get, refl, sym, ap, subst, ◌∙◌, arith, ◌||◌, false≢true, nat_tests, none-some, same_Some}
 use Rattle.simulator_recovery.proofs.Words.Links.{OutboxState, reading, Key}
-use Rattle.simulator_recovery.proofs.Words.Controllers.{Aspect}
-use Rattle.simulator_recovery.proofs.Words.Interlockings.{ClientState, is_outside, is_ready, begun, clocked, hearing, ticking, commanded_by, obeyed, refusal, set_anew, come_to, count, ending_authority, is_proceeding, is_stop_due, is_waiting, stopped, withdrawing, withdrawn, IxlState, KnownSignalState, RouteState, changed, Commands, Datagram, Input, Tick, addressed, all_clocked, clocked_known_signal, detector_hearing, given, known_point_hearing, known_signal_hearing, looking, looks, node_hearing, occupied_heard, stepped, watching, Detector, Node, Point, Signal, StepSoFar, at_route, detector_after, giving_aspect, known_signal_after, noted, over, with_detector, with_one, with_route, Row, Table, at, all_clear, all_known, is_signal_ready, Command, Refusal, Phase}
+use Rattle.simulator_recovery.proofs.Words.Controllers.{Aspect, Side}
+use Rattle.simulator_recovery.proofs.Words.Interlockings.{ClientState, is_outside, is_ready, begun, clocked, hearing, ticking, commanded_by, obeyed, refusal, set_anew, come_to, count, ending_authority, is_proceeding, is_stop_due, is_waiting, stopped, withdrawing, withdrawn, IxlState, KnownSignalState, RouteState, changed, Commands, Datagram, Input, Tick, addressed, all_clocked, clocked_known_signal, detector_hearing, given, known_point_hearing, known_signal_hearing, looking, looks, node_hearing, occupied_heard, stepped, watching, Detector, Node, Point, Signal, StepSoFar, at_route, detector_after, giving_aspect, known_signal_after, noted, over, with_detector, with_one, with_route, Row, Table, at, all_clear, all_known, is_signal_ready, Command, Refusal, Phase, released_at, giving_move}
 use Rattle.simulator_recovery.proofs.Words.Stations.{RouteId}
 use Rattle.simulator_recovery.proofs.Lemmas.Windows.SignalWindows.{had_aspect}
 use Rattle.simulator_recovery.proofs.Lemmas.Ground.DueShapes.{along_keeps, one_keeps, over_keeps}
@@ -14,6 +14,7 @@ use Rattle.simulator_recovery.proofs.Lemmas.Ground.SignalParts.{AtRoute, IsGiven
 use Rattle.simulator_recovery.proofs.Lemmas.Silence.Spent.{within_some}
 use Rattle.simulator_recovery.proofs.Lemmas.Lamps.StopsGiven.{StopsStand, changed_here, is_equal, proceeding_set, stand_keep, waiting_set}
 use Rattle.simulator_recovery.proofs.Lemmas.Ground.DueTests.{first_true}
+use Rattle.simulator_recovery.proofs.Lemmas.Ground.MovedAtOnce.{moved_keeps}
 
 -- ---- what is kept
 
@@ -247,13 +248,21 @@ module _ (now : ℕ) (table : Table) where
       in along_keeps Unready (looking table) looking_kept (looks sections known done.heard done.client)
       (with_detector place (detector_after (occupied_heard done.heard known.occupied) done.client) (noted (Detector place) done part)) (unready part is)) (unready part is)) (unready part is)
 
-  obeyed_kept : (command : Command) (part : StepSoFar) → refusal now table command part.ixl ≡ None → Out part → Unready (record part { ixl = obeyed command part.ixl })
+  moves_kept : (point : ℕ) (side : Side) (part : StepSoFar) → Unready part → Unready (giving_move now point side part)
+  unfolding giving_move
+  moves_kept point side part is = one_keeps Unready (slice_get part.ixl.known_points point) _ part (λ known e. is) is
+
+  obeyed_kept : (command : Command) (part : StepSoFar) → refusal now table command part.ixl ≡ None → Out part → Unready (record part { ixl = obeyed now command part.ixl })
   unfolding obeyed
   obeyed_kept (Command.Request route) part none is = sets_given now table IsUnready route part.ixl none (unready part is)
   obeyed_kept (Command.Cancel route) part none is = quiet_given now table IsUnready route.0 (λ old. record old { cancelled = true }) part.ixl.routes part.ixl.known_signals (λ one e. inl (refl, λ cancelled. refl)) (unready part is)
   obeyed_kept Command.Resume part none is = unready part is
+  obeyed_kept (Command.Release route) part none is = quiet_given now table IsUnready route.0 (released_at now) part.ixl.routes part.ixl.known_signals (λ one e. inl (refl, λ cancelled. cancelled)) (unready part is)
+  obeyed_kept (Command.Move point side) part none is = unready part is
+  obeyed_kept (Command.Close named) part none is = unready part is
+  obeyed_kept (Command.Open named) part none is = unready part is
 
-  commanded_kept : (cause : Option Refusal) (command : Command) (part : StepSoFar) → refusal now table command part.ixl ≡ cause → Out part → Unready (record part { ixl = commanded_by cause command part.ixl })
+  commanded_kept : (cause : Option Refusal) (command : Command) (part : StepSoFar) → refusal now table command part.ixl ≡ cause → Out part → Unready (record part { ixl = commanded_by now cause command part.ixl })
   commanded_kept None command part e is = obeyed_kept command part e is
   commanded_kept (Some cause) command part e is = unready part is
 
@@ -265,7 +274,9 @@ module _ (now : ℕ) (table : Table) where
   unfolding given
   given_kept key Tick part outs is = unready part is
   given_kept key (Datagram bytes) part outs is = heard_at bytes (addressed (reading key bytes) part.ixl) part outs is
-  given_kept key (Commands command) part outs is = commanded_kept (refusal now table command part.ixl) command part refl is
+  given_kept key (Commands command) part outs is =
+      moved_keeps Unready now table (λ point side part available. moves_kept point side part) (refusal now table command part.ixl) command part refl
+      (commanded_kept (refusal now table command part.ixl) command part refl is)
 
 -- ---- the first rule
 

@@ -1,8 +1,8 @@
 -- A signal from which no route has its aspect was given stop last in the present connection, or no aspect.
-use Rattle.simulator_recovery.proofs.Words.Basics.{◌≡◌, ◌≢◌, ◌⊎◌, inl, inr, ℕ, zero, suc, ◌+◌, ◌==◌, ◌&&◌, Bool, true, false, if◌then◌else◌, List, [], ◌∷◌, length, Option, Some, None, slice_get, refl, sym, ap, subst, ◌∙◌, arith, ◌||◌, not, list_any, false≢true, nat_tests, none-some, same_Some}
+use Rattle.simulator_recovery.proofs.Words.Basics.{◌≡◌, ◌≢◌, ◌⊎◌, inl, inr, ℕ, zero, suc, ◌+◌, ◌==◌, ◌&&◌, Bool, true, false, if◌then◌else◌, List, [], ◌∷◌, length, Option, Some, None, slice_get, option_or, refl, sym, ap, subst, ◌∙◌, arith, ◌||◌, not, list_any, false≢true, nat_tests, none-some, same_Some}
 use Rattle.simulator_recovery.proofs.Words.Links.{settled, is_up}
 use Rattle.simulator_recovery.proofs.Words.Controllers.{Aspect}
-use Rattle.simulator_recovery.proofs.Words.Interlockings.{ClientState, PeerState, is_outside, is_ready, ClientSoFar, begun, clocked, commanding, fallen, hearing, ticking, Stage, conflict_told, locking_refusal, refusal, refused_where, request_refusal, set_anew, come_to, is_proceeding, is_waiting, IxlState, KnownSignalState, RouteState, changed, clocked_known_signal, known_signal_after, Row, Table, at, passes, blocks, first_blocking, holds_point_elsewhere, holds_section, is_holding, is_set, Command, Refusal, Phase}
+use Rattle.simulator_recovery.proofs.Words.Interlockings.{ClientState, PeerState, is_outside, is_ready, ClientSoFar, begun, clocked, commanding, fallen, hearing, ticking, Stage, conflict_told, locking_refusal, closed_refusal, refusal, refused_where, request_refusal, set_anew, come_to, is_proceeding, is_waiting, IxlState, KnownSignalState, RouteState, changed, clocked_known_signal, known_signal_after, Row, Table, at, passes, blocks, first_blocking, holds_point_elsewhere, holds_section, is_holding, is_set, Command, Refusal, Phase}
 use Rattle.simulator_recovery.proofs.Words.Stations.{RouteId}
 use Rattle.simulator_recovery.proofs.Words.Recovery.{ClientHasActedOn, KeepsCount, IsStopLast}
 use Rattle.simulator_spec.specs.ixl_client.declared.command.Command.{Command as ClientCommand}
@@ -178,15 +178,26 @@ locking_none : (now : ℕ) (table : Table) (ixl : IxlState) (number : ℕ) (row 
 unfolding locking_refusal
 locking_none now table ixl number row none = conflict_none (first_blocking number row 0 table.rows ixl.routes) _ none
 
+no_first : (first second : Option Refusal) → option_or first second ≡ None → first ≡ None
+no_first None second none = refl
+no_first (Some told) second none = absurd (cc none)
+
+-- what is asked of a request when it is known that its route exists
+abbrev unset_refusal : ℕ → Table → IxlState → ℕ → Row → RouteState → Option Refusal
+unset_refusal now table ixl number row route =
+    refused_where (is_set route.phase) Refusal.AlreadySet (option_or (locking_refusal now table ixl number row) (closed_refusal table ixl number row))
+
+unset_none : (now : ℕ) (table : Table) (ixl : IxlState) (number : ℕ) (row : Row) (route : RouteState) → request_refusal now table ixl number (Some row) (Some route) ≡ None → unset_refusal now table ixl number row route ≡ None
+unset_none now table ixl number row route none = where_none (not ixl.resumed) Refusal.NotResumed (unset_refusal now table ixl number row route)
+    (where_none (is_holding now ixl) Refusal.Holding (refused_where (not ixl.resumed) Refusal.NotResumed (unset_refusal now table ixl number row route)) none)
+
 request_none : (now : ℕ) (table : Table) (ixl : IxlState) (number : ℕ) (row : Row) (route : RouteState) → request_refusal now table ixl number (Some row) (Some route) ≡ None → first_blocking number row 0 table.rows ixl.routes ≡ None
-request_none now table ixl number row route none = locking_none now table ixl number row (where_none (is_set route.phase) Refusal.AlreadySet (locking_refusal now table ixl number row)
-    (where_none (not ixl.resumed) Refusal.NotResumed (refused_where (is_set route.phase) Refusal.AlreadySet (locking_refusal now table ixl number row))
-    (where_none (is_holding now ixl) Refusal.Holding (refused_where (not ixl.resumed) Refusal.NotResumed (refused_where (is_set route.phase) Refusal.AlreadySet (locking_refusal now table ixl number row))) none)))
+request_none now table ixl number row route none = locking_none now table ixl number row (no_first (locking_refusal now table ixl number row) (closed_refusal table ixl number row)
+    (where_none (is_set route.phase) Refusal.AlreadySet (option_or (locking_refusal now table ixl number row) (closed_refusal table ixl number row)) (unset_none now table ixl number row route none)))
 
 pub request_unset : (now : ℕ) (table : Table) (ixl : IxlState) (number : ℕ) (row : Row) (route : RouteState) → request_refusal now table ixl number (Some row) (Some route) ≡ None → is_set route.phase ≡ false
-request_unset now table ixl number row route none = where_not (is_set route.phase) Refusal.AlreadySet (locking_refusal now table ixl number row)
-    (where_none (not ixl.resumed) Refusal.NotResumed (refused_where (is_set route.phase) Refusal.AlreadySet (locking_refusal now table ixl number row))
-    (where_none (is_holding now ixl) Refusal.Holding (refused_where (not ixl.resumed) Refusal.NotResumed (refused_where (is_set route.phase) Refusal.AlreadySet (locking_refusal now table ixl number row))) none))
+request_unset now table ixl number row route none =
+    where_not (is_set route.phase) Refusal.AlreadySet (option_or (locking_refusal now table ixl number row) (closed_refusal table ixl number row)) (unset_none now table ixl number row route none)
 
 none_first : (n : ℕ) (b : Bool) (rest : Option ℕ) → (if b then Some n else rest) ≡ None → (b ≡ false) × (rest ≡ None)
 none_first n true rest is = absurd (cc is)

@@ -1,7 +1,7 @@
 -- A point for which no route waits, but cancelled ones, is given no move in good rounds between which no request comes, so none is unanswered.
 use Rattle.simulator_recovery.proofs.Words.Basics.{◌≡◌, ◌⊎◌, inl, inr, ℕ, ◌∙◌, ◌&&◌, Bool, true, false, List, [], Some, slice_get, refl, sym, ap, subst, Contains, not, false≢true, ◌<◌, ◌∷◌, length, Option, None, arith, same_Some}
 use Rattle.simulator_recovery.proofs.Words.Links.{settled, reading_of, OutboxState, is_up, Key, Each, LinkState}
-use Rattle.simulator_recovery.proofs.Words.Interlockings.{ClientState, is_ready, begun, clocked, hearing, ticking, Stage, come_to, is_move_due, is_over_clear, is_unmoved, is_waiting, IxlState, KnownPointState, KnownSignalState, RouteState, changed, Commands, Input, given, stepped, StepSoFar, begun_with, empty_outbox, giving_move, over, Need, Row, Table, is_held_with_authority, is_known, is_point_available, Command, Phase, IsTableOf, SitedTable}
+use Rattle.simulator_recovery.proofs.Words.Interlockings.{lies_in_closed, ClientState, is_ready, begun, clocked, hearing, ticking, Stage, come_to, is_move_due, is_over_clear, is_unmoved, is_waiting, IxlState, KnownPointState, KnownSignalState, RouteState, changed, Commands, Input, given, stepped, StepSoFar, begun_with, empty_outbox, giving_move, over, Need, Row, Table, is_held_with_authority, is_known, is_point_available, Command, Phase, IsTableOf, SitedTable}
 use Rattle.simulator_recovery.proofs.Words.Stations.{Site, interlocking_stepped, key_of, WorldState, Once, IsStation, Event, Flowing, round, detector_stepped, happens, sensed_by, point_link, Played, after, IsReached}
 use Rattle.simulator_recovery.proofs.Words.Recovery.{NoneWaitsFor, HasGivenSince, IsOccupancy, IsReadyOn, all_tried, good_rounds, AwaitsMove, LawsBelow}
 use Rattle.simulator_recovery.proofs.Words.Controllers.{Occupancy}
@@ -121,12 +121,12 @@ module _ (site : Site) (now point items : ℕ) where
   goes_on : (table : Table) (ixl : IxlState) (number : ℕ) (route : RouteState) (need : Need) → is_move_due table ixl number route need ≡ true → route.cancelled ≡ false
   goes_on table ixl number route need due = second (is_waiting route.phase) route.cancelled (is_point_available ixl need.point) (not (is_known ixl need.point need.side))
       (is_over_clear table ixl need.point)
-      (not (is_held_with_authority table ixl need.point)) (is_unmoved ixl need.point number) due
+      (not (is_held_with_authority table ixl need.point)) (is_unmoved ixl need.point number) (not (lies_in_closed table ixl need.point)) due
     where
-      second : (a b c d e f g : Bool) → (a && not b && c && d && e && f && g) ≡ true → b ≡ false
-      second true false c d e f g h = refl
-      second true true c d e f g h = absurd (false≢true h)
-      second false b c d e f g h = absurd (false≢true h)
+      second : (a b c d e f g h : Bool) → (a && not b && c && d && e && f && g && h) ≡ true → b ≡ false
+      second true false c d e f g h is = refl
+      second true true c d e f g h is = absurd (false≢true is)
+      second false b c d e f g h is = absurd (false≢true is)
 
   move_on : (table : Table) (need : Need) (part : StepSoFar) → (point ≡ need.point → ⊥) → On point StillAt part → On point StillAt (giving_move now need.point need.side part)
   unfolding giving_move

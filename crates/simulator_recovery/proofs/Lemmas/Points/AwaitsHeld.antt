@@ -1,19 +1,22 @@
 -- A point that a route holds with authority is awaited by no client: no move of it is out.
 use Rattle.simulator_recovery.proofs.Words.Basics.{◌≡◌, ◌≢◌, ◌⊎◌, inl, inr, ℕ, ◌<◌, ◌==◌, Bool, true, false, List, [], Option, Some, None, slice_get, refl, sym, ap, subst, ◌∙◌, Contains, false≢true, same_Some}
+use Rattle.simulator_recovery.proofs.Words.Controllers.{Side}
 use Rattle.simulator_recovery.proofs.Words.Links.{settled, reading_of, Key}
-use Rattle.simulator_recovery.proofs.Words.Interlockings.{IsTableOf, ClientState, is_available, is_outside, is_ready, clocked, Stage, commanded_by, obeyed, refusal, set_anew, unmoved_for, At, IsAvailable, IsHeldWithAuthority, IsRouteOf, come_to, count, ended, freed_by_cancel, freed_by_passage, freeing_by_cancel, freeing_by_passage, moved, moving, moving_one, proceeding, ruled, IxlState, KnownPointState, KnownSignalState, RouteState, changed, Commands, Datagram, Input, Tick, all_clocked, given, stepped, ticked, watching, StepSoFar, begun_with, empty_outbox, over, Need, Row, Table, freed_sections, is_set, was_authorised, Command, Refusal, Phase}
+use Rattle.simulator_recovery.proofs.Words.Interlockings.{IsTableOf, ClientState, is_available, is_outside, is_ready, clocked, Stage, commanded_by, obeyed, refusal, set_anew, unmoved_for, At, IsAvailable, IsHeldWithAuthority, IsRouteOf, come_to, count, ended, freed_by_cancel, freed_by_passage, freeing_by_cancel, freeing_by_passage, moved, moving, moving_one, proceeding, ruled, IxlState, KnownPointState, KnownSignalState, RouteState, changed, Commands, Datagram, Input, Tick, all_clocked, given, stepped, ticked, watching, StepSoFar, begun_with, empty_outbox, giving_move, over, Need, Row, Table, freed_sections, is_set, was_authorised, Command, Refusal, Phase}
 use Rattle.simulator_recovery.proofs.Words.Stations.{Site, Beginning, new_ixl, new_route_of, interlocking_stepped, key_of, WorldState, IsReached}
 use Rattle.simulator_recovery.proofs.Words.Recovery.{IsPointReady, AwaitsMove, HoldsWithAuthority, MoveLaw}
+use Rattle.simulator_spec.specs.layout.declared.ids.PointId.{PointId}
 use Rattle.simulator_recovery.proofs.Lemmas.Ground.AtLink.{mapped}
+use Rattle.simulator_recovery.proofs.Lemmas.Ground.MovedAtOnce.{held_unmoved, moved_where}
 use Rattle.simulator_recovery.proofs.Lemmas.RoutesComing.DueCourse.{at_changed}
-use Rattle.simulator_recovery.proofs.Lemmas.Ground.DueShapes.{moving_keeps, over_keeps}
+use Rattle.simulator_recovery.proofs.Lemmas.Ground.DueShapes.{moving_keeps, one_keeps, over_keeps}
 use Rattle.simulator_recovery.proofs.Lemmas.Ground.IxlAlways.{always_whole}
 use Rattle.simulator_recovery.proofs.Lemmas.Ground.IxlClients.{mapped_at, point_client}
 use Rattle.simulator_recovery.proofs.Lemmas.RoutesComing.NothingDueStops.{HoldsEach, held_stays, holds_each, one_leaves}
 use Rattle.simulator_recovery.proofs.Lemmas.Points.OnceParts.{ClientsKeep, OfPoints, On, behind_moves_on, clocked_on, given_on, until_moves_on}
 use Rattle.simulator_recovery.proofs.Lemmas.Points.SidesStep.{hears_nothing, stands, ticks_nothing}
 use Rattle.simulator_recovery.proofs.Lemmas.Ground.SignalParts.{PartsKeep, both_rules, cancel_held, over_held, passage_held, step_held, watched_held}
-use Rattle.simulator_recovery.proofs.Lemmas.Lamps.StopsGiven.{AnyCommand, differs, is_equal}
+use Rattle.simulator_recovery.proofs.Lemmas.Lamps.StopsGiven.{AnyCommand, changed_elsewhere, differs, is_equal}
 use Rattle.simulator_recovery.proofs.Lemmas.Points.UnheldPhases.{HeldNone, HoldsNone, HoldsNoneAt, NoneOrKnown, NoneOrSided, moving_none, none_held, none_or, proceeding_or, step_or, ticked_or}
 
 -- ---- the client: it comes to await a report by a move alone
@@ -39,24 +42,41 @@ module _ (site : Site) (now point : ℕ) (table : Table) where
   abbrev Quiet : StepSoFar → Type 0
   Quiet = On point AwaitsNoneAt
 
-  obeyed_quiet : (command : Command) (ixl : IxlState) → OfPoints point AwaitsNoneAt ixl.known_points → OfPoints point AwaitsNoneAt (obeyed command ixl).known_points
+  obeyed_quiet : (command : Command) (ixl : IxlState) → OfPoints point AwaitsNoneAt ixl.known_points → OfPoints point AwaitsNoneAt (obeyed now command ixl).known_points
   unfolding obeyed
   obeyed_quiet (Command.Request route) ixl is = λ known e awaits.
       let found = mapped_at (unmoved_for route.0) ixl.known_points point known e
       in is found.0 found.1 (ap (λ (k : KnownPointState). k.client.stage) (sym found.2) ∙ awaits)
   obeyed_quiet (Command.Cancel route) ixl is = is
   obeyed_quiet Command.Resume ixl is = is
+  obeyed_quiet (Command.Release route) ixl is = is
+  obeyed_quiet (Command.Move point side) ixl is = is
+  obeyed_quiet (Command.Close named) ixl is = is
+  obeyed_quiet (Command.Open named) ixl is = is
 
   commanded_quiet : (cause : Option Refusal) (command : Command) (ixl : IxlState) → OfPoints point AwaitsNoneAt ixl.known_points
-      → OfPoints point AwaitsNoneAt (commanded_by cause command ixl).known_points
+      → OfPoints point AwaitsNoneAt (commanded_by now cause command ixl).known_points
   commanded_quiet None command ixl is = obeyed_quiet command ixl is
   commanded_quiet (Some cause) command ixl is = is
 
-  given_quiet : (key : Key) (input : Input) (part : StepSoFar) → Quiet part → Quiet (given now table key input part)
+  -- another point is moved
+  other_quiet : (other : PointId) (side : Side) (part : StepSoFar) → (other.0 ≡ point → ⊥) → Quiet part → Quiet (giving_move now other.0 side part)
+  unfolding giving_move
+  other_quiet other side part differ is = one_keeps Quiet (slice_get part.ixl.known_points other.0) _ part
+      (λ known e one there awaits. is one (sym (changed_elsewhere _ other.0 point part.ixl.known_points (λ same. differ (sym same))) ∙ there) awaits) is
+
+  -- unless the point itself is moved by command
+  given_quiet : (key : Key) (input : Input) (part : StepSoFar) → ((moved : PointId) (side : Side) → input ≡ Commands (Command.Move moved side) → moved.0 ≡ point → refusal now table (Command.Move moved side) part.ixl ≡ None → ⊥) →
+      Quiet part → Quiet (given now table key input part)
   unfolding given
-  given_quiet key Tick part is = is
-  given_quiet key (Datagram bytes) part is = given_on now point AwaitsNoneAt (none_kept site now) table key (Datagram bytes) part (λ command e. cc e) is
-  given_quiet key (Commands command) part is = commanded_quiet (refusal now table command part.ixl) command part.ixl is
+  given_quiet key Tick part unmoved is = is
+  given_quiet key (Datagram bytes) part unmoved is = given_on now point AwaitsNoneAt (none_kept site now) table key (Datagram bytes) part (λ command e. cc e) is
+  given_quiet key (Commands command) part unmoved is =
+      let cause = refusal now table command part.ixl
+      in let commanded = commanded_quiet cause command part.ixl is
+      in moved_where Quiet now cause command (record part { ixl = commanded_by now cause command part.ixl }) commanded
+      (λ moved side same none. other_quiet moved side (record part { ixl = commanded_by now cause command part.ixl })
+      (λ here. unmoved moved side (ap Commands same) here (subst (λ (c : Command). refusal now table c part.ixl ≡ None) same none)) commanded)
 
 -- ---- the route is there in the middle of a step
 
@@ -160,21 +180,29 @@ module _ (law : MoveLaw) (site : Site) (table : Table) (holds : HoldsEach table)
     others_quiet number own part differ is known there = is known (sym ((one_leaves now table k law holds number own part).points need.point differ) ∙ there)
 
     step_quiet : NoneOrQuiet world.interlocking.ixl → At world.interlocking.ixl.routes k (λ route. Unit {0}) → NoneOrQuiet (interlocking_stepped site table input world).interlocking.ixl
-    unfolding interlocking_stepped stepped
+    unfolding interlocking_stepped stepped all_clocked
     step_quiet (inl none) there = sided_quiet (interlocking_stepped site table input world).interlocking.ixl (step_or site table k row row_there need within input world none)
-    step_quiet (inr quiet) there = by_phase (holds_or there)
+    step_quiet (inr quiet) there = by_world (none_or need.until (holds k row need row_there within) there.0.phase)
       where
-        still : On need.point AwaitsNoneAt freed
-        still = until_moves_on now need.point AwaitsNoneAt (none_kept site now) table heard
-            (given_quiet site now need.point table (key_of site) input (record begun_part { ixl = all_clocked now begun_part.ixl })
+        -- the route holds the point with authority, so no command moves it
+        unmoved : Holding there.0 → (moved : PointId) (side : Side) → moved.0 ≡ need.point → refusal now table (Command.Move moved side) (all_clocked now world.interlocking.ixl) ≡ None → ⊥
+        unmoved holding = held_unmoved now table (all_clocked now world.interlocking.ixl) k row there.0 need row_there there.1 within holding.1 holding.2
+
+        still : Holding there.0 → On need.point AwaitsNoneAt freed
+        still holding = until_moves_on now need.point AwaitsNoneAt (none_kept site now) table heard
+            (given_quiet site now need.point table (key_of site) input (record begun_part { ixl = all_clocked now begun_part.ixl }) (λ moved side is same none. unmoved holding moved side same none)
             (clocked_on now need.point AwaitsNoneAt (none_kept site now) begun_part quiet))
 
-        by_phase : At freed.ixl.routes k (λ route. HoldsNone need.until route.phase) ⊎ At freed.ixl.routes k Holding → NoneOrQuiet (ticked now input (ruled now table seen)).ixl
-        by_phase (inl none) = sided_quiet (ticked now input (ruled now table seen)).ixl (ticked_or site table k row row_there need within now input (ruled now table seen)
+        by_phase : On need.point AwaitsNoneAt freed → At freed.ixl.routes k (λ route. HoldsNone need.until route.phase) ⊎ At freed.ixl.routes k Holding → NoneOrQuiet (ticked now input (ruled now table seen)).ixl
+        by_phase quietly (inl none) = sided_quiet (ticked now input (ruled now table seen)).ixl (ticked_or site table k row row_there need within now input (ruled now table seen)
             (over_keeps (NoneOrKnown now table k need.until row row_there need within) (proceeding now table) (proceeding_or now table k need.until row row_there need within)
             (count table) (moved now table seen)
             (inl (over_keeps (HeldNone now table k need.until) (moving now table) (moving_none now table k need.until) (count table) freed none))))
-        by_phase (inr holding) = inr (behind_moves_on now need.point AwaitsNoneAt (none_kept site now) table input seen (moved_so now (On need.point AwaitsNoneAt) others_quiet seen holding still))
+        by_phase quietly (inr holding) = inr (behind_moves_on now need.point AwaitsNoneAt (none_kept site now) table input seen (moved_so now (On need.point AwaitsNoneAt) others_quiet seen holding quietly))
+
+        by_world : HoldsNone need.until there.0.phase ⊎ Holding there.0 → NoneOrQuiet (ticked now input (ruled now table seen)).ixl
+        by_world (inl none) = sided_quiet (ticked now input (ruled now table seen)).ixl (step_or site table k row row_there need within input world (there.0, there.1, none))
+        by_world (inr holding) = by_phase (still holding) (holds_or there)
 
   -- ---- every list of events
 

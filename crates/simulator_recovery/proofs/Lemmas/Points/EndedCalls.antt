@@ -3,6 +3,8 @@ use Rattle.simulator_recovery.proofs.Words.Basics.{◌≡◌, ◌≢◌, ◌⊎�
 use Rattle.simulator_recovery.proofs.Words.Links.{OutboxState, reading, Key}
 use Rattle.simulator_recovery.proofs.Words.Controllers.{Aspect, Side}
 use Rattle.simulator_recovery.proofs.Words.Interlockings.{ClientState, ClientSoFar, LinkCall, begun, commanding, hearing, ticking, Indicate, Move, commanded_by, obeyed, refusal, unmoved_for, count, freed_by_cancel, is_proceed_due, is_stop_due, moved, proceeding, ruled, withdrawing, KnownPointState, changed, Commands, Datagram, Input, Tick, addressed, detector_hearing, detector_ticking, given, known_point_hearing, known_point_ticking, known_signal_hearing, known_signal_ticking, looking, looks, node_hearing, occupied_heard, ticked, watching, Detector, Node, Point, Signal, StepSoFar, detector_after, giving_aspect, giving_move, noted, over, with_detector, with_one, Table, is_signal_ready, Command, Refusal}
+use Rattle.simulator_spec.specs.layout.declared.ids.PointId.{PointId}
+use Rattle.simulator_recovery.proofs.Lemmas.Ground.MovedAtOnce.{moved_where}
 use Rattle.simulator_recovery.proofs.Lemmas.Ground.DueShapes.{along_keeps, looking_turns, one_keeps, over_keeps, route_keeps, ticked_keeps, until_freed, where_keeps}
 use Rattle.simulator_recovery.proofs.Lemmas.Ground.IxlClients.{mapped_at, point_client}
 use Rattle.simulator_recovery.proofs.Lemmas.Ground.IxlSoFar.{at_itself, at_node, at_other, is_node, other_place, set_at}
@@ -66,15 +68,19 @@ module _ (now point : ℕ) (F : ClientState → List LinkCall → Type 0)
       in along_keeps On (looking table) (looking_turns On now table (λ number change part is. is)) (looks sections known done.heard done.client)
       (with_detector place (detector_after (occupied_heard done.heard known.occupied) done.client) (noted (Detector place) done part)) (elsewhere (Detector place) done part refl is)) is) is
 
-  obeyed_on : (command : Command) (part : StepSoFar) → On part → On (record part { ixl = obeyed command part.ixl })
+  obeyed_on : (command : Command) (part : StepSoFar) → On part → On (record part { ixl = obeyed now command part.ixl })
   unfolding obeyed
   obeyed_on (Command.Request route) part is known e =
       let found = mapped_at (unmoved_for route.0) part.ixl.known_points point known e
       in subst (λ (k : KnownPointState). F k.client (at_node (Point point) part.calls)) (sym found.2) (is found.0 found.1)
   obeyed_on (Command.Cancel route) part is known e = is known e
   obeyed_on Command.Resume part is known e = is known e
+  obeyed_on (Command.Release route) part is known e = is known e
+  obeyed_on (Command.Move point side) part is known e = is known e
+  obeyed_on (Command.Close named) part is known e = is known e
+  obeyed_on (Command.Open named) part is known e = is known e
 
-  commanded_on : (cause : Option Refusal) (command : Command) (part : StepSoFar) → On part → On (record part { ixl = commanded_by cause command part.ixl })
+  commanded_on : (cause : Option Refusal) (command : Command) (part : StepSoFar) → On part → On (record part { ixl = commanded_by now cause command part.ixl })
   commanded_on None command part is = obeyed_on command part is
   commanded_on (Some cause) command part is = is
 
@@ -82,11 +88,17 @@ module _ (now point : ℕ) (F : ClientState → List LinkCall → Type 0)
   heard_on table bytes None part is = is
   heard_on table bytes (Some node) part is = hearing_on table bytes node part is
 
-  pub given_on : (table : Table) (key : Key) (input : Input) (part : StepSoFar) → On part → On (given now table key input part)
+  pub given_on : (table : Table) (key : Key) (input : Input) (part : StepSoFar)
+      → ((place : PointId) (to : Side) (q : StepSoFar) → input ≡ Commands (Command.Move place to) → refusal now table (Command.Move place to) part.ixl ≡ None → On q → On (giving_move now place.0 to q))
+      → On part → On (given now table key input part)
   unfolding given
-  given_on table key Tick part is = is
-  given_on table key (Datagram bytes) part is = heard_on table bytes (addressed (reading key bytes) part.ixl) part is
-  given_on table key (Commands command) part is = commanded_on (refusal now table command part.ixl) command part is
+  given_on table key Tick part moves is = is
+  given_on table key (Datagram bytes) part moves is = heard_on table bytes (addressed (reading key bytes) part.ixl) part is
+  given_on table key (Commands command) part moves is =
+      let cause = refusal now table command part.ixl
+      in let commanded = commanded_on cause command part is
+      in moved_where On now cause command (record part { ixl = commanded_by now cause command part.ixl }) commanded
+      (λ place to same none. moves place to (record part { ixl = commanded_by now cause command part.ixl }) (ap Commands same) (subst (λ (c : Command). refusal now table c part.ixl ≡ None) same none) commanded)
 
   -- ---- the rules
 

@@ -5,6 +5,7 @@ use Rattle.simulator_recovery.proofs.Words.Interlockings.{IsTableOf, ClientState
 use Rattle.simulator_recovery.proofs.Words.Stations.{Site, Event, Deliver, NodeId, Beginning, new_ixl, new_route_of, happens, interlocking_stepped, interlocking_step, AreLinksOf, names_at, connection_of, copy_of, key_of, point_link, refusal, WorldState, events_of, interlocking_events, client_states}
 use Rattle.simulator_recovery.proofs.Words.Machine.{given_after}
 use Rattle.simulator_recovery.proofs.Words.Recovery.{LawsBelow, MoveLaw, WrittenIsRead}
+use Rattle.simulator_recovery.proofs.Lemmas.Ground.MovedAtOnce.{held_unmoved}
 use Rattle.simulator_recovery.proofs.Lemmas.Ground.SectionsEvents.{CanBe, CanStep, event_kept}
 use Rattle.simulator_recovery.proofs.Lemmas.Ground.AtLink.{mapped}
 use Rattle.simulator_recovery.proofs.Lemmas.Points.AwaitsHeld.{Holding, freed, heard, holds_or, moved_so, seen}
@@ -21,7 +22,7 @@ use Rattle.simulator_recovery.proofs.Lemmas.RoutesComing.NothingDueProceeds.{asp
 use Rattle.simulator_recovery.proofs.Lemmas.RoutesComing.NothingDueStops.{HoldsEach}
 use Rattle.simulator_recovery.proofs.Lemmas.RoutesComing.RoutesCome.{point_there}
 use Rattle.simulator_recovery.proofs.Lemmas.Talk.StationTalk.{Before, SameLists, Talking, before, clocked_link, gave, gave_behind_step}
-use Rattle.simulator_recovery.proofs.Lemmas.Points.UnheldPhases.{HeldNone, HoldsNone, HoldsNoneAt, moving_none, none_held, seen_none, until_moved}
+use Rattle.simulator_recovery.proofs.Lemmas.Points.UnheldPhases.{HeldNone, HoldsNone, HoldsNoneAt, moving_none, none_held, seen_none, until_moved, none_or}
 
 -- The authority of a route has ended, and the route still holds the point.
 pub record EndedHolds (need : Need) (route : RouteState) : Type 0 where
@@ -163,10 +164,14 @@ module _ (site : Site) (table : Table) (k : ℕ) (row : Row) (row_there : slice_
             none = inl refl;
           }
 
-      freed_on : OnCalls freed_part
-      freed_on = until_moves_on at need.point Gave hears_so ticks_so table heard_part
+      -- a point that the route holds with authority is moved by no command
+      freed_on : Holding law site table holds k row row_there need within there.0 → OnCalls freed_part
+      unfolding all_clocked
+      freed_on holding = until_moves_on at need.point Gave hears_so ticks_so table heard_part
           (given_on at need.point Gave hears_so ticks_so table (key_of site) input
-          (record (begun_with world.interlocking.ixl empty_outbox) { ixl = all_clocked at world.interlocking.ixl }) clocked_on)
+          (record (begun_with world.interlocking.ixl empty_outbox) { ixl = all_clocked at world.interlocking.ixl })
+          (λ place to part is none on. move_on at need.point Gave hears_so ticks_so place.0 to part
+          (λ known same. absurd (held_unmoved at table (all_clocked at world.interlocking.ixl) k row there.0 need row_there there.1 within holding.1 holding.2 place to (sym same) none)) on) clocked_on)
 
       others_on : (number : ℕ) (own : Need) (part : StepSoFar) → need.point ≢ own.point → OnCalls part → OnCalls (moving_one at table number own part)
       unfolding moving_one
@@ -175,14 +180,19 @@ module _ (site : Site) (table : Table) (k : ℕ) (row : Row) (row_there : slice_
 
       done_on : EndedAt done.ixl → OnCalls done
       unfolding stepped
-      done_on ended = by_phase (holds_or law site table holds k row row_there need within input world there)
+      done_on ended = by_world (none_or need.until (holds k row need row_there within) there.0.phase)
         where
-          by_phase : At freed_part.ixl.routes k (λ route. HoldsNone need.until route.phase) ⊎ At freed_part.ixl.routes k (Holding law site table holds k row row_there need within)
+          by_phase : OnCalls freed_part → At freed_part.ixl.routes k (λ route. HoldsNone need.until route.phase) ⊎ At freed_part.ixl.routes k (Holding law site table holds k row row_there need within)
               → OnCalls (ticked at input (ruled at table seen_part))
-          by_phase (inl none) = absurd (none_yet (ticked at input (ruled at table seen_part)).ixl (behind_moves at table k need.until input seen_part
+          by_phase so (inl none) = absurd (none_yet (ticked at input (ruled at table seen_part)).ixl (behind_moves at table k need.until input seen_part
               (over_keeps (HeldNone at table k need.until) (moving at table) (moving_none at table k need.until) (count table) freed_part none)) ended)
-          by_phase (inr holding) = behind_moves_on at need.point Gave hears_so ticks_so table input seen_part
-              (moved_so law site table holds k row row_there need within at OnCalls others_on seen_part holding freed_on)
+          by_phase so (inr holding) = behind_moves_on at need.point Gave hears_so ticks_so table input seen_part
+              (moved_so law site table holds k row row_there need within at OnCalls others_on seen_part holding so)
+
+          by_world : HoldsNone need.until there.0.phase ⊎ Holding law site table holds k row row_there need within there.0 → OnCalls (ticked at input (ruled at table seen_part))
+          by_world (inl none) = absurd (none_yet (ticked at input (ruled at table seen_part)).ixl (behind_moves at table k need.until input seen_part
+              (until_moved at table k need.until seen_part (seen_none at table k need.until (key_of site) input (begun_with world.interlocking.ixl empty_outbox) (there.0, there.1, none)))) ended)
+          by_world (inr held) = by_phase (freed_on held) (holds_or law site table holds k row row_there need within input world there)
 
       step_none : (known : KnownPointState) → slice_get done.ixl.known_points need.point ≡ Some known → EndedAt done.ixl
           → AddsNoMove (gave network link) (gave (run_links (interlocking_events site table input connection world.interlocking) network) link)

@@ -3,6 +3,7 @@ use Rattle.simulator_recovery.proofs.Words.Basics.{◌≡◌, ◌≢◌, ◌⊎�
 use Rattle.simulator_recovery.proofs.Words.Links.{receiving, Call, OutboxState, LinkState, is_up, all_made, made_by}
 use Rattle.simulator_recovery.proofs.Words.Controllers.{Protocol}
 use Rattle.simulator_recovery.proofs.Words.Interlockings.{ClientState, is_outside, ClientSoFar, LinkCall, as_call, begun, MakesAfterReceipt, MakesOwn, link_after, commanding, hearing, ticking, Stage, unmoved_for, KnownPointState, changed, side_heard, Detector, Node, Point, Signal, known_point_after}
+use Rattle.simulator_recovery.proofs.Words.Controllers.{Side}
 use Rattle.simulator_recovery.proofs.Words.Stations.{Places}
 use Rattle.simulator_recovery.proofs.Words.Machine.{taken_after}
 use Rattle.simulator_recovery.proofs.Words.Recovery.{ClientStandsByCounts, LawsBelow}
@@ -141,18 +142,6 @@ module _ (laws : LawsBelow) (now connection place : ℕ) (link : LinkState) (too
     unmoved_heard number known calls h =
         record { was = h.was; there = h.there; link_is = h.link_is; counts = h.counts; takes = λ inside. let t = h.takes inside in record { more = t.more; are = t.are; awaited = t.awaited } }
 
-    pub hear : PointsHear now (OfPoint place AtClock) (OfPoint place HasHeard)
-    hear = record {
-      still = λ points calls all known e. still_heard known (at_node (Point place) calls) (all known e);
-      hears = λ k known bytes outbox points calls e all. changed_point place HasHeard k (heard_by now bytes known outbox) (hearing now bytes (begun known.client outbox)).calls points calls
-          (λ same. heard_here known bytes outbox (at_node (Point place) calls) (all known (ap (slice_get points) same ∙ e)))
-          (λ other f. still_heard other (at_node (Point place) calls) (all other f));
-      unmoved = λ number points calls all known e. let found = mapped_at (unmoved_for number) points place known e
-          in subst (λ (x : KnownPointState). HasHeard x (at_node (Point place) calls)) (sym found.2) (unmoved_heard number found.0 (at_node (Point place) calls) (all found.0 found.1));
-      signal = λ k more points calls all. other_calls place HasHeard (Signal k) refl more points calls all;
-      detector = λ k more points calls all. other_calls place HasHeard (Detector k) refl more points calls all;
-    }
-
   -- ---- what the rules and a tick leave of that
 
   module _ (heard : List KnownPointState) (heard_calls : List LinkCall) where
@@ -228,4 +217,42 @@ module _ (laws : LawsBelow) (now connection place : ℕ) (link : LinkState) (too
       link_is = link_is;
       counts = counts;
       leaves = λ inside. record { within = inside; side = refl; taken_is = refl; awaits = λ e. e };
+    }
+
+  -- ---- what the input leaves, a move by command too
+
+  module _ (clocks : List KnownPointState) where
+    -- what is left of a client that its clock alone had acted on, is what it has heard
+    left_heard : (known : KnownPointState) (calls : List LinkCall) → IsLeft clocks [] known calls → HasHeard clocks known calls
+    unfolding taken_after
+    left_heard known calls left = record {
+      was = left.was;
+      there = left.there;
+      link_is = left.link_is;
+      counts = left.counts;
+      takes = λ inside. let leaves = left.leaves inside in record { more = []; are = leaves.taken_is ∙ sym (append-nil took); awaited = λ e. nothing (leaves.awaits e) refl };
+    }
+
+    moved_here : (known : KnownPointState) (side : Side) (moved : Places) (outbox : OutboxState) (calls : List LinkCall) → AtClock clocks known calls
+        → HasHeard clocks (moved_by now side moved known outbox) (calls ++ (commanding now (Command.Move side) (begun known.client outbox)).calls)
+    unfolding all_made taken_after
+    moved_here known side moved outbox calls c =
+        let first : IsLeft clocks [] known calls = subst (IsLeft clocks [] known) (sym c.none) (left_first clocks [] known c.there c.link_is c.counts.stands)
+        in left_heard (moved_by now side moved known outbox) (calls ++ (commanding now (Command.Move side) (begun known.client outbox)).calls)
+        (left_own clocks [] known moved outbox (commanding now (Command.Move side) (begun known.client outbox)) calls first (laws.client_step_is_calls_command now (Command.Move side) (begun known.client outbox))
+        (commanding_stands now (Command.Move side) (begun known.client outbox) first.counts) (λ inside awaits. moved_awaits now side (begun known.client outbox) inside awaits))
+
+    pub hear : PointsHear now (OfPoint place (AtClock clocks)) (OfPoint place (HasHeard clocks))
+    hear = record {
+      still = λ points calls all known e. still_heard clocks known (at_node (Point place) calls) (all known e);
+      hears = λ k known bytes outbox points calls e all. changed_point place (HasHeard clocks) k (heard_by now bytes known outbox) (hearing now bytes (begun known.client outbox)).calls points calls
+          (λ same. heard_here clocks known bytes outbox (at_node (Point place) calls) (all known (ap (slice_get points) same ∙ e)))
+          (λ other f. still_heard clocks other (at_node (Point place) calls) (all other f));
+      moves = λ k side moved known outbox points calls e all. changed_point place (HasHeard clocks) k (moved_by now side moved known outbox) (commanding now (Command.Move side) (begun known.client outbox)).calls points calls
+          (λ same. moved_here known side moved outbox (at_node (Point place) calls) (all known (ap (slice_get points) same ∙ e)))
+          (λ other f. still_heard clocks other (at_node (Point place) calls) (all other f));
+      unmoved = λ number points calls all known e. let found = mapped_at (unmoved_for number) points place known e
+          in subst (λ (x : KnownPointState). HasHeard clocks x (at_node (Point place) calls)) (sym found.2) (unmoved_heard clocks number found.0 (at_node (Point place) calls) (all found.0 found.1));
+      signal = λ k more points calls all. other_calls place (HasHeard clocks) (Signal k) refl more points calls all;
+      detector = λ k more points calls all. other_calls place (HasHeard clocks) (Detector k) refl more points calls all;
     }

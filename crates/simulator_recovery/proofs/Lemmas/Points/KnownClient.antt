@@ -237,6 +237,21 @@ module _ (laws : LawsBelow) (now connection : ℕ) where
     unfolding taken_after
     took_none place calls none e = ap (λ (cs : List LinkCall). taken_after now (map (as_call connection) cs) (link_of place) (took place)) none ∙ e
 
+    -- a point is moved
+    moves_on : (place : ℕ) (side : Side) (moved : Places) (known : KnownPointState) (outbox : OutboxState) (points : List KnownPointState) (calls : List (Node × LinkCall)) → slice_get points place ≡ Some known → Holds points calls
+        → Holds (changed (λ old. moved_by now side moved known outbox) place points) (noted_at (Point place) (commanding now (Command.Move side) (begun known.client outbox)).calls calls)
+    moves_on place side moved known outbox points calls e all =
+        let h = all place known e
+        in let made = laws.client_step_is_calls_command now (Command.Move side) (begun known.client outbox)
+        in let done = commanding now (Command.Move side) (begun known.client outbox)
+        in one_goes_on place (moved_by now side moved known outbox) done.calls points calls (record {
+          within = h.within;
+          link_is = ap (λ (x : ClientState). x.link) (after_client _ _ done.client) ∙ link_then place (at_node (Point place) calls) done.calls known done.client.link h.link_is
+              (made.1.link_is ∙ ap (λ (cs : List LinkCall). link_after now cs known.client.link) (sym made.1.calls_are));
+          counts = subst ClientStandsByCounts (sym (after_client _ _ done.client)) (commanding_stands now (Command.Move side) (begun known.client outbox) h.counts);
+          knows = subst (Knows (moved_by now side moved known outbox)) (taken_then place (at_node (Point place) calls) done.calls known h.link_is) (knows_own known moved (begun known.client outbox) done _ refl refl made (commanding_stands now (Command.Move side) (begun known.client outbox) h.counts) (commanding_peer now (Command.Move side) (begun known.client outbox)) h.knows);
+        }) all
+
     pub hear : PointsHear now Clocked Holds
     hear = record {
       still = λ points calls all place known e. clocked_holds place known (at_node (Point place) calls) (all place known e);
@@ -253,6 +268,7 @@ module _ (laws : LawsBelow) (now connection : ℕ) where
             knows = subst (Knows (heard_by now bytes known outbox)) (taken_then place (at_node (Point place) calls) done.calls known h.link_is)
                 (knows_heard bytes known outbox _ c.counts c.asks (λ opened down. took_none place (at_node (Point place) calls) c.none (c.nothing opened down)) h.knows);
           }) (λ k other f. clocked_holds k other (at_node (Point k) calls) (all k other f));
+      moves = λ place side moved known outbox points calls e all. moves_on place side moved known outbox points calls e (λ k other f. clocked_holds k other (at_node (Point k) calls) (all k other f));
       unmoved = λ number points calls all place known e. let found = mapped_at (unmoved_for number) points place known e in subst (λ (x : KnownPointState). HoldsAt place x (at_node (Point place) calls)) (sym found.2) (unmoved_holds number place found.0 (at_node (Point place) calls) (all place found.0 found.1));
       signal = λ place more points calls all k known e. subst (HoldsAt k known) (sym (at_other (Point k) (Signal place) refl calls more)) (all k known e);
       detector = λ place more points calls all k known e. subst (HoldsAt k known) (sym (at_other (Point k) (Detector place) refl calls more)) (all k known e);
@@ -271,17 +287,7 @@ module _ (laws : LawsBelow) (now connection : ℕ) where
             counts = subst ClientStandsByCounts (sym (after_client _ _ done.client)) (ticking_stands now (begun known.client outbox) h.counts);
             knows = subst (Knows (ticked_by now known outbox)) (taken_then place (at_node (Point place) calls) done.calls known h.link_is) (knows_own known known.moved (begun known.client outbox) done _ refl refl made (ticking_stands now (begun known.client outbox) h.counts) (ticking_peer now (begun known.client outbox)) h.knows);
           }) all;
-      moves = λ place side moved known outbox points calls e all.
-          let h = all place known e
-          in let made = laws.client_step_is_calls_command now (Command.Move side) (begun known.client outbox)
-          in let done = commanding now (Command.Move side) (begun known.client outbox)
-          in one_goes_on place (moved_by now side moved known outbox) done.calls points calls (record {
-            within = h.within;
-            link_is = ap (λ (x : ClientState). x.link) (after_client _ _ done.client) ∙ link_then place (at_node (Point place) calls) done.calls known done.client.link h.link_is
-                (made.1.link_is ∙ ap (λ (cs : List LinkCall). link_after now cs known.client.link) (sym made.1.calls_are));
-            counts = subst ClientStandsByCounts (sym (after_client _ _ done.client)) (commanding_stands now (Command.Move side) (begun known.client outbox) h.counts);
-            knows = subst (Knows (moved_by now side moved known outbox)) (taken_then place (at_node (Point place) calls) done.calls known h.link_is) (knows_own known moved (begun known.client outbox) done _ refl refl made (commanding_stands now (Command.Move side) (begun known.client outbox) h.counts) (commanding_peer now (Command.Move side) (begun known.client outbox)) h.knows);
-          }) all;
+      moves = λ place side moved known outbox points calls e all. moves_on place side moved known outbox points calls e all;
       signal = λ place more points calls all k known e. subst (HoldsAt k known) (sym (at_other (Point k) (Signal place) refl calls more)) (all k known e);
       detector = λ place more points calls all k known e. subst (HoldsAt k known) (sym (at_other (Point k) (Detector place) refl calls more)) (all k known e);
     }

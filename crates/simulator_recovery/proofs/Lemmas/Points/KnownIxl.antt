@@ -2,7 +2,7 @@
 use Rattle.simulator_recovery.proofs.Words.Basics.{◌≡◌, ℕ, Bool, List, length, map, Option, Some, None, slice_get}
 use Rattle.simulator_recovery.proofs.Words.Links.{OutboxState, reading, Key}
 use Rattle.simulator_recovery.proofs.Words.Controllers.{Aspect, Side}
-use Rattle.simulator_recovery.proofs.Words.Interlockings.{LinkCall, begun, commanding, hearing, ticking, commanded_by, obeyed, refusal, unmoved_for, count, is_proceed_due, is_stop_due, moved, moving_one, proceeding, ruled, withdrawing, KnownPointState, changed, Commands, Datagram, Input, Tick, addressed, all_clocked, clocked_known_point, detector_hearing, detector_ticking, given, known_point_hearing, known_point_ticking, known_signal_hearing, known_signal_ticking, looking, looking_by, looks, node_hearing, occupied_heard, side_heard, stepped, ticked, watching, Detector, Node, Point, Signal, StepSoFar, all_below, detector_after, giving_aspect, giving_move, known_point_after, noted, over, with_detector, with_one, Need, Table, is_signal_ready, Command, Refusal}
+use Rattle.simulator_recovery.proofs.Words.Interlockings.{LinkCall, begun, commanding, hearing, ticking, commanded_by, moved_at_once, obeyed, refusal, unmoved_for, count, is_proceed_due, is_stop_due, moved, moving_one, proceeding, ruled, withdrawing, KnownPointState, changed, Commands, Datagram, Input, Tick, addressed, all_clocked, clocked_known_point, detector_hearing, detector_ticking, given, known_point_hearing, known_point_ticking, known_signal_hearing, known_signal_ticking, looking, looking_by, looks, node_hearing, occupied_heard, side_heard, stepped, ticked, watching, Detector, Node, Point, Signal, StepSoFar, all_below, detector_after, giving_aspect, giving_move, known_point_after, noted, over, with_detector, with_one, Need, Table, is_signal_ready, Command, Refusal}
 use Rattle.simulator_recovery.proofs.Words.Stations.{Places}
 use Rattle.simulator_spec.specs.ixl_client.declared.command.Command.{Command as ClientCommand}
 use Rattle.simulator_recovery.proofs.Lemmas.Ground.AspectCalls.{noted_at}
@@ -23,6 +23,9 @@ pub record PointsHear (now : ℕ) (Clocked Heard : List KnownPointState → List
   pub still : (points : List KnownPointState) (calls : List (Node × LinkCall)) → Clocked points calls → Heard points calls
   pub hears : (place : ℕ) (known : KnownPointState) (bytes : List ℕ) (outbox : OutboxState) (points : List KnownPointState) (calls : List (Node × LinkCall)) → slice_get points place ≡ Some known → Clocked points calls
       → Heard (changed (λ old. heard_by now bytes known outbox) place points) (noted_at (Point place) (hearing now bytes (begun known.client outbox)).calls calls)
+  -- a command moves a point
+  pub moves : (place : ℕ) (side : Side) (moved : Places) (known : KnownPointState) (outbox : OutboxState) (points : List KnownPointState) (calls : List (Node × LinkCall)) → slice_get points place ≡ Some known → Clocked points calls
+      → Heard (changed (λ old. moved_by now side moved known outbox) place points) (noted_at (Point place) (commanding now (ClientCommand.Move side) (begun known.client outbox)).calls calls)
   -- a route is set
   pub unmoved : (number : ℕ) (points : List KnownPointState) (calls : List (Node × LinkCall)) → Heard points calls → Heard (map (unmoved_for number) points) calls
   -- the links of other controllers
@@ -66,15 +69,21 @@ module _ (now : ℕ) (table : Table) (Clocked Heard : List KnownPointState → L
       in along_keeps HasHeard (looking table) looking_heard (looks sections known done.heard done.client) (with_detector place (detector_after (occupied_heard done.heard known.occupied) done.client) (noted (Detector place) done part))
       (hear.detector place done.calls part.ixl.known_points part.calls (still_heard part all))) (still_heard part all)) (still_heard part all)
 
-  obeyed_heard : (command : Command) (part : StepSoFar) → HasHeard part → HasHeard (record part { ixl = obeyed command part.ixl })
-  unfolding obeyed
-  obeyed_heard (Command.Request route) part all = hear.unmoved route.0 part.ixl.known_points part.calls all
-  obeyed_heard (Command.Cancel route) part all = all
-  obeyed_heard Command.Resume part all = all
+  move_heard : (place : ℕ) (side : Side) (part : StepSoFar) → IsClocked part → HasHeard (giving_move now place side part)
+  unfolding giving_move
+  move_heard place side part all = one_keeps HasHeard (slice_get part.ixl.known_points place) _ part
+      (λ known e. hear.moves place side (all_below (length part.ixl.routes)) known part.outbox part.ixl.known_points part.calls e all) (still_heard part all)
 
-  commanded_heard : (cause : Option Refusal) (command : Command) (part : StepSoFar) → HasHeard part → HasHeard (record part { ixl = commanded_by cause command part.ixl })
-  commanded_heard None command part all = obeyed_heard command part all
-  commanded_heard (Some cause) command part all = all
+  commanded_heard : (cause : Option Refusal) (command : Command) (part : StepSoFar) → IsClocked part → HasHeard (moved_at_once now cause command (record part { ixl = commanded_by now cause command part.ixl }))
+  unfolding obeyed moved_at_once
+  commanded_heard (Some refused) command part all = still_heard part all
+  commanded_heard None (Command.Request route) part all = hear.unmoved route.0 part.ixl.known_points part.calls (still_heard part all)
+  commanded_heard None (Command.Cancel route) part all = still_heard part all
+  commanded_heard None Command.Resume part all = still_heard part all
+  commanded_heard None (Command.Release route) part all = still_heard part all
+  commanded_heard None (Command.Move point side) part all = move_heard point.0 side part all
+  commanded_heard None (Command.Close named) part all = still_heard part all
+  commanded_heard None (Command.Open named) part all = still_heard part all
 
   heard_at : (bytes : List ℕ) (found : Option Node) (part : StepSoFar) → IsClocked part → HasHeard (with_one found (node_hearing now table bytes) part)
   heard_at bytes None part all = still_heard part all
@@ -84,7 +93,7 @@ module _ (now : ℕ) (table : Table) (Clocked Heard : List KnownPointState → L
   unfolding given
   given_heard key Tick part all = still_heard part all
   given_heard key (Datagram bytes) part all = heard_at bytes (addressed (reading key bytes) part.ixl) part all
-  given_heard key (Commands command) part all = commanded_heard (refusal now table command part.ixl) command part (still_heard part all)
+  given_heard key (Commands command) part all = commanded_heard (refusal now table command part.ixl) command part all
 
 -- ---- after it
 

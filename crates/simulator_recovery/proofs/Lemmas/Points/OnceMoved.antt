@@ -2,7 +2,7 @@
 use Rattle.simulator_recovery.proofs.Words.Basics.{◌≡◌, ◌⊎◌, inl, inr, ℕ, zero, suc, ◌∙◌, ◌+◌, ◌<◌, ◌≤◌, ◌&&◌, ◌||◌, ◌==◌, Bool, true, false, List, length, Option, Some, None, slice_get, if◌then◌else◌, refl, sym, ap, arith, not, nat_cmp_total, unsigned_tied, contains, empty, contains-insert, false≢true, nat_tests, subst, same_Some}
 use Rattle.simulator_recovery.proofs.Words.Links.{reading_of, OutboxState, stops_at_greatest, LinkState, is_open, is_up, Reason, answer_to_send, Key, Each}
 use Rattle.simulator_recovery.proofs.Words.Controllers.{writing, Side}
-use Rattle.simulator_recovery.proofs.Words.Interlockings.{ClientState, is_available, is_outside, is_ready, ClientSoFar, Closes, Sends, begun, calling, at_stage, clocked, commanding, fallen, hearing, is_refused_by_window, message_of, posting, stage_after_command, telegram_to, ticking, Move, Stage, come_to, count, is_move_due, is_over_clear, is_unmoved, is_waiting, IxlState, KnownPointState, RouteState, Commands, Input, stepped, StepSoFar, all_below, begun_with, empty_outbox, giving_move, known_point_after, Need, Row, Table, is_held_with_authority, is_known, is_point_available, Command, Phase, IsTableOf, PeerState, Node, Point, SitedTable}
+use Rattle.simulator_recovery.proofs.Words.Interlockings.{lies_in_closed, ClientState, is_available, is_outside, is_ready, ClientSoFar, Closes, Sends, begun, calling, at_stage, clocked, commanding, fallen, hearing, is_refused_by_window, message_of, posting, stage_after_command, telegram_to, ticking, Move, Stage, come_to, count, is_move_due, is_over_clear, is_unmoved, is_waiting, IxlState, KnownPointState, RouteState, Commands, Input, stepped, StepSoFar, all_below, begun_with, empty_outbox, giving_move, known_point_after, Need, Row, Table, is_held_with_authority, is_known, is_point_available, Command, Phase, IsTableOf, PeerState, Node, Point, SitedTable}
 use Rattle.simulator_recovery.proofs.Words.Stations.{Places, Site, interlocking_stepped, key_of, WorldState, Once, IsStation, Event, Flowing, point_link, IsReached}
 use Rattle.simulator_recovery.proofs.Words.Recovery.{HasCounted, IsOccupancy, ClientHasSaid, IsReadyOn, good_rounds, LawsBelow}
 use Rattle.simulator_recovery.proofs.Lemmas.Ground.AspectCalls.{hears, ticks}
@@ -237,20 +237,21 @@ module _ (table : Table) (items : ℕ) (two : 2 ≤ items) where
         → slice_get ixl.known_points need.point ≡ Some known → WasDue number known
     was_due ixl number route need known due there =
         let parts = both (is_waiting route.phase) (not route.cancelled) (is_point_available ixl need.point) (not (is_known ixl need.point need.side)) (is_over_clear table ixl need.point)
-        (not (is_held_with_authority table ixl need.point)) (is_unmoved ixl need.point number) due
+        (not (is_held_with_authority table ixl need.point)) (is_unmoved ixl need.point number) (not (lies_in_closed table ixl need.point)) due
         in record {
           available = test_of ixl.known_points need.point (λ (k : KnownPointState). is_available k.client.stage) known there parts.0;
           unmoved = not_true (contains known.moved number) (test_of ixl.known_points need.point (λ (k : KnownPointState). not (contains k.moved number)) known there parts.1);
         }
       where
-        both : (a b c d e f g : Bool) → (a && b && c && d && e && f && g) ≡ true → (c ≡ true) × (g ≡ true)
-        both true true true true true true g h = (refl, h)
-        both true true true true true false g h = absurd (false≢true h)
-        both true true true true false f g h = absurd (false≢true h)
-        both true true true false e f g h = absurd (false≢true h)
-        both true true false d e f g h = absurd (false≢true h)
-        both true false c d e f g h = absurd (false≢true h)
-        both false b c d e f g h = absurd (false≢true h)
+        both : (a b c d e f g h : Bool) → (a && b && c && d && e && f && g && h) ≡ true → (c ≡ true) × (g ≡ true)
+        both true true true true true true true h is = (refl, refl)
+        both true true true true true true false h is = absurd (false≢true is)
+        both true true true true true false g h is = absurd (false≢true is)
+        both true true true true false f g h is = absurd (false≢true is)
+        both true true true false e f g h is = absurd (false≢true is)
+        both true true false d e f g h is = absurd (false≢true is)
+        both true false c d e f g h is = absurd (false≢true is)
+        both false b c d e f g h is = absurd (false≢true is)
 
         not_true : (b : Bool) → not b ≡ true → b ≡ false
         not_true true h = absurd (false≢true h)

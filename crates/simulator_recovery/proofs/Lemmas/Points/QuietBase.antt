@@ -1,7 +1,8 @@
 -- A point that awaits no report rests, where its own section is known, and it is known wherever a route holds it with authority.
 use Rattle.simulator_recovery.proofs.Words.Basics.{◌≡◌, ◌⊎◌, inl, inr, ℕ, Bool, true, false, List, Some, slice_get, refl, sym, ap, subst, ◌∙◌, contains, Contains, false≢true, none-some, same_Some}
 use Rattle.simulator_recovery.proofs.Words.Links.{settled, reading_of, is_up}
-use Rattle.simulator_recovery.proofs.Words.Interlockings.{IsTableOf, is_available, is_outside, At, IsClear, come_to, count, ended, freed_by_passage, freeing_by_cancel, freeing_by_passage, is_waiting, IxlState, KnownPointState, KnownSignalState, RouteState, changed, Commands, Datagram, Input, Tick, begun_with, empty_outbox, Need, Row, Table, Command, Phase, IsHeldAt, IsHeldWithAuthority, Known}
+use Rattle.simulator_recovery.proofs.Lemmas.Ground.ClosedKept.{moves_stand, step_stands}
+use Rattle.simulator_recovery.proofs.Words.Interlockings.{LiesInClosed, IsTableOf, is_available, is_outside, At, IsClear, come_to, count, ended, freed_by_passage, freeing_by_cancel, freeing_by_passage, is_waiting, IxlState, KnownPointState, KnownSignalState, RouteState, changed, Commands, Datagram, Input, Tick, begun_with, empty_outbox, Need, Row, Table, Command, Phase, IsHeldAt, IsHeldWithAuthority, Known}
 use Rattle.simulator_recovery.proofs.Words.Stations.{Site, Event, happens, interlocking_stepped, key_of, node_at, WorldState, IsReached}
 use Rattle.simulator_recovery.proofs.Words.Recovery.{IsInside, IsUpAtClock, input_of, known_in_step, MoveLaw, RequestLaw, HoldsWithAuthority}
 use Rattle.simulator_recovery.proofs.Words.Controllers.{Side}
@@ -16,7 +17,7 @@ use Rattle.simulator_recovery.proofs.Lemmas.RoutesComing.DueGiven.{waiting_is}
 use Rattle.simulator_recovery.proofs.Lemmas.RoutesComing.HeldNeeds.{agree, in_order_of}
 use Rattle.simulator_recovery.proofs.Lemmas.RoutesComing.DueRoutes.{always_apart}
 use Rattle.simulator_recovery.proofs.Lemmas.Ground.DueTests.{known_or_not}
-use Rattle.simulator_recovery.proofs.Lemmas.RoutesComing.NothingDueMoves.{nothing_moves}
+use Rattle.simulator_recovery.proofs.Lemmas.RoutesComing.NothingDueMoves.{nothing_moves, same_closings_hold}
 use Rattle.simulator_recovery.proofs.Lemmas.Points.SidesRoutes.{holds_point}
 
 -- ---- a point that rests, event by event: each route that waits for it finds it known at its side, or moved for it already, or its own section not clear
@@ -107,15 +108,17 @@ same_rests Unclear old new number need side moved (at_side is) = at_side (side �
 same_rests Unclear old new number need side moved (was_moved is) = was_moved (ap (λ places. contains places number) moved ∙ is)
 same_rests Unclear old new number need side moved (is_unclear is) = is_unclear is
 
-abbrev pub RestsFor : Table → ℕ → Type 0 → KnownPointState → ℕ → Type 0
-RestsFor table point Unclear known number = (row : Row) (need : Need) → slice_get table.rows number ≡ Some row → Contains row.needs need → point ≡ need.point → Rests Unclear known number need
+-- unless it lies in a closed section
+abbrev pub RestsFor : Table → ℕ → Type 0 → IxlState → KnownPointState → ℕ → Type 0
+RestsFor table point Unclear ixl known number = (row : Row) (need : Need) → slice_get table.rows number ≡ Some row → Contains row.needs need → point ≡ need.point
+    → (LiesInClosed table ixl point → ⊥) → Rests Unclear known number need
 
 -- A point awaits no report, and each route that waits for it finds it so.
 pub record IsResting (table : Table) (point : ℕ) (Unclear : Type 0) (ixl : IxlState) : Type 0 where
   pub known : KnownPointState
   pub there : slice_get ixl.known_points point ≡ Some known
   pub available : is_available known.client.stage ≡ true
-  pub rests : OnlyWait (RestsFor table point Unclear known) ixl.routes
+  pub rests : OnlyWait (RestsFor table point Unclear ixl known) ixl.routes
 
 -- What an interlocking sees of the point's own section: its detector is in a connection, and where it isn't clear it isn't known to be.
 pub record SeesOwn (table : Table) (point : ℕ) (Unclear : Type 0) (ixl : IxlState) : Type 0 where
@@ -152,11 +155,20 @@ module _ (move : MoveLaw) (request : RequestLaw) (site : Site) (table : Table) (
     unfolding interlocking_stepped
     waits_behind Is only = step_held now table NoCommand (OfRoutes now table Is) (waits_keep now table Is) (key_of site) input (begun_with world.interlocking.ixl empty_outbox) none_comes only
 
+    -- what is closed stays so
+    closed_start : start.closed ≡ world.interlocking.ixl.closed
+    closed_start = moves_stand now table world.interlocking.ixl.closed (key_of site) input (begun_with world.interlocking.ixl empty_outbox) none_comes refl
+
+    closed_behind : behind.closed ≡ world.interlocking.ixl.closed
+    unfolding interlocking_stepped
+    closed_behind = step_stands now table world.interlocking.ixl.closed (key_of site) input (begun_with world.interlocking.ixl empty_outbox) none_comes refl
+
     -- no move is due where the point, as it was heard, rests so
-    none_due : (was : KnownPointState) → OnlyWait (RestsFor table point Unclear was) world.interlocking.ixl.routes → SameInside point was (known_in_step site table input world) → SeesOwn table point Unclear behind
+    none_due : (was : KnownPointState) → OnlyWait (RestsFor table point Unclear world.interlocking.ixl was) world.interlocking.ixl.routes → SameInside point was (known_in_step site table input world) → SeesOwn table point Unclear behind
         → NoneDue table point start
     none_due was only heard sees number row route need row_there there within here due =
-        by_rest (waits_there (RestsFor table point Unclear was) only number route there (ap is_waiting due.waits) due.goes_on row need row_there within here)
+        by_rest (waits_there (RestsFor table point Unclear world.interlocking.ixl was) only number route there (ap is_waiting due.waits) due.goes_on row need row_there within here
+        (λ lies. due.unclosed (subst (λ (p : ℕ). LiesInClosed table start p) here (same_closings_hold table world.interlocking.ixl start point closed_start lies))))
       where
         -- the point, as the moves are given
         heard_there : (known : KnownPointState) → slice_get start.known_points need.point ≡ Some known → slice_get (known_in_step site table input world).known_points point ≡ Some known
@@ -185,8 +197,9 @@ module _ (move : MoveLaw) (request : RequestLaw) (site : Site) (table : Table) (
       known = inside.0;
       there = inside.1;
       available = ap is_available left.2.stage ∙ same.available;
-      rests = λ number route there waits goes_on row need row_there within here. same_rests Unclear r.known inside.0 number need (left.2.side ∙ same.side) (left.2.moved ∙ same.moved)
-          (waits_behind (RestsFor table point Unclear r.known) r.rests number route there waits goes_on row need row_there within here);
+      rests = λ number route there waits goes_on row need row_there within here unclosed. same_rests Unclear r.known inside.0 number need (left.2.side ∙ same.side) (left.2.moved ∙ same.moved)
+          (waits_behind (RestsFor table point Unclear world.interlocking.ixl r.known) r.rests number route there waits goes_on row need row_there within here
+          (λ lies. unclosed (same_closings_hold table world.interlocking.ixl behind point closed_behind lies)));
     }
       where
         heard : SameInside point r.known (known_in_step site table input world)
@@ -225,7 +238,7 @@ module _ (move : MoveLaw) (request : RequestLaw) (site : Site) (table : Table) (
     (know : KnownToHolders table world point) (known : KnownPointState) (there : slice_get world.interlocking.ixl.known_points point ≡ Some known) (available : is_available known.client.stage ≡ true)
     (clear_or : (At table.point_sections point (IsClear table world.interlocking.ixl) → ⊥) → Unclear) where
   module _ (number : ℕ) (route : RouteState) (route_there : slice_get world.interlocking.ixl.routes number ≡ Some route) (waits : is_waiting route.phase ≡ true) (goes_on : route.cancelled ≡ false) (row : Row)
-      (need : Need) (row_there : slice_get table.rows number ≡ Some row) (within : Contains row.needs need) (here : point ≡ need.point) where
+      (need : Need) (row_there : slice_get table.rows number ≡ Some row) (within : Contains row.needs need) (here : point ≡ need.point) (unclosed : LiesInClosed table world.interlocking.ixl point → ⊥) where
     known_here : slice_get world.interlocking.ixl.known_points need.point ≡ Some known
     known_here = ap (slice_get world.interlocking.ixl.known_points) (sym here) ∙ there
 
@@ -256,6 +269,7 @@ module _ (move : MoveLaw) (request : RequestLaw) (site : Site) (table : Table) (
           over_clear = subst (λ (p : ℕ). At table.point_sections p (IsClear table world.interlocking.ixl)) here clear;
           unheld = λ authority. unknown (known_by authority);
           once = (known, known_here, e);
+          unclosed = λ lies. unclosed (subst (λ (p : ℕ). LiesInClosed table world.interlocking.ixl p) (sym here) lies);
         })))
 
         by_known : Known world.interlocking.ixl need.point need.side ⊎ (Known world.interlocking.ixl need.point need.side → ⊥) → Rests Unclear known number need

@@ -67,7 +67,7 @@ module _ (move : MoveLaw) (request : RequestLaw) (site : Site) (table : Table) (
   pub known_on : (one : Event) (world : WorldState) → IsReached site table world → AsksNothing one → Wanted world.interlocking.ixl → Known world.interlocking.ixl point side → IsUpAtClock world point
       → KnownInside point side (happens site table one world).interlocking.ixl
   known_on one world reached asks wanted is up = event_then site table (KnownInside point side) world (known_inside point side world.interlocking.ixl is) one
-      (λ input e. still_known input world reached (none_asked site one input asks e) wanted (known_heard site table input world point side reached is up)) (λ begins anew. absurd (none_anew site one asks anew))
+      (λ input e. still_known input world reached (none_asked site one input asks e) wanted (known_heard site table input world point side (λ moved to same here none. none_asked site one input asks e (Command.Move moved to) same) reached is up)) (λ begins anew. absurd (none_anew site one asks anew))
 
   -- what an event leaves of a point whose move is out
   module _ (clients : LawsBelow) (talk : LawsBelow) (was : KnownPointState) (within : is_outside was.client.stage ≡ false) where

@@ -28,7 +28,7 @@ move_leaves_one now table number need part = route_keeps Q table number _ part (
     Q q = MoveLeaves need.point part.ixl q.ixl
 
     nothing : Q part
-    nothing = record { routes = refl; signals = refl; detectors = refl; points = λ other differ. refl }
+    nothing = record { routes = refl; signals = refl; detectors = refl; closed = refl; points = λ other differ. refl }
 
 moving_detectors : (now : ℕ) (table : Table) (number : ℕ) (part : StepSoFar) → (moving now table number part).ixl.detectors ≡ part.ixl.detectors
 moving_detectors now table number part = moving_keeps Q now table one_move number part refl
@@ -55,6 +55,7 @@ module _ (law : MoveLaw) (now : ℕ) (table : Table) (point : ℕ) (start : IxlS
   pub record IsLeft (part : StepSoFar) : Type 0 where
     pub routes : part.ixl.routes ≡ start.routes
     pub detectors : part.ixl.detectors ≡ start.detectors
+    pub closed : part.ixl.closed ≡ start.closed
     pub same : slice_get part.ixl.known_points point ≡ slice_get start.known_points point
 
   moves_not : (number : ℕ) (need : Need) (row : Row) (part : StepSoFar) → Contains row.needs need → slice_get table.rows number ≡ Some row → point ≡ need.point → IsLeft part
@@ -66,7 +67,7 @@ module _ (law : MoveLaw) (now : ℕ) (table : Table) (point : ℕ) (start : IxlS
       by_route None e = no_route table number _ part e
       by_route (Some one) e = (law now table number need part row one (row_there, e)).otherwise (λ due.
           none number row one need row_there (ap (λ (routes : List RouteState). slice_get routes number) (sym is.routes) ∙ e) within here
-          (move_before table start part.ixl number one need (same_routes_hold table start part.ixl need.point is.routes) is.detectors
+          (move_before table start part.ixl number one need (same_routes_hold table start part.ixl need.point is.routes) is.detectors is.closed
           (subst (λ (p : ℕ). slice_get part.ixl.known_points p ≡ slice_get start.known_points p) here is.same) due))
 
   one_left : (number : ℕ) (need : Need) (row : Row) (part : StepSoFar) → Contains row.needs need → slice_get table.rows number ≡ Some row → IsLeft part
@@ -81,6 +82,7 @@ module _ (law : MoveLaw) (now : ℕ) (table : Table) (point : ℕ) (start : IxlS
           in record {
             routes = leaves.routes ∙ is.routes;
             detectors = leaves.detectors ∙ is.detectors;
+            closed = leaves.closed ∙ is.closed;
             same = leaves.points point (differs point need.point e) ∙ is.same;
           }
 
@@ -93,6 +95,7 @@ module _ (law : MoveLaw) (now : ℕ) (table : Table) (point : ℕ) (start : IxlS
   all_left part is = over_keeps IsLeft (moving now table) moving_left (count table) part (record {
     routes = ap (λ (ixl : IxlState). ixl.routes) is;
     detectors = ap (λ (ixl : IxlState). ixl.detectors) is;
+    closed = ap (λ (ixl : IxlState). ixl.closed) is;
     same = ap (λ (ixl : IxlState). slice_get ixl.known_points point) is;
   })
 

@@ -1,12 +1,14 @@
 -- A move that is out goes to the side at which set routes hold its point, after every list of events.
-use Rattle.simulator_recovery.proofs.Words.Basics.{◌≡◌, ◌⊎◌, inl, inr, ℕ, ◌<◌, ◌∙◌, Bool, true, false, List, [], ◌∷◌, ◌++◌, length, Some, slice_get, if◌then◌else◌, refl, sym, ap, subst, arith, Contains, false≢true, same_Some, slice_get_within}
+use Rattle.simulator_recovery.proofs.Words.Basics.{◌≡◌, ◌⊎◌, inl, inr, ℕ, ◌<◌, ◌∙◌, Bool, true, false, List, [], ◌∷◌, ◌++◌, length, Some, slice_get, if◌then◌else◌, refl, sym, ap, subst, arith, Contains, false≢true, same_Some, slice_get_within, None}
 use Rattle.simulator_recovery.proofs.Words.Links.{settled, AreTimely, reading_of, AreLinks, Links, MayRunLinks, begun as begun_links, run_links, LinkState, is_up, all_made}
 use Rattle.simulator_recovery.proofs.Words.Controllers.{Side}
-use Rattle.simulator_recovery.proofs.Words.Interlockings.{IsTableOf, ClientState, is_available, is_ready, new_client, LinkCall, clocked, fallen, Move, Stage, IsAvailable, IsHeldAt, count, is_move_due, moving, moving_one, IxlState, KnownPointState, all_clocked, clocked_known_point, stepped, Point, StepSoFar, begun_with, empty_outbox, Need, Row, Table}
+use Rattle.simulator_recovery.proofs.Words.Interlockings.{IsTableOf, ClientState, is_available, is_ready, new_client, LinkCall, clocked, fallen, Move, Stage, IsAvailable, IsHeldAt, count, is_move_due, moving, moving_one, IxlState, KnownPointState, all_clocked, clocked_known_point, stepped, Point, StepSoFar, begun_with, empty_outbox, Need, Row, Table, Command, given, refusal, RouteState}
 use Rattle.simulator_recovery.proofs.Words.Stations.{Site, Once, IsStation, Event, Beginning, Outset, IsOutsetOf, at_zero, new_ixl, new_known_point_of, world_at, happens, interlocking_stepped, interlocking_step, AreLinksOf, names_at, starts_at_zero, key_of, links, point_link, WorldState, events_of, interlocking_events, MayComeWith, IsWhole, IsReached}
 use Rattle.simulator_recovery.proofs.Words.Machine.{given_after}
 use Rattle.simulator_recovery.proofs.Words.Recovery.{commanded, ClientStandsAt, EachClient, SpeaksAt, HaveMovesWhereHeld, IsLast, MovesGoWhereHeld, LawsBelow, MoveLaw, RequestLaw}
 use Rattle.simulator_spec.specs.ixl_spec.Step as ixl
+use Rattle.simulator_spec.specs.layout.declared.ids.PointId.{PointId}
+use Rattle.simulator_recovery.proofs.Lemmas.Ground.MovedAtOnce.{held_unmoved, move_leaves_routes}
 use Rattle.simulator_recovery.proofs.Lemmas.Ground.SectionsEvents.{CanBe, HasHeld, always_held, event_kept}
 use Rattle.simulator_recovery.proofs.Lemmas.Talk.AlwaysExpected.{AreTalking, talking_first, talking_on}
 use Rattle.simulator_recovery.proofs.Lemmas.Talk.ClientLinks.{clocked_peer}
@@ -93,9 +95,19 @@ module _ (laws : LawsBelow) (move : MoveLaw) (request : RequestLaw) (site : Site
     unfolding interlocking_stepped
     is_held = holder move request site table is_table world reached input point side held
 
+    -- a set route holds the point, and held it before: so no command moves it
+    unmoved : (place : PointId) (to : Side) → input ≡ ixl.Commands (Command.Move place to) → refusal now table (Command.Move place to) clocked_part.ixl ≡ None → place.0 ≡ point → ⊥
+    unmoved place to is none same =
+        let was = until_moves request now table point side (heard_in site table input world) (is_held.number, is_held.row, is_held.route, (is_held.row_there, is_held.there), is_held.held)
+        in let need = was.4.1.0
+        in held_unmoved now table clocked_part.ixl was.0 was.1 was.2 need was.3.0 (ap (λ (routes : List RouteState). slice_get routes was.0) (sym (move_leaves_routes now table (key_of site) place to input clocked_part is)) ∙ was.3.1)
+        was.4.1.1 was.4.0 was.4.1.4 place to (same ∙ sym was.4.1.2) none
+
     start_on : Onward start
     start_on = until_moves_on site now connection point side world.interlocking.ixl.known_points link (gave network (point_link site point)) table (heard_in site table input world)
-        (given_on site now connection point side world.interlocking.ixl.known_points link (gave network (point_link site point)) table (key_of site) input clocked_part clocked_on)
+        (given_on site now connection point side world.interlocking.ixl.known_points link (gave network (point_link site point)) table (key_of site) input clocked_part
+        (λ place to part is none on. move_on site now connection point side world.interlocking.ixl.known_points link (gave network (point_link site point)) place.0 to part
+        (λ known same. absurd (unmoved place to is none (sym same))) on) clocked_on)
 
     -- ---- the fifth rule
 

@@ -2,13 +2,14 @@
 use Rattle.simulator_recovery.proofs.Words.Basics.{◌≡◌, ◌⊎◌, inl, inr, ℕ, ◌<◌, true, List, Option, Some, None, slice_get, refl, sym, ap, subst, ◌∙◌, Contains, same_Some}
 use Rattle.simulator_recovery.proofs.Words.Links.{reading, Key}
 use Rattle.simulator_recovery.proofs.Words.Controllers.{Side}
-use Rattle.simulator_recovery.proofs.Words.Interlockings.{IsTableOf, commanded_by, obeyed, refusal, set_anew, Admissible, At, HoldsPoint, IsAvailable, IsHeldAt, count, ended, freed_by_cancel, freed_by_passage, freeing_by_cancel, freeing_by_passage, IxlState, RouteState, Commands, Datagram, Input, Tick, addressed, given, watching, StepSoFar, over, Need, Row, Table, freed_sections, is_set, Command, Refusal, Phase}
+use Rattle.simulator_recovery.proofs.Words.Interlockings.{IsTableOf, commanded_by, obeyed, refusal, released_at, set_anew, Admissible, At, HoldsPoint, IsAvailable, IsHeldAt, count, ended, freed_by_cancel, freed_by_passage, freeing_by_cancel, freeing_by_passage, IxlState, RouteState, Commands, Datagram, Input, Tick, addressed, given, watching, StepSoFar, over, Need, Row, Table, freed_sections, is_set, Command, Refusal, Phase, giving_move}
 use Rattle.simulator_recovery.proofs.Words.Stations.{Site, RouteId}
 use Rattle.simulator_recovery.proofs.Words.Recovery.{HasAspect, Waits, RequestLaw}
 use Rattle.simulator_recovery.proofs.Lemmas.RoutesComing.DueRoutes.{GoOnward, before, cancel_held, heard_at, passage_held, same_phase, two_rules, watching_held}
-use Rattle.simulator_recovery.proofs.Lemmas.Ground.DueShapes.{over_keeps}
+use Rattle.simulator_recovery.proofs.Lemmas.Ground.DueShapes.{over_keeps, one_keeps}
 use Rattle.simulator_recovery.proofs.Lemmas.Ground.IxlClients.{changed_at}
 use Rattle.simulator_recovery.proofs.Lemmas.RoutesComing.NothingDueStops.{holds_each}
+use Rattle.simulator_recovery.proofs.Lemmas.Ground.MovedAtOnce.{moved_keeps}
 
 module _ (law : RequestLaw) (now : ℕ) (table : Table) (point : ℕ) (side : Side) where
   -- a set route of these holds the point at the side
@@ -42,7 +43,7 @@ module _ (law : RequestLaw) (now : ℕ) (table : Table) (point : ℕ) (side : Si
       seen = over (watching table) (count table) part
 
   module _ (part : StepSoFar) (busy : IsAvailable part.ixl point → ⊥) where
-    requested : (route : RouteId) → refusal now table (Command.Request route) part.ixl ≡ None → HeldIn (obeyed (Command.Request route) part.ixl).routes → HeldIn part.ixl.routes
+    requested : (route : RouteId) → refusal now table (Command.Request route) part.ixl ≡ None → HeldIn (obeyed now (Command.Request route) part.ixl).routes → HeldIn part.ixl.routes
     unfolding obeyed
     requested route none held = choose (changed_at set_anew route.0 part.ixl.routes held.0 held.2 held.3.1)
       where
@@ -62,21 +63,28 @@ module _ (law : RequestLaw) (now : ℕ) (table : Table) (point : ℕ) (side : Si
             in by_point (admissible.points need (subst (λ (r : Row). Contains r.needs need) (sym same_row) held.4.1.1))
         choose (inr here) = (held.0, held.1, held.2, (held.3.0, here), held.4)
 
-    obeyed_back : (command : Command) → refusal now table command part.ixl ≡ None → HeldIn (obeyed command part.ixl).routes → HeldIn part.ixl.routes
+    obeyed_back : (command : Command) → refusal now table command part.ixl ≡ None → HeldIn (obeyed now command part.ixl).routes → HeldIn part.ixl.routes
     unfolding obeyed
     obeyed_back (Command.Request route) none held = requested route none held
     obeyed_back (Command.Cancel route) none held = onward (HeldIn part.ixl.routes) route.0 (λ old. record old { cancelled = true }) part.ixl.routes (λ one here. same_phase one _ refl refl) (λ still. still) held
     obeyed_back Command.Resume none held = held
+    obeyed_back (Command.Release route) none held = onward (HeldIn part.ixl.routes) route.0 (released_at now) part.ixl.routes (λ one here. same_phase one _ refl refl) (λ still. still) held
+    obeyed_back (Command.Move point side) none held = held
+    obeyed_back (Command.Close named) none held = held
+    obeyed_back (Command.Open named) none held = held
 
-    commanded_back : (cause : Option Refusal) (command : Command) → refusal now table command part.ixl ≡ cause → HeldIn (commanded_by cause command part.ixl).routes → HeldIn part.ixl.routes
+    commanded_back : (cause : Option Refusal) (command : Command) → refusal now table command part.ixl ≡ cause → HeldIn (commanded_by now cause command part.ixl).routes → HeldIn part.ixl.routes
     commanded_back None command none held = obeyed_back command none held
     commanded_back (Some cause) command refused held = held
 
     pub given_back : (key : Key) (input : Input) → HeldIn (given now table key input part).ixl.routes → HeldIn part.ixl.routes
-    unfolding given
+    unfolding given giving_move
     given_back key Tick held = held
     given_back key (Datagram bytes) held = heard_at now table (Back (HeldIn part.ixl.routes)) (onward (HeldIn part.ixl.routes)) bytes (addressed (reading key bytes) part.ixl) part (λ still. still) held
-    given_back key (Commands command) held = commanded_back (refusal now table command part.ixl) command refl held
+    given_back key (Commands command) held =
+        moved_keeps (λ q. HeldIn q.ixl.routes → HeldIn part.ixl.routes) now table
+        (λ point side q available back. one_keeps (λ q. HeldIn q.ixl.routes → HeldIn part.ixl.routes) (slice_get q.ixl.known_points point) _ q (λ known e. back) back)
+        (refusal now table command part.ixl) command part refl (commanded_back (refusal now table command part.ixl) command refl) held
 
 -- ---- a route that waits, or has its aspect
 

@@ -1,11 +1,12 @@
 -- What a point's client has given by each part of a step, where it awaits a report: what it had, or a move to a side last.
-use Rattle.simulator_recovery.proofs.Words.Basics.{◌≡◌, ℕ, ◌∙◌, Bool, true, false, List, [], ◌∷◌, ◌++◌, map, if◌then◌else◌, refl, sym, ap, false≢true, ◌⊎◌, inl, inr, Some, slice_get, subst}
+use Rattle.simulator_recovery.proofs.Words.Basics.{◌≡◌, ℕ, ◌∙◌, Bool, true, false, List, [], ◌∷◌, ◌++◌, map, if◌then◌else◌, refl, sym, ap, false≢true, ◌⊎◌, inl, inr, Some, None, slice_get, subst}
 use Rattle.simulator_recovery.proofs.Words.Links.{opening, opens, receiving, ticking as link_ticking, beginning, requesting, OutboxState, beating, sending, is_up, all_made, Phase, LinkState, Key}
 use Rattle.simulator_recovery.proofs.Words.Controllers.{Side}
-use Rattle.simulator_recovery.proofs.Words.Interlockings.{ClientState, PeerState, is_available, is_ready, ClientSoFar, LinkCall, Opens, Receives, Ticks, as_call, begun, calling, acting_all, at_stage, commanding, fallen, hearing, message_of, posting, rising, stage_after_command, ticking, Move, Stage, Signal, count, freed_by_cancel, moved, ruled, KnownPointState, Input, given, ticked, watching, Point, StepSoFar, giving_move, over, Table}
+use Rattle.simulator_recovery.proofs.Words.Interlockings.{ClientState, PeerState, is_available, is_ready, ClientSoFar, LinkCall, Opens, Receives, Ticks, as_call, begun, calling, acting_all, at_stage, commanding, fallen, hearing, message_of, posting, rising, stage_after_command, ticking, Move, Stage, Signal, count, freed_by_cancel, moved, ruled, KnownPointState, Input, given, ticked, watching, Point, StepSoFar, giving_move, over, Table, Command, Commands, refusal}
 use Rattle.simulator_recovery.proofs.Words.Stations.{Site}
 use Rattle.simulator_recovery.proofs.Words.Machine.{given_after}
 use Rattle.simulator_recovery.proofs.Words.Recovery.{commanded, IsLast}
+use Rattle.simulator_spec.specs.layout.declared.ids.PointId.{PointId}
 use Rattle.simulator_recovery.proofs.Lemmas.Ground.ClientItem.{answers, changes, completes, Goes, starts, tells}
 use Rattle.simulator_recovery.proofs.Lemmas.Talk.ClientTalk.{Posted, accepted, called, posts, refused}
 use Rattle.simulator_recovery.proofs.Lemmas.Points.EndedClient.{Heard, Tracked, at_start, has_heard}
@@ -198,7 +199,9 @@ module _ (site : Site) (now connection point : ℕ) (side : Side) (olds : List K
       (commanding now (Move to) (begun known.client part.outbox)).client
       (commanding now (Move to) (begun known.client part.outbox)).calls) (sym (agreed known same)) (gives_move site now connection known.client part.outbox (so_far (at_node (Point point) part.calls)) to)))
 
-  pub given_on : (table : Table) (key : Key) (input : Input) (part : StepSoFar) → On part → On (given now table key input part)
+  pub given_on : (table : Table) (key : Key) (input : Input) (part : StepSoFar)
+      → ((place : PointId) (to : Side) (q : StepSoFar) → input ≡ Commands (Command.Move place to) → refusal now table (Command.Move place to) part.ixl ≡ None → On q → On (giving_move now place.0 to q))
+      → On part → On (given now table key input part)
   given_on = walk.given_on now point Gone hears ticks
 
   pub until_moves_on : (table : Table) (part : StepSoFar) → On part → On (freed_by_cancel now table (over (watching table) (count table) part))

@@ -1,7 +1,7 @@
 -- A route that holds a point with authority by no more than it did, through a step: it doesn't hold it so, or is just given authority.
 use Rattle.simulator_recovery.proofs.Words.Basics.{◌≡◌, ◌⊎◌, inl, inr, ℕ, suc, ◌<◌, ◌≤◌, ◌==◌, ◌&&◌, Bool, true, false, nat_lt, if◌then◌else◌, List, length, Option, Some, None, slice_get, refl, sym, ap, subst, ◌∙◌, arith, ltb-true, ltb-false, ◌||◌, Contains, false≢true, All-contains, same_Some}
 use Rattle.simulator_recovery.proofs.Words.Links.{reading_of, reading, Key}
-use Rattle.simulator_recovery.proofs.Words.Interlockings.{begun, hearing, commanded_by, obeyed, refusal, set_anew, AllKnown, At, Known, authorised, come_to, count, ended, ending_authority, freed, freed_by_cancel, freed_by_passage, freeing_by_cancel, freeing_by_passage, freeing_next, frees_cancelled, frees_next, is_move_due, is_proceed_due, is_proceeding, is_stop_due, is_withdrawn, moved, moving, moving_one, one_freed, proceeding, ruled, withdrawing, withdrawn, IxlState, KnownPointState, RouteState, Commands, Datagram, Input, Tick, addressed, all_clocked, detector_hearing, given, known_point_hearing, known_signal_hearing, looking, looking_by, looks, node_hearing, occupied_heard, route_looks, stepped, ticked, watching, Detector, Node as IxlNode, Point, Signal, StepSoFar, begun_with, detector_after, empty_outbox, giving_aspect, noted, over, with_detector, with_one, with_route, Need, Row, Table, freed_sections, is_at_known_stop, is_set, place_in, was_authorised, Command, Refusal, Phase}
+use Rattle.simulator_recovery.proofs.Words.Interlockings.{begun, hearing, commanded_by, obeyed, refusal, released_at, set_anew, AllKnown, At, Known, authorised, come_to, count, ended, ending_authority, freed, freed_by_cancel, freed_by_passage, freeing_by_cancel, freeing_by_passage, freeing_next, frees_cancelled, frees_next, is_move_due, is_proceed_due, is_proceeding, is_stop_due, is_withdrawn, moved, moving, moving_one, one_freed, proceeding, ruled, withdrawing, withdrawn, IxlState, KnownPointState, RouteState, Commands, Datagram, Input, Tick, addressed, all_clocked, detector_hearing, given, known_point_hearing, known_signal_hearing, looking, looking_by, looks, node_hearing, occupied_heard, route_looks, stepped, ticked, watching, Detector, Node as IxlNode, Point, Signal, StepSoFar, begun_with, detector_after, empty_outbox, giving_aspect, noted, over, with_detector, with_one, with_route, Need, Row, Table, freed_sections, is_at_known_stop, is_set, place_in, was_authorised, Command, Refusal, Phase, giving_move}
 use Rattle.simulator_recovery.proofs.Words.Stations.{Site, interlocking_stepped, key_of, WorldState}
 use Rattle.simulator_recovery.proofs.Words.Recovery.{IsInside}
 use Rattle.simulator_recovery.proofs.Lemmas.RoutesComing.DueCourse.{at_changed, stopped_leaves}
@@ -11,6 +11,7 @@ use Rattle.simulator_recovery.proofs.Lemmas.RoutesComing.DueKnown.{BringsNothing
 use Rattle.simulator_recovery.proofs.Lemmas.RoutesComing.NothingDueMoves.{move_leaves}
 use Rattle.simulator_recovery.proofs.Lemmas.RoutesComing.NothingDueProceeds.{AspectLeaves, aspect_leaves}
 use Rattle.simulator_recovery.proofs.Lemmas.Lamps.StopsGiven.{changed_elsewhere, differs, is_equal}
+use Rattle.simulator_recovery.proofs.Lemmas.Ground.MovedAtOnce.{moved_keeps}
 
 -- In this phase a route holds no point with authority that awaits so many sections.
 abbrev pub HoldsNone : ℕ → Phase → Type 0
@@ -154,13 +155,17 @@ module _ (now : ℕ) (table : Table) (k until : ℕ) where
       in along_keeps HeldNone (looking table) looking_none (looks sections known done.heard done.client)
       (with_detector place (detector_after (occupied_heard done.heard known.occupied) done.client) (noted (Detector place) done part)) is) is) is
 
-  obeyed_none : (command : Command) (part : StepSoFar) → HeldNone part → HeldNone (record part { ixl = obeyed command part.ixl })
+  obeyed_none : (command : Command) (part : StepSoFar) → HeldNone part → HeldNone (record part { ixl = obeyed now command part.ixl })
   unfolding obeyed
   obeyed_none (Command.Request route) part is = at_changed Holds k route.0 set_anew part.ixl.routes (λ one same there holds. tt) is
   obeyed_none (Command.Cancel route) part is = at_changed Holds k route.0 (λ old. record old { cancelled = true }) part.ixl.routes (λ one same there holds. holds) is
   obeyed_none Command.Resume part is = is
+  obeyed_none (Command.Release route) part is = at_changed Holds k route.0 (released_at now) part.ixl.routes (λ one same there holds. holds) is
+  obeyed_none (Command.Move point side) part is = is
+  obeyed_none (Command.Close named) part is = is
+  obeyed_none (Command.Open named) part is = is
 
-  commanded_none : (cause : Option Refusal) (command : Command) (part : StepSoFar) → HeldNone part → HeldNone (record part { ixl = commanded_by cause command part.ixl })
+  commanded_none : (cause : Option Refusal) (command : Command) (part : StepSoFar) → HeldNone part → HeldNone (record part { ixl = commanded_by now cause command part.ixl })
   commanded_none None command part is = obeyed_none command part is
   commanded_none (Some cause) command part is = is
 
@@ -169,10 +174,12 @@ module _ (now : ℕ) (table : Table) (k until : ℕ) where
   heard_at bytes (Some node) part is = hearing_none bytes node part is
 
   given_none : (key : Key) (input : Input) (part : StepSoFar) → HeldNone part → HeldNone (given now table key input part)
-  unfolding given
+  unfolding given giving_move
   given_none key Tick part is = is
   given_none key (Datagram bytes) part is = heard_at bytes (addressed (reading key bytes) part.ixl) part is
-  given_none key (Commands command) part is = commanded_none (refusal now table command part.ixl) command part is
+  given_none key (Commands command) part is =
+      moved_keeps HeldNone now table (λ point side q available all. one_keeps HeldNone (slice_get q.ixl.known_points point) _ q (λ known e. all) all)
+      (refusal now table command part.ixl) command part refl (commanded_none (refusal now table command part.ixl) command part is)
 
   clocked_none : (part : StepSoFar) → HeldNone part → HeldNone (record part { ixl = all_clocked now part.ixl })
   unfolding all_clocked

@@ -2,32 +2,36 @@
 use Rattle.simulator_recovery.proofs.Words.Basics.{◌≡◌, ◌⊎◌, inl, inr, ℕ, ◌==◌, ◌&&◌, Bool, true, false, List, Option, Some, None, slice_get, refl, sym, ap, subst, ◌∙◌, not, nat_cmp_total, unsigned_tied, contains, contains-remove, remove, Contains, eq-eqb, All-contains, same_Some}
 use Rattle.simulator_recovery.proofs.Words.Links.{reading_of}
 use Rattle.simulator_recovery.proofs.Words.Controllers.{Side}
-use Rattle.simulator_recovery.proofs.Words.Interlockings.{is_available, commanded_by, obeyed, refusal, request_refusal, set_anew, unmoved_for, Admissible, AllClear, AllKnown, At, IsAvailable, IsClear, IsHeldWithAuthority, Known, authorised, come_to, count, ended, ending_authority, freed_by_cancel, freed_by_passage, freeing_by_cancel, freeing_by_passage, freeing_next, frees_cancelled, frees_next, is_move_due, is_proceed_due, is_stop_due, is_withdrawn, moved, moving, moving_one, proceeding, ruled, withdrawing, withdrawn, IxlState, KnownDetectorState, KnownPointState, RouteState, changed, Commands, all_clocked, given, reply, stepped, ticked, watching, StepSoFar, begun_with, empty_outbox, giving_aspect, giving_move, over, with_route, Need, Row, Table, is_at_known_stop, Command, Refusal, Phase}
+use Rattle.simulator_recovery.proofs.Words.Interlockings.{LiesInClosed, is_available, commanded_by, obeyed, refusal, request_refusal, set_anew, unmoved_for, Admissible, AllClear, AllKnown, At, IsAvailable, IsClear, IsHeldWithAuthority, Known, authorised, come_to, count, ended, ending_authority, freed_by_cancel, freed_by_passage, freeing_by_cancel, freeing_by_passage, freeing_next, frees_cancelled, frees_next, is_move_due, is_proceed_due, is_stop_due, is_withdrawn, moved, moving, moving_one, proceeding, ruled, withdrawing, withdrawn, IxlState, KnownDetectorState, KnownPointState, RouteState, changed, Commands, all_clocked, given, reply, stepped, ticked, watching, StepSoFar, begun_with, empty_outbox, giving_aspect, giving_move, over, with_route, Need, Row, Table, is_at_known_stop, Command, Refusal, Phase, moved_at_once}
+use Rattle.simulator_spec.specs.ixl_spec.closings.declared.closed.Closings.{Closings}
+use Rattle.simulator_spec.specs.ixl_spec.Operations.{need_thing, things_used}
+use Rattle.simulator_recovery.proofs.Lemmas.RoutesComing.NeedsUsed.{need_is_used}
 use Rattle.simulator_recovery.proofs.Words.Stations.{Places, Site, RouteId, Event, Answer, answered, happens, interlocking_stepped, WorldState}
 use Rattle.simulator_recovery.proofs.Words.Recovery.{HasAspect, Waits, MoveLaw, RequestLaw}
 use Rattle.simulator_recovery.proofs.Lemmas.Lamps.Cancelled.{not_refused}
 use Rattle.simulator_recovery.proofs.Lemmas.RoutesComing.DueCourse.{at_changed, stopped_leaves, until_moved, waits_held, waits_keep, watching_held}
 use Rattle.simulator_recovery.proofs.Lemmas.Ground.DueShapes.{along_keeps, over_keeps, passage_keeps, route_keeps, where_keeps}
-use Rattle.simulator_recovery.proofs.Lemmas.Ground.DueTests.{known_surely, known_then}
+use Rattle.simulator_recovery.proofs.Lemmas.Ground.DueTests.{known_or_not, known_surely, known_then}
 use Rattle.simulator_recovery.proofs.Lemmas.Ground.IxlClients.{mapped_at}
 use Rattle.simulator_recovery.proofs.Lemmas.RoutesComing.NothingDueMoves.{MoveLeaves, move_leaves, moved_point, step_none}
 use Rattle.simulator_recovery.proofs.Lemmas.RoutesComing.NothingDueProceeds.{AspectLeaves, aspect_leaves}
 use Rattle.simulator_recovery.proofs.Lemmas.Lamps.StopsGiven.{changed_elsewhere, changed_here, differs, is_equal}
 
--- ---- what the rules leave of points and detectors
+-- ---- what the rules leave of points and detectors, and of what is closed
 
 abbrev pub FieldStands : IxlState → StepSoFar → Type 0
-FieldStands old part = (part.ixl.known_points ≡ old.known_points) × (part.ixl.detectors ≡ old.detectors)
+FieldStands old part = (part.ixl.known_points ≡ old.known_points) × (part.ixl.detectors ≡ old.detectors) × (part.ixl.closed ≡ old.closed)
 
--- no point that is available was moved since this route was set
-abbrev Unmoved : ℕ → List KnownPointState → Type 0
-Unmoved k points = (place : ℕ) (known : KnownPointState) → slice_get points place ≡ Some known → is_available known.client.stage ≡ true → contains known.moved k ≡ false
+-- no point that is available was moved since this route was set, and each that was known before it is known at the same side
+abbrev Unmoved : IxlState → ℕ → List KnownPointState → Type 0
+Unmoved old k points = (place : ℕ) (known : KnownPointState) → slice_get points place ≡ Some known → is_available known.client.stage ≡ true
+    → (contains known.moved k ≡ false) × ((side : Side) → Known old place side → known.side ≡ Some side)
 
 module _ (now : ℕ) (table : Table) (old : IxlState) where
   withdrawing_stands : (number : ℕ) (part : StepSoFar) → FieldStands old part → FieldStands old (withdrawing now table number part)
   unfolding withdrawing
   withdrawing_stands number part is = route_keeps (FieldStands old) table number _ part (λ row route there here. where_keeps (FieldStands old) (is_stop_due table part.ixl row route) part _
-      (λ due. let leaves = stopped_leaves now row (with_route number (come_to Phase.Withdrawn) part) in (leaves.points ∙ is.0, leaves.detectors ∙ is.1)) is) is
+      (λ due. let leaves = stopped_leaves now row (with_route number (come_to Phase.Withdrawn) part) in (leaves.points ∙ is.0, leaves.detectors ∙ is.1, leaves.closed ∙ is.2)) is) is
 
   ending_stands : (number : ℕ) (part : StepSoFar) → FieldStands old part → FieldStands old (ending_authority now table number part)
   unfolding ending_authority
@@ -53,15 +57,16 @@ module _ (now : ℕ) (table : Table) (old : IxlState) where
 
   -- a point that is given a move isn't available
   abbrev StillUnmoved : ℕ → StepSoFar → Type 0
-  StillUnmoved k part = Unmoved k part.ixl.known_points × (part.ixl.detectors ≡ old.detectors)
+  StillUnmoved k part = Unmoved old k part.ixl.known_points × (part.ixl.detectors ≡ old.detectors) × (part.ixl.closed ≡ old.closed)
 
   given_unmoved : (k point : ℕ) (side : Side) (part : StepSoFar) → StillUnmoved k part → StillUnmoved k (giving_move now point side part)
-  given_unmoved k point side part is = ((λ place known e available. decide place known e available (place == point) refl), leaves.detectors ∙ is.1)
+  given_unmoved k point side part is = ((λ place known e available. decide place known e available (place == point) refl), leaves.detectors ∙ is.1, leaves.closed ∙ is.2)
     where
       leaves : MoveLeaves point part.ixl (giving_move now point side part).ixl
       leaves = move_leaves now point side part
 
-      decide : (place : ℕ) (known : KnownPointState) → slice_get (giving_move now point side part).ixl.known_points place ≡ Some known → is_available known.client.stage ≡ true → (b : Bool) → (place == point) ≡ b → contains known.moved k ≡ false
+      decide : (place : ℕ) (known : KnownPointState) → slice_get (giving_move now point side part).ixl.known_points place ≡ Some known → is_available known.client.stage ≡ true → (b : Bool) → (place == point) ≡ b
+          → (contains known.moved k ≡ false) × ((side : Side) → Known old place side → known.side ≡ Some side)
       decide place known e available true same = absurd (moved_point now point side part (known, ap (slice_get (giving_move now point side part).ixl.known_points) (sym (is_equal place point same)) ∙ e, available))
       decide place known e available false differ = is.0 place known (sym (leaves.points place (differs place point differ)) ∙ e) available
 
@@ -89,7 +94,7 @@ module _ (now : ℕ) (table : Table) (old : IxlState) where
       given_so : (other : Row) (route : RouteState) → slice_get table.rows number ≡ Some other → slice_get part.ixl.routes number ≡ Some route → is_proceed_due now table part.ixl other route ≡ true
           → Q (giving_aspect now other.entry other.aspect (with_route number (authorised table part.ixl other) part))
       given_so other route there here due = (
-        (subst (Unmoved k) (sym leaves.points) is.0.0, leaves.detectors ∙ is.0.1),
+        (subst (Unmoved old k) (sym leaves.points) is.0.0, leaves.detectors ∙ is.0.1, leaves.closed ∙ is.0.2),
         choose is.1 (k == number) refl,
       )
         where
@@ -144,8 +149,9 @@ is_asked now table ixl route none = by_found (slice_get table.rows route.0) (sli
 
 -- What stands after an accepted request.
 record Accepted (now : ℕ) (table : Table) (old new : IxlState) (k : ℕ) (row : Row) : Type 0 where
-  unmoved : Unmoved k new.known_points
+  unmoved : Unmoved old k new.known_points
   detectors : new.detectors ≡ old.detectors
+  closed : new.closed ≡ old.closed
   course : At new.routes k Waits ⊎ (At new.routes k HasAspect × AllKnown new row.needs)
 
 module _ (site : Site) (table : Table) (world : WorldState) (route : RouteId) where
@@ -155,51 +161,61 @@ module _ (site : Site) (table : Table) (world : WorldState) (route : RouteId) wh
   abbrev clocked : StepSoFar
   clocked = record (begun_with world.interlocking.ixl empty_outbox) { ixl = all_clocked now world.interlocking.ixl }
 
+  abbrev heard_by : Option Refusal → StepSoFar
+  heard_by cause = moved_at_once now cause (Command.Request route) (record clocked { ixl = commanded_by now cause (Command.Request route) clocked.ixl })
+
   abbrev heard : StepSoFar
-  heard = record clocked { ixl = commanded_by (refusal now table (Command.Request route) clocked.ixl) (Command.Request route) clocked.ixl }
+  heard = heard_by (refusal now table (Command.Request route) clocked.ixl)
 
   abbrev Set : StepSoFar → Type 0
-  Set part = (Unmoved route.0 part.ixl.known_points × (part.ixl.detectors ≡ clocked.ixl.detectors)) × At part.ixl.routes route.0 Waits
+  Set part = (Unmoved clocked.ixl route.0 part.ixl.known_points × (part.ixl.detectors ≡ clocked.ixl.detectors) × (part.ixl.closed ≡ clocked.ixl.closed)) × At part.ixl.routes route.0 Waits
 
-  obeyed_set : (one : RouteState) → slice_get clocked.ixl.routes route.0 ≡ Some one → Set (record clocked { ixl = obeyed (Command.Request route) clocked.ixl })
-  unfolding obeyed
+  obeyed_set : (one : RouteState) → slice_get clocked.ixl.routes route.0 ≡ Some one → Set (heard_by None)
+  unfolding obeyed moved_at_once
   obeyed_set one there = (
-    ((λ place known e available. let found = mapped_at (unmoved_for route.0) clocked.ixl.known_points place known e in ap (λ (k : KnownPointState). contains k.moved route.0) found.2 ∙ removed found.0.moved route.0), refl),
+    (
+      (λ place known e available. let found = mapped_at (unmoved_for route.0) clocked.ixl.known_points place known e in (
+        ap (λ (k : KnownPointState). contains k.moved route.0) found.2 ∙ removed found.0.moved route.0,
+        λ side was. ap (λ (k : KnownPointState). k.side) found.2 ∙ (ap (λ (k : KnownPointState). k.side) (same_Some found.0 was.0 (sym found.1 ∙ was.1)) ∙ was.2.1),
+      )),
+      refl,
+      refl,
+    ),
     (set_anew one, changed_here set_anew route.0 clocked.ixl.routes one there, (refl, refl)),
   )
 
   heard_set : (one : RouteState) → slice_get clocked.ixl.routes route.0 ≡ Some one → refusal now table (Command.Request route) clocked.ixl ≡ None → Set heard
-  heard_set one there none = subst (λ (cause : Option Refusal). Set (record clocked { ixl = commanded_by cause (Command.Request route) clocked.ixl })) (sym none) (obeyed_set one there)
+  heard_set one there none = subst (λ (cause : Option Refusal). Set (heard_by cause)) (sym none) (obeyed_set one there)
 
   abbrev seen : StepSoFar
   seen = over (watching table) (count table) heard
 
-  watching_set : (number : ℕ) (part : StepSoFar) → (Unmoved route.0 part.ixl.known_points × (part.ixl.detectors ≡ clocked.ixl.detectors)) → (Unmoved route.0 (watching table number part).ixl.known_points × ((watching table number part).ixl.detectors ≡ clocked.ixl.detectors))
+  watching_set : (number : ℕ) (part : StepSoFar) → (Unmoved clocked.ixl route.0 part.ixl.known_points × (part.ixl.detectors ≡ clocked.ixl.detectors) × (part.ixl.closed ≡ clocked.ixl.closed)) → (Unmoved clocked.ixl route.0 (watching table number part).ixl.known_points × ((watching table number part).ixl.detectors ≡ clocked.ixl.detectors) × ((watching table number part).ixl.closed ≡ clocked.ixl.closed))
   unfolding watching
   watching_set number part is = route_keeps Q table number _ part (λ row one there here. where_keeps Q _ part _ (λ due. is) is) is
     where
       Q : StepSoFar → Type 0
-      Q q = Unmoved route.0 q.ixl.known_points × (q.ixl.detectors ≡ clocked.ixl.detectors)
+      Q q = Unmoved clocked.ixl route.0 q.ixl.known_points × (q.ixl.detectors ≡ clocked.ixl.detectors) × (q.ixl.closed ≡ clocked.ixl.closed)
 
   accepted_so : (asked : IsAsked table clocked.ixl route.0) → refusal now table (Command.Request route) clocked.ixl ≡ None → Accepted now table clocked.ixl (interlocking_stepped site table (Commands (Command.Request route)) world).interlocking.ixl route.0 asked.row
   unfolding interlocking_stepped stepped ticked given
-  accepted_so asked none = record { unmoved = behind.0.0; detectors = behind.0.1; course = behind.1 }
+  accepted_so asked none = record { unmoved = behind.0.0; detectors = behind.0.1; closed = behind.0.2; course = behind.1 }
     where
       set : Set heard
       set = heard_set asked.route asked.there none
 
-      seen_field : Unmoved route.0 seen.ixl.known_points × (seen.ixl.detectors ≡ clocked.ixl.detectors)
-      seen_field = over_keeps (λ (q : StepSoFar). Unmoved route.0 q.ixl.known_points × (q.ixl.detectors ≡ clocked.ixl.detectors)) (watching table) watching_set (count table) heard set.0
+      seen_field : Unmoved clocked.ixl route.0 seen.ixl.known_points × (seen.ixl.detectors ≡ clocked.ixl.detectors) × (seen.ixl.closed ≡ clocked.ixl.closed)
+      seen_field = over_keeps (λ (q : StepSoFar). Unmoved clocked.ixl route.0 q.ixl.known_points × (q.ixl.detectors ≡ clocked.ixl.detectors) × (q.ixl.closed ≡ clocked.ixl.closed)) (watching table) watching_set (count table) heard set.0
 
       seen_waits : At seen.ixl.routes route.0 Waits
       seen_waits = over_keeps (λ (q : StepSoFar). At q.ixl.routes route.0 Waits) (watching table) (watching_held now table route.0 Waits waits_keep) (count table) heard set.1
 
       freed_field : FieldStands seen.ixl (freed_by_cancel now table seen)
-      freed_field = until_freed now table seen.ixl seen (refl, refl)
+      freed_field = until_freed now table seen.ixl seen (refl, refl, refl)
 
-      moved_field : Unmoved route.0 (moved now table seen).ixl.known_points × ((moved now table seen).ixl.detectors ≡ clocked.ixl.detectors)
+      moved_field : Unmoved clocked.ixl route.0 (moved now table seen).ixl.known_points × ((moved now table seen).ixl.detectors ≡ clocked.ixl.detectors) × ((moved now table seen).ixl.closed ≡ clocked.ixl.closed)
       moved_field = over_keeps (StillUnmoved now table clocked.ixl route.0) (moving now table) (moving_unmoved now table clocked.ixl route.0) (count table) (freed_by_cancel now table seen)
-          (subst (Unmoved route.0) (sym freed_field.0) seen_field.0, freed_field.1 ∙ seen_field.1)
+          (subst (Unmoved clocked.ixl route.0) (sym freed_field.0) seen_field.0, freed_field.1 ∙ seen_field.1, freed_field.2 ∙ seen_field.2)
 
       moved_waits : At (moved now table seen).ixl.routes route.0 Waits
       moved_waits = until_moved now table route.0 Waits waits_keep seen (over_keeps (λ (q : StepSoFar). At q.ixl.routes route.0 Waits) (withdrawing now table) (waits_held now table route.0) (count table) seen seen_waits)
@@ -230,13 +246,26 @@ module _ (site : Site) (table : Table) (world : WorldState) (route : RouteId) wh
       choose row (inr proceeds) = (proceeds.0.0, proceeds.0.1, inr proceeds.0.2)
 
   -- of an available point over a clear section, that no route with authority holds, a move isn't due: it is known at its side
-  pub accepted_points : MoveLaw → (row : Row) (need : Need) → slice_get table.rows route.0 ≡ Some row → Contains row.needs need → answered site table (Event.Request (Command.Request route)) world ≡ Answer.Accepted
+  pub accepted_points : MoveLaw → RequestLaw → (row : Row) (need : Need) → slice_get table.rows route.0 ≡ Some row → Contains row.needs need → answered site table (Event.Request (Command.Request route)) world ≡ Answer.Accepted
       → IsAvailable after.interlocking.ixl need.point → At table.point_sections need.point (IsClear table after.interlocking.ixl) → (IsHeldWithAuthority table after.interlocking.ixl need.point → ⊥) → Known after.interlocking.ixl need.point need.side
   unfolding happens
-  accepted_points law row need row_there within accepted available clear unheld = choose behind.1.course
+  accepted_points law request row need row_there within accepted available clear unheld = choose behind.1.course
     where
+      admissible : Admissible now table clocked.ixl route.0
+      admissible = (request now table clocked.ixl route).0 (accepted_none accepted)
+
+      used : Contains (things_used route.0 admissible.row) (need_thing need)
+      used = need_is_used route.0 admissible.row need (subst (λ (r : Row). Contains r.needs need) (same_Some row admissible.row (sym row_there ∙ admissible.known.0)) within)
+
       behind : (asked : IsAsked table clocked.ixl route.0) × Accepted now table clocked.ixl after.interlocking.ixl route.0 asked.row
       behind = accepted_then accepted
+
+      -- a required point in a closed section is known at its side as the request is accepted, and so after it
+      by_known : Known clocked.ixl need.point need.side ⊎ (Known clocked.ixl need.point need.side → ⊥) → LiesInClosed table after.interlocking.ixl need.point
+          → (Known after.interlocking.ixl need.point need.side → ⊥) → ⊥
+      by_known (inl was) lies unknown = unknown (available.0, available.1, (available.2, (behind.1.unmoved need.point available.0 available.1 available.2).1 need.side was))
+      by_known (inr was_not) lies unknown = admissible.unclosed (need_thing need) used
+          (inr (subst (λ (c : Closings). LiesInClosed table (record clocked.ixl { closed = c }) need.point) behind.1.closed lies, was_not))
 
       choose : At after.interlocking.ixl.routes route.0 Waits ⊎ (At after.interlocking.ixl.routes route.0 HasAspect × AllKnown after.interlocking.ixl behind.0.row.needs) → Known after.interlocking.ixl need.point need.side
       choose (inl waits) = known_surely after.interlocking.ixl need.point need.side (λ unknown. step_none law site table (Commands (Command.Request route)) world route.0 row need row_there within row waits.0 (row_there, waits.1) (record {
@@ -246,7 +275,8 @@ module _ (site : Site) (table : Table) (world : WorldState) (route : RouteId) wh
         elsewhere = unknown;
         over_clear = clear;
         unheld = unheld;
-        once = (available.0, available.1, behind.1.unmoved need.point available.0 available.1 available.2);
+        once = (available.0, available.1, (behind.1.unmoved need.point available.0 available.1 available.2).0);
+        unclosed = λ lies. by_known (known_or_not clocked.ixl need.point need.side) lies unknown;
       }))
       choose (inr proceeds) = All-contains (λ (one : Need). Known after.interlocking.ixl one.point one.side) row.needs need
           (subst (λ (r : Row). AllKnown after.interlocking.ixl r.needs) (same_Some behind.0.row row (sym behind.0.row_there ∙ row_there)) proceeds.1) within

@@ -2,7 +2,7 @@
 use Rattle.simulator_recovery.proofs.Words.Basics.{◌≡◌, ◌≢◌, ◌⊎◌, inl, inr, ℕ, ◌==◌, ◌&&◌, Bool, true, false, if◌then◌else◌, List, Option, Some, None, slice_get, refl, sym, ap, subst, ◌∙◌, ◌||◌, not, false≢true, none-some, same_Some}
 use Rattle.simulator_recovery.proofs.Words.Links.{reading_of, reading, Key}
 use Rattle.simulator_recovery.proofs.Words.Controllers.{Aspect}
-use Rattle.simulator_recovery.proofs.Words.Interlockings.{begun, hearing, commanded_by, obeyed, refusal, request_refusal, set_anew, AllClear, AllKnown, At, IsSignalReady, StopDue, authorised, come_to, count, ended, ending_authority, freed, freed_by_cancel, freed_by_passage, freeing_by_cancel, freeing_by_passage, freeing_next, frees_cancelled, frees_next, is_move_due, is_proceed_due, is_proceeding, is_stop_due, is_withdrawn, moved, moving, moving_one, one_freed, proceeding, ruled, stopped, withdrawing, withdrawn, IxlState, KnownDetectorState, KnownPointState, RouteState, changed, Commands, Datagram, Input, Tick, addressed, all_clocked, detector_hearing, given, known_point_hearing, known_signal_hearing, looking, looking_by, looks, node_hearing, occupied_heard, route_looks, stepped, ticked, watching, Detector, Node as IxlNode, Point, Signal, StepSoFar, begun_with, detector_after, empty_outbox, giving_aspect, noted, over, with_detector, with_one, with_route, Need, Row, Table, is_at_known_stop, is_set, is_signal_ready, place_in, was_authorised, Command, Refusal, Phase}
+use Rattle.simulator_recovery.proofs.Words.Interlockings.{begun, hearing, commanded_by, obeyed, refusal, released_at, request_refusal, set_anew, AllClear, AllKnown, At, IsSignalReady, StopDue, authorised, come_to, count, ended, ending_authority, freed, freed_by_cancel, freed_by_passage, freeing_by_cancel, freeing_by_passage, freeing_next, frees_cancelled, frees_next, is_move_due, is_proceed_due, is_proceeding, is_stop_due, is_withdrawn, moved, moving, moving_one, one_freed, proceeding, ruled, stopped, withdrawing, withdrawn, IxlState, KnownDetectorState, KnownPointState, RouteState, changed, Commands, Datagram, Input, Tick, addressed, all_clocked, detector_hearing, given, known_point_hearing, known_signal_hearing, looking, looking_by, looks, node_hearing, occupied_heard, route_looks, stepped, ticked, watching, Detector, Node as IxlNode, Point, Signal, StepSoFar, begun_with, detector_after, empty_outbox, giving_aspect, noted, over, with_detector, with_one, with_route, Need, Row, Table, is_at_known_stop, is_set, is_signal_ready, place_in, was_authorised, Command, Refusal, Phase, giving_move}
 use Rattle.simulator_recovery.proofs.Words.Stations.{Site, RouteId, Event, happens, interlocking_stepped, key_of, node_at, WorldState, IsReached}
 use Rattle.simulator_recovery.proofs.Words.Recovery.{CancelsNot, IsUpheld, KeepsSetting, HasAspect, UpholdsAspect, Waits, input_of, known_in_step, StopLaw}
 use Rattle.simulator_recovery.proofs.Lemmas.Lamps.ConfirmedStops.{standing_then}
@@ -14,6 +14,7 @@ use Rattle.simulator_recovery.proofs.Lemmas.RoutesComing.NothingDueProceeds.{Asp
 use Rattle.simulator_recovery.proofs.Lemmas.Ground.SignalParts.{watched_held, withdrawing_held}
 use Rattle.simulator_recovery.proofs.Lemmas.Lamps.StopsGiven.{AnyCommand, StopsStand, changed_elsewhere, changed_here, differs, is_equal, proceeding_set, request_unset, stand_keep}
 use Rattle.simulator_recovery.proofs.Lemmas.Ground.DueTests.{first_true}
+use Rattle.simulator_recovery.proofs.Lemmas.Ground.MovedAtOnce.{moved_keeps}
 
 -- ---- one route of a list
 
@@ -156,14 +157,18 @@ module _ (now : ℕ) (table : Table) (k : ℕ) (F : RouteState → Type 0) (keep
       by_row None e = cc e
       by_row (Some row) e = by_phase (λ p. not (is_set p)) refl refl one holds (ap not (request_unset now table ixl route.0 row one e))
 
-  obeyed_held : (command : Command) (part : StepSoFar) → CancelsNot k command → refusal now table command part.ixl ≡ None → Held part → Held (record part { ixl = obeyed command part.ixl })
+  obeyed_held : (command : Command) (part : StepSoFar) → CancelsNot k command → refusal now table command part.ixl ≡ None → Held part → Held (record part { ixl = obeyed now command part.ixl })
   unfolding obeyed
   obeyed_held (Command.Request route) part leaves none is = at_changed F k route.0 set_anew part.ixl.routes
       (λ one same there holds. absurd (not_set_anew route part.ixl one (ap (slice_get part.ixl.routes) (sym same) ∙ there) none holds)) is
   obeyed_held (Command.Cancel route) part leaves none is = at_changed F k route.0 (λ old. record old { cancelled = true }) part.ixl.routes (λ one same there holds. absurd (leaves (sym same))) is
   obeyed_held Command.Resume part leaves none is = is
+  obeyed_held (Command.Release route) part leaves none is = at_changed F k route.0 (released_at now) part.ixl.routes (λ one same there holds. keep.same one (released_at now one) refl refl holds) is
+  obeyed_held (Command.Move point side) part leaves none is = is
+  obeyed_held (Command.Close named) part leaves none is = is
+  obeyed_held (Command.Open named) part leaves none is = is
 
-  commanded_held : (cause : Option Refusal) (command : Command) (part : StepSoFar) → refusal now table command part.ixl ≡ cause → CancelsNot k command → Held part → Held (record part { ixl = commanded_by cause command part.ixl })
+  commanded_held : (cause : Option Refusal) (command : Command) (part : StepSoFar) → refusal now table command part.ixl ≡ cause → CancelsNot k command → Held part → Held (record part { ixl = commanded_by now cause command part.ixl })
   commanded_held None command part none leaves is = obeyed_held command part leaves none is
   commanded_held (Some cause) command part refused leaves is = is
 
@@ -172,10 +177,12 @@ module _ (now : ℕ) (table : Table) (k : ℕ) (F : RouteState → Type 0) (keep
   heard_at bytes (Some node) part is = hearing_held bytes node part is
 
   given_held : (key : Key) (input : Input) (part : StepSoFar) → LeavesSetting k input → Held part → Held (given now table key input part)
-  unfolding given
+  unfolding given giving_move
   given_held key Tick part leaves is = is
   given_held key (Datagram bytes) part leaves is = heard_at bytes (addressed (reading key bytes) part.ixl) part is
-  given_held key (Commands command) part leaves is = commanded_held (refusal now table command part.ixl) command part refl leaves is
+  given_held key (Commands command) part leaves is =
+      moved_keeps Held now table (λ point side q available all. one_keeps Held (slice_get q.ixl.known_points point) _ q (λ known e. all) all)
+      (refusal now table command part.ixl) command part refl (commanded_held (refusal now table command part.ixl) command part refl leaves is)
 
   clocked_held : (part : StepSoFar) → Held part → Held (record part { ixl = all_clocked now part.ixl })
   unfolding all_clocked
@@ -193,7 +200,7 @@ stopped_leaves now row part = choose (is_signal_ready part.ixl row.entry)
   where
     choose : (b : Bool) → AspectLeaves row.entry part.ixl (if b then giving_aspect now row.entry Aspect.Stop part else part).ixl
     choose true = aspect_leaves now row.entry Aspect.Stop part
-    choose false = record { routes = refl; points = refl; detectors = refl; signals = λ other differ. refl }
+    choose false = record { routes = refl; points = refl; detectors = refl; closed = refl; signals = λ other differ. refl }
 
 module _ (now : ℕ) (table : Table) (k : ℕ) where
   -- a route that waits isn't withdrawn

@@ -2,7 +2,7 @@
 use Rattle.simulator_recovery.proofs.Words.Basics.{◌≡◌, ◌⊎◌, inl, inr, ℕ, ◌<◌, ◌==◌, ◌&&◌, Bool, true, false, List, ◌++◌, map, if◌then◌else◌, Some, slice_get, refl, sym, ap, subst, ◌∙◌, arith, not, Contains, false≢true, Contains-append_left, Contains-append_right, none-some, same_Some}
 use Rattle.simulator_recovery.proofs.Words.Links.{answer_to_send, reading_of, OutboxState, Reason}
 use Rattle.simulator_recovery.proofs.Words.Controllers.{Aspect, Side}
-use Rattle.simulator_recovery.proofs.Words.Interlockings.{IsTableOf, ClientState, is_available, is_outside, ClientSoFar, Closes, LinkCall, Sends, begun, calling, commanding, is_refused_by_window, posting, IsHeldAt, authorised, count, is_move_due, is_over_clear, is_proceed_due, is_unmoved, is_waiting, moved, moving, moving_one, proceeding, ruled, IxlState, KnownPointState, RouteState, Input, detector_ticking, known_point_ticking, known_signal_ticking, stepped, ticked, Node, Point, StepSoFar, giving_aspect, giving_move, with_route, Need, Row, Table, freed_sections, is_held_with_authority, is_known, is_point_available, is_set, Phase}
+use Rattle.simulator_recovery.proofs.Words.Interlockings.{lies_in_closed, IsTableOf, ClientState, is_available, is_outside, ClientSoFar, Closes, LinkCall, Sends, begun, calling, commanding, is_refused_by_window, posting, IsHeldAt, authorised, count, is_move_due, is_over_clear, is_proceed_due, is_unmoved, is_waiting, moved, moving, moving_one, proceeding, ruled, IxlState, KnownPointState, RouteState, Input, detector_ticking, known_point_ticking, known_signal_ticking, stepped, ticked, Node, Point, StepSoFar, giving_aspect, giving_move, with_route, Need, Row, Table, freed_sections, is_held_with_authority, is_known, is_point_available, is_set, Phase}
 use Rattle.simulator_recovery.proofs.Words.Stations.{Site, interlocking_stepped, WorldState, IsReached}
 use Rattle.simulator_recovery.proofs.Words.Recovery.{commanded, GivesMoveTo, known_in_step, MoveLaw, RequestLaw}
 use Rattle.simulator_spec.specs.ixl_client.declared.command.Command.{Command}
@@ -87,11 +87,11 @@ waiting_is (Phase.Ended clock done) e = absurd (false≢true e)
 
 pub waits_there : (table : Table) (ixl : IxlState) (number : ℕ) (route : RouteState) (need : Need) → is_move_due table ixl number route need ≡ true → is_waiting route.phase ≡ true
 waits_there table ixl number route need due = first (is_waiting route.phase) (not route.cancelled) (is_point_available ixl need.point) (not (is_known ixl need.point need.side)) (is_over_clear table ixl need.point)
-    (not (is_held_with_authority table ixl need.point)) (is_unmoved ixl need.point number) due
+    (not (is_held_with_authority table ixl need.point)) (is_unmoved ixl need.point number) (not (lies_in_closed table ixl need.point)) due
   where
-    first : (a b c d e f g : Bool) → (a && b && c && d && e && f && g) ≡ true → a ≡ true
-    first true b c d e f g h = refl
-    first false b c d e f g h = absurd (false≢true h)
+    first : (a b c d e f g h : Bool) → (a && b && c && d && e && f && g && h) ≡ true → a ≡ true
+    first true b c d e f g h is = refl
+    first false b c d e f g h is = absurd (false≢true is)
 
 module _ (law : MoveLaw) (now : ℕ) (table : Table) (holds : HoldsEach table) (in_order : InOrder table) (routes : List RouteState) (apart : PointsApart table routes) (point : ℕ) (side : Side) (held : Holder law now table holds in_order routes apart point side)
     (known : KnownPointState) where

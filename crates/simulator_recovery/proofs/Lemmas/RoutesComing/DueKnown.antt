@@ -2,9 +2,12 @@
 use Rattle.simulator_recovery.proofs.Words.Basics.{◌≡◌, ◌≢◌, ◌⊎◌, inl, inr, ◌∙◌, ℕ, ◌≤◌, Bool, true, false, not, if◌then◌else◌, List, length, Some, None, slice_get, refl, sym, ap, subst, contains, empty, false≢true, same_Some, ◌&&◌, [], ◌∷◌, Option, Result, Ok, Err, bytes_eq}
 use Rattle.simulator_recovery.proofs.Words.Links.{opening, ticking as link_ticking, reading_of, OutboxState, LinkState, confirmed_items, is_up, receiving, is_open, Reason, reading as pdu_reading, Key, settled}
 use Rattle.simulator_recovery.proofs.Words.Controllers.{Aspect, Side, reading, SciFault, Initialisation, Message, Protocol, Telegram}
-use Rattle.simulator_recovery.proofs.Words.Interlockings.{ClientState, is_available, is_outside, is_ready, begun, calling, fallen, ticking, Stage, AllClear, AllKnown, IsAvailable, IsClear, IsKnownSignalAtStop, IsSignalReady, Known, KnownStop, ReportedBy, IxlState, KnownDetectorState, KnownPointState, KnownSignalState, Commands, Datagram, Input, Tick, detector_ticking, known_point_ticking, known_signal_ticking, ticked, StepSoFar, begun_with, detector_after, empty_outbox, known_point_after, known_signal_after, Need, Table, PeerState, new_client, ClientSoFar, Closes, Receives, initial_meaning, is_for_client, is_in_version, meaning, meaning_of, place_of, report_meaning, reports_changes, state_in, acting, acting_all, clocked, commanding, following, hearing, meaning_of_item, rising, Indication, ObjectState, commanded_by, obeyed, refusal, unmoved_for, At, count, addressed, all_clocked, clocked_known_point, detector_hearing, given, known_point_hearing, known_signal_hearing, looking, looking_by, looks, node_hearing, occupied_heard, side_heard, Detector, Node as IxlNode, Point, Signal, noted, with_detector, with_one, was_authorised, Command, Refusal}
+use Rattle.simulator_recovery.proofs.Words.Interlockings.{ClientState, is_available, is_outside, is_ready, begun, calling, fallen, ticking, Stage, AllClear, AllKnown, IsAvailable, IsClear, IsKnownSignalAtStop, IsSignalReady, Known, KnownStop, ReportedBy, IxlState, KnownDetectorState, KnownPointState, KnownSignalState, Commands, Datagram, Input, Tick, detector_ticking, known_point_ticking, known_signal_ticking, ticked, StepSoFar, begun_with, detector_after, empty_outbox, known_point_after, known_signal_after, Need, Table, PeerState, new_client, ClientSoFar, Closes, Receives, initial_meaning, is_for_client, is_in_version, meaning, meaning_of, place_of, report_meaning, reports_changes, state_in, acting, acting_all, clocked, commanding, following, hearing, meaning_of_item, rising, Indication, ObjectState, commanded_by, obeyed, refusal, unmoved_for, At, count, addressed, all_clocked, clocked_known_point, detector_hearing, given, known_point_hearing, known_signal_hearing, looking, looking_by, looks, node_hearing, occupied_heard, side_heard, Detector, Node as IxlNode, Point, Signal, noted, with_detector, with_one, was_authorised, Command, Refusal, giving_move}
 use Rattle.simulator_recovery.proofs.Words.Stations.{Places, Site, interlocking_stepped, key_of, WorldState, IsReached, Beginning, new_ixl, new_known_point_of}
 use Rattle.simulator_recovery.proofs.Words.Recovery.{ClientStandsAt, EachClient, IsInside, IsUpAtClock, known_in_step}
+use Rattle.simulator_spec.specs.layout.declared.ids.PointId.{PointId}
+use Rattle.simulator_recovery.proofs.Lemmas.Lamps.StopsGiven.{changed_elsewhere}
+use Rattle.simulator_recovery.proofs.Lemmas.Ground.MovedAtOnce.{moved_where}
 use Rattle.simulator_recovery.proofs.Lemmas.Ground.DueShapes.{one_keeps, over_keeps, along_keeps, route_keeps, where_keeps}
 use Rattle.simulator_recovery.proofs.Lemmas.Ground.IxlAlways.{always_whole}
 use Rattle.simulator_recovery.proofs.Lemmas.Ground.IxlClients.{step_kept, ClientsKeep, mapped_at, point_client}
@@ -151,6 +154,7 @@ pub record DetectorWas (detectors : List KnownDetectorState) (place : ℕ) (know
 -- An interlocking is as another, but for links that have fallen.
 pub record BringsNothing (old new : IxlState) : Type 0 where
   pub routes : new.routes ≡ old.routes
+  pub closed : new.closed ≡ old.closed
   pub signals : (place : ℕ) (known : KnownSignalState) → slice_get new.known_signals place ≡ Some known → SignalWas old.known_signals place known
   pub points : (place : ℕ) (known : KnownPointState) → slice_get new.known_points place ≡ Some known → PointWas old.known_points place known
   pub detectors : (place : ℕ) (known : KnownDetectorState) → slice_get new.detectors place ≡ Some known → DetectorWas old.detectors place known
@@ -158,6 +162,7 @@ pub record BringsNothing (old new : IxlState) : Type 0 where
 nothing_at_first : (ixl : IxlState) → BringsNothing ixl ixl
 nothing_at_first ixl = record {
   routes = refl;
+  closed = refl;
   signals = λ place known e. record { was = known; there = e; stands = λ inside. record { stage = refl; aspect = refl; number = refl; up = λ up. up; confirmed = λ up. refl } };
   points = λ place known e. record { was = known; there = e; stands = λ inside. record { stage = refl; side = refl; moved = refl } };
   detectors = λ place known e. record { was = known; there = e; stands = λ inside. record { stage = refl; occupied = refl } };
@@ -206,6 +211,7 @@ module _ (old : IxlState) (now : ℕ) where
       let new : KnownSignalState = known_signal_after known.aspect known.number known.indicated (ticking now (begun known.client part.outbox)).client
       in record {
         routes = is.routes;
+        closed = is.closed;
         signals = λ k later f. signal_then place k known later new part.ixl.known_signals (is.signals place known e) (signal_ticks now known part.outbox) is.signals (set_at place new part.ixl.known_signals k later f);
         points = is.points;
         detectors = is.detectors;
@@ -217,6 +223,7 @@ module _ (old : IxlState) (now : ℕ) where
       let new : KnownPointState = known_point_after known.side known.moved (ticking now (begun known.client part.outbox)).client
       in record {
         routes = is.routes;
+        closed = is.closed;
         signals = is.signals;
         points = λ k later f. point_then place k known later new part.ixl.known_points (is.points place known e) (point_ticks now known part.outbox) is.points (set_at place new part.ixl.known_points k later f);
         detectors = is.detectors;
@@ -228,6 +235,7 @@ module _ (old : IxlState) (now : ℕ) where
       let new : KnownDetectorState = detector_after known.occupied (ticking now (begun known.client part.outbox)).client
       in record {
         routes = is.routes;
+        closed = is.closed;
         signals = is.signals;
         points = is.points;
         detectors = λ k later f. detector_then place k known later new part.ixl.detectors (is.detectors place known e) (detector_ticks now known part.outbox) is.detectors (set_at place new part.ixl.detectors k later f);
@@ -615,7 +623,7 @@ module _ (now : ℕ) (table : Table) (point : ℕ) (side : Side) where
       in along_keeps Inside (looking table) looking_inside (looks sections known done.heard done.client)
       (with_detector place (detector_after (occupied_heard done.heard known.occupied) done.client) (noted (Detector place) done part)) (known_inside point side part.ixl is)) (known_inside point side part.ixl is)) (known_inside point side part.ixl is)
 
-  obeyed_inside : (command : Command) (ixl : IxlState) → KnownInside point side ixl → KnownInside point side (obeyed command ixl)
+  obeyed_inside : (command : Command) (ixl : IxlState) → KnownInside point side ixl → KnownInside point side (obeyed now command ixl)
   unfolding obeyed
   obeyed_inside (Command.Request route) ixl is known e inside =
       let found = mapped_at (unmoved_for route.0) ixl.known_points point known e
@@ -623,8 +631,12 @@ module _ (now : ℕ) (table : Table) (point : ℕ) (side : Side) where
       in (ap (λ (k : KnownPointState). is_available k.client.stage) found.2 ∙ before.0, ap (λ (k : KnownPointState). k.side) found.2 ∙ before.1)
   obeyed_inside (Command.Cancel route) ixl is known e inside = is known e inside
   obeyed_inside Command.Resume ixl is known e inside = is known e inside
+  obeyed_inside (Command.Release route) ixl is known e inside = is known e inside
+  obeyed_inside (Command.Move point side) ixl is known e inside = is known e inside
+  obeyed_inside (Command.Close named) ixl is known e inside = is known e inside
+  obeyed_inside (Command.Open named) ixl is known e inside = is known e inside
 
-  commanded_inside : (cause : Option Refusal) (command : Command) (ixl : IxlState) → KnownInside point side ixl → KnownInside point side (commanded_by cause command ixl)
+  commanded_inside : (cause : Option Refusal) (command : Command) (ixl : IxlState) → KnownInside point side ixl → KnownInside point side (commanded_by now cause command ixl)
   commanded_inside None command ixl is = obeyed_inside command ixl is
   commanded_inside (Some cause) command ixl is = is
 
@@ -633,22 +645,40 @@ module _ (now : ℕ) (table : Table) (point : ℕ) (side : Side) where
   heard_at bytes None part speak is = known_inside point side part.ixl is
   heard_at bytes (Some node) part speak is = hearing_inside bytes node part speak is
 
-  pub given_inside : (key : Key) (input : Input) (part : StepSoFar) → ((place : ℕ) (known : KnownPointState) → slice_get part.ixl.known_points place ≡ Some known → known.client.peer.protocol ≡ Protocol.Point) → Known part.ixl point side
+  -- another point is moved
+  other_inside : (other : PointId) (to : Side) (part : StepSoFar) → (other.0 ≡ point → ⊥) → Inside part → Inside (giving_move now other.0 to part)
+  unfolding giving_move
+  other_inside other to part differ is = one_keeps Inside (slice_get part.ixl.known_points other.0) _ part
+      (λ known e one there inside. is one (sym (changed_elsewhere _ other.0 point part.ixl.known_points (λ same. differ (sym same))) ∙ there) inside) is
+
+  -- unless the point itself is moved by command
+  pub given_inside : (key : Key) (input : Input) (part : StepSoFar) → ((moved : PointId) (to : Side) → input ≡ Commands (Command.Move moved to) → moved.0 ≡ point → refusal now table (Command.Move moved to) part.ixl ≡ None → ⊥)
+      → ((place : ℕ) (known : KnownPointState) → slice_get part.ixl.known_points place ≡ Some known → known.client.peer.protocol ≡ Protocol.Point) → Known part.ixl point side
       → Inside (given now table key input part)
   unfolding given
-  given_inside key Tick part speak is = known_inside point side part.ixl is
-  given_inside key (Datagram bytes) part speak is = heard_at bytes (addressed (pdu_reading key bytes) part.ixl) part speak is
-  given_inside key (Commands command) part speak is = commanded_inside (refusal now table command part.ixl) command part.ixl (known_inside point side part.ixl is)
+  given_inside key Tick part unmoved speak is = known_inside point side part.ixl is
+  given_inside key (Datagram bytes) part unmoved speak is = heard_at bytes (addressed (pdu_reading key bytes) part.ixl) part speak is
+  given_inside key (Commands command) part unmoved speak is =
+      let cause = refusal now table command part.ixl
+      in let commanded = commanded_inside cause command part.ixl (known_inside point side part.ixl is)
+      in moved_where Inside now cause command (record part { ixl = commanded_by now cause command part.ixl }) commanded
+      (λ moved to same none. other_inside moved to (record part { ixl = commanded_by now cause command part.ixl })
+      (λ here. unmoved moved to (ap Commands same) here (subst (λ (c : Command). refusal now table c part.ixl ≡ None) same none)) commanded)
+
+-- No command that comes moves this point.
+abbrev pub NotMoved : Table → Input → WorldState → ℕ → Type 0
+NotMoved table input world point = (moved : PointId) (to : Side) → input ≡ Commands (Command.Move moved to) → moved.0 ≡ point
+    → refusal (reading_of world.interlocking.clock) table (Command.Move moved to) (all_clocked (reading_of world.interlocking.clock) world.interlocking.ixl) ≡ None → ⊥
 
 -- After the clock and the input of a step.
-pub known_heard : (site : Site) (table : Table) (input : Input) (world : WorldState) (point : ℕ) (side : Side) → IsReached site table world → Known world.interlocking.ixl point side → IsUpAtClock world point
+pub known_heard : (site : Site) (table : Table) (input : Input) (world : WorldState) (point : ℕ) (side : Side) → NotMoved table input world point → IsReached site table world → Known world.interlocking.ixl point side → IsUpAtClock world point
     → KnownInside point side (known_in_step site table input world)
-known_heard site table input world point side reached is up = given_inside now table point side (key_of site) input (begun_with (all_clocked now world.interlocking.ixl) empty_outbox)
-    (point_clocked now world.interlocking.ixl (always_speak site table world reached)) (known_clocked now world.interlocking.ixl point side is up)
+known_heard site table input world point side unmoved reached is up = given_inside now table point side (key_of site) input (begun_with (all_clocked now world.interlocking.ixl) empty_outbox)
+    unmoved (point_clocked now world.interlocking.ixl (always_speak site table world reached)) (known_clocked now world.interlocking.ixl point side is up)
   where
     now : ℕ
     now = reading_of world.interlocking.clock
 
-pub known_in : (site : Site) (table : Table) (input : Input) (world : WorldState) (point : ℕ) (side : Side) → IsReached site table world → Known world.interlocking.ixl point side → IsUpAtClock world point
+pub known_in : (site : Site) (table : Table) (input : Input) (world : WorldState) (point : ℕ) (side : Side) → NotMoved table input world point → IsReached site table world → Known world.interlocking.ixl point side → IsUpAtClock world point
     → IsInside (known_in_step site table input world) point → Known (known_in_step site table input world) point side
-known_in site table input world point side reached is up inside = (inside.0, inside.1, known_heard site table input world point side reached is up inside.0 inside.1 inside.2)
+known_in site table input world point side unmoved reached is up inside = (inside.0, inside.1, known_heard site table input world point side unmoved reached is up inside.0 inside.1 inside.2)

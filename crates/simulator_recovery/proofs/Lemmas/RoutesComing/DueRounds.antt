@@ -1,14 +1,15 @@
 -- How a set route goes on over good rounds, with events between them.
-use Rattle.simulator_recovery.proofs.Words.Basics.{◌≡◌, ℕ, ◌==◌, ◌&&◌, Bool, true, false, List, slice_get, refl, sym, ap, subst, ◌∙◌, ◌||◌, not, false≢true, Some, Contains, Contains-get_or, ◌⊎◌, inl, inr, [], ◌∷◌, map}
+use Rattle.simulator_recovery.proofs.Words.Basics.{◌≡◌, ◌<◌, ℕ, ◌==◌, ◌&&◌, Bool, true, false, List, slice_get, refl, sym, ap, subst, ◌∙◌, ◌||◌, not, false≢true, Some, Contains, Contains-get_or, ◌⊎◌, inl, inr, [], ◌∷◌, map}
 use Rattle.simulator_recovery.proofs.Words.Links.{reading_of, Each}
 use Rattle.simulator_recovery.proofs.Words.Controllers.{Aspect, Side}
-use Rattle.simulator_recovery.proofs.Words.Interlockings.{is_available, is_outside, is_ready, AllClear, IsSignalReady, authorised, come_to, count, ended, ending_authority, freed_by_cancel, freed_by_passage, freeing_by_cancel, freeing_by_passage, freeing_next, frees_cancelled, frees_next, is_move_due, is_over_clear, is_proceed_due, is_proceeding, is_stop_due, is_unmoved, is_waiting, is_withdrawn, moved, moving, moving_one, proceeding, ruled, stopped, withdrawing, withdrawn, IxlState, KnownDetectorState, KnownPointState, KnownSignalState, RouteState, Input, stepped, ticked, watching, StepSoFar, giving_aspect, giving_move, over, with_route, Need, Row, Table, is_at_known_stop, is_held_with_authority, is_known, is_point_available, is_signal_ready, Phase, IsTableOf, At, Known, SitedTable}
+use Rattle.simulator_recovery.proofs.Words.Interlockings.{lies_in_closed, is_available, is_outside, is_ready, AllClear, IsSignalReady, authorised, come_to, count, ended, ending_authority, freed_by_cancel, freed_by_passage, freeing_by_cancel, freeing_by_passage, freeing_next, frees_cancelled, frees_next, is_move_due, is_over_clear, is_proceed_due, is_proceeding, is_stop_due, is_unmoved, is_waiting, is_withdrawn, moved, moving, moving_one, proceeding, ruled, stopped, withdrawing, withdrawn, IxlState, KnownDetectorState, KnownPointState, KnownSignalState, RouteState, Input, stepped, ticked, watching, StepSoFar, giving_aspect, giving_move, over, with_route, Need, Row, Table, is_at_known_stop, is_held_with_authority, is_known, is_point_available, is_signal_ready, Phase, IsTableOf, At, Known, SitedTable, all_clocked, is_set, freed_sections}
 use Rattle.simulator_recovery.proofs.Words.Stations.{Site, interlocking_stepped, WorldState, Event, happens, IsReached, RoundEvent, Flowing, all_did, did, due, reaches, round, Played, after}
 use Rattle.simulator_recovery.proofs.Words.Recovery.{IsClearFor, IsInside, known_in_step, HasPointsUp, IsUpheld, KeepsSetting, HasAspect, MoveLaw, StopLaw, EachFinds, FindsUpheld, RoundsFind, Waits, all_tried, good_rounds, LawsBelow, RequestLaw, ProceedLaw}
+use Rattle.simulator_recovery.proofs.Lemmas.Ground.MovedAtOnce.{held_unmoved}
 use Rattle.simulator_recovery.proofs.Lemmas.RoutesComing.HeldNeeds.{heard_in, seen_in}
 use Rattle.simulator_recovery.proofs.Lemmas.Ground.DueShapes.{along_keeps, over_keeps, passage_keeps, route_keeps, where_keeps}
 use Rattle.simulator_recovery.proofs.Lemmas.Ground.DueTests.{at_shown}
-use Rattle.simulator_recovery.proofs.Lemmas.RoutesComing.DueKnown.{BringsNothing, all_clear_before, available_inside, ready_before, ticks_bring_nothing, known_in}
+use Rattle.simulator_recovery.proofs.Lemmas.RoutesComing.DueKnown.{BringsNothing, all_clear_before, available_inside, ready_before, ticks_bring_nothing, known_in, NotMoved}
 use Rattle.simulator_recovery.proofs.Lemmas.RoutesComing.NothingDueMoves.{MoveLeaves, move_leaves}
 use Rattle.simulator_recovery.proofs.Lemmas.RoutesComing.NothingDueProceeds.{AspectLeaves, aspect_leaves}
 use Rattle.simulator_recovery.proofs.Lemmas.Ground.SignalParts.{is_ready_there}
@@ -30,14 +31,14 @@ ready_shown ixl signal e = at_shown ixl.known_signals signal (λ known. is_ready
 inside_shown : (table : Table) (ixl : IxlState) (number : ℕ) (route : RouteState) (need : Need) → is_move_due table ixl number route need ≡ true → IsInside ixl need.point
 inside_shown table ixl number route need due =
     let found = at_shown ixl.known_points need.point (λ known. is_available known.client.stage) (third (is_waiting route.phase) (not route.cancelled) (is_point_available ixl need.point) (not (is_known ixl need.point need.side))
-    (is_over_clear table ixl need.point) (not (is_held_with_authority table ixl need.point)) (is_unmoved ixl need.point number) due)
+    (is_over_clear table ixl need.point) (not (is_held_with_authority table ixl need.point)) (is_unmoved ixl need.point number) (not (lies_in_closed table ixl need.point)) due)
     in (found.0, found.1, available_inside found.0.client.stage found.2)
   where
-    third : (a b c d e f g : Bool) → (a && b && c && d && e && f && g) ≡ true → c ≡ true
-    third true true true d e f g h = refl
-    third true true false d e f g h = absurd (false≢true h)
-    third true false c d e f g h = absurd (false≢true h)
-    third false b c d e f g h = absurd (false≢true h)
+    third : (a b c d e f g h : Bool) → (a && b && c && d && e && f && g && h) ≡ true → c ≡ true
+    third true true true d e f g h is = refl
+    third true true false d e f g h is = absurd (false≢true is)
+    third true false c d e f g h is = absurd (false≢true is)
+    third false b c d e f g h is = absurd (false≢true is)
 
 -- ---- what the rules keep
 
@@ -160,6 +161,7 @@ clear_in_step site table input world row clear = record {
 
 pub clear_goes_on : StopLaw → MoveLaw → (site : Site) (table : Table) (one : Event) (world : WorldState) (number : ℕ) (row : Row) → IsTableOf site table → IsReached site table world → slice_get table.rows number ≡ Some row → KeepsSetting site number one
     → HasPointsUp world row → IsClearFor table (happens site table one world).interlocking.ixl row → At world.interlocking.ixl.routes number HasAspect → At (happens site table one world).interlocking.ixl.routes number HasAspect
+unfolding all_clocked
 clear_goes_on stop move site table one world number row is_table reached there keeps up clear is = event_then site table (λ ixl. IsClearFor table ixl row → At ixl.routes number HasAspect) world (λ still. is) one
     (λ input e clear_behind. step_proceeds stop site table number row input world there (standing_then site table world reached) (leaves_of site number one input keeps e) (upheld input (clear_in_step site table input world row clear_behind)) is)
     (λ begins anew still. absurd (not_anew site number one keeps anew)) clear
@@ -167,9 +169,15 @@ clear_goes_on stop move site table one world number row is_table reached there k
     known : (need : Need) → Contains row.needs need → Known world.interlocking.ixl need.point need.side
     known need within = (all_rest stop move site table (holds_each site table is_table) world reached number row is.0 (there, is.1) is.2.0).points need within (up.ready need within)
 
+    -- its points are held, so no command moves them
+    unmoved : (input : Input) (need : Need) → Contains row.needs need → NotMoved table input world need.point
+    unmoved input need within moved to same here none =
+        held_unmoved (reading_of world.interlocking.clock) table (all_clocked (reading_of world.interlocking.clock) world.interlocking.ixl) number row is.0 need there is.1 within (ap is_set is.2.0)
+        (subst (λ (n : ℕ). n < need.until) (sym (ap freed_sections is.2.0)) (holds_each site table is_table number row need there within)) moved to here none
+
     upheld : (input : Input) → IsClearFor table (known_in_step site table input world) row → IsUpheld table (known_in_step site table input world) row
     upheld input clear_in = (
-      (λ place other within. let need = Contains-get_or row.needs place other within in known_in site table input world _ _ reached (known _ need) (up.up _ need) (clear_in.points _ need)),
+      (λ place other within. let need = Contains-get_or row.needs place other within in known_in site table input world _ _ (unmoved input _ need) reached (known _ need) (up.up _ need) (clear_in.points _ need)),
       clear_in.sections,
       clear_in.signal,
     )

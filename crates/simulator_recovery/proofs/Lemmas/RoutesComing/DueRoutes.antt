@@ -2,7 +2,7 @@
 use Rattle.simulator_recovery.proofs.Words.Basics.{◌≡◌, ◌≢◌, ◌⊎◌, inl, inr, ℕ, suc, ◌≤◌, ◌==◌, ◌&&◌, Bool, true, false, if◌then◌else◌, List, length, Option, Some, None, slice_get, refl, sym, ap, subst, ◌∙◌, arith, ◌||◌, nat_cmp_total, unsigned_tied, contains, contains-insert, insert, Contains, false≢true, same_Some}
 use Rattle.simulator_recovery.proofs.Words.Links.{reading_of, reading, Key}
 use Rattle.simulator_recovery.proofs.Words.Controllers.{Side}
-use Rattle.simulator_recovery.proofs.Words.Interlockings.{begun, hearing, commanded_by, obeyed, refusal, set_anew, Admissible, HoldsPoint, authorised, come_to, count, ended, ending_authority, freed, freed_by_cancel, freed_by_passage, freeing_by_cancel, freeing_by_passage, freeing_next, frees_cancelled, frees_next, is_move_due, is_proceed_due, is_proceeding, is_stop_due, is_waiting, is_withdrawn, moved, moving, moving_one, one_freed, proceeding, ruled, withdrawing, withdrawn, IxlState, RouteState, changed, Commands, Datagram, Input, Tick, addressed, all_clocked, detector_hearing, given, known_point_hearing, known_signal_hearing, looking, looking_by, looks, node_hearing, occupied_heard, route_looks, stepped, watching, Detector, Node, Point, Signal, StepSoFar, begun_with, detector_after, empty_outbox, noted, over, with_detector, with_one, with_route, Need, Row, Table, freed_sections, is_at_known_stop, is_set, place_in, was_authorised, Command, Refusal, Phase}
+use Rattle.simulator_recovery.proofs.Words.Interlockings.{begun, hearing, commanded_by, obeyed, refusal, released_at, set_anew, Admissible, HoldsPoint, authorised, come_to, count, ended, ending_authority, freed, freed_by_cancel, freed_by_passage, freeing_by_cancel, freeing_by_passage, freeing_next, frees_cancelled, frees_next, is_move_due, is_proceed_due, is_proceeding, is_stop_due, is_waiting, is_withdrawn, moved, moving, moving_one, one_freed, proceeding, ruled, withdrawing, withdrawn, IxlState, RouteState, changed, Commands, Datagram, Input, Tick, addressed, all_clocked, detector_hearing, given, known_point_hearing, known_signal_hearing, looking, looking_by, looks, node_hearing, occupied_heard, route_looks, stepped, watching, Detector, Node, Point, Signal, StepSoFar, begun_with, detector_after, empty_outbox, noted, over, with_detector, with_one, with_route, Need, Row, Table, freed_sections, is_at_known_stop, is_set, place_in, was_authorised, Command, Refusal, Phase, giving_move}
 use Rattle.simulator_recovery.proofs.Words.Stations.{Places, Site, RouteId, Beginning, new_ixl, new_route_of, interlocking_stepped, key_of, WorldState, IsReached}
 use Rattle.simulator_recovery.proofs.Words.Recovery.{RequestLaw}
 use Rattle.simulator_recovery.proofs.Lemmas.RoutesComing.DueCourse.{stopped_leaves}
@@ -15,6 +15,7 @@ use Rattle.simulator_recovery.proofs.Lemmas.RoutesComing.NothingDueProceeds.{asp
 use Rattle.simulator_recovery.proofs.Lemmas.Ground.SignalParts.{is_waiting_there}
 use Rattle.simulator_recovery.proofs.Lemmas.Lamps.StopsGiven.{waiting_set}
 use Rattle.simulator_recovery.proofs.Lemmas.Ground.DueTests.{first_true}
+use Rattle.simulator_recovery.proofs.Lemmas.Ground.MovedAtOnce.{moved_keeps}
 
 -- ---- how a route goes on
 
@@ -204,21 +205,27 @@ module _ (now : ℕ) (table : Table) (P : List RouteState → Type 0) (keep : Ro
   abbrev Holds : StepSoFar → Type 0
   Holds part = P part.ixl.routes
 
-  obeyed_held : (command : Command) (part : StepSoFar) → refusal now table command part.ixl ≡ None → Holds part → Holds (record part { ixl = obeyed command part.ixl })
+  obeyed_held : (command : Command) (part : StepSoFar) → refusal now table command part.ixl ≡ None → Holds part → Holds (record part { ixl = obeyed now command part.ixl })
   unfolding obeyed
   obeyed_held (Command.Request route) part none is = keep.sets route part.ixl none is
   obeyed_held (Command.Cancel route) part none is = keep.onward route.0 (λ old. record old { cancelled = true }) part.ixl.routes (λ one here. same_phase one _ refl refl) is
   obeyed_held Command.Resume part none is = is
+  obeyed_held (Command.Release route) part none is = keep.onward route.0 (released_at now) part.ixl.routes (λ one here. same_phase one _ refl refl) is
+  obeyed_held (Command.Move point side) part none is = is
+  obeyed_held (Command.Close named) part none is = is
+  obeyed_held (Command.Open named) part none is = is
 
-  commanded_held : (cause : Option Refusal) (command : Command) (part : StepSoFar) → refusal now table command part.ixl ≡ cause → Holds part → Holds (record part { ixl = commanded_by cause command part.ixl })
+  commanded_held : (cause : Option Refusal) (command : Command) (part : StepSoFar) → refusal now table command part.ixl ≡ cause → Holds part → Holds (record part { ixl = commanded_by now cause command part.ixl })
   commanded_held None command part none is = obeyed_held command part none is
   commanded_held (Some cause) command part refused is = is
 
   given_held : (key : Key) (input : Input) (part : StepSoFar) → Holds part → Holds (given now table key input part)
-  unfolding given
+  unfolding given giving_move
   given_held key Tick part is = is
   given_held key (Datagram bytes) part is = heard_at now table P keep.onward bytes (addressed (reading key bytes) part.ixl) part is
-  given_held key (Commands command) part is = commanded_held (refusal now table command part.ixl) command part refl is
+  given_held key (Commands command) part is =
+      moved_keeps Holds now table (λ point side q available all. one_keeps Holds (slice_get q.ixl.known_points point) _ q (λ known e. all) all)
+      (refusal now table command part.ixl) command part refl (commanded_held (refusal now table command part.ixl) command part refl is)
 
   clocked_held : (part : StepSoFar) → Holds part → Holds (record part { ixl = all_clocked now part.ixl })
   unfolding all_clocked

@@ -5,9 +5,11 @@ use Rattle.simulator_recovery.proofs.Words.Controllers.{Side}
 use Rattle.simulator_recovery.proofs.Words.Interlockings.{IsTableOf, as_point, required, is_available, is_outside, new_client, HoldsPoint, IsHeldAt, Known, MoveDue, authorised, count, freed_by_cancel, freed_by_passage, freeing_by_cancel, freeing_by_passage, is_move_due, is_proceed_due, is_proceeding, is_waiting, is_withdrawn, moved, moving, moving_one, proceeding, ruled, ended, IxlState, KnownPointState, RouteState, Input, all_clocked, given, stepped, ticked, watching, StepSoFar, begun_with, empty_outbox, giving_aspect, over, with_route, Need, Row, Table, freed_sections, is_set, as_route}
 use Rattle.simulator_recovery.proofs.Words.Stations.{InLayoutOrder, Site, Event, Beginning, new_ixl, new_known_point_of, happens, interlocking_stepped, key_of, WorldState, IsReached, Passage, Path, RouteRequires, IsRoute, Joined, RouteEntry, HasElement, HasPort, IsRouteOf, IsStation, Joint, PointId, RouteId, Port}
 use Rattle.simulator_recovery.proofs.Words.Recovery.{IsInside, IsUpAtClock, known_in_step, MoveLaw, RequestLaw}
+use Rattle.simulator_recovery.proofs.Lemmas.Points.SidesRoutes.{until_moves}
+use Rattle.simulator_recovery.proofs.Lemmas.Ground.MovedAtOnce.{held_unmoved, move_leaves_routes}
 use Rattle.simulator_recovery.proofs.Lemmas.RoutesComing.DueAccepted.{until_freed}
 use Rattle.simulator_recovery.proofs.Lemmas.Ground.IxlAlways.{event_then}
-use Rattle.simulator_recovery.proofs.Lemmas.RoutesComing.DueKnown.{KnownInside, known_heard, known_inside, BringsNothing, available_inside, ticks_bring_nothing}
+use Rattle.simulator_recovery.proofs.Lemmas.RoutesComing.DueKnown.{KnownInside, known_heard, known_inside, BringsNothing, available_inside, ticks_bring_nothing, NotMoved}
 use Rattle.simulator_recovery.proofs.Lemmas.RoutesComing.DueRoutes.{PointsApart, always_apart, apart_keep, authorised_onward, before, cancel_held, passage_held, seen_held, two_rules}
 use Rattle.simulator_recovery.proofs.Lemmas.Ground.DueShapes.{along_keeps, along_within, no_route, over_keeps, route_keeps, where_keeps}
 use Rattle.simulator_recovery.proofs.Lemmas.Ground.IxlClients.{mapped_at}
@@ -109,7 +111,7 @@ module _ (law : MoveLaw) (now : ℕ) (table : Table) (holds : HoldsEach table) (
         Q q = MoveLeaves need.point part.ixl q.ixl
 
         nothing : Q part
-        nothing = record { routes = refl; signals = refl; detectors = refl; points = λ other differ. refl }
+        nothing = record { routes = refl; signals = refl; detectors = refl; closed = refl; points = λ other differ. refl }
 
     one_stands : (number : ℕ) (need : Need) (row : Row) (part : StepSoFar) → Contains row.needs need → slice_get table.rows number ≡ Some row → Stands part → Stands (moving_one now table number need part)
     one_stands number need row part within row_there is = decide (point == need.point) refl
@@ -239,7 +241,7 @@ module _ (move : MoveLaw) (request : RequestLaw) (site : Site) (table : Table) (
 
   -- rules and looks change no point before it
   pub same_points : at_moves.ixl.known_points ≡ (known_in_step site table input world).known_points
-  same_points = (until_freed now table seen.ixl seen (refl, refl)).0 ∙ watching_points table (heard_in site table input world)
+  same_points = (until_freed now table seen.ixl seen (refl, refl, refl)).0 ∙ watching_points table (heard_in site table input world)
 
 module _ (move : MoveLaw) (request : RequestLaw) (site : Site) (table : Table) (is_table : IsTableOf site table) (world : WorldState) (reached : IsReached site table world) (point : ℕ) (side : Side) where
   -- a point that is known after the input of a step, and held at this side after the step, is known after it
@@ -279,8 +281,19 @@ module _ (move : MoveLaw) (request : RequestLaw) (site : Site) (table : Table) (
           in let before_it = ruled_inside was.was was.there (ap is_outside (sym stands.stage) ∙ inside)
           in (ap is_available stands.stage ∙ before_it.0, stands.side ∙ before_it.1)
 
+  -- a point that is held at this side after the step was held so before it, so no command moves it
+  not_moved : (input : Input) → IsHeldAt table (interlocking_stepped site table input world).interlocking.ixl point side → NotMoved table input world point
+  not_moved input held place to is same none =
+      let now = reading_of world.interlocking.clock
+      in let clocked = begun_with (all_clocked now world.interlocking.ixl) empty_outbox
+      in let is_held = holder move request site table is_table world reached input point side held
+      in let was = until_moves request now table point side (heard_in site table input world) (is_held.number, is_held.row, is_held.route, (is_held.row_there, is_held.there), is_held.held)
+      in held_unmoved now table clocked.ixl was.0 was.1 was.2 was.4.1.0 was.3.0
+      (ap (λ (routes : List RouteState). slice_get routes was.0) (sym (move_leaves_routes now table (key_of site) place to input clocked is)) ∙ was.3.1)
+      was.4.1.1 was.4.0 was.4.1.4 place to (same ∙ sym was.4.1.2) none
+
   step_known : Known world.interlocking.ixl point side → IsUpAtClock world point → (input : Input) → IsHeldAt table (interlocking_stepped site table input world).interlocking.ixl point side → KnownInside point side (interlocking_stepped site table input world).interlocking.ixl
-  step_known is up input = heard_known input (known_heard site table input world point side reached is up)
+  step_known is up input held = heard_known input (known_heard site table input world point side (not_moved input held) reached is up) held
 
   new_inside : (begins : Beginning) → KnownInside point side (new_ixl site table begins)
   unfolding new_ixl new_client

@@ -153,6 +153,7 @@ free_known table world number row need row_there within (inl is) proceeding held
       over_clear = free.may.clear;
       unheld = λ authority. free.may.unheld (held_behind table world need.point need.side proceeding held available unknown authority);
       once = free.unmoved;
+      unclosed = free.unclosed;
     }))
 
 -- so a point that is free for a route on its course is known or on its way

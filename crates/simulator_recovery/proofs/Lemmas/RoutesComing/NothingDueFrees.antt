@@ -29,10 +29,11 @@ not_in route never_waits never_ended (cancelled, inr (clock, done, is, lets)) = 
 free_still : (now : ℕ) (table : Table) (old new : IxlState) (row : Row) (route : RouteState) → new.detectors ≡ old.detectors → (route.phase ≡ Phase.Waiting → KnownStop now new row.entry → KnownStop now old row.entry)
     → FreeByCancel now table new row route → FreeByCancel now table old row route
 free_still now table old new row route detectors stops (cancelled, inl (waits, stop)) = (cancelled, inl (waits, stops waits stop))
-free_still now table old new row route detectors stops (cancelled, inr (clock, done, is, lets)) = (
+free_still now table old new row route detectors stops (cancelled, inr (clock, done, is, inl lets)) = (
   cancelled,
-  inr (clock, done, is, record { unseen = lets.unseen; clear = subst (λ (ds : List KnownDetectorState). AllClear table (record new { detectors = ds }) row.sections) detectors lets.clear; approach = lets.approach }),
+  inr (clock, done, is, inl (record { unseen = lets.unseen; clear = subst (λ (ds : List KnownDetectorState). AllClear table (record new { detectors = ds }) row.sections) detectors lets.clear; approach = lets.approach })),
 )
+free_still now table old new row route detectors stops (cancelled, inr (clock, done, is, inr over)) = (cancelled, inr (clock, done, is, inr over))
 
 module _ (now : ℕ) (table : Table) where
   -- ---- the fourth rule
@@ -167,9 +168,12 @@ surely_stop site old new brings stand now signal (known, there, inl (up, taken))
 
 free_before : (site : Site) (table : Table) (old new : IxlState) → BringsNothing old new → EachClient (ClientStandsAt site) new → (now : ℕ) (row : Row) (route : RouteState) → FreeByCancel 0 table new row route → FreeByCancel now table old row route
 free_before site table old new brings stand now row route (cancelled, inl (waits, stop)) = (cancelled, inl (waits, surely_stop site old new brings stand now row.entry stop))
-free_before site table old new brings stand now row route (cancelled, inr (clock, done, is, lets)) = (
+free_before site table old new brings stand now row route (cancelled, inr (clock, done, is, inr over)) =
+    let late : min (over.0 + 120000) (2 ^ 64 - 1) ≤ 0 = over.2
+    in absurd (omega (arith, late))
+free_before site table old new brings stand now row route (cancelled, inr (clock, done, is, inl lets)) = (
   cancelled,
-  inr (clock, done, is, record { unseen = lets.unseen; clear = all_clear_before table old new brings row.sections lets.clear; approach = inl (unapproached lets.approach) }),
+  inr (clock, done, is, inl (record { unseen = lets.unseen; clear = all_clear_before table old new brings row.sections lets.clear; approach = inl (unapproached lets.approach) })),
 )
   where
     unapproached : (route.approached ≡ false) ⊎ (min (clock + 120000) (2 ^ 64 - 1) ≤ 0) → route.approached ≡ false
@@ -217,7 +221,7 @@ module _ (law : FreeLaw) (site : Site) (table : Table) (input : Input) (world : 
   unfolding interlocking_stepped stepped begins seen
   step_lets_go number row route clock done is cancelled ends lets = rules_free number row route is (
     cancelled,
-    inr (clock, done, ends, record { unseen = lets.unseen; clear = all_clear_before table rules.ixl _ brings row.sections lets.clear; approach = lets.approach }),
+    inr (clock, done, ends, inl (record { unseen = lets.unseen; clear = all_clear_before table rules.ixl _ brings row.sections lets.clear; approach = lets.approach })),
   )
 
 step_waits : FreeLaw → (site : Site) (table : Table) (input : Input) (world : WorldState) → NoneWaits site table world.interlocking.ixl → NoneWaits site table (interlocking_stepped site table input world).interlocking.ixl

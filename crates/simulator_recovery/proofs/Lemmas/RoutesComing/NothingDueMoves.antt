@@ -2,7 +2,8 @@
 use Rattle.simulator_recovery.proofs.Words.Basics.{◌≡◌, ◌≢◌, ◌⊎◌, inl, inr, ℕ, suc, ◌<◌, ◌==◌, Bool, true, false, if◌then◌else◌, List, [], ◌∷◌, length, IsTrue, Option, Some, None, slice_get, refl, sym, ap, subst, ◌∙◌, arith, contains, Contains, false≢true, nat_tests, All-cons, All-contains, All-nil, none-some, same_Some}
 use Rattle.simulator_recovery.proofs.Words.Links.{reading_of, is_up}
 use Rattle.simulator_recovery.proofs.Words.Controllers.{Side}
-use Rattle.simulator_recovery.proofs.Words.Interlockings.{ClientState, is_available, is_outside, ClientSoFar, begun, commanding, fallen, message_of, posting, stage_after_command, Stage, IsAvailable, IsClear, IsHeldWithAuthority, IsRouteOf, MoveDue, authorised, count, freed_by_cancel, is_move_due, is_proceed_due, is_waiting, moved, moving, moving_one, proceeding, ruled, IxlState, KnownDetectorState, KnownPointState, RouteState, changed, Input, all_clocked, given, stepped, ticked, watching, StepSoFar, all_below, along, begun_with, empty_outbox, giving_aspect, giving_move, known_point_after, over, with_route, Need, Row, Table, was_authorised, Phase}
+use Rattle.simulator_spec.specs.ixl_spec.closings.declared.closed.Closings.{Closings}
+use Rattle.simulator_recovery.proofs.Words.Interlockings.{LiesInClosed, ClientState, is_available, is_outside, ClientSoFar, begun, commanding, fallen, message_of, posting, stage_after_command, Stage, IsAvailable, IsClear, IsHeldWithAuthority, IsRouteOf, MoveDue, authorised, count, freed_by_cancel, is_move_due, is_proceed_due, is_waiting, moved, moving, moving_one, proceeding, ruled, IxlState, KnownDetectorState, KnownPointState, RouteState, changed, Input, all_clocked, given, stepped, ticked, watching, StepSoFar, all_below, along, begun_with, empty_outbox, giving_aspect, giving_move, known_point_after, over, with_route, Need, Row, Table, was_authorised, Phase}
 use Rattle.simulator_recovery.proofs.Words.Stations.{Places, Site, Beginning, new_ixl, new_route_of, interlocking_stepped, key_of, WorldState, IsReached}
 use Rattle.simulator_recovery.proofs.Words.Recovery.{MoveLaw}
 use Rattle.std.proofs.Common.{All}
@@ -22,13 +23,14 @@ pub record MoveLeaves (point : ℕ) (old new : IxlState) : Type 0 where
   pub routes : new.routes ≡ old.routes
   pub signals : new.known_signals ≡ old.known_signals
   pub detectors : new.detectors ≡ old.detectors
+  pub closed : new.closed ≡ old.closed
   pub points : (k : ℕ) → k ≢ point → slice_get new.known_points k ≡ slice_get old.known_points k
 
 pub move_leaves : (now point : ℕ) (side : Side) (part : StepSoFar) → MoveLeaves point part.ixl (giving_move now point side part).ixl
 unfolding giving_move
 move_leaves now point side part = one_keeps (λ (q : StepSoFar). MoveLeaves point part.ixl q.ixl) (slice_get part.ixl.known_points point) _ part
-    (λ known e. record { routes = refl; signals = refl; detectors = refl; points = λ k differ. changed_elsewhere _ point k part.ixl.known_points differ })
-    (record { routes = refl; signals = refl; detectors = refl; points = λ k differ. refl })
+    (λ known e. record { routes = refl; signals = refl; detectors = refl; closed = refl; points = λ k differ. changed_elsewhere _ point k part.ixl.known_points differ })
+    (record { routes = refl; signals = refl; detectors = refl; closed = refl; points = λ k differ. refl })
 
 awaits_then : (side : Side) (s : Stage) → is_available (stage_after_command (Command.Move side) s) ≡ false
 awaits_then side Stage.Outside = refl
@@ -64,10 +66,14 @@ moved_point now point side part = one_else (λ (q : StepSoFar). IsAvailable q.ix
 
 -- ---- what is due
 
+-- a point lies in a closed section after a change that closes and opens nothing
+pub same_closings_hold : (table : Table) (old new : IxlState) (point : ℕ) → new.closed ≡ old.closed → LiesInClosed table old point → LiesInClosed table new point
+same_closings_hold table old new point closed lies = subst (λ (c : Closings). LiesInClosed table (record new { closed = c }) point) (sym closed) lies
+
 -- a move that is due after a change was due before it, where routes, the point and the detectors are the same
-pub move_before : (table : Table) (old new : IxlState) (number : ℕ) (route : RouteState) (need : Need) → (IsHeldWithAuthority table old need.point → IsHeldWithAuthority table new need.point) → new.detectors ≡ old.detectors
+pub move_before : (table : Table) (old new : IxlState) (number : ℕ) (route : RouteState) (need : Need) → (IsHeldWithAuthority table old need.point → IsHeldWithAuthority table new need.point) → new.detectors ≡ old.detectors → new.closed ≡ old.closed
     → slice_get new.known_points need.point ≡ slice_get old.known_points need.point → MoveDue table new number route need → MoveDue table old number route need
-move_before table old new number route need held detectors point due = record {
+move_before table old new number route need held detectors closed point due = record {
   waits = due.waits;
   goes_on = due.goes_on;
   available = (due.available.0, sym point ∙ due.available.1, due.available.2);
@@ -75,6 +81,7 @@ move_before table old new number route need held detectors point due = record {
   over_clear = (due.over_clear.0, due.over_clear.1, subst (λ (ds : List KnownDetectorState). IsClear table (record new { detectors = ds }) due.over_clear.0) detectors due.over_clear.2);
   unheld = λ is. due.unheld (held is);
   once = (due.once.0, sym point ∙ due.once.1, due.once.2);
+  unclosed = λ lies. due.unclosed (same_closings_hold table old new need.point closed lies);
 }
 
 pub same_routes_hold : (table : Table) (old new : IxlState) (point : ℕ) → new.routes ≡ old.routes → IsHeldWithAuthority table old point → IsHeldWithAuthority table new point
@@ -103,7 +110,7 @@ module _ (now : ℕ) (table : Table) where
       decide : (b : Bool) → (need.point == point) ≡ b → ⊥
       decide true e = moved_point now point side part (subst (λ (p : ℕ). IsAvailable (giving_move now point side part).ixl p) (is_equal need.point point e) due.available)
       decide false e = is row route (there.0, ap (λ (routes : List RouteState). slice_get routes number) (sym leaves.routes) ∙ there.1)
-          (move_before table part.ixl (giving_move now point side part).ixl number route need (same_routes_hold table part.ixl (giving_move now point side part).ixl need.point leaves.routes) leaves.detectors (leaves.points need.point (differs need.point point e)) due)
+          (move_before table part.ixl (giving_move now point side part).ixl number route need (same_routes_hold table part.ixl (giving_move now point side part).ixl need.point leaves.routes) leaves.detectors leaves.closed (leaves.points need.point (differs need.point point e)) due)
 
   another_move : (k : ℕ) (need : Need) (number : ℕ) (other : Need) (part : StepSoFar) → NoMove table k need part.ixl → NoMove table k need (moving_one now table number other part).ixl
   unfolding moving_one
@@ -159,7 +166,7 @@ module _ (now : ℕ) (table : Table) where
           choose : ((k ≡ number) × (was : RouteState) × (slice_get part.ixl.routes number ≡ Some was) × (later ≡ authorised table part.ixl row was)) ⊎ (slice_get part.ixl.routes k ≡ Some later) → ⊥
           choose (inl (same, was, f, so)) = cc (sym due.waits ∙ ap (λ (r : RouteState). r.phase) so)
           choose (inr f) = is other later (other_is.0, f) (move_before table part.ixl given.ixl k later need (held_still number (authorised table part.ixl row) need.point route part.ixl given.ixl here waits leaves.routes)
-              leaves.detectors (ap (λ (points : List KnownPointState). slice_get points need.point) leaves.points) due)
+              leaves.detectors leaves.closed (ap (λ (points : List KnownPointState). slice_get points need.point) leaves.points) due)
 
   -- ---- the fifth rule
 
@@ -237,6 +244,7 @@ due_before table old new number route need brings due = record {
   over_clear = (due.over_clear.0, due.over_clear.1, clear_before table old new brings due.over_clear.0 due.over_clear.2);
   unheld = λ held. due.unheld (same_routes_hold table old new need.point brings.routes held);
   once = (was.was, was.there, ap (λ (places : Places). contains places number) (sym stands.moved) ∙ due.once.2);
+  unclosed = λ lies. due.unclosed (same_closings_hold table old new need.point brings.closed lies);
 }
   where
     was : PointWas old.known_points need.point due.once.0

@@ -21,13 +21,14 @@ pub record AspectLeaves (signal : ℕ) (old new : IxlState) : Type 0 where
   pub routes : new.routes ≡ old.routes
   pub points : new.known_points ≡ old.known_points
   pub detectors : new.detectors ≡ old.detectors
+  pub closed : new.closed ≡ old.closed
   pub signals : (k : ℕ) → k ≢ signal → slice_get new.known_signals k ≡ slice_get old.known_signals k
 
 pub aspect_leaves : (now signal : ℕ) (aspect : Aspect) (part : StepSoFar) → AspectLeaves signal part.ixl (giving_aspect now signal aspect part).ixl
 unfolding giving_aspect
 aspect_leaves now signal aspect part = one_keeps (λ (q : StepSoFar). AspectLeaves signal part.ixl q.ixl) (slice_get part.ixl.known_signals signal) _ part
-    (λ known e. record { routes = refl; points = refl; detectors = refl; signals = λ k differ. changed_elsewhere _ signal k part.ixl.known_signals differ })
-    (record { routes = refl; points = refl; detectors = refl; signals = λ k differ. refl })
+    (λ known e. record { routes = refl; points = refl; detectors = refl; closed = refl; signals = λ k differ. changed_elsewhere _ signal k part.ixl.known_signals differ })
+    (record { routes = refl; points = refl; detectors = refl; closed = refl; signals = λ k differ. refl })
 
 -- a route's turn gives nothing of its own to another route
 proceed_before : (now : ℕ) (table : Table) (old new : IxlState) (row : Row) (route : RouteState) → new.known_points ≡ old.known_points → new.detectors ≡ old.detectors → slice_get new.known_signals row.entry ≡ slice_get old.known_signals row.entry

@@ -145,7 +145,7 @@ module _ (now : ℕ) (table : Table) (k : ℕ) where
         Q q = MoveLeaves need.point part.ixl q.ixl
 
         nothing : Q part
-        nothing = record { routes = refl; signals = refl; detectors = refl; points = λ other differ. refl }
+        nothing = record { routes = refl; signals = refl; detectors = refl; closed = refl; points = λ other differ. refl }
 
     -- a point that is held with authority isn't moved
     pub held_stays : (number : ℕ) (need : Need) (part : StepSoFar) → IsHeldWithAuthority table part.ixl need.point → moving_one now table number need part ≡ part

@@ -24,6 +24,7 @@ use Rattle.simulator_recovery.proofs.Lemmas.Ground.LinkCounts.{settled_open}
 use Rattle.simulator_recovery.proofs.Lemmas.Talk.ClientLinks.{up_open}
 use Rattle.simulator_recovery.proofs.Lemmas.RoutesComing.NothingDueProceeds.{AspectLeaves, aspect_leaves}
 use Rattle.simulator_recovery.proofs.Lemmas.RoutesComing.NothingDueStops.{holds_each}
+use Rattle.simulator_recovery.proofs.Lemmas.Ground.MovedAtOnce.{moved_keeps}
 
 -- ---- a signal that is ready is ready after an event, too, where its link is up
 
@@ -92,21 +93,27 @@ module _ (now : ℕ) (table : Table) (signal : ℕ) where
   heard_at bytes None part is = now_holds part is
   heard_at bytes (Some node) part is = hearing_holds bytes node part is
 
-  obeyed_holds : (command : Command) (part : StepSoFar) → HoldsNow part → Holds (record part { ixl = obeyed command part.ixl })
+  obeyed_holds : (command : Command) (part : StepSoFar) → HoldsNow part → Holds (record part { ixl = obeyed now command part.ixl })
   unfolding obeyed
   obeyed_holds (Command.Request route) part is = now_holds part is
   obeyed_holds (Command.Cancel route) part is = now_holds part is
   obeyed_holds Command.Resume part is = now_holds part is
+  obeyed_holds (Command.Release route) part is = now_holds part is
+  obeyed_holds (Command.Move point side) part is = now_holds part is
+  obeyed_holds (Command.Close named) part is = now_holds part is
+  obeyed_holds (Command.Open named) part is = now_holds part is
 
-  commanded_holds : (cause : Option Refusal) (command : Command) (part : StepSoFar) → HoldsNow part → Holds (record part { ixl = commanded_by cause command part.ixl })
+  commanded_holds : (cause : Option Refusal) (command : Command) (part : StepSoFar) → HoldsNow part → Holds (record part { ixl = commanded_by now cause command part.ixl })
   commanded_holds None command part is = obeyed_holds command part is
   commanded_holds (Some cause) command part is = now_holds part is
 
   given_holds : (key : Key) (input : Input) (part : StepSoFar) → HoldsNow part → Holds (given now table key input part)
-  unfolding given
+  unfolding given giving_move
   given_holds key Tick part is = now_holds part is
   given_holds key (Datagram bytes) part is = heard_at bytes (addressed (reading key bytes) part.ixl) part is
-  given_holds key (Commands command) part is = commanded_holds (refusal now table command part.ixl) command part is
+  given_holds key (Commands command) part is =
+      moved_keeps Holds now table (λ point side q available all. one_keeps Holds (slice_get q.ixl.known_points point) _ q (λ known e. all) all)
+      (refusal now table command part.ixl) command part refl (commanded_holds (refusal now table command part.ixl) command part is)
 
   -- ---- the rules
 

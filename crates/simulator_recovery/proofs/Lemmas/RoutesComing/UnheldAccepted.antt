@@ -1,7 +1,7 @@
 -- A point over a clear section is known, or may come, where each route that holds it with authority knows it at its side.
 use Rattle.simulator_recovery.proofs.Words.Basics.{◌≡◌, ◌⊎◌, inl, inr, ℕ, ◌<◌, false, Some, slice_get, sym, ap, subst, ◌∙◌, length, contains, Contains, same_Some}
 use Rattle.simulator_recovery.proofs.Words.Controllers.{Side}
-use Rattle.simulator_recovery.proofs.Words.Interlockings.{IsTableOf, ClientState, is_ready, At, IsClear, IsHeldAt, IsRouteOf, Known, RouteState, Need, Row, Table}
+use Rattle.simulator_recovery.proofs.Words.Interlockings.{LiesInClosed, IsTableOf, ClientState, is_ready, At, IsClear, IsHeldAt, IsRouteOf, Known, RouteState, Need, Row, Table}
 use Rattle.simulator_recovery.proofs.Words.Stations.{Site, Once, IsStation, point_link, WorldState, IsWhole, IsReached}
 use Rattle.simulator_recovery.proofs.Words.Recovery.{IsFreeFor, IsHeldBehindAspect, IsKnownOrOnItsWay, MayCome, IsUpOn, IsPointReady, IsReadyOn, HoldsWithAuthority, RequestLaw}
 use Rattle.simulator_recovery.proofs.Lemmas.RoutesComing.HeldNeeds.{agree, in_order_of}
@@ -63,7 +63,8 @@ module _ (request : RequestLaw) (site : Site) (table : Table) (world : WorldStat
       choose (inl known) = inl (inl known)
       choose (inr unheld) = inr (record { clear = clear; unheld = unheld })
 
-  pub clear_yet : (number : ℕ) → IsKnownOrOnItsWay need world ⊎ (At table.point_sections need.point (IsClear table world.interlocking.ixl) × At world.interlocking.ixl.known_points need.point (λ known. contains known.moved number ≡ false))
+  pub clear_yet : (number : ℕ) → IsKnownOrOnItsWay need world ⊎ (At table.point_sections need.point (IsClear table world.interlocking.ixl) × At world.interlocking.ixl.known_points need.point (λ known. contains known.moved number ≡ false)
+      × (LiesInClosed table world.interlocking.ixl need.point → ⊥))
       → IsKnownOrOnItsWay need world ⊎ IsFreeFor table world.interlocking.ixl number need.point
   clear_yet number (inl so) = inl so
   clear_yet number (inr yet) = choose known_or_unheld
@@ -71,4 +72,4 @@ module _ (request : RequestLaw) (site : Site) (table : Table) (world : WorldStat
       choose : Known world.interlocking.ixl need.point need.side ⊎ (IsHeldBehindAspect table world.interlocking.ixl need.point → ⊥)
           → IsKnownOrOnItsWay need world ⊎ IsFreeFor table world.interlocking.ixl number need.point
       choose (inl known) = inl (inl known)
-      choose (inr unheld) = inr (record { may = record { clear = yet.0; unheld = unheld }; unmoved = yet.1 })
+      choose (inr unheld) = inr (record { may = record { clear = yet.0; unheld = unheld }; unmoved = yet.1; unclosed = yet.2 })

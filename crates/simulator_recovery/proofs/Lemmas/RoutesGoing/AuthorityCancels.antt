@@ -2,7 +2,7 @@
 use Rattle.simulator_recovery.proofs.Words.Basics.{◌≡◌, ◌≢◌, ◌⊎◌, inl, inr, ℕ, zero, suc, ◌+◌, ◌^◌, ◌<◌, ◌≤◌, ◌==◌, ◌&&◌, Bool, true, false, if◌then◌else◌, List, Option, Some, None, slice_get, refl, sym, ap, subst, ◌∙◌, arith, ◌||◌, not, false≢true, nat_tests, same_Some}
 use Rattle.simulator_recovery.proofs.Words.Links.{settled, reading_of, stops_at_greatest, LinkState, is_up}
 use Rattle.simulator_recovery.proofs.Words.Controllers.{Aspect}
-use Rattle.simulator_recovery.proofs.Words.Interlockings.{ClientState, is_outside, is_ready, ClientSoFar, begun, at_stage, clocked, commanding, fallen, message_of, posting, stage_after_command, Stage, commanded_by, obeyed, refusal, come_to, count, is_proceeding, is_stop_due, is_withdrawn, ruled, stopped, withdrawing, withdrawn, IxlState, KnownSignalState, RouteState, changed, Commands, all_clocked, clocked_known_signal, given, stepped, ticked, watching, StepSoFar, at_route, begun_with, empty_outbox, giving_aspect, known_signal_after, over, with_one, with_route, Row, Table, is_approach_clear, is_set, is_signal_ready, Command, Refusal, Phase}
+use Rattle.simulator_recovery.proofs.Words.Interlockings.{ClientState, is_outside, is_ready, ClientSoFar, begun, at_stage, clocked, commanding, fallen, message_of, posting, stage_after_command, Stage, commanded_by, obeyed, refusal, come_to, count, is_proceeding, is_stop_due, is_withdrawn, ruled, stopped, withdrawing, withdrawn, IxlState, KnownSignalState, RouteState, changed, Commands, all_clocked, clocked_known_signal, given, stepped, ticked, watching, StepSoFar, at_route, begun_with, empty_outbox, giving_aspect, known_signal_after, over, with_one, with_route, Row, Table, is_approach_clear, is_set, is_signal_ready, Command, Refusal, Phase, moved_at_once}
 use Rattle.simulator_recovery.proofs.Words.Stations.{Site, RouteId, Event, Answer, answered, happens, interlocking_stepped, WorldState}
 use Rattle.simulator_recovery.proofs.Words.Recovery.{ClientStandsByCounts, HasCounted}
 use Rattle.simulator_spec.specs.ixl_client.declared.command.Command.{Command as ClientCommand}
@@ -13,7 +13,7 @@ use Rattle.simulator_recovery.proofs.Lemmas.Lamps.GivenNoMore.{IsAs, NoCommand, 
 use Rattle.simulator_recovery.proofs.Lemmas.Ground.IxlClients.{signal_client, signal_is}
 use Rattle.simulator_recovery.proofs.Lemmas.Ground.IxlSoFar.{test_of}
 use Rattle.simulator_recovery.proofs.Lemmas.Ground.LinkCounts.{settled_open}
-use Rattle.simulator_recovery.proofs.Lemmas.Ground.SignalParts.{behind_withdrawal, clocked_held, commanded_held, over_held, watching_held, withdrawing_held}
+use Rattle.simulator_recovery.proofs.Lemmas.Ground.SignalParts.{given_command, behind_withdrawal, clocked_held, over_held, watching_held, withdrawing_held}
 use Rattle.simulator_recovery.proofs.Lemmas.Silence.Spent.{within_some}
 use Rattle.simulator_recovery.proofs.Lemmas.Lamps.StopsGiven.{AnyCommand, StopsStand, changed_elsewhere, changed_here, differs, fails, is_equal, proceeding_set, stand_keep, waiting_set}
 use Rattle.simulator_recovery.proofs.Lemmas.Ground.DueTests.{first_true}
@@ -315,19 +315,19 @@ unfolding all_clocked
 clocked_there now ixl signal known there = mapped (clocked_known_signal now) ixl.known_signals signal known there
 
 -- what a cancel does to the route and to the signals
-pub cancelled_at : (ixl : IxlState) (route : RouteId) (one : RouteState) → slice_get ixl.routes route.0 ≡ Some one → slice_get (obeyed (Command.Cancel route) ixl).routes route.0 ≡ Some (record one { cancelled = true })
+pub cancelled_at : (now : ℕ) (ixl : IxlState) (route : RouteId) (one : RouteState) → slice_get ixl.routes route.0 ≡ Some one → slice_get (obeyed now (Command.Cancel route) ixl).routes route.0 ≡ Some (record one { cancelled = true })
 unfolding obeyed
-cancelled_at ixl route one there = changed_here (λ (old : RouteState). record old { cancelled = true }) route.0 ixl.routes one there
+cancelled_at now ixl route one there = changed_here (λ (old : RouteState). record old { cancelled = true }) route.0 ixl.routes one there
 
-cancelled_signals : (ixl : IxlState) (route : RouteId) → (obeyed (Command.Cancel route) ixl).known_signals ≡ ixl.known_signals
+cancelled_signals : (now : ℕ) (ixl : IxlState) (route : RouteId) → (obeyed now (Command.Cancel route) ixl).known_signals ≡ ixl.known_signals
 unfolding obeyed
-cancelled_signals ixl route = refl
+cancelled_signals now ixl route = refl
 
 cancel_past : (site : Site) (table : Table) (world : WorldState) (route : RouteId) (row : Row) (one : RouteState) (known : KnownSignalState) → slice_get table.rows route.0 ≡ Some row → StopsStand table world.interlocking.ixl.routes world.interlocking.ixl.known_signals
     → refusal (reading_of world.interlocking.clock) table (Command.Cancel route) (all_clocked (reading_of world.interlocking.clock) world.interlocking.ixl) ≡ None → slice_get world.interlocking.ixl.routes route.0 ≡ Some one → is_proceeding one.phase ≡ true
     → slice_get world.interlocking.ixl.known_signals row.entry ≡ Some known → ClientStandsByCounts known.client → known.client.link.given < 2 ^ 31
     → (new : KnownSignalState) → slice_get (interlocking_stepped site table (Commands (Command.Cancel route)) world).interlocking.ixl.known_signals row.entry ≡ Some new → IsPast known.client.link.given new
-unfolding interlocking_stepped stepped ticked given
+unfolding interlocking_stepped stepped ticked given moved_at_once
 cancel_past site table world route row one known row_there stand none there proceeds signal counts small =
     by_turn (rule_past now table route.0 row row_there true known.client.link.given small late counts_so watched stand_watched (all_watch now table route.0 row row_there true known.client.link.given small late counts_so (count table) heard goes_heard))
   where
@@ -340,15 +340,18 @@ cancel_past site table world route row one known row_there stand none there proc
     clocked_part : StepSoFar
     clocked_part = record (begun_with world.interlocking.ixl empty_outbox) { ixl = all_clocked now world.interlocking.ixl }
 
+    heard_by : Option Refusal → StepSoFar
+    heard_by cause = moved_at_once now cause (Command.Cancel route) (record clocked_part { ixl = commanded_by now cause (Command.Cancel route) clocked_part.ixl })
+
     heard : StepSoFar
-    heard = record clocked_part { ixl = commanded_by (refusal now table (Command.Cancel route) clocked_part.ixl) (Command.Cancel route) clocked_part.ixl }
+    heard = heard_by (refusal now table (Command.Cancel route) clocked_part.ixl)
 
     watched : StepSoFar
     watched = over (watching table) (count table) heard
 
     stand_watched : StopsStand table watched.ixl.routes watched.ixl.known_signals
     stand_watched = over_held now table (StopsStand table) (stand_keep now table).rules (watching table) (watching_held now table AnyCommand (StopsStand table) (stand_keep now table)) (count table) heard
-        (commanded_held now table AnyCommand (StopsStand table) (stand_keep now table) (refusal now table (Command.Cancel route) clocked_part.ixl) (Command.Cancel route) clocked_part refl tt
+        (given_command now table AnyCommand (StopsStand table) (stand_keep now table) (Command.Cancel route) clocked_part tt
         (clocked_held now table AnyCommand (StopsStand table) (stand_keep now table) (begun_with world.interlocking.ixl empty_outbox) stand))
 
     counts_so : is_ready late.client.stage ≡ true → CountsSo known.client.link.given late.client
@@ -357,12 +360,12 @@ cancel_past site table world route row one known row_there stand none there proc
         in subst (CountsSo known.client.link.given) (sym same) (clocked_counts now known.client counts (ap (λ (c : ClientState). is_outside c.stage) (sym same) ∙ ready_inside late.client.stage ready))
 
     goes_heard : Goes now table route.0 row row_there true known.client.link.given small late counts_so heard
-    goes_heard = subst (λ (cause : Option Refusal). Goes now table route.0 row row_there true known.client.link.given small late counts_so (record clocked_part { ixl = commanded_by cause (Command.Cancel route) clocked_part.ixl })) (sym none) (record {
+    goes_heard = subst (λ (cause : Option Refusal). Goes now table route.0 row row_there true known.client.link.given small late counts_so (heard_by cause)) (sym none) (record {
       route = record one { cancelled = true };
-      there = cancelled_at clocked_part.ixl route one (ap (λ (routes : List RouteState). slice_get routes route.0) (clocked_routes now world.interlocking.ixl) ∙ there);
+      there = cancelled_at now clocked_part.ixl route one (ap (λ (routes : List RouteState). slice_get routes route.0) (clocked_routes now world.interlocking.ixl) ∙ there);
       proceeds = proceeds;
       cancelled = refl;
-      signal = ap (λ (signals : List KnownSignalState). slice_get signals row.entry) (cancelled_signals clocked_part.ixl route) ∙ clocked_there now world.interlocking.ixl row.entry known signal;
+      signal = ap (λ (signals : List KnownSignalState). slice_get signals row.entry) (cancelled_signals now clocked_part.ixl route) ∙ clocked_there now world.interlocking.ixl row.entry known signal;
     })
 
     by_turn : Turned now table route.0 row row_there true known.client.link.given small late counts_so (withdrawn now table watched)

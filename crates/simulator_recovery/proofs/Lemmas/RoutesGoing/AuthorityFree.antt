@@ -1,7 +1,7 @@
 -- Two good rounds after its cancel, or more, a route is free, unless a train came or its approach counts.
 use Rattle.simulator_recovery.proofs.Words.Basics.{◌≡◌, inl, inr, ℕ, suc, ◌≤◌, Bool, true, false, List, [], ◌∷◌, ◌++◌, append_assoc, length, Option, Some, None, slice_get, refl, sym, ap, subst, ◌∙◌, false≢true, same_Some}
 use Rattle.simulator_recovery.proofs.Words.Links.{Each, reading_of}
-use Rattle.simulator_recovery.proofs.Words.Interlockings.{IsTableOf, commanded_by, refusal, AllClear, At, count, is_proceeding, is_waiting, IxlState, RouteState, Commands, all_clocked, given, stepped, ticked, watching, StepSoFar, begun_with, empty_outbox, over, Row, SitedTable, Table, is_set, Command, Refusal, Phase}
+use Rattle.simulator_recovery.proofs.Words.Interlockings.{IsTableOf, commanded_by, refusal, AllClear, At, count, is_proceeding, is_waiting, IxlState, RouteState, Commands, all_clocked, given, stepped, ticked, watching, StepSoFar, begun_with, empty_outbox, over, Row, SitedTable, Table, is_set, Command, Refusal, Phase, moved_at_once}
 use Rattle.simulator_recovery.proofs.Words.Stations.{Site, RouteId, Once, IsStation, Event, Answer, Flowing, round, answered, happens, interlocking_stepped, WorldState, IsReached}
 use Rattle.simulator_recovery.proofs.Words.Recovery.{IsUnseen, authority_rounds, AcceptsCancel, and_cancel, as_cancel_comes, StaysBelowLimit, Proceeds, ready_rounds, HasTime, IsWork, all_tried, good_rounds, IsNotSetAnew, LawsBelow, FreeLaw}
 use Rattle.simulator_recovery.proofs.Lemmas.RoutesGoing.AuthorityCancels.{cancelled_at}
@@ -38,7 +38,7 @@ StaysIn number ixl = (route : RouteState) → slice_get ixl.routes number ≡ So
 -- What the parts of a step keep of a route is so after a cancel of it, which leaves it as it was but that it is cancelled.
 cancel_keeps : (F : RouteState → Type 0) → RouteKeeps F → (site : Site) (table : Table) (world : WorldState) (route : RouteId) (one : RouteState) → refusal (reading_of world.interlocking.clock) table (Command.Cancel route) (all_clocked (reading_of world.interlocking.clock) world.interlocking.ixl) ≡ None
     → slice_get world.interlocking.ixl.routes route.0 ≡ Some one → F (record one { cancelled = true }) → OfRoute route.0 F (interlocking_stepped site table (Commands (Command.Cancel route)) world).interlocking.ixl.routes []
-unfolding interlocking_stepped stepped ticked given
+unfolding interlocking_stepped stepped ticked given moved_at_once
 cancel_keeps F keeps site table world route one none_so there so =
     behind_ending now table (OfRoute route.0 F) (route_keep now table NoCommand none_comes route.0 F keeps).rules watched
     (both_rules now table NoCommand (OfRoute route.0 F) (route_keep now table NoCommand none_comes route.0 F keeps) watched watched_so)
@@ -49,15 +49,18 @@ cancel_keeps F keeps site table world route one none_so there so =
     clocked_part : StepSoFar
     clocked_part = record (begun_with world.interlocking.ixl empty_outbox) { ixl = all_clocked now world.interlocking.ixl }
 
+    heard_by : Option Refusal → StepSoFar
+    heard_by cause = moved_at_once now cause (Command.Cancel route) (record clocked_part { ixl = commanded_by now cause (Command.Cancel route) clocked_part.ixl })
+
     heard : StepSoFar
-    heard = record clocked_part { ixl = commanded_by (refusal now table (Command.Cancel route) clocked_part.ixl) (Command.Cancel route) clocked_part.ixl }
+    heard = heard_by (refusal now table (Command.Cancel route) clocked_part.ixl)
 
     watched : StepSoFar
     watched = over (watching table) (count table) heard
 
     heard_so : OfRoute route.0 F heard.ixl.routes []
-    heard_so = subst (λ (cause : Option Refusal). OfRoute route.0 F (commanded_by cause (Command.Cancel route) clocked_part.ixl).routes []) (sym none_so) (λ later e.
-        let same = same_Some (record one { cancelled = true }) later (sym (cancelled_at clocked_part.ixl route one (ap (λ (routes : List RouteState). slice_get routes route.0) (clocked_routes now world.interlocking.ixl) ∙ there)) ∙ e)
+    heard_so = subst (λ (cause : Option Refusal). OfRoute route.0 F (heard_by cause).ixl.routes []) (sym none_so) (λ later e.
+        let same = same_Some (record one { cancelled = true }) later (sym (cancelled_at now clocked_part.ixl route one (ap (λ (routes : List RouteState). slice_get routes route.0) (clocked_routes now world.interlocking.ixl) ∙ there)) ∙ e)
         in subst F same so)
 
     watched_so : OfRoute route.0 F watched.ixl.routes watched.ixl.known_signals
@@ -142,4 +145,4 @@ module _ (frees : FreeLaw) (laws : LawsBelow) (between : List Event) (later_roun
       by_set : (b : Bool) → is_set state.phase ≡ b → is_set state.phase ≡ false
       by_set false e = e
       by_set true e = let ended = ended_behind_cancel state is e in absurd (nothing_waits_to_be_freed frees sited.site sited.table (good_rounds (between ∷ (later_rounds ++ and_cancel route before ∷ more)) flowing).state.run route.0 row state
-          (at (later_rounds ++ and_cancel route before ∷ more)).reached (there, is) (λ reading. (ended.0, inr (ended.1, ended.2, ended.3, record { unseen = unseen; clear = clear; approach = inl unapproached }))))
+          (at (later_rounds ++ and_cancel route before ∷ more)).reached (there, is) (λ reading. (ended.0, inr (ended.1, ended.2, ended.3, inl (record { unseen = unseen; clear = clear; approach = inl unapproached })))))

@@ -2,7 +2,7 @@
 use Rattle.simulator_recovery.proofs.Words.Basics.{◌≡◌, ◌≢◌, ◌⊎◌, inl, inr, ℕ, suc, ◌+◌, ◌^◌, ◌≤◌, Bool, true, false, nat_le, List, [], Option, Some, None, slice_get, refl, sym, ap, subst, ◌∙◌, arith, leb-false, leb-true, false≢true, same_Some}
 use Rattle.simulator_recovery.proofs.Words.Links.{settled, reading_of, stops_at_greatest, is_up, reading, Key}
 use Rattle.simulator_recovery.proofs.Words.Controllers.{Aspect}
-use Rattle.simulator_recovery.proofs.Words.Interlockings.{ClientState, is_ready, ClientSoFar, begun, commanding, hearing, commanded_by, obeyed, refusal, set_anew, At, come_to, count, ending_authority, is_stop_due, is_withdrawn, ruled, stopped, withdrawing, withdrawn, IxlState, KnownSignalState, RouteState, changed, Commands, Datagram, Input, Tick, addressed, all_clocked, detector_hearing, given, known_point_hearing, known_signal_hearing, looking, looks, node_hearing, occupied_heard, stepped, ticked, watching, Detector, Node, Point, Signal, StepSoFar, begun_with, detector_after, empty_outbox, giving_aspect, noted, over, with_detector, with_one, with_route, Row, Table, is_signal_ready, Command, Refusal, Phase}
+use Rattle.simulator_recovery.proofs.Words.Interlockings.{ClientState, is_ready, ClientSoFar, begun, commanding, hearing, commanded_by, obeyed, refusal, released_at, set_anew, At, come_to, count, ending_authority, is_stop_due, is_withdrawn, ruled, stopped, withdrawing, withdrawn, IxlState, KnownSignalState, RouteState, changed, Commands, Datagram, Input, Tick, addressed, all_clocked, detector_hearing, given, known_point_hearing, known_signal_hearing, looking, looks, node_hearing, occupied_heard, stepped, ticked, watching, Detector, Node, Point, Signal, StepSoFar, begun_with, detector_after, empty_outbox, giving_aspect, noted, over, with_detector, with_one, with_route, Row, Table, is_signal_ready, Command, Refusal, Phase, giving_move}
 use Rattle.simulator_recovery.proofs.Words.Stations.{Site, interlocking_stepped, key_of, WorldState, IsReached}
 use Rattle.simulator_recovery.proofs.Words.Recovery.{ClientStandsByCounts}
 use Rattle.simulator_spec.specs.ixl_client.declared.command.Command.{Command as ClientCommand}
@@ -17,6 +17,7 @@ use Rattle.simulator_recovery.proofs.Lemmas.Ground.SignalParts.{IsGiven, IsQuiet
 use Rattle.simulator_recovery.proofs.Lemmas.Lamps.StopsGiven.{fails}
 use Rattle.simulator_recovery.proofs.Lemmas.Windows.WaitingItems.{ready_inside}
 use Rattle.simulator_recovery.proofs.Lemmas.RoutesGoing.WithdrawnSteps.{Grows, given_grows, ready_counts, rules as grow_rules, seen_known, seen_then, set_grows, step_grows}
+use Rattle.simulator_recovery.proofs.Lemmas.Ground.MovedAtOnce.{moved_keeps}
 
 quiet_so : (old new : RouteState) → IsQuiet old new → is_withdrawn old.phase ≡ false → is_withdrawn new.phase ≡ false
 quiet_so old new (inl (same, kept)) is = ap is_withdrawn same ∙ is
@@ -52,13 +53,17 @@ module _ (now : ℕ) (table : Table) (number : ℕ) where
       in along_keeps NotYet (looking table) (looking_keeps now table NotYet quietly) (looks sections known done.heard done.client)
       (with_detector place (detector_after (occupied_heard done.heard known.occupied) done.client) (noted (Detector place) done part)) is) is) is
 
-  obeyed_not : (command : Command) (part : StepSoFar) → NotYet part → NotYet (record part { ixl = obeyed command part.ixl })
+  obeyed_not : (command : Command) (part : StepSoFar) → NotYet part → NotYet (record part { ixl = obeyed now command part.ixl })
   unfolding obeyed
   obeyed_not (Command.Request route) part is = of_changed Unwithdrawn number route.0 set_anew part.ixl.routes (λ was e same. refl) is
   obeyed_not (Command.Cancel route) part is = of_changed Unwithdrawn number route.0 (λ old. record old { cancelled = true }) part.ixl.routes (λ was e same. is was (ap (slice_get part.ixl.routes) same ∙ e)) is
   obeyed_not Command.Resume part is = is
+  obeyed_not (Command.Release route) part is = of_changed Unwithdrawn number route.0 (released_at now) part.ixl.routes (λ was e same. is was (ap (slice_get part.ixl.routes) same ∙ e)) is
+  obeyed_not (Command.Move point side) part is = is
+  obeyed_not (Command.Close named) part is = is
+  obeyed_not (Command.Open named) part is = is
 
-  commanded_not : (cause : Option Refusal) (command : Command) (part : StepSoFar) → NotYet part → NotYet (record part { ixl = commanded_by cause command part.ixl })
+  commanded_not : (cause : Option Refusal) (command : Command) (part : StepSoFar) → NotYet part → NotYet (record part { ixl = commanded_by now cause command part.ixl })
   commanded_not None command part is = obeyed_not command part is
   commanded_not (Some cause) command part is = is
 
@@ -67,10 +72,12 @@ module _ (now : ℕ) (table : Table) (number : ℕ) where
   heard_not bytes (Some node) part is = hears_not bytes node part is
 
   given_not : (key : Key) (input : Input) (part : StepSoFar) → NotYet part → NotYet (given now table key input part)
-  unfolding given
+  unfolding given giving_move
   given_not key Tick part is = is
   given_not key (Datagram bytes) part is = heard_not bytes (addressed (reading key bytes) part.ixl) part is
-  given_not key (Commands command) part is = commanded_not (refusal now table command part.ixl) command part is
+  given_not key (Commands command) part is =
+      moved_keeps NotYet now table (λ point side q available all. one_keeps NotYet (slice_get q.ixl.known_points point) _ q (λ known e. all) all)
+      (refusal now table command part.ixl) command part refl (commanded_not (refusal now table command part.ixl) command part is)
 
   clocked_not : (part : StepSoFar) → NotYet part → NotYet (record part { ixl = all_clocked now part.ixl })
   unfolding all_clocked

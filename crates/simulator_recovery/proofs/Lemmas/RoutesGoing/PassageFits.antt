@@ -1,7 +1,7 @@
 -- What is kept of a route's passage is of as many sections as its row has.
 use Rattle.simulator_recovery.proofs.Words.Basics.{◌≡◌, ◌⊎◌, inl, inr, ℕ, ◌&&◌, Bool, true, List, Option, Some, None, slice_get, sym, ap, subst, ◌∙◌, ◌||◌, not, same_Some, suc, ◌==◌, ◌<◌, false, if◌then◌else◌, length, refl, arith, nat_tests}
 use Rattle.simulator_recovery.proofs.Words.Links.{reading, Key, reading_of}
-use Rattle.simulator_recovery.proofs.Words.Interlockings.{begun, hearing, commanded_by, obeyed, refusal, set_anew, authorised, come_to, count, ended, ending_authority, freed, freed_by_cancel, freed_by_passage, freeing_by_cancel, freeing_by_passage, freeing_next, frees_cancelled, frees_next, is_move_due, is_proceed_due, is_proceeding, is_stop_due, is_withdrawn, moved, moving, moving_one, one_freed, proceeding, withdrawing, withdrawn, IxlState, RouteState, changed, Commands, Datagram, Input, Tick, addressed, all_clocked, detector_hearing, given, known_point_hearing, known_signal_hearing, looking, looking_by, looks, node_hearing, occupied_heard, route_looks, stepped, watching, Detector, Node, Point, Signal, StepSoFar, detector_after, noted, over, with_detector, with_one, with_route, Row, Table, is_approach_clear, is_at_known_stop, was_authorised, Command, Refusal, Phase, passage_after, begun_with, empty_outbox, freed_sections, place_in}
+use Rattle.simulator_recovery.proofs.Words.Interlockings.{begun, hearing, commanded_by, obeyed, refusal, released_at, set_anew, authorised, come_to, count, ended, ending_authority, freed, freed_by_cancel, freed_by_passage, freeing_by_cancel, freeing_by_passage, freeing_next, frees_cancelled, frees_next, is_move_due, is_proceed_due, is_proceeding, is_stop_due, is_withdrawn, moved, moving, moving_one, one_freed, proceeding, withdrawing, withdrawn, IxlState, RouteState, changed, Commands, Datagram, Input, Tick, addressed, all_clocked, detector_hearing, given, known_point_hearing, known_signal_hearing, looking, looking_by, looks, node_hearing, occupied_heard, route_looks, stepped, watching, Detector, Node, Point, Signal, StepSoFar, detector_after, noted, over, with_detector, with_one, with_route, Row, Table, is_approach_clear, is_at_known_stop, was_authorised, Command, Refusal, Phase, passage_after, begun_with, empty_outbox, freed_sections, place_in, giving_move}
 use Rattle.simulator_recovery.proofs.Words.Stations.{Site, Beginning, new_ixl, new_route_of, interlocking_stepped, key_of, WorldState, IsReached}
 use Rattle.simulator_recovery.proofs.Lemmas.RoutesComing.DueCourse.{stopped_leaves}
 use Rattle.simulator_recovery.proofs.Lemmas.Ground.DueShapes.{along_keeps, one_keeps, over_keeps, passage_keeps, route_keeps, where_keeps}
@@ -11,6 +11,7 @@ use Rattle.simulator_recovery.proofs.Lemmas.RoutesComing.NothingDueMoves.{move_l
 use Rattle.simulator_recovery.proofs.Lemmas.RoutesComing.NothingDueProceeds.{aspect_leaves}
 use Rattle.simulator_recovery.proofs.Lemmas.Ground.DueTests.{first_true}
 use Rattle.simulator_recovery.proofs.Lemmas.Ground.IxlAlways.{always}
+use Rattle.simulator_recovery.proofs.Lemmas.Ground.MovedAtOnce.{moved_keeps}
 
 -- ---- what is so of each route of the table, by its row, is so after a step, where each change of a route that a step may make keeps it
 
@@ -23,6 +24,7 @@ pub record ChangesKeep (Q : Row → RouteState → Type 0) : Type 0 where
   pub approaches : (approached : Bool) (row : Row) (route : RouteState) → Q row route → Q row (record route { approached = approached })
   pub sets : (row : Row) (route : RouteState) → Q row route → Q row (set_anew route)
   pub cancels : (row : Row) (route : RouteState) → Q row route → Q row (record route { cancelled = true })
+  pub releases : (now : ℕ) (row : Row) (route : RouteState) → Q row route → Q row (released_at now route)
   pub withdraws : (row : Row) (route : RouteState) → is_proceeding route.phase ≡ true → Q row route → Q row (come_to Phase.Withdrawn route)
   pub ends : (now : ℕ) (row : Row) (route : RouteState) → is_withdrawn route.phase ≡ true → Q row route → Q row (come_to (Phase.Ended now 0) route)
   pub frees_one : (row : Row) (route : RouteState) → Q row route → Q row (one_freed row route.phase route)
@@ -106,13 +108,17 @@ module _ (now : ℕ) (table : Table) (Q : Row → RouteState → Type 0) (keep :
   watching_held number part all = route_keeps Held table number _ part (λ row one there here. where_keeps Held (is_proceeding one.phase || is_withdrawn one.phase) part _
       (λ due. turned number _ part row one there here (keep.approaches (one.approached || not (is_approach_clear table part.ixl row)) row one) all) all) all
 
-  obeyed_held : (command : Command) (part : StepSoFar) → Held part → Held (record part { ixl = obeyed command part.ixl })
+  obeyed_held : (command : Command) (part : StepSoFar) → Held part → Held (record part { ixl = obeyed now command part.ixl })
   unfolding obeyed
   obeyed_held (Command.Request route) part all = changes route.0 set_anew part.ixl.routes (λ row one there here. keep.sets row one) all
   obeyed_held (Command.Cancel route) part all = changes route.0 (λ old. record old { cancelled = true }) part.ixl.routes (λ row one there here. keep.cancels row one) all
   obeyed_held Command.Resume part all = all
+  obeyed_held (Command.Release route) part all = changes route.0 (released_at now) part.ixl.routes (λ row one there here. keep.releases now row one) all
+  obeyed_held (Command.Move point side) part all = all
+  obeyed_held (Command.Close named) part all = all
+  obeyed_held (Command.Open named) part all = all
 
-  pub commanded_held : (cause : Option Refusal) (command : Command) (part : StepSoFar) → Held part → Held (record part { ixl = commanded_by cause command part.ixl })
+  pub commanded_held : (cause : Option Refusal) (command : Command) (part : StepSoFar) → Held part → Held (record part { ixl = commanded_by now cause command part.ixl })
   commanded_held None command part all = obeyed_held command part all
   commanded_held (Some cause) command part all = all
 
@@ -138,10 +144,12 @@ module _ (now : ℕ) (table : Table) (Q : Row → RouteState → Type 0) (keep :
     heard_at bytes (Some node) part all = hearing_held bytes node part all
 
     given_held : (key : Key) (input : Input) (part : StepSoFar) → Held part → Held (given now table key input part)
-    unfolding given
+    unfolding given giving_move
     given_held key Tick part all = all
     given_held key (Datagram bytes) part all = heard_at bytes (addressed (reading key bytes) part.ixl) part all
-    given_held key (Commands command) part all = commanded_held (refusal now table command part.ixl) command part all
+    given_held key (Commands command) part all =
+        moved_keeps Held now table (λ point side q available all. one_keeps Held (slice_get q.ixl.known_points point) _ q (λ known e. all) all)
+        (refusal now table command part.ixl) command part refl (commanded_held (refusal now table command part.ixl) command part all)
 
     clocked_held : (part : StepSoFar) → Held part → Held (record part { ixl = all_clocked now part.ixl })
     unfolding all_clocked
@@ -210,6 +218,7 @@ fits_keep = record {
   approaches = λ approached row route is. as_it_is row route _ refl refl is;
   sets = λ row route is. with_none row route _ refl refl is;
   cancels = λ row route is. as_it_is row route _ refl refl is;
+  releases = λ now row route is. as_it_is row route _ refl refl is;
   withdraws = λ row route goes is. with_none row route _ refl refl is;
   ends = λ now row route withdrawn is. with_none row route _ refl refl is;
   frees_one = λ row route is. one_freed_fits row route route.phase refl is;

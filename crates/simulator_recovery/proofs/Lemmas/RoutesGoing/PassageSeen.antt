@@ -2,7 +2,8 @@
 -- and one that is occupied was seen so.
 use Rattle.simulator_recovery.proofs.Words.Basics.{◌≡◌, ◌≢◌, ◌⊎◌, inl, inr, ℕ, suc, ◌<◌, ◌≤◌, ◌==◌, not, ◌||◌, Bool, true, false, if◌then◌else◌, List, [], ◌++◌, length, map, Option, Some, None, slice_get, refl, sym, ap, subst, ◌∙◌, arith, contains, contains-empty, nat_cmp, cases_lt, false≢true, get_or_from_slice_get, same_Some, slice_get_within}
 use Rattle.simulator_recovery.proofs.Words.Links.{reading_of, reading, Key}
-use Rattle.simulator_recovery.proofs.Words.Interlockings.{passage_after, IsReportedIn, IsTableOf, as_route, as_section, ClientState, is_outside, is_ready, begun, clocked, hearing, Indication, commanded_by, obeyed, refusal, AllClear, ReportedBy, authorised, come_to, count, freed, freed_by_cancel, is_move_due, is_proceed_due, is_proceeding, is_withdrawn, moved, moving, moving_one, one_freed, proceeding, ruled, IxlState, KnownDetectorState, RouteState, changed, Commands, Datagram, Input, Tick, addressed, all_clocked, clocked_detector, detector_hearing, given, known_point_hearing, known_signal_hearing, looking, looks, node_hearing, occupied_heard, stepped, ticked, told_before, told_now, watching, Detector, Node, Point, Signal, StepSoFar, along, begun_with, detector_after, empty_outbox, giving_aspect, noted, over, with_detector, with_one, with_route, Row, Table, was_authorised, Command, Refusal, Phase}
+use Rattle.simulator_recovery.proofs.Words.Controllers.{Side}
+use Rattle.simulator_recovery.proofs.Words.Interlockings.{passage_after, IsReportedIn, IsTableOf, as_route, as_section, ClientState, is_outside, is_ready, begun, clocked, hearing, Indication, commanded_by, obeyed, refusal, AllClear, ReportedBy, authorised, come_to, count, freed, freed_by_cancel, is_move_due, is_proceed_due, is_proceeding, is_withdrawn, moved, moving, moving_one, one_freed, proceeding, ruled, IxlState, KnownDetectorState, RouteState, changed, Commands, Datagram, Input, Tick, addressed, all_clocked, clocked_detector, detector_hearing, given, known_point_hearing, known_signal_hearing, looking, looks, node_hearing, occupied_heard, stepped, ticked, told_before, told_now, watching, Detector, Node, Point, Signal, StepSoFar, along, begun_with, detector_after, empty_outbox, giving_aspect, noted, over, with_detector, with_one, with_route, Row, Table, was_authorised, Command, Refusal, Phase, giving_move}
 use Rattle.simulator_recovery.proofs.Words.Stations.{Places, AreSections, DetectorEntry, Site, Distinct, IsStation, SectionId, Beginning, new_ixl, new_route_of, interlocking_stepped, key_of, WorldState, IsReached}
 use Rattle.simulator_recovery.proofs.Lemmas.Ground.AtLink.{mapped}
 use Rattle.simulator_recovery.proofs.Lemmas.Lamps.Cancelled.{clocked_routes}
@@ -21,6 +22,7 @@ use Rattle.simulator_recovery.proofs.Lemmas.Sections.SectionsClient.{after_clien
 use Rattle.simulator_recovery.proofs.Lemmas.Sections.SectionsSensed.{one_detector}
 use Rattle.simulator_recovery.proofs.Lemmas.Lamps.StopsGiven.{changed_elsewhere, changed_here, clocked_stage, differs, is_equal}
 use Rattle.simulator_recovery.proofs.Lemmas.Windows.WaitingItems.{ready_inside}
+use Rattle.simulator_recovery.proofs.Lemmas.Ground.MovedAtOnce.{moved_keeps}
 
 -- a section is known so: its detector is ready, and last told it as occupied, or as clear
 abbrev pub IsKnownSo : Bool → Table → IxlState → ℕ → Type 0
@@ -65,6 +67,7 @@ saw_keeps busy holds = record {
   approaches = λ approached row route saw. saw;
   sets = λ row route saw authorised. absurd (false≢true authorised);
   cancels = λ row route saw. saw;
+  releases = λ now row route saw. saw;
   withdraws = λ row route goes saw authorised. saw (proceeding_authorised route.phase goes);
   ends = λ now row route withdrawn saw authorised. saw (withdrawn_authorised route.phase withdrawn);
   frees_one = λ row route saw. one_freed_saw busy holds row route route.phase refl saw;
@@ -298,12 +301,21 @@ module _ (busy : Bool) (now : ℕ) (table : Table) (stand : StandOnce table) whe
   heard_at bytes None part saw = saw
   heard_at bytes (Some node) part saw = hearing_saw bytes node part saw
 
-  commanded_leaves : (cause : Option Refusal) (command : Command) (ixl : IxlState) → (commanded_by cause command ixl).detectors ≡ ixl.detectors
+  commanded_leaves : (cause : Option Refusal) (command : Command) (ixl : IxlState) → (commanded_by now cause command ixl).detectors ≡ ixl.detectors
   unfolding obeyed
   commanded_leaves (Some cause) command ixl = refl
   commanded_leaves None (Command.Request route) ixl = refl
   commanded_leaves None (Command.Cancel route) ixl = refl
   commanded_leaves None Command.Resume ixl = refl
+  commanded_leaves None (Command.Release route) ixl = refl
+  commanded_leaves None (Command.Move point side) ixl = refl
+  commanded_leaves None (Command.Close named) ixl = refl
+  commanded_leaves None (Command.Open named) ixl = refl
+
+  moves_saw : (point : ℕ) (side : Side) (part : StepSoFar) → Saw part → Saw (giving_move now point side part)
+  unfolding giving_move
+  moves_saw point side part saw = one_keeps Saw (slice_get part.ixl.known_points point) _ part
+      (λ known e. saw) saw
 
   given_saw : (key : Key) (input : Input) (part : StepSoFar) → Saw part → Saw (given now table key input part)
   unfolding given
@@ -311,8 +323,8 @@ module _ (busy : Bool) (now : ℕ) (table : Table) (stand : StandOnce table) whe
   given_saw key (Datagram bytes) part saw = heard_at bytes (addressed (reading key bytes) part.ixl) part saw
   given_saw key (Commands command) part saw =
       let cause = refusal now table command part.ixl
-      in weaker busy table (IsKnownSo busy table part.ixl) (IsKnownSo busy table (commanded_by cause command part.ixl)) (commanded_by cause command part.ixl).routes (known_same busy table part.ixl (commanded_by cause command part.ixl) (commanded_leaves cause command part.ixl))
-      (commanded_held now table (SawWhere busy (IsKnownSo busy table part.ixl)) (saw_keeps busy (IsKnownSo busy table part.ixl)) cause command part saw)
+      in moved_keeps Saw now table (λ point side q available. moves_saw point side q) cause command part refl (weaker busy table (IsKnownSo busy table part.ixl) (IsKnownSo busy table (commanded_by now cause command part.ixl)) (commanded_by now cause command part.ixl).routes (known_same busy table part.ixl (commanded_by now cause command part.ixl) (commanded_leaves cause command part.ixl))
+      (commanded_held now table (SawWhere busy (IsKnownSo busy table part.ixl)) (saw_keeps busy (IsKnownSo busy table part.ixl)) cause command part saw))
 
   clocked_saw : (part : StepSoFar) → Saw part → Saw (record part { ixl = all_clocked now part.ixl })
   clocked_saw part saw = weaker busy table (IsKnownSo busy table part.ixl) (IsKnownSo busy table (all_clocked now part.ixl)) (all_clocked now part.ixl).routes (known_clocked busy now table part.ixl)
@@ -331,7 +343,7 @@ module _ (busy : Bool) (now : ℕ) (table : Table) (stand : StandOnce table) whe
   unfolding moving moving_one
   moved_leaves part = over_keeps Q (moving now table) (λ number q same. route_keeps Q table number _ q (λ row one there here. along_keeps Q (moving_one now table number)
       (λ need p still. route_keeps Q table number _ p (λ other route other_there route_here. where_keeps Q (is_move_due table p.ixl number route need) p _ (λ due. (move_leaves now need.point need.side p).detectors ∙ still) still) still) row.needs q same) same)
-      (count table) (freed_by_cancel now table part) (until_freed now table part.ixl part (refl, refl)).1
+      (count table) (freed_by_cancel now table part) (until_freed now table part.ixl part (refl, refl, refl)).1
     where
       Q : StepSoFar → Type 0
       Q q = q.ixl.detectors ≡ part.ixl.detectors

@@ -1,14 +1,15 @@
 -- What a route has seen of its sections it goes on to have seen, as long as it stays set.
 use Rattle.simulator_recovery.proofs.Words.Basics.{◌≡◌, ◌⊎◌, inl, inr, ℕ, true, List, Option, Some, None, slice_get, refl, sym, ap, subst, ◌∙◌, contains, false≢true, same_Some}
 use Rattle.simulator_recovery.proofs.Words.Links.{reading_of, reading, Key}
-use Rattle.simulator_recovery.proofs.Words.Interlockings.{commanded_by, obeyed, refusal, request_refusal, set_anew, count, IxlState, RouteState, Commands, Datagram, Input, Tick, addressed, all_clocked, given, stepped, watching, StepSoFar, begun_with, empty_outbox, Row, Table, is_set, was_authorised, Command, Refusal, Phase}
+use Rattle.simulator_recovery.proofs.Words.Interlockings.{commanded_by, obeyed, refusal, released_at, request_refusal, set_anew, count, IxlState, RouteState, Commands, Datagram, Input, Tick, addressed, all_clocked, given, stepped, watching, StepSoFar, begun_with, empty_outbox, Row, Table, is_set, was_authorised, Command, Refusal, Phase, giving_move}
 use Rattle.simulator_recovery.proofs.Words.Stations.{Site, RouteId, Event, Beginning, new_ixl, new_route_of, happens, interlocking_stepped, key_of, WorldState}
 use Rattle.simulator_recovery.proofs.Lemmas.Ground.IxlAlways.{event_then}
 use Rattle.simulator_recovery.proofs.Lemmas.RoutesComing.DueRoutes.{GoOnward, GoesOnward, heard_at, ruled_held, same_phase, watching_held}
-use Rattle.simulator_recovery.proofs.Lemmas.Ground.DueShapes.{over_keeps}
+use Rattle.simulator_recovery.proofs.Lemmas.Ground.DueShapes.{over_keeps, one_keeps}
 use Rattle.simulator_recovery.proofs.Lemmas.RoutesComing.DueKnown.{ticks_bring_nothing}
 use Rattle.simulator_recovery.proofs.Lemmas.Ground.IxlClients.{changed_at, mapped_at}
 use Rattle.simulator_recovery.proofs.Lemmas.Lamps.StopsGiven.{request_unset}
+use Rattle.simulator_recovery.proofs.Lemmas.Ground.MovedAtOnce.{moved_keeps}
 
 pub authorised_set : (p : Phase) → was_authorised p ≡ true → is_set p ≡ true
 authorised_set Phase.Free e = absurd (false≢true e)
@@ -58,7 +59,7 @@ module _ (k place : ℕ) where
         by_row None e = cc e
         by_row (Some row) e = false≢true (sym (request_unset now table ixl route.0 row one e) ∙ authorised_set one.phase authorised)
 
-    obeyed_stays : (command : Command) → refusal now table command ixl ≡ None → Stays (obeyed command ixl).routes
+    obeyed_stays : (command : Command) → refusal now table command ixl ≡ None → Stays (obeyed now command ixl).routes
     unfolding obeyed
     obeyed_stays (Command.Request route) none later here = choose (changed_at set_anew route.0 ixl.routes k later here)
       where
@@ -67,17 +68,23 @@ module _ (k place : ℕ) where
         choose (inr e) = at_first later e
     obeyed_stays (Command.Cancel route) none later here = onward route.0 (λ old. record old { cancelled = true }) ixl.routes (λ was there. same_phase was _ refl refl) at_first later here
     obeyed_stays Command.Resume none later here = at_first later here
+    obeyed_stays (Command.Release route) none later here = onward route.0 (released_at now) ixl.routes (λ was there. same_phase was _ refl refl) at_first later here
+    obeyed_stays (Command.Move point side) none later here = at_first later here
+    obeyed_stays (Command.Close named) none later here = at_first later here
+    obeyed_stays (Command.Open named) none later here = at_first later here
 
-    commanded_stays : (cause : Option Refusal) (command : Command) → refusal now table command ixl ≡ cause → Stays (commanded_by cause command ixl).routes
+    commanded_stays : (cause : Option Refusal) (command : Command) → refusal now table command ixl ≡ cause → Stays (commanded_by now cause command ixl).routes
     commanded_stays None command none = obeyed_stays command none
     commanded_stays (Some cause) command refused = at_first
 
   given_stays : (now : ℕ) (table : Table) (key : Key) (input : Input) (part : StepSoFar) (one : RouteState) → slice_get part.ixl.routes k ≡ Some one → was_authorised one.phase ≡ true → contains one.passage.seen place ≡ true
       → Stays (given now table key input part).ixl.routes
-  unfolding given
+  unfolding given giving_move
   given_stays now table key Tick part one at authorised seen = at_first now table part.ixl one at authorised seen
   given_stays now table key (Datagram bytes) part one at authorised seen = heard_at now table Stays onward bytes (addressed (reading key bytes) part.ixl) part (at_first now table part.ixl one at authorised seen)
-  given_stays now table key (Commands command) part one at authorised seen = commanded_stays now table part.ixl one at authorised seen (refusal now table command part.ixl) command refl
+  given_stays now table key (Commands command) part one at authorised seen =
+      moved_keeps (λ q. Stays q.ixl.routes) now table (λ point side q available all. one_keeps (λ q. Stays q.ixl.routes) (slice_get q.ixl.known_points point) _ q (λ known e. all) all)
+      (refusal now table command part.ixl) command part refl (commanded_stays now table part.ixl one at authorised seen (refusal now table command part.ixl) command refl)
 
   step_stays : (now : ℕ) (table : Table) (key : Key) (input : Input) (part : StepSoFar) (one : RouteState) → slice_get part.ixl.routes k ≡ Some one → was_authorised one.phase ≡ true → contains one.passage.seen place ≡ true
       → Stays (stepped now table key input part).ixl.routes

@@ -1,7 +1,7 @@
 -- After every list of events the interlocking's clock is at least where it was as the authority of a route ended.
 use Rattle.simulator_recovery.proofs.Words.Basics.{◌≡◌, ◌⊎◌, inl, inr, ℕ, suc, ◌≤◌, ◌==◌, ◌&&◌, Bool, true, false, if◌then◌else◌, List, [], ◌∷◌, length, Option, Some, None, slice_get, refl, sym, ap, subst, ◌∙◌, arith, ◌||◌, same_Some}
 use Rattle.simulator_recovery.proofs.Words.Links.{reading_of, reading, Key}
-use Rattle.simulator_recovery.proofs.Words.Interlockings.{begun, hearing, commanded_by, obeyed, refusal, set_anew, authorised, come_to, count, ended, ending_authority, freed, freed_by_cancel, freed_by_passage, freeing_by_cancel, freeing_by_passage, freeing_next, frees_cancelled, frees_next, is_move_due, is_proceed_due, is_proceeding, is_stop_due, is_withdrawn, moved, moving, moving_one, one_freed, proceeding, ruled, withdrawing, withdrawn, IxlState, RouteState, changed, Commands, Datagram, Input, Tick, addressed, all_clocked, detector_hearing, given, known_point_hearing, known_signal_hearing, looking, looking_by, looks, node_hearing, occupied_heard, route_looks, stepped, ticked, watching, Detector, Node as IxlNode, Point, Signal, StepSoFar, begun_with, detector_after, empty_outbox, noted, over, with_detector, with_one, with_route, Row, Table, is_at_known_stop, place_in, was_authorised, Command, Refusal, Phase}
+use Rattle.simulator_recovery.proofs.Words.Interlockings.{begun, hearing, commanded_by, obeyed, refusal, released_at, set_anew, authorised, come_to, count, ended, ending_authority, freed, freed_by_cancel, freed_by_passage, freeing_by_cancel, freeing_by_passage, freeing_next, frees_cancelled, frees_next, is_move_due, is_proceed_due, is_proceeding, is_stop_due, is_withdrawn, moved, moving, moving_one, one_freed, proceeding, ruled, withdrawing, withdrawn, IxlState, RouteState, changed, Commands, Datagram, Input, Tick, addressed, all_clocked, detector_hearing, given, known_point_hearing, known_signal_hearing, looking, looking_by, looks, node_hearing, occupied_heard, route_looks, stepped, ticked, watching, Detector, Node as IxlNode, Point, Signal, StepSoFar, begun_with, detector_after, empty_outbox, noted, over, with_detector, with_one, with_route, Row, Table, is_at_known_stop, place_in, was_authorised, Command, Refusal, Phase, giving_move}
 use Rattle.simulator_recovery.proofs.Words.Stations.{DetectorEntry, Site, Point as PointEntry, Signal as SignalEntry, Event, Beginning, Outset, at_zero, new_ixl, new_route_of, world_at, detector_anew, happens, interlocking_stepped, made_anew, passed, point_anew, signal_anew, Detector as AtDetector, Interlocking as AtInterlocking, Node, key_of, node_at, after_all, WorldState, IsReached}
 use Rattle.simulator_spec.specs.Nodes.{Point as AtPoint, Signal as AtSignal}
 use Rattle.simulator_recovery.proofs.Lemmas.Rounds.Clocks.{calm_still}
@@ -12,6 +12,7 @@ use Rattle.simulator_recovery.proofs.Lemmas.Ground.IxlClients.{changed_at, mappe
 use Rattle.simulator_recovery.proofs.Lemmas.RoutesComing.NothingDueMoves.{move_leaves}
 use Rattle.simulator_recovery.proofs.Lemmas.RoutesComing.NothingDueProceeds.{aspect_leaves}
 use Rattle.simulator_recovery.proofs.Lemmas.Lamps.ProceedsRounds.{IxlGoes, anew, event_goes, stays, steps}
+use Rattle.simulator_recovery.proofs.Lemmas.Ground.MovedAtOnce.{moved_keeps}
 
 -- The authority of a route ended at this reading at the latest, if it has ended.
 abbrev pub EndedBy : ℕ → RouteState → Type 0
@@ -146,21 +147,27 @@ module _ (now : ℕ) (table : Table) (k : ℕ) where
   heard_at bytes None part is = is
   heard_at bytes (Some node) part is = hearing_held bytes node part is
 
-  obeyed_held : (command : Command) (part : StepSoFar) → Held part → Held (record part { ixl = obeyed command part.ixl })
+  obeyed_held : (command : Command) (part : StepSoFar) → Held part → Held (record part { ixl = obeyed now command part.ixl })
   unfolding obeyed
   obeyed_held (Command.Request route) part is = changed_held route.0 set_anew part (λ one by. set_by now one) is
   obeyed_held (Command.Cancel route) part is = changed_held route.0 (λ old. record old { cancelled = true }) part (λ one by. by) is
   obeyed_held Command.Resume part is = is
+  obeyed_held (Command.Release route) part is = changed_held route.0 (released_at now) part (λ one by. by) is
+  obeyed_held (Command.Move point side) part is = is
+  obeyed_held (Command.Close named) part is = is
+  obeyed_held (Command.Open named) part is = is
 
-  commanded_held : (cause : Option Refusal) (command : Command) (part : StepSoFar) → Held part → Held (record part { ixl = commanded_by cause command part.ixl })
+  commanded_held : (cause : Option Refusal) (command : Command) (part : StepSoFar) → Held part → Held (record part { ixl = commanded_by now cause command part.ixl })
   commanded_held None command part is = obeyed_held command part is
   commanded_held (Some cause) command part is = is
 
   given_held : (key : Key) (input : Input) (part : StepSoFar) → Held part → Held (given now table key input part)
-  unfolding given
+  unfolding given giving_move
   given_held key Tick part is = is
   given_held key (Datagram bytes) part is = heard_at bytes (addressed (reading key bytes) part.ixl) part is
-  given_held key (Commands command) part is = commanded_held (refusal now table command part.ixl) command part is
+  given_held key (Commands command) part is =
+      moved_keeps Held now table (λ point side q available all. one_keeps Held (slice_get q.ixl.known_points point) _ q (λ known e. all) all)
+      (refusal now table command part.ixl) command part refl (commanded_held (refusal now table command part.ixl) command part is)
 
   clocked_held : (part : StepSoFar) → Held part → Held (record part { ixl = all_clocked now part.ixl })
   unfolding all_clocked

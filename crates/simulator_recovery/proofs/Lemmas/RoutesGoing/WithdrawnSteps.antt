@@ -2,7 +2,7 @@
 use Rattle.simulator_recovery.proofs.Words.Basics.{◌≡◌, ◌≢◌, ◌⊎◌, inl, inr, ℕ, ◌+◌, ◌≤◌, ◌==◌, Bool, true, false, not, List, [], Option, Some, None, slice_get, refl, sym, ap, subst, ◌∙◌, arith, ◌||◌, false≢true, same_Some}
 use Rattle.simulator_recovery.proofs.Words.Links.{settled, reading_of, OutboxState, stops_at_greatest, LinkState, is_up, reading, Key}
 use Rattle.simulator_recovery.proofs.Words.Controllers.{Aspect}
-use Rattle.simulator_recovery.proofs.Words.Interlockings.{ClientState, is_ready, ClientSoFar, begun, clocked, commanding, hearing, ticking, commanded_by, obeyed, refusal, set_anew, At, come_to, count, ending_authority, is_proceeding, is_stop_due, is_withdrawn, ruled, stopped, withdrawing, withdrawn, KnownSignalState, RouteState, changed, Commands, Datagram, Input, Tick, addressed, all_clocked, clocked_known_signal, detector_hearing, given, known_point_hearing, known_signal_hearing, looking, looking_by, looks, node_hearing, occupied_heard, stepped, ticked, watching, Detector, Node, Point, Signal, StepSoFar, begun_with, detector_after, empty_outbox, giving_aspect, known_signal_after, noted, over, with_detector, with_one, with_route, Row, Table, is_signal_ready, was_authorised, Command, Refusal, Phase}
+use Rattle.simulator_recovery.proofs.Words.Interlockings.{ClientState, is_ready, ClientSoFar, begun, clocked, commanding, hearing, ticking, commanded_by, obeyed, refusal, set_anew, At, come_to, count, ending_authority, is_proceeding, is_stop_due, is_withdrawn, ruled, stopped, withdrawing, withdrawn, KnownSignalState, RouteState, changed, Commands, Datagram, Input, Tick, addressed, all_clocked, clocked_known_signal, detector_hearing, given, known_point_hearing, known_signal_hearing, looking, looking_by, looks, node_hearing, occupied_heard, stepped, ticked, watching, Detector, Node, Point, Signal, StepSoFar, begun_with, detector_after, empty_outbox, giving_aspect, known_signal_after, noted, over, with_detector, with_one, with_route, Row, Table, is_signal_ready, was_authorised, Command, Refusal, Phase, giving_move, moved_at_once}
 use Rattle.simulator_recovery.proofs.Words.Stations.{Site, RouteId, Event, interlocking_stepped, key_of, WorldState, IsReached}
 use Rattle.simulator_recovery.proofs.Words.Recovery.{ClientStandsByCounts, SetsNot}
 use Rattle.simulator_spec.specs.ixl_client.declared.command.Command.{Command as ClientCommand}
@@ -21,6 +21,7 @@ use Rattle.simulator_recovery.proofs.Lemmas.Ground.SignalParts.{IsGiven, PartsKe
 use Rattle.simulator_recovery.proofs.Lemmas.Talk.StationTalk.{clocked_link}
 use Rattle.simulator_recovery.proofs.Lemmas.Lamps.StopsGiven.{changed_elsewhere, changed_here, differs, is_equal}
 use Rattle.simulator_recovery.proofs.Lemmas.Windows.WaitingItems.{clock_went, done_went, ready_inside, ticked_none}
+use Rattle.simulator_recovery.proofs.Lemmas.Ground.MovedAtOnce.{moved_keeps}
 
 -- ---- a client that is ready
 
@@ -109,21 +110,27 @@ module _ (now : ℕ) (table : Table) (signal items : ℕ) where
   heard_at bytes None part is = counts part is
   heard_at bytes (Some node) part is = hearing_counts bytes node part is
 
-  obeyed_counts : (command : Command) (part : StepSoFar) → Ready part → Counts (record part { ixl = obeyed command part.ixl })
+  obeyed_counts : (command : Command) (part : StepSoFar) → Ready part → Counts (record part { ixl = obeyed now command part.ixl })
   unfolding obeyed
   obeyed_counts (Command.Request route) part is = counts part is
   obeyed_counts (Command.Cancel route) part is = counts part is
   obeyed_counts Command.Resume part is = counts part is
+  obeyed_counts (Command.Release route) part is = counts part is
+  obeyed_counts (Command.Move point side) part is = counts part is
+  obeyed_counts (Command.Close named) part is = counts part is
+  obeyed_counts (Command.Open named) part is = counts part is
 
-  commanded_counts : (cause : Option Refusal) (command : Command) (part : StepSoFar) → Ready part → Counts (record part { ixl = commanded_by cause command part.ixl })
+  commanded_counts : (cause : Option Refusal) (command : Command) (part : StepSoFar) → Ready part → Counts (record part { ixl = commanded_by now cause command part.ixl })
   commanded_counts None command part is = obeyed_counts command part is
   commanded_counts (Some cause) command part is = counts part is
 
   given_counts : (key : Key) (input : Input) (part : StepSoFar) → Ready part → Counts (given now table key input part)
-  unfolding given
+  unfolding given giving_move
   given_counts key Tick part is = counts part is
   given_counts key (Datagram bytes) part is = heard_at bytes (addressed (reading key bytes) part.ixl) part is
-  given_counts key (Commands command) part is = commanded_counts (refusal now table command part.ixl) command part is
+  given_counts key (Commands command) part is =
+      moved_keeps Counts now table (λ point side q available all. one_keeps Counts (slice_get q.ixl.known_points point) _ q (λ known e. all) all)
+      (refusal now table command part.ixl) command part refl (commanded_counts (refusal now table command part.ixl) command part is)
 
   watching_counts : (number : ℕ) (part : StepSoFar) → Counts part → Counts (watching table number part)
   unfolding watching
@@ -272,8 +279,9 @@ module _ (now : ℕ) (table : Table) (number : ℕ) (P : List RouteState → Lis
   Held part = P part.ixl.routes part.ixl.known_signals
 
   given_refused : (key : Key) (command : Command) (cause : Refusal) (part : StepSoFar) → refusal now table command part.ixl ≡ Some cause → Held part → Held (given now table key (Commands command) part)
-  unfolding given
-  given_refused key command cause part refused all = subst (λ (found : Option Refusal). Held (record part { ixl = commanded_by found command part.ixl })) (sym refused) all
+  unfolding given moved_at_once
+  given_refused key command cause part refused all =
+      subst (λ (found : Option Refusal). Held (moved_at_once now found command (record part { ixl = commanded_by now found command part.ixl }))) (sym refused) all
 
   refused_held : (key : Key) (command : Command) (cause : Refusal) (part : StepSoFar) → refusal now table command (all_clocked now part.ixl) ≡ Some cause → Held part → Held (stepped now table key (Commands command) part)
   unfolding stepped

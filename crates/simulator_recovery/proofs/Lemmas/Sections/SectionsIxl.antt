@@ -1,11 +1,12 @@
 -- What is kept of the clients of detectors, with what is known of their sections, by each part of a step of an interlocking.
-use Rattle.simulator_recovery.proofs.Words.Basics.{◌≡◌, ℕ, List, map, Option, Some, None, slice_get}
+use Rattle.simulator_recovery.proofs.Words.Basics.{◌≡◌, ℕ, List, map, Option, Some, None, slice_get, refl}
 use Rattle.simulator_recovery.proofs.Words.Links.{OutboxState, reading, Key}
 use Rattle.simulator_recovery.proofs.Words.Controllers.{Aspect, Side}
 use Rattle.simulator_recovery.proofs.Words.Interlockings.{LinkCall, begun, commanding, hearing, ticking, commanded_by, obeyed, refusal, come_to, count, is_stop_due, moving_one, proceeding, ruled, withdrawing, KnownDetectorState, changed, Commands, Datagram, Input, Tick, addressed, all_clocked, clocked_detector, detector_hearing, detector_ticking, given, known_point_hearing, known_point_ticking, known_signal_hearing, known_signal_ticking, looking, looks, node_hearing, occupied_heard, stepped, ticked, watching, Detector, Node, Point, Signal, StepSoFar, detector_after, giving_aspect, giving_move, noted, with_detector, with_one, with_route, Need, Table, is_signal_ready, Command, Refusal, Phase}
 use Rattle.simulator_spec.specs.ixl_client.declared.command.Command.{Command as ClientCommand}
 use Rattle.simulator_recovery.proofs.Lemmas.Ground.AspectCalls.{noted_at}
 use Rattle.simulator_recovery.proofs.Lemmas.Ground.DueShapes.{along_keeps, looking_turns, one_keeps, over_keeps, route_holds, ticked_keeps, turned_keeps, watching_turns, where_both}
+use Rattle.simulator_recovery.proofs.Lemmas.Ground.MovedAtOnce.{moved_keeps}
 
 -- a detector hears a datagram, and what is known of its sections goes on by what it tells
 abbrev pub heard_by : ℕ → List ℕ → KnownDetectorState → OutboxState → KnownDetectorState
@@ -80,13 +81,17 @@ module _ (now : ℕ) (table : Table) (Clocked Holds : List KnownDetectorState �
 
   -- ---- the input
 
-  obeyed_held : (command : Command) (part : StepSoFar) → Held part → Held (record part { ixl = obeyed command part.ixl })
+  obeyed_held : (command : Command) (part : StepSoFar) → Held part → Held (record part { ixl = obeyed now command part.ixl })
   unfolding obeyed
   obeyed_held (Command.Request route) part all = all
   obeyed_held (Command.Cancel route) part all = all
   obeyed_held Command.Resume part all = all
+  obeyed_held (Command.Release route) part all = all
+  obeyed_held (Command.Move point side) part all = all
+  obeyed_held (Command.Close named) part all = all
+  obeyed_held (Command.Open named) part all = all
 
-  commanded_held : (cause : Option Refusal) (command : Command) (part : StepSoFar) → Held part → Held (record part { ixl = commanded_by cause command part.ixl })
+  commanded_held : (cause : Option Refusal) (command : Command) (part : StepSoFar) → Held part → Held (record part { ixl = commanded_by now cause command part.ixl })
   commanded_held None command part all = obeyed_held command part all
   commanded_held (Some cause) command part all = all
 
@@ -98,7 +103,9 @@ module _ (now : ℕ) (table : Table) (Clocked Holds : List KnownDetectorState �
   unfolding given
   given_held key Tick part all = weaker part all
   given_held key (Datagram bytes) part all = heard_at bytes (addressed (reading key bytes) part.ixl) part all
-  given_held key (Commands command) part all = commanded_held (refusal now table command part.ixl) command part (weaker part all)
+  given_held key (Commands command) part all =
+      moved_keeps Held now table (λ point side q available. move_held point side q) (refusal now table command part.ixl) command part refl
+      (commanded_held (refusal now table command part.ixl) command part (weaker part all))
 
   -- ---- ticks
 

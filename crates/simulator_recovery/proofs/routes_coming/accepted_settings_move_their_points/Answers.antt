@@ -11,4 +11,4 @@ pub returns-clause-clear : goal.returns-clause-clear
 returns-clause-clear c site table world route = accepted_clear site table world route c.laws_below.ensures.request_is_accepted_where_admissible
 
 pub returns-clause-points : goal.returns-clause-points
-returns-clause-points c site table world route = accepted_points site table world route c.laws_below.ensures.move_is_given_where_due
+returns-clause-points c site table world route = accepted_points site table world route c.laws_below.ensures.move_is_given_where_due c.laws_below.ensures.request_is_accepted_where_admissible

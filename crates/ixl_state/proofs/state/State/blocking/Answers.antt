@@ -12,9 +12,9 @@ fault-requires-clause-free c =
     let inside = c.self.inside in
     let is = c.self.invariant in
     let n = c.args.number in
-    let there = place-below inside.table inside.field inside.routes.items inside.created inside.resumed c.args.self.now n c.self.view_is is.routes_are c.requires.there in
+    let there = place-below inside.table inside.field inside.routes.items inside.created inside.resumed inside.closed c.args.self.now n c.self.view_is is.routes_are c.requires.there in
     let at = kept-at inside.table inside.routes.items n is.routes_are there.0 in
-    let free = at-inside inside.table inside.field inside.routes.items inside.created inside.resumed c.args.self.now n c.self.view_is (λ row route. is_set route.phase ≡ false) c.requires.free at.0 at.1 at.2 in
+    let free = at-inside inside.table inside.field inside.routes.items inside.created inside.resumed inside.closed c.args.self.now n c.self.view_is (λ row route. is_set route.phase ≡ false) c.requires.free at.0 at.1 at.2 in
     λ set. false≢true (sym free ∙ (c.set_routes_lock_sections.ensures inside.table inside.routes.items inside.locks is.locks_are is.routes_are.left n at.0 at.1 at.2).0 set)
 
 pub returns-in-None : goal.returns-in-None

@@ -14,7 +14,7 @@ invariant_of-self c =
     let inside = c.self.inside in
     let is = c.self.invariant in
     let n = c.args.number in
-    let there = place-below inside.table inside.field inside.routes.items inside.created inside.resumed c.args.self.now n c.self.view_is is.routes_are c.requires.there in
+    let there = place-below inside.table inside.field inside.routes.items inside.created inside.resumed inside.closed c.args.self.now n c.self.view_is is.routes_are c.requires.there in
     let at = kept-at inside.table inside.routes.items n is.routes_are there.0 in
     let new = c.freed.ensures ∙ ap freed (read-is inside.routes.items n at.1 c.index.result.now at.2.1 c.index.ensures) in
     let within = lock-within inside.table inside.routes.items inside.locks n is.locks_are c.is_of_its_site.ensures.table c.keeps_each_route.ensures there.0 in
@@ -26,7 +26,7 @@ returns c =
     let inside = c.self.inside in
     let is = c.self.invariant in
     let n = c.args.number in
-    let there = place-below inside.table inside.field inside.routes.items inside.created inside.resumed c.args.self.now n c.self.view_is is.routes_are c.requires.there in
+    let there = place-below inside.table inside.field inside.routes.items inside.created inside.resumed inside.closed c.args.self.now n c.self.view_is is.routes_are c.requires.there in
     let at = kept-at inside.table inside.routes.items n is.routes_are there.0 in
     let new = c.freed.ensures ∙ ap freed (read-is inside.routes.items n at.1 c.index.result.now at.2.1 c.index.ensures) in
-    view-changed inside.table inside.routes.items n at.0 at.1 c.freed.result at.2 inside.field inside.created inside.resumed c.args.self.now c.self.view_is freed new
+    view-changed inside.table inside.routes.items n at.0 at.1 c.freed.result at.2 inside.field inside.created inside.resumed inside.closed c.args.self.now c.self.view_is freed new

@@ -6,11 +6,11 @@ use Rattle.ixl_state.proofs.state.State.give_move.Goals as goal
 pub invariant_of-self : goal.invariant_of-self
 invariant_of-self c =
     let inside = c.self.inside in
-    let rest : Rest = record { routes = inside.routes.items; created = inside.created; resumed = inside.resumed } in
+    let rest : Rest = record { routes = inside.routes.items; created = inside.created; resumed = inside.resumed; closed = inside.closed } in
     state-kept inside.table rest c.args.now 2 _ inside.field c.args.outbox.now c.give_move.new.self c.give_move.new.outbox inside.routes.items inside.locks (c.give_move.ensures rest (omega (arith, c.len.ensures, c.self.inside.routes.ok))) c.self.invariant
 
 pub returns : goal.returns
 returns c =
     let inside = c.self.inside in
-    let rest : Rest = record { routes = inside.routes.items; created = inside.created; resumed = inside.resumed } in
+    let rest : Rest = record { routes = inside.routes.items; created = inside.created; resumed = inside.resumed; closed = inside.closed } in
     goes-of inside.table rest c.args.now 2 _ inside.field c.args.self.now c.args.outbox.now c.give_move.new.self c.give_move.new.outbox c.self.view_is (c.give_move.ensures rest (omega (arith, c.len.ensures, c.self.inside.routes.ok)))

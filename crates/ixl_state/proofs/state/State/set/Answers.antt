@@ -18,9 +18,9 @@ reserve-reserved-requires-clause-free c =
     let inside = c.self.inside in
     let is = c.self.invariant in
     let n = c.args.number in
-    let there = place-below inside.table inside.field inside.routes.items inside.created inside.resumed c.args.self.now n c.self.view_is is.routes_are c.requires.there in
+    let there = place-below inside.table inside.field inside.routes.items inside.created inside.resumed inside.closed c.args.self.now n c.self.view_is is.routes_are c.requires.there in
     let at = kept-at inside.table inside.routes.items n is.routes_are there.0 in
-    let free = at-inside inside.table inside.field inside.routes.items inside.created inside.resumed c.args.self.now n c.self.view_is (λ row route. is_set route.phase ≡ false) c.requires.free at.0 at.1 at.2 in
+    let free = at-inside inside.table inside.field inside.routes.items inside.created inside.resumed inside.closed c.args.self.now n c.self.view_is (λ row route. is_set route.phase ≡ false) c.requires.free at.0 at.1 at.2 in
     λ set. false≢true (sym free ∙ (c.set_routes_lock_sections.ensures inside.table inside.routes.items inside.locks is.locks_are is.routes_are.left n at.0 at.1 at.2).0 set)
 
 pub invariant_of-self : goal.invariant_of-self
@@ -28,7 +28,7 @@ invariant_of-self c =
     let inside = c.self.inside in
     let is = c.self.invariant in
     let n = c.args.number in
-    let there = place-below inside.table inside.field inside.routes.items inside.created inside.resumed c.args.self.now n c.self.view_is is.routes_are c.requires.there in
+    let there = place-below inside.table inside.field inside.routes.items inside.created inside.resumed inside.closed c.args.self.now n c.self.view_is is.routes_are c.requires.there in
     let at = kept-at inside.table inside.routes.items n is.routes_are there.0 in
     let none = subst (λ (s : StateView). AtRoute s n (λ row route. first_blocking n row 0 s.sited.table.rows s.ixl.routes ≡ None)) (sym c.self.view_is) c.requires.unblocked at.0 at.1 at.2 in
     let unblocked =
@@ -49,9 +49,9 @@ returns c =
     let inside = c.self.inside in
     let is = c.self.invariant in
     let n = c.args.number in
-    let there = place-below inside.table inside.field inside.routes.items inside.created inside.resumed c.args.self.now n c.self.view_is is.routes_are c.requires.there in
+    let there = place-below inside.table inside.field inside.routes.items inside.created inside.resumed inside.closed c.args.self.now n c.self.view_is is.routes_are c.requires.there in
     let at = kept-at inside.table inside.routes.items n is.routes_are there.0 in
     let new = c.set_anew.ensures ∙ ap set_anew (read-is inside.routes.items n at.1 c.index.result.now at.2.1 c.index.ensures) in
     let unmoved = c.unmove.ensures in
     let routes = changed-is-set set_anew inside.routes.items n at.1 c.set_anew.result at.2.1 new in
-    (λ i. view_of inside.table (unmoved i) (routes i) inside.created inside.resumed) ∙ ap (λ (s : StateView). record s { ixl = route_set n s.ixl }) c.self.view_is
+    (λ i. view_of inside.table (unmoved i) (routes i) inside.created inside.resumed inside.closed) ∙ ap (λ (s : StateView). record s { ixl = route_set n s.ixl }) c.self.view_is

@@ -1,0 +1,145 @@
+-- The clock of a release that is over was noted in a step in which the release was accepted.
+use Rattle.std.proofs.Common.{◌≡◌, ◌⊎◌, inl, inr, ℕ, suc, ◌≤◌, Bool, true, false, if◌then◌else◌, List, [], ◌∷◌, length, refl, ap, sym, ◌∙◌, subst}
+use Rattle.std.specs.Prelude.{◌==◌, Option, Some, None, slice_get}
+use Rattle.std.specs.Option.{option_or}
+use Rattle.std.proofs.lemmas.Bool.{eqb-false, eqb-true}
+use Rattle.ixl_state.specs.State.{StateView}
+use Rattle.ixl_state.specs.layout.declared.ids.RouteId.{RouteId}
+use Rattle.ixl_state.specs.release.Approach.{approach_end}
+use Rattle.ixl_state.specs.ixl_spec.State.{IxlState, RouteState}
+use Rattle.ixl_state.specs.ixl_spec.Step.{Accepted, Commands, Datagram, Input, Received, Refused, Reply, Tick, Ticked}
+use Rattle.ixl_state.specs.ixl_spec.StepSoFar.{StepSoFar}
+use Rattle.ixl_state.specs.ixl_spec.declared.command.Command.TheVariants as commands
+use Rattle.ixl_state.specs.First.{key_of}
+use Rattle.ixl_laws.specs.GivenOnce.{OneAfterAnother, StepTaken}
+use Rattle.ixl_laws.specs.Operations.{FreesByRelease, IsReleasedBefore, IsUnreleased, ReleaseGiven, last_of, released_after}
+use Rattle.ixl_laws.specs.WholeStep.{TurnTaken, heard}
+use Rattle.ixl_laws.proofs.KeptBehind.{KeptSince, nothing_yet, stepped_stays}
+use Rattle.ixl_laws.proofs.PickedByTest.{none_is, some_same}
+use Rattle.ixl_laws.proofs.Released.{heard_clock, was_kept}
+use Rattle.ixl_laws.proofs.TurnFollows.{turn_kept}
+use Rattle.ixl_laws.proofs.TurnKeeps.{up_to}
+
+-- a route is kept as released at this clock
+abbrev IsReleasedAt : ℕ → ℕ → IxlState → Type 0
+IsReleasedAt number clock ixl = (route : RouteState) × (slice_get ixl.routes number ≡ Some route) × (route.released ≡ Some clock)
+
+-- it was so before the input, or the input is its release
+abbrev IsNoted : ℕ → Input → Reply → ℕ → Option ℕ → ℕ → Type 0
+IsNoted now input answer number before clock =
+    (before ≡ Some clock) ⊎ ((input ≡ Commands (commands.Release (record { 0 = number }))) × (answer ≡ Accepted) × (now ≡ clock))
+
+by_release : (now number clock : ℕ) (route : RouteId) (before : Option ℕ) (same : Bool) → (route.0 == number) ≡ same → (if same then option_or before (Some now) else before) ≡ Some clock →
+    IsNoted now (Commands (commands.Release route)) Accepted number before clock
+by_release now number clock route before false apart is = inl is
+by_release now number clock route (Some noted) true here is = inl is
+by_release now number clock route None true here is = inr (ap (λ n. Commands (commands.Release (record { 0 = n }))) (eqb-true route.0 number here), refl, some_same is)
+
+by_request : (now number clock : ℕ) (route : RouteId) (before : Option ℕ) (same : Bool) → (if same then None else before) ≡ Some clock → IsNoted now (Commands (commands.Request route)) Accepted number before clock
+by_request now number clock route before true is = absurd (none_is is)
+by_request now number clock route before false is = inl is
+
+noted : (now : ℕ) (input : Input) (answer : Reply) (number : ℕ) (before : Option ℕ) (clock : ℕ) → released_after now input answer number before ≡ Some clock → IsNoted now input answer number before clock
+noted now Tick answer number before clock is = inl is
+noted now (Datagram bytes) answer number before clock is = inl is
+noted now (Commands (commands.Request route)) Accepted number before clock is = by_request now number clock route before (route.0 == number) is
+noted now (Commands (commands.Request route)) Ticked number before clock is = inl is
+noted now (Commands (commands.Request route)) (Received verdict) number before clock is = inl is
+noted now (Commands (commands.Request route)) (Refused cause) number before clock is = inl is
+noted now (Commands (commands.Release route)) Accepted number before clock is = by_release now number clock route before (route.0 == number) refl is
+noted now (Commands (commands.Release route)) Ticked number before clock is = inl is
+noted now (Commands (commands.Release route)) (Received verdict) number before clock is = inl is
+noted now (Commands (commands.Release route)) (Refused cause) number before clock is = inl is
+noted now (Commands (commands.Cancel route)) answer number before clock is = inl is
+noted now (Commands commands.Resume) answer number before clock is = inl is
+noted now (Commands (commands.Move point side)) answer number before clock is = inl is
+noted now (Commands (commands.Close named)) answer number before clock is = inl is
+noted now (Commands (commands.Open named)) answer number before clock is = inl is
+
+module _ (number clock : ℕ) where
+  -- its release was accepted at this clock
+  abbrev IsGiven : StepTaken → Type 0
+  IsGiven step = ReleaseGiven number step × (step.now ≡ clock)
+
+  heard_from : (step : StepTaken) → IsReleasedAt number clock (heard step.now step.input step.old).ixl → IsReleasedAt number clock step.old.state.ixl ⊎ IsGiven step
+  heard_from step (route, is, released) = by_input (noted step.now step.input step.answer number before.0.released clock
+      (ap (λ a. released_after step.now step.input a number before.0.released) step.made.answered
+      ∙ sym (heard_clock step.now step.old.state.sited.table (key_of step.old.state.sited.site) step.input step.old.state.ixl number before.0 route before.1 is) ∙ released))
+    where
+      before : (old : RouteState) × (slice_get step.old.state.ixl.routes number ≡ Some old)
+      before = was_kept step.now step.old.state.sited.table (key_of step.old.state.sited.site) step.input step.old.state.ixl number route is
+
+      by_input : IsNoted step.now step.input step.answer number before.0.released clock → IsReleasedAt number clock step.old.state.ixl ⊎ IsGiven step
+      by_input (inl was) = inl (before.0, before.1, was)
+      by_input (inr (input, answer, now)) = inr ((input, answer), now)
+
+  new_from : (step : StepTaken) → IsReleasedAt number clock step.new.state.ixl → IsReleasedAt number clock step.old.state.ixl ⊎ IsGiven step
+  new_from step (route, is, released) =
+      let mid = (stepped_stays step.now step.old.state.sited.table (key_of step.old.state.sited.site) step.input step.old.state.ixl).follow number route (ap (λ (ixl : IxlState). slice_get ixl.routes number) (sym step.made.ixl) ∙ is)
+      in heard_from step (mid.0, mid.1, sym mid.2.released ∙ released)
+
+  -- among these steps is one in which it was
+  abbrev IsFound : List StepTaken → Type 0
+  IsFound steps = (place : ℕ) × (step : StepTaken) × (slice_get steps place ≡ Some step) × IsGiven step
+
+  last_from : (first : StepTaken) (others : List StepTaken) → OneAfterAnother first others → IsReleasedAt number clock (heard (last_of first others).now (last_of first others).input (last_of first others).old).ixl →
+      IsReleasedAt number clock first.old.state.ixl ⊎ IsFound (first ∷ others)
+  last_from first [] chain is = by_step (heard_from first is) where
+    by_step : IsReleasedAt number clock first.old.state.ixl ⊎ IsGiven first → IsReleasedAt number clock first.old.state.ixl ⊎ IsFound (first ∷ [])
+    by_step (inl was) = inl was
+    by_step (inr given) = inr (0, first, refl, given)
+  last_from first (next ∷ others) chain is = by_later (last_from next others chain.1 is) where
+    by_step : IsReleasedAt number clock first.old.state.ixl ⊎ IsGiven first → IsReleasedAt number clock first.old.state.ixl ⊎ IsFound (first ∷ next ∷ others)
+    by_step (inl was) = inl was
+    by_step (inr given) = inr (0, first, refl, given)
+
+    by_later : IsReleasedAt number clock next.old.state.ixl ⊎ IsFound (next ∷ others) → IsReleasedAt number clock first.old.state.ixl ⊎ IsFound (first ∷ next ∷ others)
+    by_later (inl was) = by_step (new_from first (subst (λ (s : StateView). IsReleasedAt number clock s.ixl) chain.0 was))
+    by_later (inr (place, step, stands, given)) = inr (suc place, step, stands, given)
+
+-- ---- in the last step
+
+module _ (number : ℕ) (step : StepTaken) (place : ℕ) (taken : TurnTaken) (at : slice_get step.whole.turns place ≡ Some taken) (frees : FreesByRelease step.now step.old.state.sited.table number taken) where
+  abbrev begin : StepSoFar
+  begin = heard step.now step.input step.old
+
+  abbrev Kept : StepSoFar → Type 0
+  Kept part = KeptSince begin.ixl.closed (length begin.ixl.known_signals) begin.ixl.routes part
+
+  -- it was released so behind the input
+  pub was_released : IsReleasedAt number frees.over.0 (heard step.now step.input step.old).ixl
+  was_released = by_route (slice_get begin.ixl.routes number) refl where
+    -- what is kept at the turn follows on what was kept then
+    from_there : ((mid : RouteState) × (slice_get begin.ixl.routes number ≡ Some mid) × (frees.route.released ≡ mid.released) → ⊥) → ⊥
+    from_there wrong = up_to step.now step.old.state.sited.table Kept (turn_kept step.now step.old.state.sited.table begin.ixl.closed (length begin.ixl.known_signals) begin.ixl.routes) step.whole.turns begin step.whole.last step.whole.follow place taken at
+        (nothing_yet begin) (λ kept. let mid = kept.follow number frees.route frees.is.1 in wrong (mid.0, mid.1, mid.2.released))
+
+    by_clock : (mid : RouteState) → slice_get begin.ixl.routes number ≡ Some mid → (clock : ℕ) → mid.released ≡ Some clock → (same : Bool) → (clock == frees.over.0) ≡ same → IsReleasedAt number frees.over.0 begin.ixl
+    by_clock mid is clock noted true same = (mid, is, noted ∙ ap Some (eqb-true clock frees.over.0 same))
+    by_clock mid is clock noted false apart = absurd (from_there (λ there.
+        eqb-false clock frees.over.0 apart (some_same (sym noted ∙ ap (λ (r : RouteState). r.released) (some_same (sym is ∙ there.1)) ∙ sym there.2 ∙ frees.over.1))))
+
+    by_released : (mid : RouteState) → slice_get begin.ixl.routes number ≡ Some mid → (released : Option ℕ) → mid.released ≡ released → IsReleasedAt number frees.over.0 begin.ixl
+    by_released mid is (Some clock) noted = by_clock mid is clock noted (clock == frees.over.0) refl
+    by_released mid is None none = absurd (from_there (λ there.
+        none_is (sym none ∙ ap (λ (r : RouteState). r.released) (some_same (sym is ∙ there.1)) ∙ sym there.2 ∙ frees.over.1)))
+
+    by_route : (one : Option RouteState) → slice_get begin.ixl.routes number ≡ one → IsReleasedAt number frees.over.0 begin.ixl
+    by_route None none = absurd (from_there (λ there. none_is (sym none ∙ there.1)))
+    by_route (Some mid) is = by_released mid is mid.released refl
+
+pub released_before : (number : ℕ) (first : StepTaken) (others : List StepTaken) (place : ℕ) (taken : TurnTaken) → OneAfterAnother first others → IsUnreleased number first.old.state.ixl →
+    slice_get (last_of first others).whole.turns place ≡ Some taken → FreesByRelease (last_of first others).now (last_of first others).old.state.sited.table number taken →
+    IsReleasedBefore number (first ∷ others) (last_of first others).now
+released_before number first others place taken chain unreleased at frees =
+    by_way (last_from number frees.over.0 first others chain (was_released number (last_of first others) place taken at frees))
+  where
+    by_way : IsReleasedAt number frees.over.0 first.old.state.ixl ⊎ IsFound number frees.over.0 (first ∷ others) → IsReleasedBefore number (first ∷ others) (last_of first others).now
+    by_way (inl (route, is, released)) = absurd (none_is (sym (unreleased route is) ∙ released))
+    by_way (inr (found, step, stands, (given, clock))) = record {
+      place = found;
+      step = step;
+      stands = stands;
+      given = given;
+      over = subst (λ n. approach_end n ≤ (last_of first others).now) (sym clock) frees.over.2;
+    }
