@@ -39,4 +39,5 @@ def main():
             print(f"{test}:", ", ".join(f"{name} {number}" for name, number in joined.items()), flush=True)
 
 
-main()
+if __name__ == "__main__":
+    main()

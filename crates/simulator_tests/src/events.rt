@@ -23,11 +23,14 @@ const GREATEST_CLOCK: u64 = 9_000_000_000_000;
 /// By how many microseconds time goes on at most, as a rule: so little that every node is ticked in time.
 const LONGEST_STEP: u32 = 30_000;
 
+/// After so many microseconds a route that was released is free.
+const RELEASED: u32 = 121_000_000;
+
 /// How many trains run at once at most.
 const TRAINS: usize = 4;
 
 /// A run of events: which datagrams it has delivered in their turn, which node it ticked last, how the clocks of the
-/// nodes drift, and where the trains are.
+/// nodes drift, where the trains are, and whether somebody operates the station through failures.
 #[derive(Drop)]
 pub(crate) struct Hostile {
     pub(crate) chance: Chance,
@@ -35,6 +38,7 @@ pub(crate) struct Hostile {
     ticked: usize,
     drifts: u64,
     trains: [Option<Train>; TRAINS],
+    pub(crate) operates: bool,
 }
 
 /// The node that a datagram is for: the interlocking is the client of every link.
@@ -65,11 +69,12 @@ impl Hostile {
             ticked: 0,
             drifts: low | high << 32,
             trains: [None; TRAINS],
+            operates: false,
         }
     }
 
     /// A place below this one.
-    fn place(&mut self, limit: usize) -> usize {
+    pub(crate) fn place(&mut self, limit: usize) -> usize {
         self.chance.place(limit)
     }
 
@@ -118,7 +123,11 @@ impl Hostile {
             4..=60 => 400_000,
             _ => LONGEST_STEP,
         };
-        let elapsed = self.chance.below(most);
+        let elapsed = if self.operates && self.chance.once_in(400) {
+            RELEASED
+        } else {
+            self.chance.below(most)
+        };
         let mut clocks = Vec::new(alloc);
         for node in 0..nodes {
             clocks.push(self.of_clock(node, elapsed))?;
@@ -282,6 +291,9 @@ impl Hostile {
     fn command(&mut self, table: &Checked) -> Event {
         let routes = table.layout().routes().len();
         let route = RouteId(self.place(routes));
+        if self.operates && self.chance.once_in(3) {
+            return Event::Request(self.operation(table));
+        }
         Event::Request(match self.chance.below(40) {
             0 => Command::Request(RouteId(routes)),
             1..=3 => Command::Cancel(route),

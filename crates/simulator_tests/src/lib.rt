@@ -21,6 +21,8 @@ mod good_rounds;
 #[cfg(test)]
 mod layouts;
 #[cfg(test)]
+mod operations;
+#[cfg(test)]
 mod promise;
 #[cfg(test)]
 mod recovery;

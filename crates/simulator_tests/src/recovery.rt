@@ -12,12 +12,11 @@ use crate::events::Hostile;
 use crate::good_rounds::{GoodRounds, happen, pass};
 use crate::layouts::{HALDEN, JUNCTION, SMALL};
 use crate::promise::aspect_of;
-use crate::station::station;
+use crate::station::{station, word};
 use crate::tally::Tally;
 use crate::trains::{Train, moves_on};
 use simulator::{Answer, Aspect, Command, Event, Occupancy, Reply, RouteId, SectionId, World};
 use std::alloc::Global;
-use std::env;
 use std::process::Abort;
 
 /// How many lists each station has in the gate. A list's seed is its number.
@@ -315,12 +314,6 @@ fn recover_all(rt: &impl Abort, alloc: Global, text: &str, first: u64, lists: u6
         found = recover(rt, alloc, text, seed, found);
     }
     found
-}
-
-/// A number among the words of the program: after the name of the test stand the first seed and the number of lists.
-fn word(rt: &HostRuntime, place: usize) -> Option<u64> {
-    let mut words = env::args(rt).ok()?.skip(place);
-    words.next()?.as_str().parse::<u64>().ok()
 }
 
 /// New stations recover from lists, as many as the words of the program ask for, and it is told what came of them.

@@ -1,8 +1,9 @@
-//! Hostile runs of whole stations, each from its own seed.
+//! Hostile runs of whole stations, each from its own seed; in every third one somebody releases routes, moves points, and closes and
+//! opens things.
 
 use crate::events::Hostile;
 use crate::layouts::{JUNCTION, LOOP, SMALL};
-use crate::station::station;
+use crate::station::{station, word};
 use crate::tally::{Count, Tally};
 use crate::watch::Watch;
 use simulator::{Event, World};
@@ -12,7 +13,7 @@ use std::process::Abort;
 /// How many events a run has.
 const EVENTS: usize = 8000;
 
-/// How many runs each station has; a run's seed is its number.
+/// How many runs each station has, where the words of the program don't ask for others; a run's seed is its number.
 const RUNS: u64 = 42;
 
 /// After so many microseconds of true time every clock that began near a turn has gone past it.
@@ -55,6 +56,7 @@ fn go_on(
 /// run all clocks begin just below a turn of the stamps.
 fn go_through(rt: &impl Abort, alloc: Global, world: &mut World, seed: u64, tally: &mut Tally) {
     let mut hostile = Hostile::seeded(seed);
+    hostile.operates = seed % 3 == 0;
     let mut watch = Watch::new(world);
     if seed % 2 == 0 {
         begin_near_a_turn(rt, world, &mut hostile, &mut watch, tally);
@@ -74,9 +76,9 @@ fn hostile_run(rt: &impl Abort, alloc: Global, text: &str, seed: u64, tally: &mu
 }
 
 /// Runs of a station, and how often what happened in them.
-fn hostile_runs(rt: &impl Abort, alloc: Global, text: &str) -> Tally {
+fn hostile_runs(rt: &impl Abort, alloc: Global, text: &str, first: u64, runs: u64) -> Tally {
     let mut tally = Tally::new();
-    for seed in 1..=RUNS {
+    for seed in first..first.saturating_add(runs) {
         hostile_run(rt, alloc, text, seed, &mut tally);
     }
     tally
@@ -90,7 +92,7 @@ fn expect(rt: &impl Abort, tally: &Tally, counts: &[(Count, usize)]) {
 }
 
 /// The network and the clocks are hostile in the runs of every station.
-const MISCHIEF: [(Count, usize); 11] = [
+const MISCHIEF: [(Count, usize); 15] = [
     (Count::Events, 300_000),
     (Count::Lost, 200),
     (Count::Repeated, 3000),
@@ -102,13 +104,19 @@ const MISCHIEF: [(Count, usize); 11] = [
     (Count::NeverSent, 200),
     (Count::Drifted, 50),
     (Count::NotDriven, 500),
+    (Count::MovedByHand, 30),
+    (Count::Closed, 30),
+    (Count::Opened, 100),
+    (Count::FreedReleased, 3),
 ];
 
 /// A station is safe in its runs, in which so much happened.
-fn is_safe(rt: &impl Abort, alloc: Global, text: &str, counts: &[(Count, usize)]) {
-    let tally = hostile_runs(rt, alloc, text);
-    expect(rt, &tally, &MISCHIEF);
-    expect(rt, &tally, counts);
+fn is_safe(rt: &HostRuntime, abort: &impl Abort, text: &str, counts: &[(Count, usize)]) {
+    let first = word(rt, 2).unwrap_or(1);
+    let runs = word(rt, 3).unwrap_or(RUNS);
+    let tally = hostile_runs(abort, rt.alloc(), text, first, runs);
+    expect(abort, &tally, &MISCHIEF);
+    expect(abort, &tally, counts);
 }
 
 #[test]
@@ -123,7 +131,7 @@ fn the_small_station_is_safe_in_hostile_runs(rt: HostRuntime) {
         (Count::StationsAnewAtProceed, 5),
         (Count::ControllersAnewAtProceed, 8),
     ];
-    is_safe(&rt, rt.alloc(), SMALL, &counts);
+    is_safe(&rt, &rt, SMALL, &counts);
 }
 
 #[test]
@@ -138,7 +146,7 @@ fn the_junction_is_safe_in_hostile_runs(rt: HostRuntime) {
         (Count::StationsAnewAtProceed, 8),
         (Count::ControllersAnewAtProceed, 15),
     ];
-    is_safe(&rt, rt.alloc(), JUNCTION, &counts);
+    is_safe(&rt, &rt, JUNCTION, &counts);
 }
 
 #[test]
@@ -154,5 +162,5 @@ fn slow_routes_are_safe_in_hostile_runs(rt: HostRuntime) {
         (Count::StationsAnewAtProceed, 8),
         (Count::ControllersAnewAtProceed, 15),
     ];
-    is_safe(&rt, rt.alloc(), LOOP, &counts);
+    is_safe(&rt, &rt, LOOP, &counts);
 }

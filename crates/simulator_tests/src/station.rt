@@ -3,6 +3,7 @@
 
 use simulator::{Checked, Layout, World, check};
 use std::alloc::Global;
+use std::env;
 use std::process::Abort;
 
 /// The table of a layout, where memory is there.
@@ -25,4 +26,10 @@ pub(crate) fn station(rt: &impl Abort, alloc: Global, text: &str) -> World {
         Ok(world) => world,
         Err(_) => World::new(alloc, table(rt, alloc, text)).expect(rt, "there is memory"),
     }
+}
+
+/// A number among the words of the program: after the name of the test stand the first seed and the number of runs.
+pub(crate) fn word(rt: &HostRuntime, place: usize) -> Option<u64> {
+    let mut words = env::args(rt).ok()?.skip(place);
+    words.next()?.as_str().parse::<u64>().ok()
 }

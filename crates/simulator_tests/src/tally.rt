@@ -12,6 +12,12 @@ pub(crate) enum Count {
     /// Events that left two signals or more at other than stop.
     TwoOpen,
     FellToStop,
+    /// Moves, closings and openings by command that were accepted.
+    MovedByHand,
+    Closed,
+    Opened,
+    /// Routes that were freed once they were released.
+    FreedReleased,
     /// Sections of routes that a train freed one by one.
     SectionsFreed,
     StationsAnewAtProceed,
@@ -32,7 +38,7 @@ pub(crate) enum Count {
 }
 
 /// How many things are counted.
-const COUNTS: usize = 21;
+const COUNTS: usize = 25;
 
 /// How often what happened.
 #[derive(Drop)]

@@ -16,6 +16,8 @@ pub(crate) struct Watch {
     set: u64,
     /// The set routes that were cancelled.
     cancelled: u64,
+    /// Those of them that were released.
+    released: u64,
 }
 
 /// The bit of a route.
@@ -93,6 +95,7 @@ impl Watch {
             time: world.time(),
             set: set_routes(world),
             cancelled: 0,
+            released: 0,
         }
     }
 
@@ -170,7 +173,11 @@ impl Watch {
                 }
             }
             Command::Cancel(route) => self.cancelled |= bit(route.0),
-            _ => {}
+            Command::Release(route) => self.released |= bit(route.0),
+            Command::Move(_, _) => tally.once_more(Count::MovedByHand),
+            Command::Close(_) => tally.once_more(Count::Closed),
+            Command::Open(_) => tally.once_more(Count::Opened),
+            Command::Resume => {}
         }
     }
 
@@ -206,15 +213,19 @@ impl Watch {
         }
     }
 
-    /// Counts the sections of the routes that are no longer set: not of those that were cancelled, nor of those that the
-    /// interlocking lost as it was made anew.
+    /// Counts the sections of the routes that are no longer set, not of those that were cancelled, and those that were released: none
+    /// that the interlocking lost as it was made anew.
     fn count_freed(&mut self, world: &World, event: &Event, tally: &mut Tally) {
         let now = set_routes(world);
         if !matches!(event, Event::Restart { .. }) {
             let freed = self.set & !now & !self.cancelled;
             tally.add(Count::SectionsFreed, sections_of(world, freed));
+            if self.set & !now & self.released != 0 {
+                tally.once_more(Count::FreedReleased);
+            }
         }
         self.cancelled &= now;
+        self.released &= now;
         self.set = now;
     }
 }
