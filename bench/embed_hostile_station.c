@@ -79,7 +79,7 @@ static uint64_t clock_of(int node) { return true_now + offsets[node]; }
 static uint32_t aspect_at(int node) { return clock_of(node) < shown[node].until ? shown[node].aspect : (uint32_t)ZENDURAI_STOP; }
 static uint32_t driven(void) { return clock_of(P1) < drive.until ? drive.side : (uint32_t)ZENDURAI_NEITHER; }
 
-static unsigned long proceeds, seen[8];
+static unsigned long proceeds, seen[8], closed_seen;
 static void judge(void) {
     int s1 = aspect_at(S1) != ZENDURAI_STOP, s3 = aspect_at(S3) != ZENDURAI_STOP;
     expect(aspect_at(S4) == ZENDURAI_STOP, "S4 has no route");
@@ -218,6 +218,7 @@ static void controller(int node) {
 static uint64_t begun, since, latest, found_empty;
 static int was_empty, has_stepped;
 static unsigned long calls, refused[16], left, causes[16];
+static uint8_t shut[4][4][3]; /* what is closed: by kind, place and side, a point's alone */
 
 static void answered(uint32_t answer, uint32_t wanted, const char *what) {
     expect(answer == wanted, what);
@@ -228,6 +229,7 @@ static void answered(uint32_t answer, uint32_t wanted, const char *what) {
 enum { START, HEAR, TICK, COMMAND, NEXT, KINDS };
 static struct {
     int kind, command;
+    uint32_t things, side;
     uint64_t now;
     const uint8_t *in;
     uint8_t *out;
@@ -236,6 +238,20 @@ static struct {
     uint32_t first, answer;
 } asked;
 
+/* what an operator wants, by a number below COMMANDS */
+enum { RESUME, CANCEL, RELEASE, MOVE, CLOSE, OPEN, REQUEST, COMMANDS = 12 };
+static uint32_t commanded(void) {
+    switch (asked.command) {
+    case RESUME: return zendurai_interlocking_resume(&ixl, asked.now, asked.cause);
+    case CANCEL: return zendurai_interlocking_cancel(&ixl, asked.now, asked.route, asked.cause);
+    case RELEASE: return zendurai_interlocking_release(&ixl, asked.now, asked.route, asked.cause);
+    case MOVE: return zendurai_interlocking_move(&ixl, asked.now, asked.route, asked.side, asked.cause);
+    case CLOSE: return zendurai_interlocking_close(&ixl, asked.now, asked.things, asked.route, asked.side, asked.cause);
+    case OPEN: return zendurai_interlocking_open(&ixl, asked.now, asked.things, asked.route, asked.side, asked.cause);
+    default: return zendurai_interlocking_request(&ixl, asked.now, asked.route, asked.cause);
+    }
+}
+
 static void asks(void) {
     switch (asked.kind) {
     case START: asked.answer = zendurai_interlocking_start(&ixl, sizeof memory[IXL].room, asked.in, asked.length, asked.first, asked.now, asked.out, asked.room, asked.size); break;
@@ -243,9 +259,7 @@ static void asks(void) {
     case TICK: asked.answer = zendurai_interlocking_tick(&ixl, asked.now); break;
     case NEXT: asked.answer = zendurai_interlocking_next(&ixl, asked.now, asked.out, asked.room, asked.size, asked.to); break;
     default:
-        asked.answer = !asked.command ? zendurai_interlocking_resume(&ixl, asked.now, asked.cause)
-                     : asked.command < 4 ? zendurai_interlocking_cancel(&ixl, asked.now, asked.route, asked.cause)
-                                         : zendurai_interlocking_request(&ixl, asked.now, asked.route, asked.cause);
+        asked.answer = commanded();
     }
 }
 
@@ -305,6 +319,7 @@ static void start_interlocking(void) {
     expect(zendurai_interlocking_start(&ixl, size, text, text_length, first, now, told, sizeof told, &count) == ZENDURAI_STARTED, "a second start");
     taker = -1;
     begun = since = latest = now, was_empty = has_stepped = 0;
+    memset(shut, 0, sizeof shut);
 }
 
 static void takes_all(uint64_t now) {
@@ -347,18 +362,45 @@ static void hears(uint64_t now, const uint8_t *bytes, size_t size, uint64_t made
     steps(now);
 }
 
+/* Whether the numbers of a move, a close or an open are those of something. */
+static int names_something(void) {
+    int is_side = asked.side == ZENDURAI_LEFT || asked.side == ZENDURAI_RIGHT;
+    if (asked.command == MOVE) return is_side;
+    if (asked.command != CLOSE && asked.command != OPEN) return 1;
+    return asked.things < ZENDURAI_KIND_NODE && (asked.things != ZENDURAI_KIND_POINT || is_side || asked.side == ZENDURAI_NEITHER);
+}
+
+static void closes(uint8_t is_closed) {
+    uint8_t *sides = shut[asked.things][asked.route];
+    if (asked.things != ZENDURAI_KIND_POINT) sides[0] = is_closed;
+    else
+        for (uint32_t side = ZENDURAI_LEFT; side <= ZENDURAI_RIGHT; side++)
+            if (asked.side == side || asked.side == ZENDURAI_NEITHER) sides[side] = is_closed;
+}
+
 static void commands(uint64_t now) {
-    struct zendurai_cause cause = {99, 99};
-    asked.kind = COMMAND, asked.now = now, asked.route = drawn() % 4, asked.command = (int)(drawn() % 8), asked.cause = &cause;
+    struct zendurai_cause cause = {99, 99, 99, 99};
+    asked.kind = COMMAND, asked.now = now, asked.route = drawn() % 4, asked.command = (int)(drawn() % COMMANDS), asked.cause = &cause;
+    asked.things = (uint32_t)(drawn() % 6), asked.side = (uint32_t)(drawn() % 4);
+    if (asked.command == CLOSE && one_in(2)) asked.command = OPEN;
     uint32_t answer = call();
-    answered(answer, wants_reading(now), "a command");
+    answered(answer, names_something() ? wants_reading(now) : (uint32_t)ZENDURAI_VALUE, "a command");
     if (answer) {
-        expect(cause.number == 99, "a refused command that wrote");
+        expect(cause.number == 99 && cause.kind == 99 && cause.place == 99 && cause.side == 99, "a refused command that wrote");
         return;
     }
-    expect(cause.number <= 10 && cause.place <= 3, "a cause");
+    expect(cause.number <= 14 && cause.kind <= ZENDURAI_KIND_ROUTE && cause.place <= 3 && cause.side <= ZENDURAI_RIGHT, "a cause");
+    if (!cause.number && (asked.command == CLOSE || asked.command == OPEN)) closes(asked.command == CLOSE);
     causes[cause.number]++;
     steps(now);
+}
+
+static void looks_at_what_is_closed(uint32_t kind, size_t place, uint32_t side) {
+    uint32_t value = 99, is_point = kind == ZENDURAI_KIND_POINT, is_side = side == ZENDURAI_LEFT || side == ZENDURAI_RIGHT;
+    uint32_t answer = zendurai_interlocking_closed(&ixl, kind, place, side, &value);
+    expect(answer == (kind < ZENDURAI_KIND_NODE && (!is_point || is_side) ? ZENDURAI_OK : ZENDURAI_VALUE), "closed");
+    if (!answer) expect(value == (place < 4 ? shut[kind][place][is_point ? side : 0] : 0), "what is closed");
+    closed_seen += !answer && value;
 }
 
 /* What is asked for a display changes nothing, and may be asked at any place. */
@@ -381,6 +423,7 @@ static void looks(uint64_t now) {
     expect(answer == (kind == 5 ? ZENDURAI_VALUE : place < count ? ZENDURAI_OK : ZENDURAI_PLACE), "name");
     if (!answer) expect(!zendurai_interlocking_place(&ixl, kind, name, size, &found) && found == place, "place");
     expect(zendurai_interlocking_place(&ixl, ZENDURAI_KIND_ROUTE, name, 0, &found) == ZENDURAI_PLACE, "no place");
+    looks_at_what_is_closed(kind, place, (uint32_t)(drawn() % 4));
 }
 
 static void careless(void) {
@@ -444,10 +487,10 @@ int main(int argc, char **argv) {
     printf("station: %lu calls of its interlocking; refused:", calls);
     for (int i = 1; i < 16; i++) if (refused[i]) printf(" %d %lu times", i, refused[i]);
     printf("; causes:");
-    for (int i = 0; i < 11; i++) printf(" %lu", causes[i]);
+    for (int i = 0; i < 15; i++) printf(" %lu", causes[i]);
     printf("; %lu datagrams; %lu looks at a proceed; %zu bytes of its room, %zu of its memory\n", left, proceeds, most, most_used[IXL]);
     tell_stack(argc > 4 ? strtoul(argv[4], NULL, 10) : 0);
     fflush(stdout);
-    expect(proceeds > 0 && causes[0] > 0 && seen[0] > 0, "no signal was cleared");
+    expect(proceeds > 0 && causes[0] > 0 && seen[0] > 0 && closed_seen > 0, "no signal was cleared");
     return 0;
 }

@@ -172,6 +172,7 @@ static int hears_line(const char *text, uint64_t now, int started) {
     if (kind == IXL && zendurai_interlocking_place(&ixl, ZENDURAI_KIND_ROUTE, (const uint8_t *)what, strlen(what), &route)) return 0;
     if (kind == IXL && !strcmp(word, "set")) return !zendurai_interlocking_request(&ixl, now, route, &cause);
     if (kind == IXL && !strcmp(word, "cancel")) return !zendurai_interlocking_cancel(&ixl, now, route, &cause);
+    if (kind == IXL && !strcmp(word, "release")) return !zendurai_interlocking_release(&ixl, now, route, &cause);
     return 0;
 }
 

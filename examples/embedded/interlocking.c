@@ -95,7 +95,7 @@ static void hear_all(void) {
 
 static void obey_all(void) {
     for (char *line; (line = read_line());) {
-        struct zendurai_cause cause = {0, 0};
+        struct zendurai_cause cause = {0};
         char word[8] = "", name[24] = "";
         size_t route = 0;
         sscanf(line, "%7s %20s", word, name);
@@ -105,7 +105,8 @@ static void obey_all(void) {
                         : found                   ? found
                         : !strcmp(word, "set")    ? zendurai_interlocking_request(&ixl, now, route, &cause)
                         : !strcmp(word, "cancel") ? zendurai_interlocking_cancel(&ixl, now, route, &cause)
-                                                  : (uint32_t)ZENDURAI_VALUE;
+                        : !strcmp(word, "release") ? zendurai_interlocking_release(&ixl, now, route, &cause)
+                                                   : (uint32_t)ZENDURAI_VALUE;
         if (answer) printf("no command: %s\n", line);
         else if (cause.number) printf("refused %u\n", (unsigned)cause.number);
         else printf("accepted\n");
