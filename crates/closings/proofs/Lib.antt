@@ -3,5 +3,4 @@ pub mod Apart
 pub mod Said
 pub mod Rows
 pub mod Listed
-pub mod Use
 pub mod Either

@@ -1,7 +1,6 @@
 pub mod Things
 pub mod Closed
 pub mod Words
-pub mod RouteUse
 pub mod Auxiliaries
 -- what crates above need of the crates below
 pub use Rattle.control_table.specs as control_table

@@ -4,7 +4,6 @@
 mod auxiliary;
 mod closed;
 mod laws;
-mod route_use;
 mod thing;
 mod words;
 

@@ -162,7 +162,8 @@ impl Interlocking {
         self.state.table()
     }
 
-    /// All that it keeps: how far each route is, what is known of each controller, and whether it was told to resume.
+    /// All that it keeps: how far each route is, what is closed, what is known of each controller, and whether it was told to
+    /// resume.
     pub fn state(&self) -> &State
         ensures { result.now ≡ self.now.state }
     {
@@ -207,7 +208,7 @@ impl Interlocking {
         self.state.has_what_its_layout_has();
     }
 
-    /// The clock reading at which a route was released in its present setting, if it was.
+    /// The clock reading at which a route was released in its last setting, if it was.
     pub fn released(&self, route: RouteId) -> Option<Millis>
         requires { route.0 < length self.now.state.sited.table.rows }
         ensures { AtRoute self.now.state route.0 (λ row kept. result ≡ kept.released) }

@@ -15,7 +15,7 @@ pub record RouteState : Type 0 where
   pub passage : PassageState
   -- whether an approach section was occupied or unknown in some step since authority was given
   pub approached : Bool
-  -- the clock reading at which it was released in its present setting, if it was
+  -- the clock reading at which it was released in its last setting, if it was
   pub released : Option ℕ
 
 pub record KnownSignalState : Type 0 where

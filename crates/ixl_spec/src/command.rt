@@ -14,7 +14,7 @@ pub enum Command {
     Request(RouteId),
     /// To cancel a route that is set.
     Cancel(RouteId),
-    /// To take requests and cancels.
+    /// To take requests, cancels, releases and moves.
     Resume,
     /// To free a route that was cancelled and whose authority is ended, once the approach time is over.
     Release(RouteId),
@@ -44,19 +44,19 @@ pub enum Refusal {
     /// The first route of the table that blocks it.
     #[error("a set route blocks it")]
     Conflict(RouteId),
-    /// The first section with a ready link whose last report is occupied.
+    /// The first section with a ready link whose last report is occupied; or the section of the point that was to be moved.
     #[error("a section is occupied")]
     NotClear(SectionId),
-    /// The first required point that isn't available and isn't held at its side.
+    /// The first required point that isn't available and isn't held at its side; or the point that was to be moved.
     #[error("a point isn't available")]
     PointUnavailable(PointId),
     /// The entry signal's link isn't ready, or it isn't at known stop.
     #[error("the signal isn't ready at known stop")]
     SignalUnavailable,
-    /// A route that isn't set can't be cancelled.
+    /// A route that isn't set can't be cancelled or released.
     #[error("the route isn't set")]
     NotSet,
-    /// A section of the route is unknown.
+    /// A section of the route is unknown, or the section of the point that was to be moved.
     #[error("a section is unknown")]
     DetectionDown,
     /// The station has no such thing.
@@ -68,7 +68,7 @@ pub enum Refusal {
     /// The first closed thing that the route would use; or the point that was to be moved, at that side.
     #[error("a thing is closed")]
     Closed(Thing),
-    /// The first set route that holds the point; or that isn't cancelled and uses what was to be closed.
+    /// The first set route that holds the point; or that isn't cancelled and uses what was to be closed, or awaits a point in it.
     #[error("a set route holds it")]
     Held(RouteId),
 }

@@ -20,7 +20,7 @@ pub struct Route {
     cancelled: bool,
     passage: Passage,
     approach: Approach,
-    /// The clock reading at which it was released in its present setting.
+    /// The clock reading at which it was released in its last setting.
     released: Option<Millis>,
 }
 
@@ -107,7 +107,7 @@ impl Route {
         }
     }
 
-    /// The clock reading at which it was released in its present setting, if it was.
+    /// The clock reading at which it was released in its last setting, if it was.
     pub fn released(self) -> Option<Millis>
         ensures { result ≡ self.released }
     {
