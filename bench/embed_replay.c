@@ -146,12 +146,44 @@ static const char *sections[16];
 static int section_count, told[16];
 static uint32_t position, states[16];
 
+/* The kind and the place of what a name says, among kinds in the order in which names are looked up; what none says is the route after the
+   last. */
+static void find(const char *name, uint32_t *things, size_t *place) {
+    static const uint32_t kinds[] = {ZENDURAI_KIND_SECTION, ZENDURAI_KIND_POINT, ZENDURAI_KIND_SIGNAL, ZENDURAI_KIND_ROUTE};
+    for (int i = 0; i < 4; i++)
+        if (!zendurai_interlocking_place(&ixl, *things = kinds[i], (const uint8_t *)name, strlen(name), place)) return;
+    zendurai_interlocking_count(&ixl, *things, place);
+}
+
+/* The place of a route or a point, or that after the last. */
+static size_t place_of(uint32_t things, const char *name) {
+    size_t place = 0;
+    if (zendurai_interlocking_place(&ixl, things, (const uint8_t *)name, strlen(name), &place)) zendurai_interlocking_count(&ixl, things, &place);
+    return place;
+}
+
+/* An operator's line. It answers whether it made a step. */
+static int obeys(const char *text, const char *word, const char *what, uint64_t now) {
+    struct zendurai_cause cause;
+    uint32_t things = ZENDURAI_KIND_POINT, side = ZENDURAI_NEITHER;
+    char at[8] = "";
+    size_t place = 0;
+    if (sscanf(text, "hears %*s %*s %7s", at) == 1) side = strcmp(at, "left") ? ZENDURAI_RIGHT : ZENDURAI_LEFT;
+    if (!strcmp(word, "resume")) return !zendurai_interlocking_resume(&ixl, now, &cause);
+    if (!strcmp(word, "set")) return !zendurai_interlocking_request(&ixl, now, place_of(ZENDURAI_KIND_ROUTE, what), &cause);
+    if (!strcmp(word, "cancel")) return !zendurai_interlocking_cancel(&ixl, now, place_of(ZENDURAI_KIND_ROUTE, what), &cause);
+    if (!strcmp(word, "release")) return !zendurai_interlocking_release(&ixl, now, place_of(ZENDURAI_KIND_ROUTE, what), &cause);
+    if (!strcmp(word, "move")) return !zendurai_interlocking_move(&ixl, now, place_of(ZENDURAI_KIND_POINT, what), side, &cause);
+    if (side) place = place_of(ZENDURAI_KIND_POINT, what);
+    else find(what, &things, &place);
+    if (!strcmp(word, "close")) return !zendurai_interlocking_close(&ixl, now, things, place, side, &cause);
+    return !strcmp(word, "open") && !zendurai_interlocking_open(&ixl, now, things, place, side, &cause);
+}
+
 /* A line that the process heard, before its first reading and after it. It answers whether it made a step. */
 static int hears_line(const char *text, uint64_t now, int started) {
     static const char *const positions[] = {"none", "left", "right"};
     char word[16] = "", what[32] = "";
-    struct zendurai_cause cause;
-    size_t route = 0;
     if (sscanf(text, "hears done %" SCNu64, &in_force) == 1) return 0;
     sscanf(text, "hears %15s %31s", word, what);
     if (kind == POINT && !strcmp(word, "reach"))
@@ -168,12 +200,7 @@ static int hears_line(const char *text, uint64_t now, int started) {
             if (state == states[i]) return 0;
             return !zendurai_detector_report(&detector, now, (size_t)i, states[i] = state);
         }
-    if (kind == IXL && !strcmp(word, "resume")) return !zendurai_interlocking_resume(&ixl, now, &cause);
-    if (kind == IXL && zendurai_interlocking_place(&ixl, ZENDURAI_KIND_ROUTE, (const uint8_t *)what, strlen(what), &route)) return 0;
-    if (kind == IXL && !strcmp(word, "set")) return !zendurai_interlocking_request(&ixl, now, route, &cause);
-    if (kind == IXL && !strcmp(word, "cancel")) return !zendurai_interlocking_cancel(&ixl, now, route, &cause);
-    if (kind == IXL && !strcmp(word, "release")) return !zendurai_interlocking_release(&ixl, now, route, &cause);
-    return 0;
+    return kind == IXL && obeys(text, word, what, now);
 }
 
 static int hears_datagram(const char *hex, uint64_t now) {

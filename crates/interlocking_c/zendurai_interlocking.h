@@ -106,7 +106,7 @@ uint32_t zendurai_interlocking_resume(struct zendurai_interlocking *interlocking
 
 /* The operator wants a route that has ended its authority, and was cancelled, to be freed 120000 ms later; a point to be moved to LEFT or
    RIGHT; or a signal, a section, a route, or a point at LEFT, at RIGHT or at both (NEITHER) to be closed or opened; and then the clock was
-   read: OK, NOT_STARTED, VALUE (no such side, or no such kind) or CLOCK. With OK *cause says why the interlocking refuses it, if it does.
+   read: OK, NOT_STARTED, VALUE (no such side of a point, or no such kind) or CLOCK. With OK *cause says why the interlocking refuses it, if it does.
    Closings live as long as the interlocking: a program that starts one anew gives it `close` for each thing that was closed before. */
 uint32_t zendurai_interlocking_release(struct zendurai_interlocking *interlocking, uint64_t now, size_t route, struct zendurai_cause *cause);
 uint32_t zendurai_interlocking_move(struct zendurai_interlocking *interlocking, uint64_t now, size_t point, uint32_t side,
@@ -129,7 +129,7 @@ uint32_t zendurai_interlocking_place(struct zendurai_interlocking *interlocking,
 uint32_t zendurai_interlocking_name(struct zendurai_interlocking *interlocking, uint32_t kind, size_t place, uint8_t *out, size_t room,
                                     size_t *size);
 
-/* Whether a signal, a section, a route, or a point at LEFT or RIGHT is closed: OK, NOT_STARTED or VALUE (no such side, or no such kind). */
+/* Whether a signal, a section, a route, or a point at LEFT or RIGHT is closed: OK, NOT_STARTED or VALUE (no such side of a point, or no such kind). */
 uint32_t zendurai_interlocking_closed(struct zendurai_interlocking *interlocking, uint32_t kind, size_t place, uint32_t side,
                                       uint32_t *closed);
 

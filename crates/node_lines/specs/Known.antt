@@ -1,7 +1,8 @@
 -- What an interlocking tells its operator, a line each:
 --
 --     accepted                          it took the command
---     refused N                         it refused the command, by number; 5 with the route, 6 with the section, 7 with the point
+--     refused N                         it refused the command, by number; 5 and 14 with the route, 6 with the section, 7 with the
+--                                       point, 13 with the thing
 --     link NODE ready|lost
 --     section S clear|occupied|unknown
 --     point P left|right|unknown

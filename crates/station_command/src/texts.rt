@@ -271,6 +271,10 @@ The station runs in this process: the interlocking, a controller for each signal
 a clock for each, and the network between them. Each line is an event, or asks for something:
 
   set R, cancel R, resume     a command to the interlocking
+  release R                   the same: a cancelled route is freed 120 s later
+  move P left|right           the same: a point is moved
+  close X, close P left       the same: a section, point, signal or route is closed to routes and moves
+  open X, open P left         the same: that is ended
   occupy S, clear S           a section is occupied, or clear
   tick NODE                   the timer of a node calls it
   time D NODE=E ..            D microseconds pass, and E on the clock of a node that is named
@@ -298,8 +302,8 @@ const RUN_DETAILS: &str = "Runs a station of a layout over loopback sockets.
 
 Each node has a UDP socket of its own. About every 10 ms time passes, each datagram that has come is
 delivered, the lines of the script that are due are applied, and every node ticks. Each line of a
-script is `at MS EVENT`, with the events set, cancel, resume, occupy, clear and restart, in rising
-order of MS.
+script is `at MS EVENT`, with the events set, cancel, resume, release, move, close, open, occupy, clear
+and restart, in rising order of MS.
 
 Each event is recorded with what it answered; the record of a run that was stopped is good as far as
 it goes. At the end it prints what is seen of the station.
@@ -465,9 +469,13 @@ A controller waits until its first line is done and each contact has told its st
 
 The interlocking serves an operator, in lines on standard input and output, or at --operator:
 
-  resume                      it takes `set` and `cancel` from now on
+  resume                      it takes `set`, `cancel`, `release` and `move` from now on
   set R, cancel R             sets a route, or lets it go
   cancel all                  lets each route go
+  release R                   frees a route that is cancelled, 120 s later
+  move P left|right           moves a point
+  close X, close P left       keeps routes and moves off a section, point, signal or route
+  open X, open P left         ends that
 
 It answers `accepted`, or `refused N` with the cause, and tells what it knows whenever that changes:
 
@@ -477,8 +485,8 @@ It answers `accepted`, or `refused N` with the cause, and tells what it knows wh
   signal S ASPECT R, signal S stop -      what a signal may show, and the route into which it leads
   indicates S ASPECT                      what a signal is reported to show
   route R set|free                        whether a route is set
-  holding                                 it was made anew, and takes no command yet
-  waiting for resume                      it takes no command but `resume`
+  holding                                 it was made anew, and takes no command but `close` and `open` yet
+  waiting for resume                      it takes no command but these and `resume`
 
 With --stop-file it ends where that file is there, as it does after --for: what it drives is told to rest.
 With --record-size its record stands in parts, as for run.

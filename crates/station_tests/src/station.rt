@@ -128,6 +128,10 @@ The station runs in this process: the interlocking, a controller for each signal
 a clock for each, and the network between them. Each line is an event, or asks for something:
 
   set R, cancel R, resume     a command to the interlocking
+  release R                   the same: a cancelled route is freed 120 s later
+  move P left|right           the same: a point is moved
+  close X, close P left       the same: a section, point, signal or route is closed to routes and moves
+  open X, open P left         the same: that is ended
   occupy S, clear S           a section is occupied, or clear
   tick NODE                   the timer of a node calls it
   time D NODE=E ..            D microseconds pass, and E on the clock of a node that is named
@@ -197,8 +201,8 @@ const RUN_HELP: &str = "Runs a station of a layout over loopback sockets.
 
 Each node has a UDP socket of its own. About every 10 ms time passes, each datagram that has come is
 delivered, the lines of the script that are due are applied, and every node ticks. Each line of a
-script is `at MS EVENT`, with the events set, cancel, resume, occupy, clear and restart, in rising
-order of MS.
+script is `at MS EVENT`, with the events set, cancel, resume, release, move, close, open, occupy, clear
+and restart, in rising order of MS.
 
 Each event is recorded with what it answered; the record of a run that was stopped is good as far as
 it goes. At the end it prints what is seen of the station.
