@@ -9,17 +9,17 @@ import pathlib
 import re
 import sys
 
-PARTS = pathlib.Path(__file__).resolve().parent.parent / "crates" / "draw_page" / "src"
+SOURCES = pathlib.Path(__file__).resolve().parent.parent / "crates" / "draw_desk" / "src"
 
 
 def parts():
     """The names of the page's parts, in their order."""
-    texts = re.findall(r"(\w+)!\(\[\]([^)]*)\)", (PARTS / "document.rt").read_text())
+    texts = re.findall(r"(\w+)!\(\[\]([^)]*)\)", (SOURCES / "document.rt").read_text())
     return [it for first, later in texts for it in [first, *later.split()[:-1]]]
 
 
 def part(name):
-    return re.search(r'r##"(.*)"##', (PARTS / f"{name}.rt").read_text(), re.DOTALL)[1]
+    return re.search(r'r##"(.*)"##', (SOURCES / "document" / f"{name}.rt").read_text(), re.DOTALL)[1]
 
 
 def page(names=()):

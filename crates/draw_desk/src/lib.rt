@@ -1,5 +1,6 @@
 //! The desk of the page on which a station is drawn: what a browser asks, or why that is refused; the file that is shown and
-//! written, and over which nothing is written that wasn't known; what is checked; and the panel that is to run of it.
+//! written, and over which nothing is written that wasn't known; what is checked; the panel that is to run of it; and the page itself,
+//! in one file.
 #![tactic(auto)]
 
 mod access;
@@ -7,6 +8,7 @@ mod answer;
 mod claim;
 mod desk;
 mod desk_opened;
+mod document;
 mod head;
 mod json;
 mod known;
@@ -23,6 +25,7 @@ pub use access::{Access, OwnAccess};
 pub use claim::{Claim, claim_of, may_write};
 pub use desk::Desk;
 pub use desk_opened::{PageDrawn, open_desk};
+pub use document::page;
 pub use known::{Checked, Known};
 pub use laws::{
     a_file_is_written_over_only_where_it_is_known, nothing_is_for_other_hosts,

@@ -74,7 +74,7 @@ fn open_room<'a>(
     port: u16,
     listener: Loopback,
 ) -> io::Result<DrawingRoom<'a>> {
-    let page = draw_page::page(rt.alloc())?;
+    let page = draw_desk::page(rt.alloc())?;
     let asked = PageDrawn {
         page: page.as_str(),
         file,

@@ -1,21 +1,38 @@
 //! The page, as it is served: its parts, one after the other. They stand in four texts, since one would be too long for the prover.
 
-use crate::body::body;
-use crate::changes::changes;
-use crate::files::files;
-use crate::grid::grid;
-use crate::hand::hand;
-use crate::lists::lists;
-use crate::names::names;
-use crate::notes::notes;
-use crate::opening::opening;
-use crate::placing::placing;
-use crate::plan::plan;
-use crate::reading::reading;
-use crate::style::style;
-use crate::table::table;
-use crate::toml_text::toml_text;
-use crate::whole::whole;
+mod body;
+mod changes;
+mod files;
+mod grid;
+mod hand;
+mod lists;
+mod names;
+mod notes;
+mod opening;
+mod placing;
+mod plan;
+mod reading;
+mod style;
+mod table;
+mod toml_text;
+mod whole;
+
+use crate::document::body::body;
+use crate::document::changes::changes;
+use crate::document::files::files;
+use crate::document::grid::grid;
+use crate::document::hand::hand;
+use crate::document::lists::lists;
+use crate::document::names::names;
+use crate::document::notes::notes;
+use crate::document::opening::opening;
+use crate::document::placing::placing;
+use crate::document::plan::plan;
+use crate::document::reading::reading;
+use crate::document::style::style;
+use crate::document::table::table;
+use crate::document::toml_text::toml_text;
+use crate::document::whole::whole;
 use std::alloc::{AllocError, Global};
 
 /// Its style, its body, and the layout as text and as a table.
