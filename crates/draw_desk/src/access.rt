@@ -5,7 +5,7 @@ ghost use Rattle.std.specs.Prelude.{◌≡◌};
 use std::marker::Model;
 
 /// By what a desk knows who may ask, and who may command.
-#[derive(Debug, Drop)]
+#[derive(Drop)]
 pub struct Access<'a> {
     /// Its address and port, as a browser writes them into `Host`.
     pub host: &'a [u8],
@@ -24,7 +24,7 @@ impl<'a> Model for Access<'a> {
 }
 
 /// The same, as a desk keeps it.
-#[derive(Debug, Drop)]
+#[derive(Drop)]
 pub struct OwnAccess {
     pub host: String,
     pub origin: String,

@@ -13,7 +13,7 @@ use http_server::Response;
 use std::alloc::{AllocError, Global};
 
 /// What an answer has.
-#[derive(Clone, Copy, Debug)]
+#[derive(Clone, Copy)]
 pub(crate) enum Kind {
     Html,
     Json,

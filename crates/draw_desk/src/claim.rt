@@ -8,7 +8,7 @@ use crate::own_text::OwnText;
 use std::alloc::{AllocError, Global};
 
 /// What a page says that it knows of the file over which it writes.
-#[derive(Clone, Copy, Debug, PartialEq, Eq)]
+#[derive(Clone, Copy)]
 pub enum Claim {
     /// Whatever stands there is written over.
     Anything,

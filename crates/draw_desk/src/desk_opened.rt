@@ -15,7 +15,7 @@ use std::io;
 use std::random::RandomSource;
 
 /// The page of a drawing, and where it is.
-#[derive(Clone, Copy, Debug)]
+#[derive(Clone, Copy)]
 pub struct PageDrawn<'a> {
     /// The page that is served.
     pub page: &'a str,

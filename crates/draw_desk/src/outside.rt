@@ -5,7 +5,7 @@ use std::alloc::{AllocError, Global};
 use std::io;
 
 /// What is said of a text: the status with which its check ends, what it prints, and what it tells of a fault.
-#[derive(Debug, Drop)]
+#[derive(Drop)]
 pub struct Verdict {
     pub status: u8,
     pub out: OwnText,

@@ -6,7 +6,7 @@ use std::alloc::{AllocError, Global};
 use std::marker::Model;
 
 /// A text of one's own.
-#[derive(Debug, Drop)]
+#[derive(Drop)]
 pub struct OwnText {
     text: String,
 }

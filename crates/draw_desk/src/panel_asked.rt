@@ -3,14 +3,14 @@
 use crate::own_text::OwnText;
 
 /// A panel that is asked for: of this text, at this port.
-#[derive(Debug, Drop)]
+#[derive(Drop)]
 pub struct PanelAsked {
     pub text: OwnText,
     pub port: u16,
 }
 
 /// How far the panel is that runs beside the drawing.
-#[derive(Debug, Drop)]
+#[derive(Drop)]
 pub enum PanelStage {
     /// None runs.
     Idle,

@@ -4,7 +4,7 @@ ghost use Rattle.std.specs.Prelude.{◌≡◌};
 ghost use Rattle.draw_desk.specs.Asked.{refusal_text, status};
 
 /// Why a request is refused, in the order in which the reasons are looked for: the first one is told.
-#[derive(Clone, Copy, Debug, PartialEq, Eq)]
+#[derive(Clone, Copy)]
 pub enum Refusal {
     /// It was sent to another host than this desk: a page of another host may stand after it.
     ForeignHost,

@@ -18,7 +18,7 @@ const START: &[u8] = b"start";
 const STOP: &[u8] = b"stop";
 
 /// What of a request is looked at.
-#[derive(Debug, Drop)]
+#[derive(Drop)]
 pub struct Sent<'a> {
     pub method: &'a str,
     /// The path, with what stands after a question mark.
@@ -40,7 +40,7 @@ impl<'a> Model for Sent<'a> {
 }
 
 /// What a request asks.
-#[derive(Clone, Copy, Debug, PartialEq, Eq)]
+#[derive(Clone, Copy)]
 pub enum Request {
     /// The page.
     Page,

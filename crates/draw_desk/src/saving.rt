@@ -20,7 +20,7 @@ use http_server::Response;
 use std::alloc::{AllocError, Global};
 
 /// What came of a save.
-#[derive(Clone, Copy, Debug, PartialEq, Eq)]
+#[derive(Clone, Copy)]
 pub(crate) enum Outcome {
     /// What stands in the file can't be read.
     NotRead,
