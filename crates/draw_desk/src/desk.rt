@@ -3,17 +3,17 @@
 ghost use Rattle.std.specs.Prelude.{◌≡◌, ℕ, [], Option, OnErr, OnOk, true};
 ghost use Rattle.std.specs.Str.{is_utf8};
 ghost use Rattle.http_server.specs.Response.{IsBlank};
-ghost use Rattle.draw_desk.specs.Answers.{AnsweredTo, BeginsAt, ChecksIf, SavesIf, StartedIf, Tells, is_running, stopped};
+ghost use Rattle.draw_desk.specs.Answers.{AnsweredTo, BeginsAt, ChecksIf, SavesIf, StartedIf, Tells, TellsData, is_running, stopped, verdict_told};
 ghost use Rattle.draw_desk.specs.Asked.{refusal_text, status};
 ghost use Rattle.draw_desk.specs.Opened.{begun, is_turning, panel_of};
 ghost use Rattle.draw_desk.specs.declared.panel_asked.PanelStage.TheVariants as stages;
 
 use crate::access::OwnAccess;
-use crate::answer::{Kind, fill};
+use crate::answer::{Kind, fill, fill_text};
 use crate::head::sent;
 use crate::json::verdict_text;
 use crate::known::{Checked, Known};
-use crate::outside::Outside;
+use crate::outside::{Outside, Verdict};
 use crate::own_text::OwnText;
 use crate::panel_asked::{PanelAsked, PanelStage};
 use crate::refusal::Refusal;
@@ -132,12 +132,19 @@ impl<O: Outside> Desk<O> {
         ensures err { OnErr result (self.new ≡ self.old) }
     {
         let verdict = self.outside.judge(self.alloc, text)?;
-        let told = verdict_text(self.alloc, &verdict, self.is_running())?;
         let text = OwnText::of(self.alloc, text)?;
-        let body = Bytes::from_string(told)?;
-        fill(response, StatusCode::OK, Kind::Json, body)?;
+        self.tell_verdict(&verdict, response)?;
         self.checked = Some(Checked { text, verdict });
         Ok(())
+    }
+
+    /// Tells what was said of a text.
+    fn tell_verdict(&self, verdict: &Verdict, response: &mut Response) -> Result<(), AllocError>
+        requires { IsBlank response.old }
+        ensures { OnOk result (TellsData (verdict_told verdict.now (is_running self.now.stage)) response.new) }
+    {
+        let told = verdict_text(self.alloc, verdict, self.is_running())?;
+        fill_text(response, StatusCode::OK, Kind::Json, told)
     }
 
     /// Saves a text, if it is one.
@@ -166,8 +173,7 @@ impl<O: Outside> Desk<O> {
         };
         if checked.verdict.status != 0 {
             let why = String::from_str(self.alloc, checked.verdict.err.as_str())?;
-            let body = Bytes::from_string(why)?;
-            return fill(response, StatusCode::CONFLICT, Kind::Plain, body);
+            return fill_text(response, StatusCode::CONFLICT, Kind::Plain, why);
         }
         let text = OwnText::of(self.alloc, checked.text.as_str())?;
         self.begin(text, response)
@@ -189,8 +195,7 @@ impl<O: Outside> Desk<O> {
             );
         };
         let address = format!(in self.alloc; "http://127.0.0.1:{port}/\n")?;
-        let body = Bytes::from_string(address)?;
-        fill(response, StatusCode::OK, Kind::Plain, body)?;
+        fill_text(response, StatusCode::OK, Kind::Plain, address)?;
         self.stage = PanelStage::Asked(PanelAsked { text, port });
         Ok(())
     }

@@ -8,13 +8,12 @@ ghost use Rattle.draw_desk.specs.Saving.{claim_of, next_number};
 ghost use Rattle.draw_desk.specs.Seen.{field_sent};
 ghost use Rattle.draw_desk.specs.declared.saving.Outcome.{Outcome as Outcomes};
 
-use crate::answer::{Kind, fill, plain};
+use crate::answer::{Kind, plain, text_response};
 use crate::claim::{Claim, claim_of, may_write};
 use crate::desk::Desk;
 use crate::known::Known;
 use crate::outside::Outside;
 use crate::own_text::OwnText;
-use bytes::Bytes;
 use http::StatusCode;
 use http_server::Response;
 use std::alloc::{AllocError, Global};
@@ -58,10 +57,7 @@ fn told_saved(alloc: Global, number: u64) -> Result<Response, AllocError>
 {
     let next = next_number(number);
     let text = format!(in alloc; "{next}")?;
-    let mut response = Response::new(alloc);
-    let body = Bytes::from_string(text)?;
-    fill(&mut response, StatusCode::OK, Kind::Plain, body)?;
-    Ok(response)
+    text_response(alloc, StatusCode::OK, Kind::Plain, text)
 }
 
 impl SaveAnswers {

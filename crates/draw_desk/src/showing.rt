@@ -6,7 +6,7 @@ ghost use Rattle.draw_desk.specs.Answers.{Shows, ShowsFound, Tells, TellsData, c
 ghost use Rattle.draw_desk.specs.Calls.{Reads};
 ghost use Rattle.draw_desk.specs.Saving.{known_after};
 
-use crate::answer::{Kind, fill, plain};
+use crate::answer::{Kind, plain, text_response};
 use crate::claim::is_same;
 use crate::desk::Desk;
 use crate::json::{LayoutTold, layout_text};
@@ -14,7 +14,6 @@ use crate::known::Known;
 use crate::outside::Outside;
 use crate::own_text::OwnText;
 use crate::saving::next_number;
-use bytes::Bytes;
 use http::StatusCode;
 use http_server::Response;
 use std::alloc::AllocError;
@@ -76,9 +75,7 @@ impl<O: Outside> Desk<O> {
             version: self.version,
         };
         let text = layout_text(self.alloc, &told)?;
-        let mut response = Response::new(self.alloc);
-        let body = Bytes::from_string(text)?;
-        fill(&mut response, StatusCode::OK, Kind::Json, body)?;
+        let response = text_response(self.alloc, StatusCode::OK, Kind::Json, text)?;
         Ok(response)
     }
 
