@@ -23,7 +23,7 @@ use std::alloc::{AllocError, Global};
 use std::marker::Model;
 
 /// A route that follows from a layout. It lists no extra conflicts.
-#[derive(Debug, Drop)]
+#[derive(Drop)]
 pub struct DerivedRoute {
     name: Name,
     entry: SignalId,

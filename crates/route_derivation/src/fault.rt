@@ -8,7 +8,7 @@ use std::error::Error;
 use std::fmt;
 
 /// Why no table is derived.
-#[derive(Clone, Copy, Debug, PartialEq, Eq)]
+#[derive(Clone, Copy, Debug)]
 pub enum Underived {
     /// There are more routes than a table has at most, 64.
     TooMany,
@@ -52,7 +52,7 @@ impl<T: Drop> From<AllocFailed<T>> for Underived {
 }
 
 /// Why a route gets no name.
-#[derive(Clone, Copy, Debug, PartialEq, Eq)]
+#[derive(Clone, Copy)]
 pub(crate) enum NameFault {
     /// No name was found.
     NoName,

@@ -15,7 +15,7 @@ use control_table::sci_telegram::Side;
 use std::alloc::{AllocError, Global};
 
 /// What hinders a way.
-#[derive(Clone, Copy, Debug)]
+#[derive(Clone, Copy)]
 pub enum Hindrance {
     /// The leg of a point at a side, which the way doesn't use, is joined to this port. That is no leg of
     /// another point, and no signal stands there.
@@ -26,7 +26,7 @@ pub enum Hindrance {
 }
 
 /// A way that can't be a route: the signal at which it begins, where it ends, and what hinders it.
-#[derive(Clone, Copy, Debug)]
+#[derive(Clone, Copy)]
 pub struct ImpossibleWay {
     pub entry: SignalId,
     pub exit: Exit,

@@ -14,7 +14,7 @@ use std::marker::Model;
 
 /// Whether a way is judged by what it requires, its passages so far, its sections, of which neighbours
 /// that are equal count once, and the points that it requires, each with its side.
-#[derive(Debug, Drop)]
+#[derive(Drop)]
 pub(crate) struct Partial {
     pub(crate) judged: bool,
     pub(crate) passages: Vec<Passage>,

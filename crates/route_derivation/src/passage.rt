@@ -7,7 +7,7 @@ use control_table::layout::{Element, End, Port};
 use std::marker::Model;
 
 /// The way over one element: in by one of its ports, out by another.
-#[derive(Clone, Copy, Debug)]
+#[derive(Clone, Copy)]
 pub(crate) struct Passage {
     /// The port by which it is entered.
     pub(crate) entered: Port,

@@ -1,7 +1,7 @@
 //! How far back the approach of a signal goes.
 
 /// How far back the approach of a signal goes.
-#[derive(Clone, Copy, Debug, PartialEq, Eq)]
+#[derive(Clone, Copy)]
 pub enum ApproachRule {
     /// By every way by which a train comes, back to the signal before, a border or a dead end.
     Signal,

@@ -23,7 +23,7 @@ pub(crate) const MOST_ROUTES: usize = 64;
 const MOST_ELEMENTS: usize = 64;
 
 /// A way: the signal at which it begins, where it ends, and its passages.
-#[derive(Debug, Drop)]
+#[derive(Drop)]
 pub(crate) struct Way {
     pub(crate) entry: SignalId,
     pub(crate) exit: Exit,
@@ -39,7 +39,7 @@ impl Model for Way {
 }
 
 /// What a way comes to after it left an element.
-#[derive(Clone, Copy, Debug)]
+#[derive(Clone, Copy)]
 pub(crate) enum Beyond {
     /// Nothing, or its own entry signal.
     Nowhere,

@@ -64,7 +64,7 @@ pub(crate) fn used(passage: &Passage) -> Option<(PointId, Side)>
 }
 
 /// What protects the flank of a way at the leg of a point that the way doesn't use.
-#[derive(Clone, Copy, Debug)]
+#[derive(Clone, Copy)]
 pub(crate) enum Protection {
     /// Nothing is joined to the leg, or a signal stands toward the way.
     Given,

@@ -9,7 +9,7 @@ use control_table::layout::PointId;
 use control_table::sci_telegram::{Aspect, Side};
 
 /// The legs of a point that are passed slowly.
-#[derive(Clone, Copy, Debug, PartialEq, Eq)]
+#[derive(Clone, Copy)]
 pub enum SlowLegs {
     /// Neither.
     Neither,
