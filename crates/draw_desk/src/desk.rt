@@ -1,6 +1,7 @@
 //! The desk at which requests are answered.
 
-ghost use Rattle.std.specs.Prelude.{◌≡◌, ℕ, [], Option, OnErr, OnOk, true};
+ghost use Rattle.std.specs.Prelude.{◌≡◌, ◌++◌, ℕ, [], Option, OnErr, OnOk, codes, true};
+ghost use Rattle.std.specs.Fmt.{decimal};
 ghost use Rattle.std.specs.Str.{is_utf8};
 ghost use Rattle.http_server.specs.Response.{IsBlank};
 ghost use Rattle.draw_desk.specs.Answers.{AnsweredTo, BeginsAt, ChecksIf, SavesIf, StartedIf, Tells, TellsData, is_running, stopped, verdict_told};
@@ -194,8 +195,7 @@ impl<O: Outside> Desk<O> {
                 body,
             );
         };
-        let address = format!(in self.alloc; "http://127.0.0.1:{port}/\n")?;
-        fill_text(response, StatusCode::OK, Kind::Plain, address)?;
+        tell_panel(self.alloc, port, response)?;
         self.stage = PanelStage::Asked(PanelAsked { text, port });
         Ok(())
     }
@@ -229,6 +229,15 @@ impl<O: Outside> Service for Desk<O> {
         let asked = read_request(&self.access.lent(), &head);
         self.answer(asked, &head, response)
     }
+}
+
+/// Tells where a panel is to be.
+fn tell_panel(alloc: Global, port: u16, response: &mut Response) -> Result<(), AllocError>
+    requires { IsBlank response.old }
+    ensures { OnOk result (Tells 200 (codes "http://127.0.0.1:" ++ decimal port ++ codes "/\n") response.new) }
+{
+    let address = format!(in alloc; "http://127.0.0.1:{port}/\n")?;
+    fill_text(response, StatusCode::OK, Kind::Plain, address)
 }
 
 /// Tells why no panel is started.

@@ -1,7 +1,7 @@
 //! The desk of a drawing is opened.
 
 ghost use Rattle.std.specs.Prelude.{◌≡◌, IfOk, string_bytes};
-ghost use Rattle.draw_desk.specs.Opened.{opened};
+ghost use Rattle.draw_desk.specs.Opened.{access_at, opened};
 
 use crate::access::OwnAccess;
 use crate::desk::Desk;
@@ -49,12 +49,7 @@ fn desk_with<O: Outside + Drop>(
 ) -> Result<Desk<O>, AllocError>
     ensures { IfOk result (λ desk. desk ≡ opened asked.now (string_bytes token) (O.calls outside)) }
 {
-    let port = asked.port;
-    let access = OwnAccess {
-        host: format!(in alloc; "127.0.0.1:{port}")?,
-        origin: format!(in alloc; "http://127.0.0.1:{port}")?,
-        token,
-    };
+    let access = access_at(alloc, asked.port, token)?;
     Ok(Desk {
         alloc,
         access,
@@ -68,6 +63,17 @@ fn desk_with<O: Outside + Drop>(
         checked: None,
         stage: PanelStage::Idle,
         outside,
+    })
+}
+
+/// By what a browser knows a desk at a port of the loopback interface, and the token that its page is given.
+fn access_at(alloc: Global, port: u16, token: String) -> Result<OwnAccess, AllocError>
+    ensures { IfOk result (λ access. access ≡ access_at port (string_bytes token)) }
+{
+    Ok(OwnAccess {
+        host: format!(in alloc; "127.0.0.1:{port}")?,
+        origin: format!(in alloc; "http://127.0.0.1:{port}")?,
+        token,
     })
 }
 
