@@ -38,7 +38,8 @@ pub use routes_going::{
     authority_ends_behind_a_cancel, authority_ends_behind_a_withdrawal,
     authority_ends_within_a_heartbeat, cancelled_routes_are_free_behind_their_approach,
     ended_routes_are_free_behind_their_approach, no_section_waits_that_its_passage_lets_go,
-    routes_are_free_behind_a_cancel, routes_are_free_behind_their_trains,
+    released_routes_are_free_behind_their_release, routes_are_free_behind_a_cancel,
+    routes_are_free_behind_a_release, routes_are_free_behind_their_trains,
     waiting_routes_are_free_behind_a_cancel, withdrawn_routes_are_free_behind_their_trains,
 };
 pub use sections::{

@@ -8,10 +8,11 @@ ghost use Rattle.simulator_spec.specs.Happens.{answered, happens, interlocking_s
 ghost use Rattle.simulator_spec.specs.Nodes.{links};
 ghost use Rattle.simulator_spec.specs.State.{WorldState};
 ghost use Rattle.simulator_spec.specs.ixl_client.Client.{is_available, is_outside};
-ghost use Rattle.simulator_spec.specs.ixl_spec.Due.{Admissible, AllClear, AllKnown, At, FreeByCancel, IsAvailable, IsClear, IsHeldAt, IsHeldWithAuthority, IsRouteOf, IsSignalReady, Known, KnownStop, LetsGo, MoveDue, ProceedDue, StopDue, HoldsPoint};
+ghost use Rattle.simulator_spec.specs.ixl_spec.Due.{Admissible, AllClear, AllKnown, At, FreeByCancel, IsAvailable, IsClear, IsHeldAt, IsHeldWithAuthority, IsReleaseOver, IsRouteOf, IsSignalReady, Known, KnownStop, LetsGo, MoveDue, ProceedDue, StopDue, HoldsPoint};
 ghost use Rattle.simulator_spec.specs.ixl_spec.State.{KnownPointState, RouteState};
 ghost use Rattle.simulator_spec.specs.ixl_spec.Step.{Input, all_clocked};
 ghost use Rattle.simulator_spec.specs.ixl_spec.Table.{Need, Row, Table};
+ghost use Rattle.simulator_spec.specs.ixl_spec.View.{is_set};
 ghost use Rattle.simulator_spec.specs.ixl_spec.declared.command.Command.TheVariants as ixl_commands;
 ghost use Rattle.simulator_spec.specs.ixl_spec.declared.phase.Phase.TheVariants.{Ended, Waiting};
 ghost use Rattle.simulator_spec.specs.layout.Entries.{Site};
@@ -85,13 +86,16 @@ pub fn no_stop_waits_that_is_due()
 /// No cancelled route waits that may be freed: after every list of events, on any network, none that may be freed whatever the clock
 /// reads (*always*). That is one without authority whose signal has taken stop, or one whose authority has ended, of which no section
 /// was reported occupied and all are clear, and whose approach was clear. And after a step of the interlocking none is left whose
-/// authority has ended and lets it go at the step's clock, as where the approach time is over (*step*).
+/// authority has ended and lets it go at the step's clock, as where the approach time is over (*step*); and no set route is left whose
+/// release is over at that clock, whatever was reported of its sections (*release*).
 pub fn no_cancelled_route_waits_that_may_be_freed()
     ensures always { (site : Site) (table : Table) (world : WorldState) (number : ℕ) (row : Row) (route : RouteState) → IsReached site table world → IsRouteOf table world.interlocking.ixl number row route
         → ((reading : ℕ) → FreeByCancel reading table world.interlocking.ixl row route) → ⊥ }
     ensures step { (site : Site) (table : Table) (input : Input) (world : WorldState) (number : ℕ) (row : Row) (route : RouteState) (clock done : ℕ) → IsReached site table world
         → IsRouteOf table (interlocking_stepped site table input world).interlocking.ixl number row route → route.cancelled ≡ true → route.phase ≡ Ended clock done
         → LetsGo (reading_of world.interlocking.clock) table (interlocking_stepped site table input world).interlocking.ixl row route clock → ⊥ }
+    ensures release { (site : Site) (table : Table) (input : Input) (world : WorldState) (number : ℕ) (row : Row) (route : RouteState) → IsReached site table world
+        → IsRouteOf table (interlocking_stepped site table input world).interlocking.ixl number row route → is_set route.phase ≡ true → IsReleaseOver (reading_of world.interlocking.clock) route → ⊥ }
 {
     laws_below();
 }

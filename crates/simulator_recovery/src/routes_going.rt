@@ -32,7 +32,7 @@ ghost use Rattle.simulator_recovery.specs.Ready.{ready_rounds};
 ghost use Rattle.simulator_recovery.specs.Rounds.{HasTime, InGoodRounds, IsWork, all_tried, good_rounds};
 ghost use Rattle.simulator_recovery.specs.RoutesCome.{IsSignalUp};
 ghost use Rattle.simulator_recovery.specs.SectionsReported.{section_rounds};
-ghost use Rattle.simulator_recovery.specs.Withdrawn.{IsNotSetAnew, approach_rounds, approach_time_rounds, told_rounds};
+ghost use Rattle.simulator_recovery.specs.Withdrawn.{AcceptsRelease, IsNotSetAnew, approach_rounds, approach_time_rounds, behind_release, told_rounds};
 
 use crate::below::laws_below;
 use crate::rounds::good_rounds_are_events;
@@ -207,6 +207,30 @@ pub fn cancelled_routes_are_free_behind_their_approach()
         → (state : RouteState) → slice_get (good_rounds (between ∷ (later ++ and_cancel route before ∷ (some ++ more))) flowing).state.run.interlocking.ixl.routes route.0 ≡ Some state
         → IsUnseen row state → AllClear flowing.state.sited.table (good_rounds (between ∷ (later ++ and_cancel route before ∷ (some ++ more))) flowing).state.run.interlocking.ixl row.sections
         → is_set state.phase ≡ false }
+{
+    laws_below();
+}
+
+/// A released route is free behind its release: one that is released is free 12000 good rounds later, 120,000 ms, or more, whatever was
+/// reported of its sections, whatever has happened to the station before, whatever becomes of its links, and whatever requests and
+/// occupancies come, as long as the route isn't set anew (`IsNotSetAnew`). A train or its cancel may free it before.
+pub fn released_routes_are_free_behind_their_release()
+    ensures { (more : List (List Event)) (flowing : Flowing) (number : ℕ) (row : Row) (route : RouteState) (clock : ℕ) → IsFlow flowing → Each (Each IsWork) more → IsNotSetAnew number more flowing → HasTime (length more) flowing.state.run → approach_time_rounds ≤ length more
+        → IsRouteOf flowing.state.sited.table flowing.state.run.interlocking.ixl number row route → route.released ≡ Some clock
+        → (state : RouteState) → slice_get (good_rounds more flowing).state.run.interlocking.ixl.routes number ≡ Some state → is_set state.phase ≡ false }
+{
+    laws_below();
+}
+
+/// A route is free after its release: where a release of a route is accepted, the route is free 12000 good rounds after, 120,000 ms, or
+/// more, whatever was reported of its sections. So it is whatever has happened to the station before, whatever becomes of its links, and
+/// whatever requests and occupancies come, as long as the route isn't set anew (`IsNotSetAnew`). A release is accepted as soon as the
+/// route is cancelled and its authority has ended, which is 20 ms after the cancel at most where this comes as in
+/// `authority_ends_behind_a_cancel`: so within 120,020 ms of its cancel a route can be free, whether a train came or not.
+pub fn routes_are_free_behind_a_release()
+    ensures { (more : List (List Event)) (flowing : Flowing) (route : RouteId) (row : Row) → IsFlow flowing → Each (Each IsWork) more → IsNotSetAnew route.0 more (behind_release route flowing) → HasTime (length more) flowing.state.run → approach_time_rounds ≤ length more
+        → slice_get flowing.state.sited.table.rows route.0 ≡ Some row → AcceptsRelease route flowing.state
+        → (state : RouteState) → slice_get (good_rounds more (behind_release route flowing)).state.run.interlocking.ixl.routes route.0 ≡ Some state → is_set state.phase ≡ false }
 {
     laws_below();
 }

@@ -23,8 +23,12 @@ pub mod PassageStays
 pub mod WithdrawnWaiting
 pub mod WithdrawnSteps
 pub mod WithdrawnRounds
+pub mod RouteTurns
+pub mod ReadingsAlways
 pub mod WithdrawnClocks
 pub mod WithdrawnApproach
+pub mod ReleasedClocks
+pub mod ReleasedFree
 pub mod WithdrawnTold
 pub mod WithdrawnEnds
 pub mod TrainsGone

@@ -18,9 +18,9 @@ pub use Rattle.simulator_spec.specs.ixl_client.declared.command.Command.TheVaria
 pub use Rattle.simulator_spec.specs.ixl_client.declared.indication.Indication.{Indication}
 pub use Rattle.simulator_spec.specs.ixl_client.declared.indication.ObjectState.{ObjectState}
 pub use Rattle.simulator_spec.specs.ixl_client.declared.stage.Stage.{Stage}
-pub use Rattle.simulator_spec.specs.ixl_spec.Commands.{cancel_refusal, commanded_by, conflict_told, held_told, own_section_refusal, refused_where, released_at, request_refusal, set_anew, unmoved_for}
+pub use Rattle.simulator_spec.specs.ixl_spec.Commands.{cancel_refusal, commanded_by, conflict_told, held_told, is_ended, own_section_refusal, refused_where, release_refusal, released_at, request_refusal, set_anew, unmoved_for}
 unfoldable pub use Rattle.simulator_spec.specs.ixl_spec.Commands.{closed_refusal, locking_refusal, moved_at_once, moving_refusal, obeyed, refusal}
-pub use Rattle.simulator_spec.specs.ixl_spec.Due.{Admissible, AllClear, AllKnown, At, FreeByCancel, Freeable, HoldsPoint, IsAvailable, IsClear, IsHeldAt, IsHeldWithAuthority, IsKnownSignalAtStop, IsRouteOf, IsSignalReady, Known, KnownStop, LetsGo, LiesInClosed, MoveDue, ProceedDue, ReportedBy, StopDue}
+pub use Rattle.simulator_spec.specs.ixl_spec.Due.{Admissible, AllClear, AllKnown, At, FreeByCancel, Freeable, HoldsPoint, IsAvailable, IsClear, IsHeldAt, IsHeldWithAuthority, IsKnownSignalAtStop, IsReleaseOver, IsRouteOf, IsSignalReady, Known, KnownStop, LetsGo, LiesInClosed, MoveDue, ProceedDue, ReportedBy, StopDue}
 pub use Rattle.simulator_spec.specs.ixl_spec.EndDue.{SomeFreeable}
 pub use Rattle.simulator_spec.specs.ixl_spec.Rules.{authorised, come_to, count, ended, freed, freed_by_cancel, freed_by_passage, frees_cancelled, frees_next, is_move_due, is_over_clear, is_proceed_due, is_proceeding, is_stop_due, is_unmoved, is_waiting, is_withdrawn, moved, one_freed, repeated, ruled, stopped, withdrawn}
 unfoldable pub use Rattle.simulator_spec.specs.ixl_spec.Rules.{ending_authority, freeing_by_cancel, freeing_by_passage, freeing_next, moving, moving_one, proceeding, withdrawing}

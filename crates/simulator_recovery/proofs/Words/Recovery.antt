@@ -32,7 +32,7 @@ pub use Rattle.simulator_recovery.specs.SidesOfMoves.{AwaitsMove, HaveMovesWhere
 pub use Rattle.simulator_recovery.specs.Silence.{IsSpent, TakesNone, TakesNoneLater, takes}
 pub use Rattle.simulator_recovery.specs.Told.{AllHostsTalk, Any, Begins, HasNames, IndicatesSpoken, OwedFit, SaidAll, SaidBy, SaidSome, SomeAsks, item_for}
 pub use Rattle.simulator_recovery.specs.UnheldPoints.{HoldsWithAuthority}
-pub use Rattle.simulator_recovery.specs.Withdrawn.{IsNotSetAnew, NoneSets, SetsNot, approach_rounds, approach_time_rounds, told_rounds}
+pub use Rattle.simulator_recovery.specs.Withdrawn.{AcceptsRelease, IsNotSetAnew, NoneSets, SetsNot, approach_rounds, approach_time_rounds, behind_release, told_rounds}
 pub use Rattle.simulator_recovery.specs.inside.LawsBelow.{LawsBelow}
 pub use Rattle.simulator_recovery.specs.inside.LawsOfHost.{LawsOfHost}
 pub use Rattle.simulator_recovery.specs.inside.LawsOfInterlockings.{FreeLaw, MoveLaw, ProceedLaw, RequestLaw, StopLaw, WrittenIsRead}

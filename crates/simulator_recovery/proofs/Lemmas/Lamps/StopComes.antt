@@ -1,7 +1,7 @@
 -- A signal from which no route proceeds, or waits to, is at stop after the next good round.
 use Rattle.simulator_recovery.proofs.Words.Basics.{◌≡◌, ℕ, suc, ◌+◌, ◌<◌, ◌≤◌, List, [], ◌∷◌, ◌++◌, append_assoc, length, Some, None, slice_get, refl, sym, ap, subst, ◌∙◌, arith}
 use Rattle.simulator_recovery.proofs.Words.Links.{Each}
-use Rattle.simulator_recovery.proofs.Words.Interlockings.{IsRowOf, IsTableOf, Row, SitedTable, Table, Cancel}
+use Rattle.simulator_recovery.proofs.Words.Interlockings.{IsRowOf, IsTableOf, Row, SitedTable, Table, Cancel, Command}
 use Rattle.simulator_recovery.proofs.Words.Stations.{Site, RouteId, Once, IsRouteOf, IsStation, Event, Request, Accepted, Flowing, round, answered, happens, refusal, WorldState, Played, after, IsReached}
 use Rattle.simulator_recovery.proofs.Words.Recovery.{HasHandedOver, AcceptsCancel, GivesNoMore, IsAtStop, NoneProceeds, and_cancel, as_cancel_comes, StaysBelowLimit, link_rounds, HasTime, IsWork, all_tried, good_rounds, LawsBelow}
 use Rattle.simulator_recovery.proofs.Lemmas.Lamps.ConfirmedStops.{stops_given}
@@ -24,9 +24,9 @@ last_tried [] last flowing = refl
 last_tried (first ∷ before) last flowing = last_tried before last (record flowing { state = after flowing.state first })
 
 -- the world refuses no request
-pub request_happens : (site : Site) (world : WorldState) (route : RouteId) → refusal site (Request (Cancel route)) world ≡ None
+pub request_happens : (site : Site) (world : WorldState) (command : Command) → refusal site (Request command) world ≡ None
 unfolding refusal
-request_happens site world route = refl
+request_happens site world command = refl
 
 pub stop_comes : LawsBelow → (between : List Event) (later_rounds : List (List Event)) (flowing : Flowing) (signal : ℕ) → Once flowing.state.sited.site → IsStation flowing.state.sited.site
     → IsTableOf flowing.state.sited.site flowing.state.sited.table → IsReached flowing.state.sited.site flowing.state.sited.table flowing.state.run → Each IsWork between → Each (Each IsWork) later_rounds
@@ -91,7 +91,7 @@ cancel_happens laws rounds before flowing route reached = (at, then_is)
         (round_reached laws sited (good_rounds rounds flowing) (rounds_reached laws sited rounds flowing (record { same = refl; reached = reached })))
 
     never_refused : refusal comes.state.sited.site cancel comes.state.run ≡ None
-    never_refused = request_happens comes.state.sited.site comes.state.run route
+    never_refused = request_happens comes.state.sited.site comes.state.run (Cancel route)
 
     then_is : (good_rounds (rounds ++ and_cancel route before ∷ []) flowing).state.run ≡ happens sited.site sited.table cancel comes.state.run
     then_is = ap (λ (f : Flowing). f.state.run) (last_round rounds (and_cancel route before) flowing)

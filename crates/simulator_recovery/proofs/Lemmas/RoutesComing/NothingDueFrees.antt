@@ -1,7 +1,7 @@
 -- No cancelled route waits that may be freed: it is free in the step in which it lets itself be freed.
 use Rattle.simulator_recovery.proofs.Words.Basics.{◌≡◌, ◌≢◌, ◌⊎◌, inl, inr, ℕ, suc, ◌+◌, ◌-◌, ◌^◌, min, ◌<◌, ◌≤◌, ◌==◌, ◌&&◌, Bool, true, false, List, Option, Some, None, slice_get, refl, sym, ap, subst, ◌∙◌, arith, false≢true, nat_tests, none-some, same_Some}
 use Rattle.simulator_recovery.proofs.Words.Links.{quiet_until, reading_of, LinkState}
-use Rattle.simulator_recovery.proofs.Words.Interlockings.{is_outside, AllClear, FreeByCancel, IsRouteOf, KnownStop, LetsGo, authorised, count, ended, freed, freed_by_cancel, freed_by_passage, freeing_by_cancel, frees_cancelled, is_move_due, is_proceed_due, is_waiting, moved, moving, moving_one, proceeding, ruled, IxlState, KnownDetectorState, KnownSignalState, RouteState, changed, Input, all_clocked, given, stepped, ticked, watching, StepSoFar, begun_with, empty_outbox, giving_aspect, giving_move, over, with_route, Need, Row, Table, is_set, Phase}
+use Rattle.simulator_recovery.proofs.Words.Interlockings.{is_outside, AllClear, FreeByCancel, IsReleaseOver, IsRouteOf, KnownStop, LetsGo, authorised, count, ended, freed, freed_by_cancel, freed_by_passage, freeing_by_cancel, frees_cancelled, is_move_due, is_proceed_due, is_waiting, moved, moving, moving_one, proceeding, ruled, IxlState, KnownDetectorState, KnownSignalState, RouteState, changed, Input, all_clocked, given, stepped, ticked, watching, StepSoFar, begun_with, empty_outbox, giving_aspect, giving_move, over, with_route, Need, Row, Table, is_set, Phase}
 use Rattle.simulator_recovery.proofs.Words.Stations.{Site, Beginning, new_ixl, new_route_of, interlocking_stepped, key_of, WorldState, IsReached}
 use Rattle.simulator_recovery.proofs.Words.Recovery.{ClientStandsAt, EachClient, FreeLaw}
 use Rattle.simulator_recovery.proofs.Lemmas.Lamps.ConfirmedStops.{new_stands, standing_then, stepped_stands}
@@ -217,12 +217,13 @@ module _ (law : FreeLaw) (site : Site) (table : Table) (input : Input) (world : 
 
   -- of a route whose authority has ended
   step_lets_go : (number : ℕ) (row : Row) (route : RouteState) (clock done : ℕ) → IsRouteOf table (interlocking_stepped site table input world).interlocking.ixl number row route → route.cancelled ≡ true → route.phase ≡ Phase.Ended clock done
-      → LetsGo at_clock table (interlocking_stepped site table input world).interlocking.ixl row route clock → ⊥
+      → LetsGo at_clock table (interlocking_stepped site table input world).interlocking.ixl row route clock ⊎ IsReleaseOver at_clock route → ⊥
   unfolding interlocking_stepped stepped begins seen
-  step_lets_go number row route clock done is cancelled ends lets = rules_free number row route is (
+  step_lets_go number row route clock done is cancelled ends (inl lets) = rules_free number row route is (
     cancelled,
     inr (clock, done, ends, inl (record { unseen = lets.unseen; clear = all_clear_before table rules.ixl _ brings row.sections lets.clear; approach = lets.approach })),
   )
+  step_lets_go number row route clock done is cancelled ends (inr over) = rules_free number row route is (cancelled, inr (clock, done, ends, inr over))
 
 step_waits : FreeLaw → (site : Site) (table : Table) (input : Input) (world : WorldState) → NoneWaits site table world.interlocking.ixl → NoneWaits site table (interlocking_stepped site table input world).interlocking.ixl
 step_waits law site table input world is = record { stand = stepped_stands site table input world is.stand; clients = clients_stepped site table input world is.clients; none = step_free law site table input world is.stand is.clients }
@@ -241,5 +242,5 @@ nothing_waits_to_be_freed law site table world number row route reached is due =
 
 pub nothing_ended_waits : FreeLaw → (site : Site) (table : Table) (input : Input) (world : WorldState) (number : ℕ) (row : Row) (route : RouteState) (clock done : ℕ) → IsReached site table world
     → IsRouteOf table (interlocking_stepped site table input world).interlocking.ixl number row route → route.cancelled ≡ true → route.phase ≡ Phase.Ended clock done
-    → LetsGo (reading_of world.interlocking.clock) table (interlocking_stepped site table input world).interlocking.ixl row route clock → ⊥
+    → LetsGo (reading_of world.interlocking.clock) table (interlocking_stepped site table input world).interlocking.ixl row route clock ⊎ IsReleaseOver (reading_of world.interlocking.clock) route → ⊥
 nothing_ended_waits law site table input world number row route clock done reached = step_lets_go law site table input world (standing_then site table world reached) number row route clock done

@@ -1,7 +1,7 @@
--- After a good round no cancelled route waits that lets itself be freed.
-use Rattle.simulator_recovery.proofs.Words.Basics.{◌≡◌, ℕ, suc, ◌-◌, nat_le, true, false, List, [], ◌∷◌, ◌++◌, length, map, None, refl, sym, ap, subst, ◌∙◌, arith, nat_tests}
+-- After a good round no cancelled route waits that lets itself be freed, or whose release is over.
+use Rattle.simulator_recovery.proofs.Words.Basics.{◌≡◌, ◌⊎◌, ℕ, suc, ◌-◌, nat_le, true, false, List, [], ◌∷◌, ◌++◌, length, map, None, refl, sym, ap, subst, ◌∙◌, arith, nat_tests}
 use Rattle.simulator_recovery.proofs.Words.Links.{Each, reading_of}
-use Rattle.simulator_recovery.proofs.Words.Interlockings.{IsRouteOf, LetsGo, IxlState, RouteState, Input, Tick, Row, SitedTable, Table, Phase}
+use Rattle.simulator_recovery.proofs.Words.Interlockings.{IsReleaseOver, IsRouteOf, LetsGo, IxlState, RouteState, Input, Tick, Row, SitedTable, Table, Phase}
 use Rattle.simulator_recovery.proofs.Words.Stations.{Site, Event, RoundEvent, Flowing, deliveries, reaches, round, round_of_time, ticks, happens, interlocking_stepped, links, refusal, WorldState, Played, after, arrival_in, IsReached}
 use Rattle.simulator_recovery.proofs.Words.Recovery.{behind_time, event_of, IsWork, all_tried, LawsBelow, FreeLaw}
 use Rattle.simulator_recovery.proofs.Lemmas.Rounds.Clocks.{IsCalm, calm_still}
@@ -10,9 +10,13 @@ use Rattle.simulator_recovery.proofs.Lemmas.Rounds.LinkRounds.{after_each, round
 use Rattle.simulator_recovery.proofs.Lemmas.RoutesComing.NothingDueFrees.{nothing_ended_waits}
 use Rattle.simulator_recovery.proofs.Lemmas.Rounds.Rounds.{AreCalm, IsAt, behind_calm, tried_happens, tried_keeps, tried_reached}
 
--- No cancelled route whose authority has ended waits that lets itself be freed at this reading of the clock.
+-- A route whose authority has ended lets itself be freed at this reading of the clock, or its release is over.
+abbrev pub MayGo : ℕ → Table → IxlState → Row → RouteState → ℕ → Type 0
+MayGo now table ixl row route clock = LetsGo now table ixl row route clock ⊎ IsReleaseOver now route
+
+-- No cancelled route waits of which this is so.
 abbrev AreFreed : ℕ → Table → IxlState → Type 0
-AreFreed now table ixl = (number : ℕ) (row : Row) (route : RouteState) (clock done : ℕ) → IsRouteOf table ixl number row route → route.cancelled ≡ true → route.phase ≡ Phase.Ended clock done → LetsGo now table ixl row route clock → ⊥
+AreFreed now table ixl = (number : ℕ) (row : Row) (route : RouteState) (clock done : ℕ) → IsRouteOf table ixl number row route → route.cancelled ≡ true → route.phase ≡ Phase.Ended clock done → MayGo now table ixl row route clock → ⊥
 
 -- ---- the events after the time of a round
 
@@ -106,9 +110,9 @@ ticks_first count more = refl
 
 pub round_frees : FreeLaw → LawsBelow → (between : List Event) (flowing : Flowing) (number : ℕ) (row : Row) (route : RouteState) (clock done : ℕ) → IsReached flowing.state.sited.site flowing.state.sited.table flowing.state.run → Each IsWork between
     → IsRouteOf flowing.state.sited.table (all_tried between (round flowing)).state.run.interlocking.ixl number row route → route.cancelled ≡ true → route.phase ≡ Phase.Ended clock done
-    → LetsGo (reading_of (all_tried between (round flowing)).state.run.interlocking.clock) flowing.state.sited.table (all_tried between (round flowing)).state.run.interlocking.ixl row route clock → ⊥
+    → MayGo (reading_of (all_tried between (round flowing)).state.run.interlocking.clock) flowing.state.sited.table (all_tried between (round flowing)).state.run.interlocking.ixl row route clock → ⊥
 round_frees law reach between flowing number row route clock done reached work of cancelled ended goes =
-    frees.freed number row route clock done of cancelled ended (subst (λ (n : ℕ). LetsGo n sited.table behind.run.interlocking.ixl row route clock) frees.reads.clock goes)
+    frees.freed number row route clock done of cancelled ended (subst (λ (n : ℕ). MayGo n sited.table behind.run.interlocking.ixl row route clock) frees.reads.clock goes)
   where
     sited : SitedTable
     sited = flowing.state.sited

@@ -1,5 +1,5 @@
 -- So long after its cancel a route is free, also where its approach counted, unless a train came.
-use Rattle.simulator_recovery.proofs.Words.Basics.{◌≡◌, inl, inr, ℕ, Bool, true, false, Some, slice_get, refl, sym, ap, subst, ◌∙◌, false≢true, suc, ◌+◌, ◌*◌, ◌-◌, ◌≤◌, List, [], ◌∷◌, ◌++◌, append_assoc, length, min, ◌^◌, arith, length-append, same_Some}
+use Rattle.simulator_recovery.proofs.Words.Basics.{◌≡◌, inl, inr, ℕ, Bool, true, false, Some, slice_get, refl, sym, ap, subst, ◌∙◌, false≢true, suc, ◌+◌, ◌*◌, ◌≤◌, List, [], ◌∷◌, ◌++◌, append_assoc, length, arith, length-append, same_Some}
 use Rattle.simulator_recovery.proofs.Words.Links.{reading_of, Each}
 use Rattle.simulator_recovery.proofs.Words.Interlockings.{At, LetsGo, is_proceeding, is_waiting, RouteState, Commands, Row, Table, is_set, Command, Phase, IsTableOf, AllClear, IsRouteOf, IxlState, SitedTable}
 use Rattle.simulator_recovery.proofs.Words.Stations.{Site, RouteId, Event, Answer, answered, happens, WorldState, IsReached, Once, IsStation, Flowing, round}
@@ -10,14 +10,13 @@ use Rattle.simulator_recovery.proofs.Lemmas.Rounds.Clocks.{calm_still}
 use Rattle.simulator_recovery.proofs.Lemmas.RoutesComing.NothingDueFrees.{nothing_ended_waits}
 use Rattle.simulator_recovery.proofs.Lemmas.Ground.SignalParts.{EndsFrom, IsQuiet}
 use Rattle.simulator_recovery.proofs.Lemmas.Lamps.StopsGiven.{proceeding_set, waiting_set}
-use Rattle.simulator_recovery.proofs.Lemmas.RoutesGoing.AuthorityRoundFrees.{round_frees}
 use Rattle.simulator_recovery.proofs.Lemmas.RoutesGoing.BetweenCancels.{cancel_works}
 use Rattle.simulator_recovery.proofs.Lemmas.RoutesGoing.BetweenSignals.{anew_two, route_kept}
 use Rattle.simulator_recovery.proofs.Lemmas.Points.MovesAnswered.{rounds_both}
-use Rattle.simulator_recovery.proofs.Lemmas.Links.Ready.{fewer_time, Last, each_front, last_of}
+use Rattle.simulator_recovery.proofs.Lemmas.Links.Ready.{fewer_time}
 use Rattle.simulator_recovery.proofs.Lemmas.Rounds.Rounds.{IsAt, rounds_reached, take_their_time}
-use Rattle.simulator_recovery.proofs.Lemmas.Lamps.StopComes.{last_round}
 use Rattle.simulator_recovery.proofs.Lemmas.Windows.WindowsSpoken.{each_two}
+use Rattle.simulator_recovery.proofs.Lemmas.RoutesGoing.RoundsFree.{approach_over, rounds_free}
 use Rattle.simulator_recovery.proofs.Lemmas.RoutesGoing.WithdrawnClocks.{endings_passed}
 
 -- ---- a cancelled route whose authority has ended: it stays so while it is set, and is free in the step of its cancel where it lets itself go
@@ -90,7 +89,7 @@ ended_free_at_once law site table world route row state clock freed reached ther
 
     by_phase : (p : Phase) → state.phase ≡ p → HasEnded IsIt p → state.cancelled ≡ true → ⊥
     by_phase (Phase.Ended other more) e same cancelled = nothing_ended_waits law site table (Commands (Command.Cancel route)) world route.0 row state other more reached (there, is) cancelled e
-        (subst (LetsGo (reading_of world.interlocking.clock) table behind.interlocking.ixl row state) (sym same) goes_now)
+        (inl (subst (LetsGo (reading_of world.interlocking.clock) table behind.interlocking.ixl row state) (sym same) goes_now))
     by_phase Phase.Free e so cancelled = so
     by_phase Phase.Waiting e so cancelled = so
     by_phase Phase.Proceeding e so cancelled = so
@@ -113,19 +112,10 @@ EndedIn last number ixl = OfRoute number (StaysEnded (By last)) ixl.routes []
 
 -- ---- so many rounds
 
--- the clock of the interlocking among all
-abbrev second : List ℕ → ℕ
-second (first ∷ next ∷ others) = next
-second others = 0
-
 -- each clock can go on still after some rounds
 time_still : (a b : ℕ) (clocks : List ℕ) → Each (λ clock. clock + 10000 * (a + b) ≤ 9000000000000000) clocks → Each (λ clock. clock + 10000 * b ≤ 9000000000000000) (rounds_later a clocks)
 time_still a b [] each = tt
 time_still a b (clock ∷ clocks) each = let one = each.0 in (omega (arith, one), time_still a b clocks each.1)
-
--- the approach time is over
-approach_over : (ended clock rounds : ℕ) → ended ≤ reading_of clock → 12000 ≤ rounds → min (ended + 120000) (2 ^ 64 - 1) ≤ reading_of (clock + 10000 * rounds)
-approach_over ended clock rounds before long = omega (arith, before, long)
 
 -- ---- so long after the end of its authority
 
@@ -144,45 +134,16 @@ module _ (frees : FreeLaw) (times : LawsBelow) (more : List (List Event)) (start
   ended_end : EndedIn last number end.state.run.interlocking.ixl
   ended_end = route_kept times sited_so number (StaysEnded (By last)) (ended_keeps (By last)) more start works apart (record { same = refl; reached = reached }) ended
 
-  clocks_end : clocks_of end.state.run ≡ rounds_later (length more) (clocks_of start.state.run)
-  clocks_end = take_their_time times more start once station reached works can
-
-  clock_end : end.state.run.interlocking.clock ≡ start.state.run.interlocking.clock + 10000 * length more
-  clock_end = ap second clocks_end
-
-  -- after the last of them
-  module _ (l : Last (length more - 1) more) where
-    abbrev but_one : Flowing
-    but_one = good_rounds l.front start
-
-    end_is : end ≡ all_tried l.last (round but_one)
-    end_is = ap (λ (rounds : List (List Event)). good_rounds rounds start) l.are ∙ last_round l.front l.last start
-
-    last_works : Each IsWork l.last
-    last_works = (each_front (Each IsWork) l.front l.last (subst (Each (Each IsWork)) l.are works)).1
-
-    at_but_one : IsAt sited_so but_one.state
-    at_but_one = rounds_reached times sited_so l.front start (record { same = refl; reached = reached })
-
-    frees_it : (state : RouteState) (clock done : ℕ) → slice_get end.state.run.interlocking.ixl.routes number ≡ Some state → IsUnseen row state → AllClear sited_so.table end.state.run.interlocking.ixl row.sections → state.phase ≡ Phase.Ended clock done → clock ≤ last
-        → state.cancelled ≡ true → ⊥
-    frees_it state clock done is unseen clear ends by cancelled = round_frees frees times l.last but_one number row state clock done (subst (λ (s : SitedTable). IsReached s.site s.table but_one.state.run) (sym at_but_one.same) at_but_one.reached) last_works
-        (subst (λ (s : SitedTable). slice_get s.table.rows number ≡ Some row) (sym at_but_one.same) there, ap (λ (f : Flowing). slice_get f.state.run.interlocking.ixl.routes number) (sym end_is) ∙ is) cancelled ends
-        (subst (λ (s : SitedTable). LetsGo (reading_of (all_tried l.last (round but_one)).state.run.interlocking.clock) s.table (all_tried l.last (round but_one)).state.run.interlocking.ixl row state clock) (sym at_but_one.same)
-        (subst (λ (f : Flowing). LetsGo (reading_of f.state.run.interlocking.clock) sited_so.table f.state.run.interlocking.ixl row state clock) end_is (record {
-          unseen = unseen;
-          clear = clear;
-          approach = inr (subst (λ (c : ℕ). min (clock + 120000) (2 ^ 64 - 1) ≤ reading_of c) (sym clock_end) (approach_over clock start.state.run.interlocking.clock (length more) by far));
-        })))
+  frees_it : (state : RouteState) (clock done : ℕ) → slice_get end.state.run.interlocking.ixl.routes number ≡ Some state → IsUnseen row state → AllClear sited_so.table end.state.run.interlocking.ixl row.sections → state.phase ≡ Phase.Ended clock done → clock ≤ last
+      → state.cancelled ≡ true → ⊥
+  frees_it state clock done is unseen clear ends by cancelled = rounds_free frees times more start reached works number row state clock done (there, is) cancelled ends
+      (inl (record { unseen = unseen; clear = clear; approach = inr (approach_over times more start once station reached works can far clock by) })) (omega (arith, far))
 
   pub free_later : (state : RouteState) → slice_get (good_rounds more start).state.run.interlocking.ixl.routes number ≡ Some state → IsUnseen row state → AllClear start.state.sited.table (good_rounds more start).state.run.interlocking.ixl row.sections → is_set state.phase ≡ false
   free_later state is unseen clear = by_set (is_set state.phase) refl
     where
-      l : Last (length more - 1) more
-      l = last_of (length more - 1) more (omega (arith, far))
-
       by_phase : (p : Phase) → state.phase ≡ p → HasEnded (By last) state.phase → state.cancelled ≡ true → ⊥
-      by_phase (Phase.Ended clock done) e by cancelled = frees_it l state clock done is unseen clear e (subst (HasEnded (By last)) e by) cancelled
+      by_phase (Phase.Ended clock done) e by cancelled = frees_it state clock done is unseen clear e (subst (HasEnded (By last)) e by) cancelled
       by_phase Phase.Free e by cancelled = subst (HasEnded (By last)) e by
       by_phase Phase.Waiting e by cancelled = subst (HasEnded (By last)) e by
       by_phase Phase.Proceeding e by cancelled = subst (HasEnded (By last)) e by

@@ -64,7 +64,7 @@ free_at_once laws site table world route row state reached there waits accepted 
     behind = happens site table (Event.Request (Command.Cancel route)) world
 
     behind_reached : IsReached site table behind
-    behind_reached = laws.reached_worlds_are_safe_on site table (Event.Request (Command.Cancel route)) world reached (request_happens site world route)
+    behind_reached = laws.reached_worlds_are_safe_on site table (Event.Request (Command.Cancel route)) world reached (request_happens site world (Command.Cancel route))
 
     waits_still : WaitsCancelled state
     waits_still = kept_behind_cancel WaitsCancelled waits_keeps site table world route waits.0 accepted waits.1 (λ set. (ap is_waiting waits.2, refl)) state is
