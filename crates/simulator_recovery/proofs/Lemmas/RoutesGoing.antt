@@ -25,6 +25,7 @@ pub mod WithdrawnSteps
 pub mod WithdrawnRounds
 pub mod RouteTurns
 pub mod ReadingsAlways
+pub mod RoundsFree
 pub mod WithdrawnClocks
 pub mod WithdrawnApproach
 pub mod ReleasedClocks

@@ -36,7 +36,7 @@ both_so false b e = absurd (false≢true (sym e))
 
 -- the route is cancelled, and its authority has ended
 ended_there : (now : ℕ) (ixl : IxlState) (found : Option RouteState) (route : RouteState) → found ≡ Some route → release_refusal now ixl found ≡ None → (route.cancelled ≡ true) × (is_ended route.phase ≡ true)
-ended_there now ixl None route e none = absurd (cc none)
+ended_there now ixl None route e none = absurd (cc e)
 ended_there now ixl (Some one) route e none =
     let third : Option Refusal = refused_where (not (one.cancelled && is_ended one.phase)) Refusal.NotEnded None
     in let second : Option Refusal = refused_where (not (is_set one.phase)) Refusal.NotSet third
