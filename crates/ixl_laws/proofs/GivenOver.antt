@@ -1,7 +1,8 @@
 -- In the turns of a step no aspect is given over what is closed, and no move to a closed side.
-use Rattle.std.proofs.Common.{◌≡◌, ℕ, false, length, refl, ap, sym, ◌∙◌, subst}
+use Rattle.std.proofs.Common.{◌≡◌, ℕ, ◌<◌, false, length, arith, refl, ap, sym, ◌∙◌, subst}
 use Rattle.std.specs.Prelude.{Some, slice_get}
 use Rattle.std.specs.List.{Contains}
+use Rattle.std.proofs.lemmas.List.Elements.{All-contains}
 use Rattle.ixl_state.specs.ixl_spec.closings.declared.closed.Closings.{Closings}
 use Rattle.ixl_state.specs.ixl_spec.closings.declared.thing.Thing.{Thing}
 use Rattle.ixl_state.specs.ixl_spec.closings.declared.thing.Thing.TheVariants.{Point}
@@ -12,9 +13,10 @@ use Rattle.ixl_state.specs.ixl_spec.Step.{Input}
 use Rattle.ixl_state.specs.ixl_spec.StepSoFar.{StepSoFar}
 use Rattle.ixl_state.specs.ixl_spec.Table.{Row, Table}
 use Rattle.ixl_state.specs.ixl_spec.declared.phase.Phase.{Phase}
+use Rattle.ixl_state.specs.ixl_table.Table.{IsHeldUntil, IsTableOf, as_route}
 use Rattle.ixl.specs.Interlocking.{InterlockingState}
 use Rattle.ixl_laws.specs.GivenOnce.{GivesMove, GivesProceed}
-use Rattle.ixl_laws.specs.Operations.{HoldsEachPoint, NothingClosedIsUsed}
+use Rattle.ixl_laws.specs.Operations.{NothingClosedIsUsed}
 use Rattle.ixl_laws.specs.WholeStep.{TurnTaken, WholeStep, heard}
 use Rattle.ixl_laws.proofs.KeptBehind.{KeptSince, nothing_yet}
 use Rattle.ixl_laws.proofs.NeededPoints.{turn_needed}
@@ -50,14 +52,20 @@ module _ (now : ℕ) (input : Input) (old new : InterlockingState) (step : Whole
       IsClosed new.state.ixl.closed thing → ⊥
   no_aspect number place taken thing at gives uses closed = none_used place taken number gives.row gives.route thing at gives.is gives.due.goes_on uses closed
 
-  pub no_move : (point place : ℕ) (taken : TurnTaken) → HoldsEachPoint table → slice_get step.turns place ≡ Some taken → (gives : GivesMove table point taken) →
+  pub no_move : (point place : ℕ) (taken : TurnTaken) → IsTableOf old.state.sited.site old.state.sited.table → slice_get step.turns place ≡ Some taken → (gives : GivesMove table point taken) →
       IsClosed new.state.ixl.closed (Point (record { 0 = point }) gives.need.side) → ⊥
-  no_move point place taken holds at gives closed =
+  no_move point place taken is_table at gives closed =
       none_used place taken gives.number gives.row gives.route (Point (record { 0 = point }) gives.need.side) at gives.is gives.due.goes_on
       (subst (λ (p : Phase). HoldsPoint gives.row p point gives.need.side) (sym gives.due.waits)
-      (refl, (gives.need, required, gives.of_point, refl, holds gives.number gives.row gives.need gives.is.0 required))) closed
+      (refl, (gives.need, required, gives.of_point, refl, held_somewhere))) closed
     where
       required : Contains gives.row.needs gives.need
       required =
           let needed = turn_needed table.rows input old.state.ixl step.turns step.are place taken gives.number gives.need at gives.turn
           in subst (λ (r : Row). Contains r.needs gives.need) (some_same (sym needed.1 ∙ gives.is.0)) needed.2
+
+      -- until the last section that it awaits is freed
+      held_somewhere : 0 < gives.need.until
+      held_somewhere =
+          let until = (All-contains (IsHeldUntil old.state.sited.site (as_route gives.number) gives.row.sections) gives.row.needs gives.need (is_table.rows.their gives.number gives.row gives.is.0).until required).until
+          in omega (arith, until)

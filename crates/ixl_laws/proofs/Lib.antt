@@ -63,6 +63,8 @@ pub mod InputUses
 pub mod TurnFollows
 pub mod NeededPoints
 pub mod GivenOver
+pub mod MovedOnce
 pub mod Released
 pub mod ReleasedSteps
+pub mod FreedByRelease
 pub mod ClosingsFirst

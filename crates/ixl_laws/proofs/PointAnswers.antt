@@ -42,7 +42,7 @@ use Rattle.ixl_laws.proofs.Ruled.{along_holds, looking_holds, over_holds, ruled_
 
 -- ---- lists
 
-sent_joined : (some more : List LinkCall) → items_sent (some ++ more) ≡ items_sent some ++ items_sent more
+pub sent_joined : (some more : List LinkCall) → items_sent (some ++ more) ≡ items_sent some ++ items_sent more
 unfolding items_sent
 sent_joined [] more = refl
 sent_joined (Sends item ∷ others) more = ap (λ items. item ∷ items) (sent_joined others more)

@@ -20,7 +20,7 @@ use Rattle.ixl_state.specs.ixl_spec.declared.phase.Phase.TheVariants as phase
 use Rattle.ixl_state.specs.First.{Beginning, key_of, new_ixl, new_route_of}
 use Rattle.ixl.specs.Interlocking.{HasStepped, InterlockingState}
 use Rattle.ixl_laws.specs.Onward.{IsOnward, order_of}
-use Rattle.ixl_laws.specs.Operations.{ReleasedAreEnded, released_after}
+use Rattle.ixl_laws.specs.Operations.{IsOver, ReleasedAreEnded, released_after}
 use Rattle.ixl_laws.proofs.Apart.{set_back}
 use Rattle.ixl_laws.proofs.Following.{FollowsAll}
 use Rattle.ixl_laws.proofs.KeptBehind.{behind_input, command_stays, left_by, others_stay, stepped_stays}
@@ -112,10 +112,6 @@ step_clock now input old new answer number before after step there also =
 
 -- ---- what was released is ended
 
--- a route is cancelled, and its authority is ended
-abbrev IsOver : RouteState → Type 0
-IsOver route = (route.cancelled ≡ true) × ((ended : ℕ) × (done : ℕ) × (route.phase ≡ phase.Ended ended done))
-
 -- a set route after one whose authority is ended
 ended_on : (p q : Phase) → IsOnward p q → (ended : ℕ) × (done : ℕ) × (p ≡ phase.Ended ended done) → is_set q ≡ true → (ended : ℕ) × (done : ℕ) × (q ≡ phase.Ended ended done)
 ended_on p phase.Free onward at set = absurd (false≢true set)
@@ -124,13 +120,13 @@ ended_on p phase.Proceeding onward at set = let here : order_of p ≡ 3 = ap ord
 ended_on p phase.Withdrawn onward at set = let here : order_of p ≡ 3 = ap order_of at.2 in let less = onward.order in absurd (omega (arith, here, less))
 ended_on p (phase.Ended clock done) onward at set = (clock, done, refl)
 
-ended_still : (old new : IxlState) → FollowsAll old.routes new.routes → ReleasedAreEnded old → ReleasedAreEnded new
+pub ended_still : (old new : IxlState) → FollowsAll old.routes new.routes → ReleasedAreEnded old → ReleasedAreEnded new
 ended_still old new follow ended number route clock is released set =
     let before = follow number route is
     in let over = ended number before.0 clock before.1 (sym before.2.released ∙ released) (set_back before.0.phase route.phase before.2.onward set)
     in (before.2.cancelled set ∙ over.0, ended_on before.0.phase route.phase before.2.onward over.1 set)
 
-ended_is : (p : Phase) → is_ended p ≡ true → (ended : ℕ) × (done : ℕ) × (p ≡ phase.Ended ended done)
+pub ended_is : (p : Phase) → is_ended p ≡ true → (ended : ℕ) × (done : ℕ) × (p ≡ phase.Ended ended done)
 ended_is phase.Free is = absurd (false≢true is)
 ended_is phase.Waiting is = absurd (false≢true is)
 ended_is phase.Proceeding is = absurd (false≢true is)
@@ -180,7 +176,7 @@ left_ended : (now : ℕ) (table : Table) (cause : Option Refusal) (command : Com
 left_ended now table (Some refused) command ixl told ended = ended
 left_ended now table None command ixl told ended = obeyed_ended now table command ixl told ended
 
-input_ended : (now : ℕ) (table : Table) (key : Key) (input : Input) (ixl : IxlState) → ReleasedAreEnded ixl → ReleasedAreEnded (behind_input now table key input ixl).ixl
+pub input_ended : (now : ℕ) (table : Table) (key : Key) (input : Input) (ixl : IxlState) → ReleasedAreEnded ixl → ReleasedAreEnded (behind_input now table key input ixl).ixl
 unfolding given all_clocked
 input_ended now table key Tick ixl ended = ended
 input_ended now table key (Datagram bytes) ixl ended = ended_still ixl (behind_input now table key (Datagram bytes) ixl).ixl (others_stay now table key bytes ixl).follow ended

@@ -1,21 +1,26 @@
 -- What closing, releasing and moving by command come to over the steps of an interlocking.
-use Rattle.std.specs.Prelude.{◌≡◌, ◌≤◌, ◌<◌, ◌==◌, ℕ, true, false, List, [], ◌∷◌, map, Option, Some, None, slice_get, if◌then◌else◌}
-use Rattle.std.specs.List.{Contains}
+use Rattle.std.specs.Prelude.{◌≡◌, ◌≤◌, ◌==◌, ℕ, suc, true, false, List, [], ◌∷◌, map, drop, Option, Some, None, slice_get, if◌then◌else◌}
 use Rattle.std.specs.Option.{option_or}
 use Rattle.ixl_state.specs.release.Approach.{approach_end}
+use Rattle.ixl_state.specs.sci_telegram.declared.message.Side.{Side}
+use Rattle.ixl_state.specs.ixl_client.ItemsSaid.{items_sent}
+use Rattle.ixl_state.specs.ixl_client.declared.command.Command.TheVariants as telegrams
 use Rattle.ixl_state.specs.ixl_spec.closings.declared.closed.Closings.{Closings}
 use Rattle.ixl_state.specs.ixl_spec.closings.declared.thing.Named.{Named}
 use Rattle.ixl_state.specs.ixl_spec.closings.declared.thing.Thing.{Thing}
 use Rattle.ixl_state.specs.ixl_spec.closings.Closed.{IsClosed, with_named, without_named}
 use Rattle.ixl_state.specs.ixl_spec.Due.{IsReleaseOver, IsRouteOf, Uses}
-use Rattle.ixl_state.specs.ixl_spec.State.{IxlState, RouteState}
+use Rattle.ixl_state.specs.ixl_spec.State.{IxlState, KnownPointState, RouteState}
 use Rattle.ixl_state.specs.ixl_spec.Step.{Accepted, Commands, Input, Reply}
-use Rattle.ixl_state.specs.ixl_spec.Table.{Need, Row, Table}
+use Rattle.ixl_state.specs.ixl_spec.StepSoFar.{Point}
+use Rattle.ixl_state.specs.ixl_spec.Table.{Row, Table}
 use Rattle.ixl_state.specs.ixl_spec.View.{is_set}
 use Rattle.ixl_state.specs.ixl_spec.declared.command.Command.TheVariants as commands
 use Rattle.ixl_state.specs.ixl_spec.declared.phase.Phase.TheVariants as phase
-use Rattle.ixl_laws.specs.GivenOnce.{StepTaken}
-use Rattle.ixl_laws.specs.WholeStep.{FreeCancelled, TurnTaken}
+use Rattle.ixl.specs.Interlocking.{InterlockingState}
+use Rattle.ixl_laws.specs.Called.{calls_at}
+use Rattle.ixl_laws.specs.GivenOnce.{GivesMove, GivesTelegram, InNone, SetsAnew, StepTaken, telegram_for}
+use Rattle.ixl_laws.specs.WholeStep.{FreeCancelled, TurnTaken, WholeStep, clock_left, heard}
 
 -- ---- what is closed
 
@@ -30,9 +35,16 @@ closed_after (Commands (commands.Close named)) Accepted closed = with_named clos
 closed_after (Commands (commands.Open named)) Accepted closed = without_named closed named
 closed_after _ _ closed = closed
 
--- each point that a route requires is held for some section at least
-abbrev pub HoldsEachPoint : Table → Type 0
-HoldsEachPoint table = (number : ℕ) (row : Row) (need : Need) → slice_get table.rows number ≡ Some row → Contains row.needs need → 0 < need.until
+-- ---- move
+
+-- In a step a point is given one move, to this side. On what the clock left its controller is sent this telegram, before any
+-- rule, and no other link is called. No turn gives the point another move, and in the whole step nothing else is sent to it.
+pub record IsMovedOnce (now point : ℕ) (side : Side) (input : Input) (old new : InterlockingState) (step : WholeStep now input old new) : Type 0 where
+  pub known_point : KnownPointState
+  pub there : slice_get (clock_left now old).ixl.known_points point ≡ Some known_point
+  pub at_once : GivesTelegram (Point point) (telegram_for known_point.client (telegrams.Move side)) (clock_left now old) (heard now input old)
+  pub no_other : (place : ℕ) (taken : TurnTaken) → slice_get step.turns place ≡ Some taken → GivesMove old.state.sited.table point taken → ⊥
+  pub alone : items_sent (calls_at now input old (Point point)) ≡ telegram_for known_point.client (telegrams.Move side) ∷ []
 
 -- ---- release
 
@@ -42,10 +54,13 @@ released_after now (Commands (commands.Request route)) Accepted number released 
 released_after now (Commands (commands.Release route)) Accepted number released = if route.0 == number then option_or released (Some now) else released
 released_after now _ _ number released = released
 
--- Each set route that is released is cancelled, and its authority is ended.
+-- a route is cancelled, and its authority is ended
+abbrev pub IsOver : RouteState → Type 0
+IsOver route = (route.cancelled ≡ true) × ((ended : ℕ) × (freed : ℕ) × (route.phase ≡ phase.Ended ended freed))
+
+-- Each set route that is released is over.
 abbrev pub ReleasedAreEnded : IxlState → Type 0
-ReleasedAreEnded ixl = (number : ℕ) (route : RouteState) (clock : ℕ) → slice_get ixl.routes number ≡ Some route → route.released ≡ Some clock → is_set route.phase ≡ true
-    → (route.cancelled ≡ true) × ((ended : ℕ) × (freed : ℕ) × (route.phase ≡ phase.Ended ended freed))
+ReleasedAreEnded ixl = (number : ℕ) (route : RouteState) (clock : ℕ) → slice_get ixl.routes number ≡ Some route → route.released ≡ Some clock → is_set route.phase ≡ true → IsOver route
 
 -- a release of a route is accepted
 abbrev pub ReleaseGiven : ℕ → StepTaken → Type 0
@@ -60,13 +75,15 @@ pub record FreesByRelease (now : ℕ) (table : Table) (number : ℕ) (taken : Tu
   pub set : is_set route.phase ≡ true
   pub over : IsReleaseOver now route
 
--- Among these steps is one in which the release of a route was accepted, 120000 ms before this clock or earlier.
+-- Among these steps is one in which the release of a route was accepted, 120000 ms before this clock or earlier, and no step
+-- behind it sets the route anew.
 pub record IsReleasedBefore (number : ℕ) (steps : List StepTaken) (now : ℕ) : Type 0 where
   pub place : ℕ
   pub step : StepTaken
   pub stands : slice_get steps place ≡ Some step
   pub given : ReleaseGiven number step
   pub over : approach_end step.now ≤ now
+  pub same_setting : InNone (SetsAnew number) (drop (suc place) steps)
 
 -- the route wasn't released in the state in which these steps begin
 abbrev pub IsUnreleased : ℕ → IxlState → Type 0

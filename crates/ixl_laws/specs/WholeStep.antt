@@ -114,9 +114,12 @@ Follow now table begin [] end = end ≡ begin
 Follow now table begin (first ∷ others) end =
     (first.before ≡ begin) × DoesItsTurn now table first.turn first.before first.after × Follow now table first.after others end
 
--- what the clock and the input left
+-- what the clock left, and what the input left then
+abbrev pub clock_left : ℕ → InterlockingState → StepSoFar
+clock_left now old = begun_with (all_clocked now old.state.ixl) empty_outbox
+
 abbrev pub heard : ℕ → Input → InterlockingState → StepSoFar
-heard now input old = given now old.state.sited.table (key_of old.state.sited.site) input (begun_with (all_clocked now old.state.ixl) empty_outbox)
+heard now input old = given now old.state.sited.table (key_of old.state.sited.site) input (clock_left now old)
 
 -- A whole step is these turns. They begin in what the clock and the input left. What the last one left is kept and handed
 -- out, and the calls of the links are those made up to there.

@@ -14,10 +14,11 @@ pub use laws::{
     the_last_report_answers_the_last_move, ticks_leave_no_link_down,
 };
 pub use operations::{
-    a_release_frees_only_after_its_time, closings_that_are_given_first_are_closed,
-    moves_by_command_go_to_points_that_nothing_holds, nothing_closed_is_used,
-    nothing_is_given_over_what_is_closed, operations_are_accepted_where_they_may_be,
-    releases_are_noted_with_their_clock, what_is_closed_changes_by_command_alone,
+    a_move_by_command_is_given_once, a_release_frees_only_after_its_time,
+    closings_that_are_given_first_are_closed, moves_by_command_go_to_points_that_nothing_holds,
+    nothing_closed_is_used, nothing_is_given_over_what_is_closed,
+    operations_are_accepted_where_they_may_be, releases_are_noted_with_their_clock,
+    what_is_closed_changes_by_command_alone,
 };
 pub use whole_step::{
     a_step_gives_each_once, an_unsound_aspect_falls, aspects_and_moves_are_telegrams,

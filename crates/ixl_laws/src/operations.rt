@@ -14,16 +14,20 @@ ghost use Rattle.ixl_state.specs.ixl_spec.closings.declared.thing.Thing.TheVaria
 ghost use Rattle.ixl_state.specs.ixl_spec.closings.declared.thing.Thing.{Thing};
 ghost use Rattle.ixl_state.specs.ixl_spec.Due.{Uses};
 ghost use Rattle.ixl_state.specs.ixl_spec.OperationCauses.{Holds, IsCloseRefused, IsMoveRefused, IsNamed, IsReleaseRefused, MayBeClosed, MayBeMoved, MayBeReleased, NoRoute};
+ghost use Rattle.ixl_state.specs.ixl_spec.Rules.{freed};
 ghost use Rattle.ixl_state.specs.ixl_spec.State.{RouteState};
 ghost use Rattle.ixl_state.specs.ixl_spec.Step.{Accepted, Commands, Input, Refused, Reply, all_clocked};
+ghost use Rattle.ixl_state.specs.ixl_spec.StepSoFar.{with_route};
 ghost use Rattle.ixl_state.specs.ixl_spec.Table.{Table};
 ghost use Rattle.ixl_state.specs.ixl_spec.declared.command.Command.TheVariants as commands;
 ghost use Rattle.ixl_state.specs.ixl_spec.declared.command.Refusal.{Refusal};
+ghost use Rattle.ixl_state.specs.ixl_table.Table.{IsTableOf};
 ghost use Rattle.ixl.specs.Interlocking.{HasStepped, InterlockingState};
 ghost use Rattle.ixl_laws.specs.GivenOnce.{GivesMove, GivesProceed, InNone, OneAfterAnother, SetsAnew, StepTaken};
-ghost use Rattle.ixl_laws.specs.Operations.{AllAccepted, AreCloses, FreesByRelease, HoldsEachPoint, IsReleasedBefore, IsUnreleased, NothingClosedIsUsed, ReleasedAreEnded, closed_after, last_of, released_after};
-ghost use Rattle.ixl_laws.specs.WholeStep.{Fits, TurnTaken, WholeStep};
+ghost use Rattle.ixl_laws.specs.Operations.{AllAccepted, AreCloses, FreesByRelease, IsMovedOnce, IsOver, IsReleasedBefore, IsUnreleased, NothingClosedIsUsed, ReleasedAreEnded, closed_after, last_of, released_after};
+ghost use Rattle.ixl_laws.specs.WholeStep.{Fits, TurnTaken, WholeStep, clock_left, heard};
 
+use ixl_client::initialisations_go_out_in_order;
 use ixl_state::ixl_spec::{
     a_command_changes_what_it_names_alone, close_is_accepted_where_nothing_is_used,
     move_is_accepted_where_it_may_be, release_is_accepted_where_it_may_be,
@@ -78,7 +82,7 @@ pub fn nothing_is_given_over_what_is_closed()
         → NothingClosedIsUsed old.state.sited.table old.state.ixl → slice_get step.turns place ≡ Some taken
         → (gives : GivesProceed now old.state.sited.table number taken) → Uses number gives.row gives.route thing → IsClosed new.state.ixl.closed thing → ⊥ }
     ensures moves { (now point : ℕ) (input : Input) (old new : InterlockingState) (step : WholeStep now input old new) (place : ℕ) (taken : TurnTaken)
-        → NothingClosedIsUsed old.state.sited.table old.state.ixl → HoldsEachPoint old.state.sited.table → slice_get step.turns place ≡ Some taken
+        → NothingClosedIsUsed old.state.sited.table old.state.ixl → IsTableOf old.state.sited.site old.state.sited.table → slice_get step.turns place ≡ Some taken
         → (gives : GivesMove old.state.sited.table point taken) → IsClosed new.state.ixl.closed (Point (record { 0 = point }) gives.need.side) → ⊥ }
     ensures commands { (now : ℕ) (point : PointId) (side : Side) (old new : InterlockingState) → HasStepped now (Commands (commands.Move point side)) old new Accepted
         → IsClosed old.state.ixl.closed (Point point side) → ⊥ }
@@ -97,6 +101,18 @@ pub fn moves_by_command_go_to_points_that_nothing_holds()
     move_is_accepted_where_it_may_be();
 }
 
+/// The point of an accepted move is given exactly one move in the step, and to that side: at once, on what the clock left and
+/// before any rule. A refused move gives none: it leaves what the clock left.
+pub fn a_move_by_command_is_given_once()
+    ensures given { (now : ℕ) (point : PointId) (side : Side) (old new : InterlockingState) (step : WholeStep now (Commands (commands.Move point side)) old new)
+        → HasStepped now (Commands (commands.Move point side)) old new Accepted → IsMovedOnce now point.0 side (Commands (commands.Move point side)) old new step }
+    ensures refused { (now : ℕ) (point : PointId) (side : Side) (old new : InterlockingState) (cause : Refusal) → HasStepped now (Commands (commands.Move point side)) old new (Refused cause)
+        → heard now (Commands (commands.Move point side)) old ≡ clock_left now old }
+{
+    initialisations_go_out_in_order();
+    move_is_accepted_where_it_may_be();
+}
+
 /// Of a route the clock is kept at which its release was first accepted in its present setting. Only a route that is cancelled
 /// and whose authority is ended is released.
 pub fn releases_are_noted_with_their_clock()
@@ -109,11 +125,17 @@ pub fn releases_are_noted_with_their_clock()
 {}
 
 /// A route is freed by its release only 120000 ms after it or later. Where steps begin in which a route isn't released, and it
-/// is freed by its release in the last of them, its release was accepted in one of them, so long before.
+/// is freed by its release in the last of them, its release was accepted in one of them, so long before, and no step since has
+/// set the route anew. A route that is freed so is cancelled, and its authority is ended.
 pub fn a_release_frees_only_after_its_time()
-    ensures { (number : ℕ) (first : StepTaken) (others : List StepTaken) (place : ℕ) (taken : TurnTaken) → OneAfterAnother first others → IsUnreleased number first.old.state.ixl
+    ensures before { (number : ℕ) (first : StepTaken) (others : List StepTaken) (place : ℕ) (taken : TurnTaken) → OneAfterAnother first others → IsUnreleased number first.old.state.ixl
         → slice_get (last_of first others).whole.turns place ≡ Some taken → FreesByRelease (last_of first others).now (last_of first others).old.state.sited.table number taken
         → IsReleasedBefore number (first ∷ others) (last_of first others).now }
+    ensures over { (now number : ℕ) (input : Input) (old new : InterlockingState) (step : WholeStep now input old new) (place : ℕ) (taken : TurnTaken)
+        → ReleasedAreEnded old.state.ixl → slice_get step.turns place ≡ Some taken → (frees : FreesByRelease now old.state.sited.table number taken) → IsOver frees.route }
+    ensures freed { (now number : ℕ) (input : Input) (old new : InterlockingState) (step : WholeStep now input old new) (place : ℕ) (taken : TurnTaken)
+        → ReleasedAreEnded old.state.ixl → slice_get step.turns place ≡ Some taken → FreesByRelease now old.state.sited.table number taken
+        → taken.after ≡ with_route number freed taken.before }
 {}
 
 /// Where the first inputs of an interlocking that was just made are closes of what is there, each is accepted, and all that they

@@ -18,14 +18,14 @@ returns-clause-aspects c now number input old new step place taken thing unused 
     number place taken thing at gives uses closed
 
 pub returns-clause-moves : goal.returns-clause-moves
-returns-clause-moves c now point input old new step place taken unused holds at gives closed =
+returns-clause-moves c now point input old new step place taken unused is_table at gives closed =
     no_move now input old new step
     (input_unused (λ now table ixl route none. (c.request_is_accepted_where_admissible.ensures.accepted now table ixl route).0 none)
     (λ now table ixl named none. (c.close_is_accepted_where_nothing_is_used.ensures.closed now table ixl named).0 none)
     (λ closed named thing is. (c.a_command_changes_what_it_names_alone.ensures.closed closed named thing).0 is)
     (λ closed named thing is. ((c.a_command_changes_what_it_names_alone.ensures.opened closed named thing).0 is).1)
     now old.state.sited.table (key_of old.state.sited.site) input old.state.ixl unused)
-    point place taken holds at gives closed
+    point place taken is_table at gives closed
 
 pub returns-clause-commands : goal.returns-clause-commands
 unfolding all_clocked
