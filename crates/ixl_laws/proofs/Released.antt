@@ -20,7 +20,7 @@ use Rattle.ixl_state.specs.ixl_spec.declared.phase.Phase.TheVariants as phase
 use Rattle.ixl_state.specs.First.{Beginning, key_of, new_ixl, new_route_of}
 use Rattle.ixl.specs.Interlocking.{HasStepped, InterlockingState}
 use Rattle.ixl_laws.specs.Onward.{IsOnward, order_of}
-use Rattle.ixl_laws.specs.Operations.{IsOver, ReleasedAreEnded, released_after}
+use Rattle.ixl_laws.specs.Operations.{IsOver, IsUnreleased, ReleasedAreEnded, released_after}
 use Rattle.ixl_laws.proofs.Apart.{set_back}
 use Rattle.ixl_laws.proofs.Following.{FollowsAll}
 use Rattle.ixl_laws.proofs.KeptBehind.{behind_input, command_stays, left_by, others_stay, stepped_stays}
@@ -191,7 +191,9 @@ step_ended now input old new answer step ended =
     in subst ReleasedAreEnded (sym step.ixl)
     (ended_still (behind_input now table key input old.state.ixl).ixl (stepped now table key input (begun_with old.state.ixl empty_outbox)).ixl (stepped_stays now table key input old.state.ixl).follow (input_ended now table key input old.state.ixl ended))
 
-pub first_ended : (site : Site) (table : Table) (begins : Beginning) → ReleasedAreEnded (new_ixl site table begins)
+pub first_unreleased : (site : Site) (table : Table) (begins : Beginning) (number : ℕ) → IsUnreleased number (new_ixl site table begins)
 unfolding new_ixl
-first_ended site table begins number route clock is released set =
-    let found = mapped_from new_route_of table.rows number route is in absurd (none_is (ap (λ (r : RouteState). r.released) found.2 ∙ released))
+first_unreleased site table begins number route is = ap (λ (r : RouteState). r.released) (sym (mapped_from new_route_of table.rows number route is).2)
+
+pub first_ended : (site : Site) (table : Table) (begins : Beginning) → ReleasedAreEnded (new_ixl site table begins)
+first_ended site table begins number route clock is released set = absurd (none_is (sym (first_unreleased site table begins number route is) ∙ released))

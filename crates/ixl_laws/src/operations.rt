@@ -113,12 +113,13 @@ pub fn a_move_by_command_is_given_once()
     move_is_accepted_where_it_may_be();
 }
 
-/// Of a route the clock is kept at which its release was first accepted in its present setting. Only a route that is cancelled
-/// and whose authority is ended is released.
+/// Of a route the clock is kept at which its release was first accepted in its present setting; at first none was released.
+/// Only a route that is cancelled and whose authority is ended is released.
 pub fn releases_are_noted_with_their_clock()
     ensures clock { (now : ℕ) (input : Input) (old new : InterlockingState) (answer : Reply) (number : ℕ) (before after : RouteState) → HasStepped now input old new answer
         → slice_get old.state.ixl.routes number ≡ Some before → slice_get new.state.ixl.routes number ≡ Some after
         → after.released ≡ released_after now input answer number before.released }
+    ensures unreleased { (site : Site) (table : Table) (begins : Beginning) (number : ℕ) → IsUnreleased number (new_ixl site table begins) }
     ensures first { (site : Site) (table : Table) (begins : Beginning) → ReleasedAreEnded (new_ixl site table begins) }
     ensures ended { (now : ℕ) (input : Input) (old new : InterlockingState) (answer : Reply) → HasStepped now input old new answer
         → ReleasedAreEnded old.state.ixl → ReleasedAreEnded new.state.ixl }
