@@ -1,4 +1,4 @@
--- A route that is freed by its release is over in the turn that frees it.
+-- A route that is freed by its release is cancelled then, and its authority is ended.
 use Rattle.std.proofs.Common.{◌≡◌, inr, ℕ, Bool, true, false, length, refl, ap, sym, ◌∙◌, subst}
 use Rattle.std.specs.Prelude.{Some, slice_get}
 use Rattle.std.proofs.lemmas.Bool.{false≢true}
@@ -11,7 +11,7 @@ use Rattle.ixl_state.specs.ixl_spec.StepSoFar.{StepSoFar, with_route}
 use Rattle.ixl_state.specs.ixl_spec.declared.phase.Phase.TheVariants as phase
 use Rattle.ixl_state.specs.First.{key_of}
 use Rattle.ixl.specs.Interlocking.{InterlockingState}
-use Rattle.ixl_laws.specs.Operations.{FreesByRelease, IsOver, ReleasedAreEnded}
+use Rattle.ixl_laws.specs.Operations.{FreesByRelease, IsCancelledAndEnded, ReleasedAreEnded}
 use Rattle.ixl_laws.specs.WholeStep.{DoesItsTurn, FreeCancelled, Turn, TurnTaken, WholeStep, heard}
 use Rattle.ixl_laws.proofs.KeptBehind.{KeptSince, nothing_yet}
 use Rattle.ixl_laws.proofs.PickedByTest.{some_same}
@@ -19,9 +19,9 @@ use Rattle.ixl_laws.proofs.Released.{ended_is, ended_still, input_ended}
 use Rattle.ixl_laws.proofs.TurnFollows.{turn_kept}
 use Rattle.ixl_laws.proofs.TurnKeeps.{Stays, turn_at, up_to}
 
--- whether a route is over can be seen of it
-over_seen : (route : RouteState) → Stays (IsOver route) → IsOver route
-over_seen route stays = (by_cancel route.cancelled refl, by_phase (is_ended route.phase) refl) where
+-- whether it is so can be seen of the route
+ended_seen : (route : RouteState) → Stays (IsCancelledAndEnded route) → IsCancelledAndEnded route
+ended_seen route stays = (by_cancel route.cancelled refl, by_phase (is_ended route.phase) refl) where
   by_cancel : (cancelled : Bool) → route.cancelled ≡ cancelled → route.cancelled ≡ true
   by_cancel true is = is
   by_cancel false is = absurd (stays (λ over. false≢true (sym is ∙ over.0)))
@@ -38,8 +38,8 @@ module _ (now number : ℕ) (input : Input) (old new : InterlockingState) (step 
   abbrev Kept : StepSoFar → Type 0
   Kept part = KeptSince begin.ixl.closed (length begin.ixl.known_signals) begin.ixl.routes part
 
-  pub over_in_turn : IsOver frees.route
-  over_in_turn = over_seen frees.route (λ lost.
+  pub ended_in_turn : IsCancelledAndEnded frees.route
+  ended_in_turn = ended_seen frees.route (λ lost.
       up_to now old.state.sited.table Kept (turn_kept now old.state.sited.table begin.ixl.closed (length begin.ixl.known_signals) begin.ixl.routes) step.turns begin step.last step.follow place taken at (nothing_yet begin)
       (λ kept. lost (ended_still begin.ixl taken.before.ixl kept.follow (input_ended now old.state.sited.table (key_of old.state.sited.site) input old.state.ixl ended)
       number frees.route frees.over.0 frees.is.1 frees.over.1 frees.set)))
@@ -51,4 +51,4 @@ module _ (now number : ℕ) (input : Input) (old new : InterlockingState) (step 
       by_route : DoesItsTurn now old.state.sited.table (FreeCancelled number) taken.before taken.after → taken.after ≡ with_route number freed taken.before
       by_route (row, route, is, did) =
           did.due (subst (FreeByCancel now old.state.sited.table taken.before.ixl row) (some_same (sym frees.is.1 ∙ is.1))
-          (over_in_turn.0, inr (over_in_turn.1.0, over_in_turn.1.1, over_in_turn.1.2, inr frees.over)))
+          (ended_in_turn.0, inr (ended_in_turn.1.0, ended_in_turn.1.1, ended_in_turn.1.2, inr frees.over)))

@@ -20,7 +20,7 @@ use Rattle.ixl_state.specs.ixl_spec.declared.phase.Phase.TheVariants as phase
 use Rattle.ixl_state.specs.First.{Beginning, key_of, new_ixl, new_route_of}
 use Rattle.ixl.specs.Interlocking.{HasStepped, InterlockingState}
 use Rattle.ixl_laws.specs.Onward.{IsOnward, order_of}
-use Rattle.ixl_laws.specs.Operations.{IsOver, IsUnreleased, ReleasedAreEnded, released_after}
+use Rattle.ixl_laws.specs.Operations.{IsCancelledAndEnded, IsUnreleased, ReleasedAreEnded, released_after}
 use Rattle.ixl_laws.proofs.Apart.{set_back}
 use Rattle.ixl_laws.proofs.Following.{FollowsAll}
 use Rattle.ixl_laws.proofs.KeptBehind.{behind_input, command_stays, left_by, others_stay, stepped_stays}
@@ -139,7 +139,7 @@ both_are true false is = absurd (true≢false is)
 both_are false b is = absurd (true≢false is)
 
 -- a release that isn't refused
-release_passed : (now : ℕ) (ixl : IxlState) (route : RouteState) → release_refusal now ixl (Some route) ≡ None → IsOver route
+release_passed : (now : ℕ) (ixl : IxlState) (route : RouteState) → release_refusal now ixl (Some route) ≡ None → IsCancelledAndEnded route
 release_passed now ixl route none =
     let third : Option Refusal = refused_where (not (route.cancelled && is_ended route.phase)) refusals.NotEnded None
     in let second : Option Refusal = refused_where (not (is_set route.phase)) refusals.NotSet third
@@ -152,18 +152,18 @@ release_passed now ixl route none =
 obeyed_ended : (now : ℕ) (table : Table) (command : Command) (ixl : IxlState) → refusal now table command ixl ≡ None → ReleasedAreEnded ixl → ReleasedAreEnded (obeyed now command ixl)
 unfolding obeyed refusal
 obeyed_ended now table (commands.Request route) ixl none ended number after clock is released set = by_place (changed_or_same set_anew route.0 number ixl.routes after is) where
-  by_place : (before : RouteState) × (slice_get ixl.routes number ≡ Some before) × ((after ≡ before) ⊎ ((number ≡ route.0) × (after ≡ set_anew before))) → IsOver after
+  by_place : (before : RouteState) × (slice_get ixl.routes number ≡ Some before) × ((after ≡ before) ⊎ ((number ≡ route.0) × (after ≡ set_anew before))) → IsCancelledAndEnded after
   by_place (before, there, inl same) = ended number after clock (there ∙ ap Some (sym same)) released set
   by_place (before, there, inr (here, same)) = absurd (none_is (ap (λ (r : RouteState). r.released) (sym same) ∙ released))
 obeyed_ended now table (commands.Cancel route) ixl none ended number after clock is released set = by_place (changed_or_same (λ old. record old { cancelled = true }) route.0 number ixl.routes after is) where
-  by_place : (before : RouteState) × (slice_get ixl.routes number ≡ Some before) × ((after ≡ before) ⊎ ((number ≡ route.0) × (after ≡ record before { cancelled = true }))) → IsOver after
+  by_place : (before : RouteState) × (slice_get ixl.routes number ≡ Some before) × ((after ≡ before) ⊎ ((number ≡ route.0) × (after ≡ record before { cancelled = true }))) → IsCancelledAndEnded after
   by_place (before, there, inl same) = ended number after clock (there ∙ ap Some (sym same)) released set
   by_place (before, there, inr (here, same)) =
       let over = ended number before clock there (ap (λ (r : RouteState). r.released) (sym same) ∙ released) (ap (λ (r : RouteState). is_set r.phase) (sym same) ∙ set)
       in (ap (λ (r : RouteState). r.cancelled) same, (over.1.0, over.1.1, ap (λ (r : RouteState). r.phase) same ∙ over.1.2))
 obeyed_ended now table commands.Resume ixl none ended number after clock is released set = ended number after clock is released set
 obeyed_ended now table (commands.Release route) ixl none ended number after clock is released set = by_place (changed_or_same (released_at now) route.0 number ixl.routes after is) where
-  by_place : (before : RouteState) × (slice_get ixl.routes number ≡ Some before) × ((after ≡ before) ⊎ ((number ≡ route.0) × (after ≡ released_at now before))) → IsOver after
+  by_place : (before : RouteState) × (slice_get ixl.routes number ≡ Some before) × ((after ≡ before) ⊎ ((number ≡ route.0) × (after ≡ released_at now before))) → IsCancelledAndEnded after
   by_place (before, there, inl same) = ended number after clock (there ∙ ap Some (sym same)) released set
   by_place (before, there, inr (here, same)) =
       let over = release_passed now ixl before (ap (release_refusal now ixl) (sym (ap (λ n. slice_get ixl.routes n) (sym here) ∙ there)) ∙ none)

@@ -55,12 +55,12 @@ released_after now (Commands (commands.Release route)) Accepted number released 
 released_after now _ _ number released = released
 
 -- a route is cancelled, and its authority is ended
-abbrev pub IsOver : RouteState → Type 0
-IsOver route = (route.cancelled ≡ true) × ((ended : ℕ) × (freed : ℕ) × (route.phase ≡ phase.Ended ended freed))
+abbrev pub IsCancelledAndEnded : RouteState → Type 0
+IsCancelledAndEnded route = (route.cancelled ≡ true) × ((ended : ℕ) × (freed : ℕ) × (route.phase ≡ phase.Ended ended freed))
 
--- Each set route that is released is over.
+-- Each set route that is released is cancelled, and its authority is ended.
 abbrev pub ReleasedAreEnded : IxlState → Type 0
-ReleasedAreEnded ixl = (number : ℕ) (route : RouteState) (clock : ℕ) → slice_get ixl.routes number ≡ Some route → route.released ≡ Some clock → is_set route.phase ≡ true → IsOver route
+ReleasedAreEnded ixl = (number : ℕ) (route : RouteState) (clock : ℕ) → slice_get ixl.routes number ≡ Some route → route.released ≡ Some clock → is_set route.phase ≡ true → IsCancelledAndEnded route
 
 -- a release of a route is accepted
 abbrev pub ReleaseGiven : ℕ → StepTaken → Type 0

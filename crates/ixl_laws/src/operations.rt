@@ -24,7 +24,7 @@ ghost use Rattle.ixl_state.specs.ixl_spec.declared.command.Refusal.{Refusal};
 ghost use Rattle.ixl_state.specs.ixl_table.Table.{IsTableOf};
 ghost use Rattle.ixl.specs.Interlocking.{HasStepped, InterlockingState};
 ghost use Rattle.ixl_laws.specs.GivenOnce.{GivesMove, GivesProceed, InNone, OneAfterAnother, SetsAnew, StepTaken};
-ghost use Rattle.ixl_laws.specs.Operations.{AllAccepted, AreCloses, FreesByRelease, IsMovedOnce, IsOver, IsReleasedBefore, IsUnreleased, NothingClosedIsUsed, ReleasedAreEnded, closed_after, last_of, released_after};
+ghost use Rattle.ixl_laws.specs.Operations.{AllAccepted, AreCloses, FreesByRelease, IsCancelledAndEnded, IsMovedOnce, IsReleasedBefore, IsUnreleased, NothingClosedIsUsed, ReleasedAreEnded, closed_after, last_of, released_after};
 ghost use Rattle.ixl_laws.specs.WholeStep.{Fits, TurnTaken, WholeStep, clock_left, heard};
 
 use ixl_client::initialisations_go_out_in_order;
@@ -132,8 +132,8 @@ pub fn a_release_frees_only_after_its_time()
     ensures before { (number : ℕ) (first : StepTaken) (others : List StepTaken) (place : ℕ) (taken : TurnTaken) → OneAfterAnother first others → IsUnreleased number first.old.state.ixl
         → slice_get (last_of first others).whole.turns place ≡ Some taken → FreesByRelease (last_of first others).now (last_of first others).old.state.sited.table number taken
         → IsReleasedBefore number (first ∷ others) (last_of first others).now }
-    ensures over { (now number : ℕ) (input : Input) (old new : InterlockingState) (step : WholeStep now input old new) (place : ℕ) (taken : TurnTaken)
-        → ReleasedAreEnded old.state.ixl → slice_get step.turns place ≡ Some taken → (frees : FreesByRelease now old.state.sited.table number taken) → IsOver frees.route }
+    ensures ended { (now number : ℕ) (input : Input) (old new : InterlockingState) (step : WholeStep now input old new) (place : ℕ) (taken : TurnTaken)
+        → ReleasedAreEnded old.state.ixl → slice_get step.turns place ≡ Some taken → (frees : FreesByRelease now old.state.sited.table number taken) → IsCancelledAndEnded frees.route }
     ensures freed { (now number : ℕ) (input : Input) (old new : InterlockingState) (step : WholeStep now input old new) (place : ℕ) (taken : TurnTaken)
         → ReleasedAreEnded old.state.ixl → slice_get step.turns place ≡ Some taken → FreesByRelease now old.state.sited.table number taken
         → taken.after ≡ with_route number freed taken.before }
