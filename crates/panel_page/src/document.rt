@@ -1,7 +1,7 @@
 //! The page, as it is served.
 
-/// The page of a panel: HTML with its style and its script, and with nothing from elsewhere.
-pub const PAGE: &str = r##"<!doctype html>
+/// The page itself.
+const PAGE: &str = r##"<!doctype html>
 <html lang="en">
 <head>
 <meta charset="utf-8">
@@ -1270,3 +1270,9 @@ start();
 </body>
 </html>
 "##;
+
+/// The page of a panel: HTML with its style and its script, and with nothing from elsewhere. It is a function, since a constant is
+/// proved anew wherever it is named.
+pub fn page() -> &'static str {
+    PAGE
+}

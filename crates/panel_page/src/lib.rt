@@ -3,4 +3,4 @@
 
 mod document;
 
-pub use document::PAGE;
+pub use document::page;

@@ -133,7 +133,7 @@ fn play_panel<'a>(
     let page = PageAsked {
         layout,
         plan: str::from_utf8(&plan).unwrap_or(""),
-        page: panel_page::PAGE,
+        page: panel_page::page(),
         version: VERSION,
         port: panel.port,
         kind: "world",

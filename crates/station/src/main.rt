@@ -17,7 +17,6 @@ use node_record::{
     Cut as NodeCut, FoundEnds, NodeCaptureOptions, NodeRecord, capture_node_to_file,
     chart_node_text, decode_node_text, ends_text,
 };
-use panel_page::PAGE;
 use station_command::{
     Approach, CaptureArguments, ChartArguments, CheckArguments, DatagramArguments, DrawArguments,
     Error, Failure, NodeArguments, PanelArguments, PlanArguments, Request, RoutesArguments,
@@ -318,7 +317,7 @@ fn panel(rt: &HostRuntime, arguments: PanelArguments<'_>) -> Result<u8, Failure>
     let page = PageAsked {
         layout,
         plan: str::from_utf8(&plan).unwrap_or(""),
-        page: PAGE,
+        page: panel_page::page(),
         version: VERSION,
         port: port_of(arguments.port),
         kind: "world",
