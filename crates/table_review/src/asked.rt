@@ -17,7 +17,7 @@ use std::alloc::Global;
 
 /// What is asked: the text of a layout, the names of the signals at which the routes begin, with commas between, where
 /// it isn't all, and the rule of approach.
-#[derive(Clone, Copy, Debug)]
+#[derive(Clone, Copy)]
 pub struct Asked<'a> {
     pub text: &'a str,
     pub from: Option<&'a str>,
@@ -25,7 +25,7 @@ pub struct Asked<'a> {
 }
 
 /// A sound table, and the routes that it lacks.
-#[derive(Debug, Drop)]
+#[derive(Drop)]
 pub(crate) struct Lacking {
     pub(crate) table: Checked,
     pub(crate) routes: Vec<DerivedRoute>,

@@ -12,7 +12,7 @@ use route_derivation::control_table::{Aspect, Side};
 use std::alloc::{AllocError, Global};
 
 /// How a route is written: as a block `[[route]]` after an empty line, or as an item of an array `route`.
-#[derive(Clone, Copy, Debug, PartialEq, Eq)]
+#[derive(Clone, Copy)]
 pub enum Form {
     Block,
     Item,

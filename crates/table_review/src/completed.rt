@@ -17,7 +17,7 @@ use layout_text::LayoutFault;
 use std::alloc::{AllocError, Global};
 
 /// A text that has the routes that its table lacked, and how many these are.
-#[derive(Debug, Drop)]
+#[derive(Drop)]
 pub struct Completed {
     pub text: Vec<u8>,
     pub routes: usize,

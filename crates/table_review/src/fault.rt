@@ -7,7 +7,7 @@ use std::alloc::{AllocError, AllocFailed};
 use std::fmt;
 
 /// Why nothing is told of a table.
-#[derive(Debug, Drop)]
+#[derive(Drop)]
 pub enum ReviewFault {
     /// The text is no layout, or says of a point what no key `slow` may say.
     Layout(LayoutFault),
@@ -35,8 +35,8 @@ impl fmt::Display for ReviewFault {
             ReviewFault::Table(fault) => write!(f, "table fault {fault}"),
             ReviewFault::Signal(place) => write!(f, "signal fault 2 Name at {place}"),
             ReviewFault::Underived(fault) => write!(f, "routes fault: {fault}"),
-            ReviewFault::NoPlace => write!(f, "routes fault: no place for them in the text"),
-            ReviewFault::OutOfMemory => write!(f, "out of memory"),
+            ReviewFault::NoPlace => f.write_str("routes fault: no place for them in the text"),
+            ReviewFault::OutOfMemory => f.write_str("out of memory"),
         }
     }
 }

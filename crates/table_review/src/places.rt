@@ -7,7 +7,7 @@ ghost use Rattle.table_review.specs.declared.places.Spot.TheVariants.{Drawing};
 use crate::block::Form;
 
 /// A place in a text at which routes may be put.
-#[derive(Clone, Copy, Debug)]
+#[derive(Clone, Copy)]
 pub(crate) enum Spot {
     /// As blocks, at the end of the text.
     End,
