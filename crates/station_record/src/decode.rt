@@ -58,7 +58,6 @@ fn decode<W: Write>(
 }
 
 /// Writes what goes over the network of a new world of this table as a session is applied to it.
-#[tactic(auto, using(crate::proofs::Lines::told_of_first))]
 fn write_traffic<W: Write>(
     alloc: Global,
     table: Checked,
