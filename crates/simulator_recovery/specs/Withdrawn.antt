@@ -1,4 +1,5 @@
--- When a cancelled route is free whose approach counted, when one is free that was released, and when authority has ended whatever came before.
+-- When a cancelled route is free whose approach counted, when one is free that was released, and when authority has ended whatever
+-- came before.
 use Rattle.std.specs.Prelude.{◌≡◌, ◌≢◌, ℕ, List, [], ◌∷◌}
 use Rattle.simulator_spec.specs.layout.declared.ids.RouteId.{RouteId}
 use Rattle.simulator_spec.specs.ixl_spec.declared.command.Command.TheVariants as commands
