@@ -92,7 +92,7 @@ fn expect(rt: &impl Abort, tally: &Tally, counts: &[(Count, usize)]) {
 }
 
 /// The network and the clocks are hostile in the runs of every station.
-const MISCHIEF: [(Count, usize); 15] = [
+const MISCHIEF: [(Count, usize); 14] = [
     (Count::Events, 300_000),
     (Count::Lost, 200),
     (Count::Repeated, 3000),
@@ -104,10 +104,9 @@ const MISCHIEF: [(Count, usize); 15] = [
     (Count::NeverSent, 200),
     (Count::Drifted, 50),
     (Count::NotDriven, 500),
-    (Count::MovedByHand, 30),
-    (Count::Closed, 30),
-    (Count::Opened, 100),
-    (Count::FreedReleased, 3),
+    (Count::MovedByHand, 10),
+    (Count::Closed, 50),
+    (Count::Opened, 300),
 ];
 
 /// A station is safe in its runs, in which so much happened.
@@ -127,6 +126,7 @@ fn the_small_station_is_safe_in_hostile_runs(rt: HostRuntime) {
         (Count::ProceedsShown, 100),
         (Count::FellToStop, 100),
         (Count::SectionsFreed, 120),
+        (Count::FreedReleased, 5),
         (Count::SetBehind, 30),
         (Count::StationsAnewAtProceed, 5),
         (Count::ControllersAnewAtProceed, 8),
