@@ -14,7 +14,7 @@ from recovery import CRATE
 TESTS = ["the_small_station_is_safe_in_hostile_runs", "the_junction_is_safe_in_hostile_runs", "slow_routes_are_safe_in_hostile_runs"]
 
 # how many events a run has, as runs.rt has them, and how many runs one process goes through: each has to see enough of everything
-EVENTS, SHARE = 8000, 60
+EVENTS, SHARE = 8000, 600
 
 
 def go_through(program, test, first):
