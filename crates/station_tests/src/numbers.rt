@@ -112,7 +112,7 @@ fn a_node_tells_no_number_unasked(rt: HostRuntime) {
 fn a_node_tells_the_numbers_that_it_is_asked_for(rt: HostRuntime) {
     let asked = ["resume", "set R1", "numbers"];
     let mut outside = told_by(&rt, rt.alloc(), &asked);
-    assert!(rt; count(&mut outside, "number ") == 32);
+    assert!(rt; count(&mut outside, "number ") == 36);
     let mut outside = told_by(&rt, rt.alloc(), &asked);
     assert!(rt; count(&mut outside, "number commands_total refused_2 2") == 1);
     let mut outside = told_by(&rt, rt.alloc(), &asked);
