@@ -55,7 +55,7 @@ try_library() {
     local name=$1 library=$room/$1/libzendurai.a
     echo "-- built by $name"
     compile replay -O2 "$bench/embed_replay.c" "$examples/heap.c" "$library"
-    "$room/replay" signal "$record" 11 1 A HALDEN 2
+    "$room/replay" signal "$bench/S1.record" 2 1 S1 IXL1 1
     compile hostile -O2 "$bench/embed_hostile.c" "$library"
     "$room/hostile" "$record" "$steps" "$seed"
     compile station -O2 "$bench/embed_hostile_station.c" "$library"

@@ -20,6 +20,6 @@ for program in replay hostile hostile_station; do
     aarch64-linux-gnu-gcc -std=c11 -O2 -static -Wall -Wextra -Wpedantic -Werror -I"$crates/controllers_c" -I"$crates/interlocking_c" -I"$crates/codec" \
         -o "$room/$program" "$bench/embed_$program.c" $([ $program = replay ] && echo "$examples/heap.c") "$room/libzendurai.a"
 done
-qemu-aarch64 "$room/replay" signal "$crates/stored_runs/data/A.record" 11 1 A HALDEN 2
+qemu-aarch64 "$room/replay" signal "$bench/S1.record" 2 1 S1 IXL1 1
 qemu-aarch64 "$room/hostile" "$crates/stored_runs/data/A.record" "${1:-200000}" "${2:-1}"
 qemu-aarch64 "$room/hostile_station" "$top/examples/small.toml" "${1:-200000}" "${2:-1}"

@@ -48,7 +48,7 @@ static void differs(const char *wanted) {
 static int begins(const char *word) { return !strncmp(line, word, strlen(word)); }
 static uint64_t reading(void) {
     uint64_t now;
-    if (!line[0]) ends();
+    if (!line[0] || !strcmp(line, "closed")) ends(); /* its lines ended, and so does the process */
     if (sscanf(line, "at %" SCNu64, &now) != 1) differs("a reading");
     go_on();
     return now;
@@ -243,7 +243,12 @@ static void starts_interlocking(uint64_t now, const char *layout, uint32_t numbe
     if (zendurai_interlocking_start(&ixl, sizeof room, text, length, number, now, why, sizeof why, &size)) differs("no start");
 }
 
-/* Before its first reading a controller's process writes what rests, and waits for its `done` and for its contacts. */
+/* What rests is written behind the first step of its process. */
+static void rests_written(void) {
+    if (begins("writes ")) written = 1, go_on();
+}
+
+/* Before its controller is made a process writes what rests, and waits for its `done` and for its contacts. */
 static uint64_t opens(void) {
     const char *rests = kind == SIGNAL ? "show stop" : "drive none";
     strcpy(order, rests);
@@ -252,9 +257,10 @@ static uint64_t opens(void) {
         while (begins("hears ") || begins("from ")) {
             char heard[2048];
             strcpy(heard, line), go_on(), hears_line(heard, reading(), 0);
+            rests_written();
         }
         reading(); /* it ends */
-        if (begins("writes ")) written = 1, go_on();
+        rests_written();
         int all = kind == DETECTOR ? 1 : in_force >= 1;
         for (int i = 0; i < (kind == DETECTOR ? section_count : kind == POINT); i++) all &= told[i];
         if (all) return reading();
@@ -272,6 +278,7 @@ int main(int argc, char **argv) {
     uint32_t number = 0;
     if (sscanf(line, "node %*s first %" SCNu32, &number) != 1) differs("a head");
     go_on();
+    reading(); /* the process begins */
     const char *partner = kind == IXL ? NULL : argv[6];
     if (kind == IXL) starts_interlocking(begun = reading(), argv[3], number);
     else starts(begun = opens(), argv + 3, number);

@@ -288,6 +288,13 @@ class Run:
         self.nodes[STATION].say(f"cancel {name}")
         return shown
 
+    def operate(self):
+        """Each command that operates a station through failures, with what is there and what isn't."""
+        for line in ("close G2", "close P1 left", "close S1", "close R3", "close NONE", "set R1", "open S1", "move P1 right", "move NONE left",
+                     "release R1", "release NONE", "open P1", "open G2", "open R3", "open NONE"):
+            self.nodes[STATION].say(line)
+            time.sleep(0.3)
+
     def weather(self, kind):
         self.relay.lost, self.relay.repeated, self.relay.delay = {"good": (0, 0, 0.01), "poor": (0.03, 0.05, 0.1), "bad": (0.25, 0.1, 0.5)}[kind]
 
@@ -360,6 +367,7 @@ def main():
         time.sleep(1)
         if run.records:
             done = collections.Counter(run.route(name, True) for name in ("R1", "R3", "R2"))
+            run.operate()
         else:
             done = drive(run, options.seconds)
         wrong = judged(run, done)
