@@ -7,8 +7,6 @@ mod addresses;
 #[cfg(test)]
 mod captures;
 #[cfg(test)]
-mod closings;
-#[cfg(test)]
 mod command_bench;
 #[cfg(test)]
 mod controllers;
@@ -16,6 +14,8 @@ mod controllers;
 mod endless_files;
 #[cfg(test)]
 mod faults;
+#[cfg(test)]
+mod link_closings;
 #[cfg(test)]
 mod memory;
 #[cfg(test)]
