@@ -4,7 +4,9 @@ ghost use Rattle.std.specs.Prelude.{◌≡◌};
 ghost use Rattle.node_lines.specs.Known.{signal_word};
 
 use crate::word_table::{known_occupancy_word, known_side_word, link_word, route_state_word};
-use replay_lines::ixl_spec::{Aspect, Layout, Occupancy, PointId, Refusal, RouteId, SectionId, Side, SignalId};
+use replay_lines::ixl_spec::{
+    Aspect, Layout, Occupancy, PointId, Refusal, RouteId, SectionId, Side, SignalId,
+};
 use replay_lines::{AnswerText, point_word, route_word, section_word};
 use simulator_event::{Answer, NodeId};
 use std::fmt;
