@@ -1,4 +1,5 @@
 pub mod Lines
+pub mod ClosedHeard
 pub mod Heard
 pub mod Turns
 pub mod Panels

@@ -4,6 +4,7 @@
 
 mod asking;
 mod attendance;
+mod closed_heard;
 mod command;
 mod failure;
 mod heard;

@@ -1,3 +1,4 @@
 pub mod Lived
 pub mod Places
 pub mod Silent
+pub mod Found
