@@ -13,9 +13,6 @@ use Rattle.panel_desk.specs.node_lines.declared.operator_line.Authority.{Authori
 use Rattle.panel_desk.specs.node_lines.declared.operator_command.OperatorCommand.{OperatorCommand}
 use Rattle.node_drive.specs.Calls.{AsksLine, Call, LineHeard}
 use Rattle.panel_desk.specs.run_numbers.Metrics.{nothing_told}
-use Rattle.panel_desk.specs.node_lines.closings.Auxiliaries.{none_counted}
-use Rattle.panel_desk.specs.node_lines.closings.declared.auxiliary.AuxiliaryCounts.{AuxiliaryCounts}
-use Rattle.node_panel.specs.ClosedHeard.{ClosedView, all_open, nothing_closed}
 use Rattle.node_panel.specs.Heard.{HeardView, forgotten, heard_all, heard_by, unheard}
 use Rattle.node_panel.specs.Turns.{AsksEach, asks, breaks_off, none}
 
@@ -72,17 +69,6 @@ one_taken f place all item other below is =
     let next : suc place ≡ place + 1 = omega arith in
     ap (λ one. flat_map f (take place all) ++ f one) is ∙ next_taken f place all other below ∙ ap (λ p. flat_map f (take p all)) next
 
-mapped_next : {A B : Type 0} (f : A → B) (place : ℕ) (all : List A) (other : A) → place < length all → map f (take place all) ++ f (get_or all place other) ∷ [] ≡ map f (take (suc place) all)
-mapped_next f place [] other below = absurd (omega (arith, below))
-mapped_next f zero (first ∷ others) other below = refl
-mapped_next f (suc place) (first ∷ others) other below = ap (λ l. f first ∷ l) (mapped_next f place others other (omega (arith, below)))
-
-pub one_mapped : {A B : Type 0} (f : A → B) (place : ℕ) (all : List A) (item other : A) → place < length all → item ≡ get_or all place other
-    → map f (take place all) ++ f item ∷ [] ≡ map f (take (place + 1) all)
-one_mapped f place all item other below is =
-    let next : suc place ≡ place + 1 = omega arith in
-    ap (λ one. map f (take place all) ++ f one ∷ []) is ∙ mapped_next f place all other below ∙ ap (λ p. map f (take p all)) next
-
 as_many : {A : Type 0} (count : ℕ) (value : A) → length (replicate count value) ≡ count
 as_many zero value = refl
 as_many (suc more) value = ap suc (as_many more value)
@@ -95,9 +81,8 @@ all_put vec old new value is put =
 
 -- what was heard has these lists, each of which is as if nothing had been told
 pub is_forgotten : (heard : HeardView) (links : List Bool) (sections : List (Option Occupancy)) (points : List (Option Side)) (authorities : List (Option Authority)) (indications : List (Option Aspect))
-    (routes released : List Bool) (closed : ClosedView) (counts : AuxiliaryCounts) (first_lost second_lost : List (Option Bool)) (asked : List OperatorCommand) (numbers : List (Option ℕ)) (questioned : Option ℕ) → links ≡ replicate (length heard.links) false → sections ≡ replicate (length heard.sections) None → points ≡ replicate (length heard.points) None
+    (routes : List Bool) (first_lost second_lost : List (Option Bool)) (asked : List OperatorCommand) (numbers : List (Option ℕ)) (questioned : Option ℕ) → links ≡ replicate (length heard.links) false → sections ≡ replicate (length heard.sections) None → points ≡ replicate (length heard.points) None
     → authorities ≡ replicate (length heard.authorities) None → indications ≡ replicate (length heard.indications) None → routes ≡ replicate (length heard.routes) false
-    → released ≡ replicate (length heard.released) false → closed ≡ all_open heard.closed → counts ≡ none_counted
     → first_lost ≡ replicate (length heard.first_lost) None → second_lost ≡ replicate (length heard.second_lost) None → asked ≡ []
     → numbers ≡ replicate (length heard.numbers) None → questioned ≡ None
     → record {
@@ -110,16 +95,13 @@ pub is_forgotten : (heard : HeardView) (links : List Bool) (sections : List (Opt
       authorities = authorities;
       indications = indications;
       routes = routes;
-      released = released;
-      closed = closed;
-      counts = counts;
       first_lost = first_lost;
       second_lost = second_lost;
       asked = asked;
       numbers = numbers;
       questioned = questioned;
     } ≡ forgotten heard
-is_forgotten heard links sections points authorities indications routes released closed counts first_lost second_lost asked numbers questioned a b d e f h r s t m n k p q =
+is_forgotten heard links sections points authorities indications routes first_lost second_lost asked numbers questioned a b d e f h m n k p q =
     λ i. record {
       millis = heard.millis;
       joined = false;
@@ -130,9 +112,6 @@ is_forgotten heard links sections points authorities indications routes released
       authorities = e i;
       indications = f i;
       routes = h i;
-      released = r i;
-      closed = s i;
-      counts = t i;
       first_lost = m i;
       second_lost = n i;
       asked = k i;
@@ -142,9 +121,8 @@ is_forgotten heard links sections points authorities indications routes released
 
 -- what was heard of a station with these lists, of which nothing was told
 pub is_unheard : (site : Site) (links : List Bool) (sections : List (Option Occupancy)) (points : List (Option Side)) (authorities : List (Option Authority)) (indications : List (Option Aspect))
-    (routes released : List Bool) (closed : ClosedView) (counts : AuxiliaryCounts) (first_lost second_lost : List (Option Bool)) (asked : List OperatorCommand) (numbers : List (Option ℕ)) → links ≡ replicate (link_count site) false → sections ≡ replicate (length site.sections) None
+    (routes : List Bool) (first_lost second_lost : List (Option Bool)) (asked : List OperatorCommand) (numbers : List (Option ℕ)) → links ≡ replicate (link_count site) false → sections ≡ replicate (length site.sections) None
     → points ≡ replicate (length site.points) None → authorities ≡ replicate (length site.signals) None → indications ≡ replicate (length site.signals) None → routes ≡ replicate (length site.routes) false
-    → released ≡ replicate (length site.routes) false → closed ≡ nothing_closed site → counts ≡ none_counted
     → first_lost ≡ replicate (link_count site) None → second_lost ≡ replicate (link_count site) None → asked ≡ [] → numbers ≡ nothing_told
     → record {
       millis = 0;
@@ -156,16 +134,13 @@ pub is_unheard : (site : Site) (links : List Bool) (sections : List (Option Occu
       authorities = authorities;
       indications = indications;
       routes = routes;
-      released = released;
-      closed = closed;
-      counts = counts;
       first_lost = first_lost;
       second_lost = second_lost;
       asked = asked;
       numbers = numbers;
       questioned = None;
     } ≡ unheard site
-is_unheard site links sections points authorities indications routes released closed counts first_lost second_lost asked numbers a b d e f h r s t m n k p =
+is_unheard site links sections points authorities indications routes first_lost second_lost asked numbers a b d e f h m n k p =
     λ i. record {
       millis = 0;
       joined = false;
@@ -176,9 +151,6 @@ is_unheard site links sections points authorities indications routes released cl
       authorities = e i;
       indications = f i;
       routes = h i;
-      released = r i;
-      closed = s i;
-      counts = t i;
       first_lost = m i;
       second_lost = n i;
       asked = k i;

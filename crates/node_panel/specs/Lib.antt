@@ -1,5 +1,4 @@
 pub mod Lines
-pub mod ClosedHeard
 pub mod Heard
 pub mod Turns
 pub mod Panels

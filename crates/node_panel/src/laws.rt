@@ -12,8 +12,6 @@ ghost use Rattle.panel_desk.specs.run_numbers.Lines.{number_text};
 ghost use Rattle.panel_desk.specs.run_numbers.declared.row.Row.{Row as Number};
 ghost use Rattle.node_panel.specs.declared.told.Told.TheVariants.{Counts, Tells};
 
-use panel_desk::node_lines::closings::a_name_names_what_has_it;
-use panel_desk::node_lines::replay_words::a_number_is_read_again;
 use panel_desk::run_numbers::numbers_are_read_again;
 use panel_desk::{joined_words_are_read_again, names_are_read_again, names_are_words};
 
@@ -24,8 +22,6 @@ pub fn lines_are_read_again()
     joined_words_are_read_again();
     names_are_read_again();
     names_are_words();
-    a_name_names_what_has_it();
-    a_number_is_read_again();
 }
 
 /// The line of a number is heard as this number of this row.

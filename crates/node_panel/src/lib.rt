@@ -4,7 +4,6 @@
 
 mod asking;
 mod attendance;
-mod closed_heard;
 mod command;
 mod failure;
 mod heard;

@@ -44,7 +44,7 @@ pub fn read_told(layout: &Layout, line: &str) -> Result<Told, Fault>
 fn is_answer(word: &str) -> bool
     ensures { result ≡ is_answer word.now }
 {
-    word == "accepted" || word == "refused" || word == "not"
+    word == "accepted" || word == "refused"
 }
 
 fn told_number(said: Result<(Row, u64), Fault>) -> Result<Told, Fault>

@@ -1,4 +1,3 @@
 pub mod Lived
 pub mod Places
 pub mod Silent
-pub mod Found

@@ -1,3 +1,2 @@
 -- what its process does, call by call
 pub use Rattle.node_kinds.specs.Processes as Processes
-pub mod Closings

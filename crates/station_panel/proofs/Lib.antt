@@ -3,4 +3,3 @@ pub mod Cancels
 pub mod DisturbedCalls
 pub mod Readings
 pub mod Turn
-pub mod Unasked

@@ -3,7 +3,6 @@
 
 mod any_node;
 mod changes;
-mod closings;
 mod desk;
 mod driven;
 mod gear;
@@ -14,10 +13,6 @@ mod script;
 mod station;
 mod stories;
 
-use crate::node_stories::closings::{
-    failing_disks_leave_what_was_accepted, killed_processes_leave_what_they_accepted,
-    locks_are_closed_in_the_next_process, lost_files_close_all_track,
-};
 use crate::node_stories::records::records_are_same;
 use crate::node_stories::station::{Station, free_addresses};
 use crate::node_stories::stories::{
@@ -37,11 +32,6 @@ enum Trial {
     LateDatagrams,
     FailingCalls,
     Records,
-    /// The interlocking's process is killed, its disk fails, its file is lost, and its locks are kept.
-    Kills,
-    FailingDisks,
-    LostFiles,
-    Locks,
     /// It rests for so many rounds.
     Rest(u64),
 }
@@ -72,10 +62,6 @@ fn comes_out(rt: &HostRuntime, trial: Trial) -> bool {
         Trial::LateDatagrams => nothing_old_is_heard(station),
         Trial::FailingCalls => calls_that_fail_change_nothing(station),
         Trial::Records => records_are_same(station),
-        Trial::Kills => killed_processes_leave_what_they_accepted(station),
-        Trial::FailingDisks => failing_disks_leave_what_was_accepted(station),
-        Trial::LostFiles => lost_files_close_all_track(station),
-        Trial::Locks => locks_are_closed_in_the_next_process(station),
         Trial::Rest(rounds) => rests(station, rounds),
     }
 }
@@ -103,26 +89,6 @@ fn a_call_of_the_network_that_fails_changes_nothing(rt: HostRuntime) {
 #[test]
 fn the_record_of_each_node_is_the_same_once_more(rt: HostRuntime) {
     assert!(rt; comes_out(&rt, Trial::Records));
-}
-
-#[test]
-fn what_was_accepted_outlives_a_kill_between_any_two_calls(rt: HostRuntime) {
-    assert!(rt; comes_out(&rt, Trial::Kills));
-}
-
-#[test]
-fn what_was_accepted_outlives_each_call_that_fails(rt: HostRuntime) {
-    assert!(rt; comes_out(&rt, Trial::FailingDisks));
-}
-
-#[test]
-fn a_file_that_is_lost_closes_all_track(rt: HostRuntime) {
-    assert!(rt; comes_out(&rt, Trial::LostFiles));
-}
-
-#[test]
-fn what_a_route_locks_is_closed_in_the_next_process(rt: HostRuntime) {
-    assert!(rt; comes_out(&rt, Trial::Locks));
 }
 
 #[test]

@@ -1,6 +1,5 @@
-use Rattle.std.proofs.Common.{◌≤◌, ℕ, List, None, length, subst}
+use Rattle.std.proofs.Common.{◌≤◌, ℕ, List, None, subst}
 use Rattle.node_drive.specs.Calls.{Call}
-use Rattle.panel_desk.specs.StandingOrders.{StandingView, none_standing}
 use Rattle.panel_desk.specs.node_lines.layout.Entries.{Site}
 use Rattle.node_panel.specs.Heard.{HeardView, pictured}
 use Rattle.node_panel.specs.Turns.{Moment, Turns}
@@ -12,8 +11,7 @@ returns g c =
     let ended = c.in_ok-attend_node.ensures in
     let desk = c.in_ok-room.room.desk in
     let heard = c.in_ok-room.room.heard in
-    let orders = c.in_ok-room.room.orders in
-    let last : Moment = record { heard = c.attend_node.new.room.heard; orders = c.attend_node.new.room.orders; desk = c.attend_node.new.room.desk } in
+    let last : Moment = record { heard = c.attend_node.new.room.heard; desk = c.attend_node.new.room.desk } in
     record {
       opened = desk;
       desk = room.desk;
@@ -23,8 +21,7 @@ returns g c =
       calls = ended.turns.0;
       called = ended.turns.1;
       last = last;
-      turns = subst (λ (h : HeardView). Turns c.args.table.now (record { heard = h; orders = none_standing (length c.args.table.now.routes); desk = desk }) ended.turns.0 last) room.heard
-          (subst (λ (o : StandingView). Turns c.args.table.now (record { heard = heard; orders = o; desk = desk }) ended.turns.0 last) room.orders
-          (subst (λ (p : Site). Turns p (record { heard = heard; orders = orders; desk = desk }) ended.turns.0 last) room.table ended.turns.2));
+      turns = subst (λ (h : HeardView). Turns c.args.table.now (record { heard = h; desk = desk }) ended.turns.0 last) room.heard
+          (subst (λ (p : Site). Turns p (record { heard = heard; desk = desk }) ended.turns.0 last) room.layout ended.turns.2);
       over = subst (λ (n : ℕ). n ≤ c.attend_node.new.outside.latest) c.unwrap_or.ensures ended.over;
     }
