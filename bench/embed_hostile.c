@@ -22,7 +22,7 @@ struct answer {
     size_t given;
     void *at;
 };
-static _Alignas(16) uint8_t arena[3 * 36864];
+static _Alignas(16) uint8_t arena[3 * 14336];
 static size_t used;
 struct answer rattle_alloc(size_t size, size_t align) {
     (void)align;

@@ -1,9 +1,9 @@
 /* The memory that controllers take as they start, of a static array. It isn't given back; no later call takes any. A controller takes
-   two blocks, of 1600 and 33792 bytes. A program with malloc may link heap.c in its place. */
+   two blocks, of 1600 and 12408 bytes. A program with malloc may link heap.c in its place. */
 #include <stddef.h>
 #include <stdint.h>
 #ifndef ARENA_BYTES
-#define ARENA_BYTES 36864
+#define ARENA_BYTES 14336
 #endif
 
 struct answer {

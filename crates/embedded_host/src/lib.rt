@@ -2,7 +2,7 @@
 //! are kept here, whoever calls.
 #![tactic(auto)]
 
-mod budget;
+pub mod budget;
 mod embedded;
 mod laws;
 mod refusal;

@@ -13,7 +13,7 @@ use Rattle.ixl_state.specs.layout.Nodes.{links, partners}
 use Rattle.ixl_state.specs.rasta_core.Outbox.{OutboxState}
 use Rattle.ixl_state.specs.rasta_pdu.Header.{receiver_of}
 use Rattle.ixl.specs.Interlocking.{InterlockingState, step_of}
-use Rattle.embedded_ixl.specs.declared.budget.TheConstants.{LONGEST_IN_SOCKET, LONGEST_WAIT, QUIET_AT_FIRST}
+use Rattle.embedded_host.specs.declared.budget.TheConstants.{LONGEST_IN_SOCKET, LONGEST_WAIT, QUIET_AT_FIRST}
 use Rattle.embedded_ixl.specs.declared.call_refusal.CallRefusal.{CallRefusal}
 use Rattle.embedded_ixl.specs.declared.call_refusal.CallRefusal.TheVariants.{ClockFell, TooSoon, TooOld}
 

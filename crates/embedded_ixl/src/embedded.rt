@@ -16,13 +16,13 @@ ghost use Rattle.embedded_ixl.specs.Made.{Explains, IsMadeOf};
 ghost use Rattle.embedded_ixl.specs.Places.{count_of, name_in, place_in};
 ghost use Rattle.embedded_ixl.specs.declared.start_fault.StartFault.TheVariants.{OutOfMemory};
 
-use crate::budget::{LONGEST_IN_SOCKET, LONGEST_WAIT, QUIET_AT_FIRST};
 use crate::call_refusal::CallRefusal;
 use crate::display::{
     Authority, Readiness, authority_at, is_linked, is_set, point, readiness_at, section,
 };
 use crate::places::{Kind, count_of, name_in, place_in};
 use crate::start_fault::StartFault;
+use embedded_host::budget::{LONGEST_IN_SOCKET, LONGEST_WAIT, QUIET_AT_FIRST};
 use ixl::{Input, Interlocking, Reply, steps_may_follow_at_later_clocks};
 use ixl_state::ixl_spec::control_table::check;
 use ixl_state::{

@@ -2,7 +2,6 @@
 //! kept here, whoever calls.
 #![tactic(auto)]
 
-mod budget;
 mod call_refusal;
 mod display;
 mod embedded;

@@ -1,5 +1,5 @@
 -- Acting on the items of a datagram, one after another.
-use Rattle.std.proofs.Common.{◌≡◌, ℕ, ◌+◌, ◌*◌, ◌<◌, ◌≤◌, true, false, List, [], ◌∷◌, drop, length, get_or, arith, refl, ap, sym, ◌∙◌, subst}
+use Rattle.std.proofs.Common.{◌≡◌, ℕ, ◌+◌, ◌<◌, ◌≤◌, true, false, List, [], ◌∷◌, drop, length, get_or, refl, ap, sym, ◌∙◌, subst}
 use Rattle.std.proofs.lemmas.List.{at_drop_more, at_drop_all}
 use Rattle.rasta_core.specs.State.{is_open}
 use Rattle.rasta_core.specs.Outbox.{OutboxState}
@@ -7,7 +7,7 @@ use Rattle.sci_telegram.specs.TelegramRead.{reading}
 use Rattle.object_host.specs.Behaviour.{Behaviour}
 use Rattle.object_host.specs.Host.{HostState, HostSoFar}
 use Rattle.object_host.specs.Step.{acting, acting_all}
-use Rattle.object_host.specs.inside.Performed.{IsPerformed}
+use Rattle.object_host.specs.inside.Performed.{IsPerformed, may_send}
 use Rattle.object_host.proofs.UnderWay.{IsFirst, IsNothing, IsUnderWay, goes_on}
 
 module _ {Object : Type 0} (does : Behaviour Object) where
@@ -16,7 +16,7 @@ module _ {Object : Type 0} (does : Behaviour Object) where
 
   -- the items before this place were acted on, and those from it on are left
   pub record IsActing (now : ℕ) (items : List (List ℕ)) (start : HostState Object) (box : OutboxState) (place : ℕ) (host : HostState Object) (outbox : OutboxState) : Type 0 where
-    pub way : IsUnderWay now start box (acting_all does now items start) (18 * place) host outbox (left_at now items place host)
+    pub way : IsUnderWay now start box (acting_all does now items start) host outbox (left_at now items place host)
 
   pub no_items : (now : ℕ) (host : HostState Object) → IsNothing host (acting_all does now [] host)
   unfolding acting_all
@@ -39,16 +39,12 @@ module _ {Object : Type 0} (does : Behaviour Object) where
 
   pub acting_next : (now place : ℕ) (items : List (List ℕ)) (item : List ℕ) (start : HostState Object) (box : OutboxState) (host : HostState Object) (outbox : OutboxState) (new : HostState Object) (out : OutboxState) →
       IsActing now items start box place host outbox → place < length items → item ≡ get_or items place item → is_open host.link.phase ≡ true →
-      IsPerformed 18 now (acting does now item (reading item) host) host new outbox out → IsActing now items start box (place + 1) new out
+      IsPerformed (may_send host.link) now (acting does now item (reading item) host) host new outbox out → IsActing now items start box (place + 1) new out
   acting_next now place items item start box host outbox new out state within is_item opened made =
       let rest : drop place items ≡ item ∷ drop (place + 1) items =
       at_drop_more (λ rest. rest) items place item within ∙ ap (λ i. i ∷ drop (place + 1) items) (sym is_item)
       in let split : IsFirst (left_at now items place host) (acting does now item (reading item) host) (left_at now items (place + 1) (acting does now item (reading item) host).host) =
       subst (λ r. IsFirst (acting_all does now r host) (acting does now item (reading item) host) (left_at now items (place + 1) (acting does now item (reading item) host).host))
       (sym rest) (first_item now item (drop (place + 1) items) host opened)
-      in let next = goes_on now start box _ (18 * place) 18 host outbox _ _ _ new out state.way split made
-      in let counted : 18 * place + 18 ≡ 18 * (place + 1) = omega arith
-      in record {
-        way = subst (λ n. IsUnderWay now start box (acting_all does now items start) n new out (left_at now items (place + 1) new)) counted
-            (subst (λ h. IsUnderWay now start box (acting_all does now items start) (18 * place + 18) new out (left_at now items (place + 1) h)) (sym made.host) next);
-      }
+      in let next = goes_on now start box _ host outbox _ _ _ new out state.way split made
+      in record { way = subst (λ h. IsUnderWay now start box (acting_all does now items start) new out (left_at now items (place + 1) h)) (sym made.host) next }

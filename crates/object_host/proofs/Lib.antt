@@ -1,4 +1,5 @@
 pub mod OutboxPosts
+pub mod FewSent
 pub mod UnderWay
 pub mod Status
 pub mod ItemActions

@@ -5,7 +5,7 @@ use Rattle.rasta_core.specs.Outbox.{OutboxState}
 use Rattle.object_host.specs.Behaviour.{Behaviour}
 use Rattle.object_host.specs.Host.{HostState, HostSoFar, silent}
 use Rattle.object_host.specs.Step.{goes_on, most_owed, paying, paying_first}
-use Rattle.object_host.specs.inside.Performed.{IsPerformed}
+use Rattle.object_host.specs.inside.Performed.{IsPerformed, may_send}
 use Rattle.object_host.proofs.UnderWay.{IsFirst, IsNothing, IsUnderWay}
 use Rattle.object_host.proofs.UnderWay as loops
 
@@ -18,7 +18,7 @@ module _ {Object : Type 0} (does : Behaviour Object) where
 
   -- so many reports were sent, and the others are left
   pub record IsPaying (now : ℕ) (start : HostState Object) (box : OutboxState) (round : ℕ) (host : HostState Object) (outbox : OutboxState) : Type 0 where
-    pub way : IsUnderWay now start box (paying does now most_owed start) round host outbox (left_at now round host)
+    pub way : IsUnderWay now start box (paying does now most_owed start) host outbox (left_at now round host)
 
   more : (round : ℕ) → round < most_owed → most_owed - round ≡ suc (most_owed - (round + 1))
   more round within = omega (arith, within)
@@ -39,16 +39,16 @@ module _ {Object : Type 0} (does : Behaviour Object) where
 
   pub paying_next : (now round : ℕ) (start : HostState Object) (box : OutboxState) (host : HostState Object) (outbox : OutboxState) (new : HostState Object) (out : OutboxState) →
       IsPaying now start box round host outbox → round < most_owed → goes_on now (does.owed host.object) host ≡ true →
-      IsPerformed 1 now (first_of now host) host new outbox out → IsPaying now start box (round + 1) new out
+      IsPerformed (may_send host.link) now (first_of now host) host new outbox out → IsPaying now start box (round + 1) new out
   paying_next now round start box host outbox new out state within on made =
       let split = subst (λ n. IsFirst (paying does now n host) (first_of now host) (left_at now (round + 1) (first_of now host).host)) (sym (more round within)) (going now (most_owed - (round + 1)) host on)
-      in let next = loops.goes_on now start box _ round 1 host outbox _ _ _ new out state.way split made
-      in record { way = subst (λ h. IsUnderWay now start box (paying does now most_owed start) (round + 1) new out (left_at now (round + 1) h)) (sym made.host) next }
+      in let next = loops.goes_on now start box _ host outbox _ _ _ new out state.way split made
+      in record { way = subst (λ h. IsUnderWay now start box (paying does now most_owed start) new out (left_at now (round + 1) h)) (sym made.host) next }
 
   pub paying_stops : (now round : ℕ) (start : HostState Object) (box : OutboxState) (host : HostState Object) (outbox : OutboxState) (new : HostState Object) (out : OutboxState) →
       IsPaying now start box round host outbox → round < most_owed → goes_on now (does.owed host.object) host ≡ false →
-      IsPerformed 1 now (first_of now host) host new outbox out → IsPerformed most_owed now (paying does now most_owed start) start new box out
+      IsPerformed (may_send host.link) now (first_of now host) host new outbox out → IsPerformed (may_send start.link) now (paying does now most_owed start) start new box out
   paying_stops now round start box host outbox new out state within off made =
       let split = subst (λ n. IsFirst (paying does now n host) (first_of now host) (silent (first_of now host).host)) (sym (more round within)) (stopping now (most_owed - (round + 1)) host off)
-      in let next = loops.goes_on now start box _ round 1 host outbox _ _ _ new out state.way split made
-      in loops.comes_to_end now start box _ (round + 1) most_owed new out _ next (record { stays = sym made.host; posts_none = refl; calls_none = refl }) (omega (arith, within))
+      in let next = loops.goes_on now start box _ host outbox _ _ _ new out state.way split made
+      in loops.comes_to_end now start box _ new out _ next (record { stays = sym made.host; posts_none = refl; calls_none = refl })

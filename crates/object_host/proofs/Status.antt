@@ -6,7 +6,7 @@ use Rattle.object_host.specs.Behaviour.{Behaviour}
 use Rattle.object_host.specs.Host.{HostState, HostSoFar}
 use Rattle.object_host.specs.Step.{initial_status, most_objects, posting, posting_all, report_then, telling_status}
 use Rattle.object_host.specs.declared.report.Report.{Report}
-use Rattle.object_host.specs.inside.Performed.{IsPerformed}
+use Rattle.object_host.specs.inside.Performed.{IsPerformed, may_send}
 use Rattle.object_host.proofs.UnderWay.{IsFirst, IsNothing, IsUnderWay, goes_on}
 
 module _ {Object : Type 0} (does : Behaviour Object) where
@@ -25,7 +25,7 @@ module _ {Object : Type 0} (does : Behaviour Object) where
 
   -- the reports before this place were told, and those from it on are left
   pub record IsTelling (now : ℕ) (start : HostState Object) (box : OutboxState) (place : ℕ) (host : HostState Object) (outbox : OutboxState) : Type 0 where
-    pub way : IsUnderWay now start box (telling_status does now start) place host outbox (left_at now place host)
+    pub way : IsUnderWay now start box (telling_status does now start) host outbox (left_at now place host)
 
   nothing : (now : ℕ) (host : HostState Object) (reports : List Report) → reports ≡ [] → IsNothing host (posting_all now reports host)
   unfolding posting_all
@@ -57,9 +57,9 @@ module _ {Object : Type 0} (does : Behaviour Object) where
 
   pub telling_next : (now : ℕ) (start : HostState Object) (box : OutboxState) (place : ℕ) (host : HostState Object) (outbox : OutboxState) (report : Report) (new : HostState Object) (out : OutboxState) →
       IsTelling now start box place host outbox → place < most_objects → does.status place host.object ≡ Some report →
-      IsPerformed 1 now (posting now report host) host new outbox out → IsTelling now start box (place + 1) new out
+      IsPerformed (may_send host.link) now (posting now report host) host new outbox out → IsTelling now start box (place + 1) new out
   telling_next now start box place host outbox report new out telling within found made =
-      let next = goes_on now start box _ place 1 host outbox _ _ _ new out telling.way (first_at now place host report within found) made
+      let next = goes_on now start box _ host outbox _ _ _ new out telling.way (first_at now place host report within found) made
       in record {
-        way = subst (λ h. IsUnderWay now start box (telling_status does now start) (place + 1) new out (left_at now (place + 1) h)) (sym made.host) next;
+        way = subst (λ h. IsUnderWay now start box (telling_status does now start) new out (left_at now (place + 1) h)) (sym made.host) next;
       }

@@ -46,6 +46,11 @@ pub record HostedState (Object : Type 0) : Type 0 where
   pub host : HostState Object
   pub outbox : OutboxState
 
--- an outbox for two links: no step of a host hands out more
+-- How many PDUs a step hands out at most: the 20 items of a window, the two between which a retransmission stands, and the one that
+-- closes the connection.
+abbrev pub most_in_step : ℕ
+most_in_step = 23
+
+-- an outbox for a step, in which each call of the link finds room for the 24 that it asks for
 abbrev pub empty_outbox : OutboxState
-empty_outbox = record { datagrams = []; capacity = 128 }
+empty_outbox = record { datagrams = []; capacity = 47 }

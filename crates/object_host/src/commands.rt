@@ -1,11 +1,11 @@
 //! What becomes of the items that the link hands out.
 
-ghost use Rattle.std.specs.Prelude.{◌≡◌, ◌≤◌, ℕ, List, length};
+ghost use Rattle.std.specs.Prelude.{◌≡◌, ◌+◌, ℕ, List};
 ghost use Rattle.rasta_core.specs.Calls.{MayStep};
 ghost use Rattle.rasta_core.specs.Outbox.{HasRoomFor};
 ghost use Rattle.object_host.specs.Meaning.{meaning};
 ghost use Rattle.object_host.specs.Step.{acting, acting_all, commanding, following, is_admitted, is_from_peer, is_in_version, posting};
-ghost use Rattle.object_host.specs.inside.Performed.{IsPerformed};
+ghost use Rattle.object_host.specs.inside.Performed.{IsPerformed, may_send};
 ghost use Rattle.sci_telegram.specs.TelegramRead.{reading};
 
 use crate::controller::Controller;
@@ -22,7 +22,7 @@ impl<C: Controller> Host<C> {
         requires clock { MayStep now self.old.link }
         requires at { self.old.link.clock ≡ now }
         requires room { HasRoomFor 24 outbox.old }
-        ensures { IsPerformed 1 now (commanding C.behaviour now telegram.now self.old) self.old self.new outbox.old outbox.new }
+        ensures { IsPerformed (may_send self.old.link) now (commanding C.behaviour now telegram.now self.old) self.old self.new outbox.old outbox.new }
     {
         if !self.object.take(now, telegram) {
             self.violate(now, outbox);
@@ -33,8 +33,8 @@ impl<C: Controller> Host<C> {
     #[tactic(auto, unfolding(crate::specs::Step::following))]
     fn follow(&mut self, now: Millis, telegram: &Telegram, outbox: &mut Outbox)
         requires at { self.old.link.clock ≡ now }
-        requires room { HasRoomFor 42 outbox.old }
-        ensures { (item : List ℕ) → IsPerformed 18 now (following C.behaviour now item telegram.now (meaning telegram.now.message self.old.stage) self.old) self.old self.new outbox.old outbox.new }
+        requires room { HasRoomFor (may_send self.old.link + 24) outbox.old }
+        ensures { (item : List ℕ) → IsPerformed (may_send self.old.link) now (following C.behaviour now item telegram.now (meaning telegram.now.message self.old.stage) self.old) self.old self.new outbox.old outbox.new }
     {
         match Meaning::of(&telegram.message, self.stage) {
             Meaning::Checks(version) => self.answer(now, version, outbox),
@@ -64,8 +64,8 @@ impl<C: Controller> Host<C> {
     #[tactic(auto, unfolding(crate::specs::Step::acting))]
     fn act(&mut self, now: Millis, item: &Item, outbox: &mut Outbox)
         requires at { self.old.link.clock ≡ now }
-        requires room { HasRoomFor 42 outbox.old }
-        ensures { IsPerformed 18 now (acting C.behaviour now item.now (reading item.now) self.old) self.old self.new outbox.old outbox.new }
+        requires room { HasRoomFor (may_send self.old.link + 24) outbox.old }
+        ensures { IsPerformed (may_send self.old.link) now (acting C.behaviour now item.now (reading item.now) self.old) self.old self.new outbox.old outbox.new }
     {
         match sci_telegram::read(item.bytes()) {
             Ok(telegram) if self.admits(&telegram) => self.follow(now, &telegram, outbox),
@@ -77,9 +77,8 @@ impl<C: Controller> Host<C> {
     #[tactic(auto, using(crate::proofs::OutboxPosts::posting, crate::proofs::UnderWay::items_joined))]
     pub(crate) fn act_all(&mut self, now: Millis, items: &[Item], outbox: &mut Outbox)
         requires at { self.old.link.clock ≡ now }
-        requires items { length items.now ≤ 3 }
-        requires room { HasRoomFor 96 outbox.old }
-        ensures { IsPerformed 54 now (acting_all C.behaviour now items.now self.old) self.old self.new outbox.old outbox.new }
+        requires room { HasRoomFor (may_send self.old.link + 24) outbox.old }
+        ensures { IsPerformed (may_send self.old.link) now (acting_all C.behaviour now items.now self.old) self.old self.new outbox.old outbox.new }
     {
         for item in items {
             if !self.link.is_open() {

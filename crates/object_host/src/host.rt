@@ -5,7 +5,7 @@ ghost use Rattle.rasta_core.specs.Calls.{MayStep, answer_to_send};
 ghost use Rattle.rasta_core.specs.Outbox.{HasRoomFor};
 ghost use Rattle.object_host.specs.Host.{said, telegram_of};
 ghost use Rattle.object_host.specs.Step.{posting, violating};
-ghost use Rattle.object_host.specs.inside.Performed.{IsPerformed};
+ghost use Rattle.object_host.specs.inside.Performed.{IsPerformed, may_send};
 
 use crate::controller::Controller;
 use crate::report::Report;
@@ -45,7 +45,7 @@ impl<C: Controller> Host<C> {
     }
 
     /// A report goes to the peer, where the link accepts it.
-    #[tactic(auto, unfolding(crate::specs::Step::posting))]
+    #[tactic(auto, using(crate::proofs::FewSent::sending_few), unfolding(crate::specs::Step::posting))]
     pub(crate) fn post(
         &mut self,
         now: Millis,
@@ -55,18 +55,18 @@ impl<C: Controller> Host<C> {
         requires clock { MayStep now self.old.link }
         requires room { HasRoomFor 24 outbox.old }
         ensures answer { result ≡ answer_to_send now self.old.link }
-        ensures performed { IsPerformed 1 now (posting now report.now self.old) self.old self.new outbox.old outbox.new }
+        ensures performed { IsPerformed (may_send self.old.link) now (posting now report.now self.old) self.old self.new outbox.old outbox.new }
     {
         let item = sci_telegram::write(&self.telegram(report));
         self.link.send(now, &item, outbox)
     }
 
     /// What isn't a telegram, isn't the peer's or comes out of the order closes the link.
-    #[tactic(auto, unfolding(crate::specs::Step::violating))]
+    #[tactic(auto, using(crate::proofs::FewSent::closing_few), unfolding(crate::specs::Step::violating))]
     pub(crate) fn violate(&mut self, now: Millis, outbox: &mut Outbox)
         requires clock { MayStep now self.old.link }
         requires room { HasRoomFor 24 outbox.old }
-        ensures { IsPerformed 1 now (violating now self.old) self.old self.new outbox.old outbox.new }
+        ensures { IsPerformed (may_send self.old.link) now (violating now self.old) self.old self.new outbox.old outbox.new }
     {
         self.link.close(now, Reason::State, outbox);
     }

@@ -1,6 +1,6 @@
 //! A step of a host, in its order.
 
-ghost use Rattle.std.specs.Prelude.{◌≡◌, true};
+ghost use Rattle.std.specs.Prelude.{◌≡◌, ◌+◌, true};
 ghost use Rattle.rasta_core.specs.Calls.{MayStep, IsAt};
 ghost use Rattle.rasta_core.specs.Outbox.{HasRoomFor};
 ghost use Rattle.rasta_core.specs.Calls.{receiving};
@@ -8,9 +8,10 @@ ghost use Rattle.rasta_core.specs.Clock.{settled};
 ghost use Rattle.rasta_core.specs.PdusHandedOut.{entered};
 ghost use Rattle.rasta_core.specs.Verdicts.{is_refusal, refused};
 ghost use Rattle.object_host.specs.Host.{fallen, risen};
+ghost use Rattle.object_host.specs.Hosted.{most_in_step};
 ghost use Rattle.object_host.specs.Refused.{RefusesRightly};
 ghost use Rattle.object_host.specs.Step.{beating, beginning, ending, given, hearing, host_step, posting};
-ghost use Rattle.object_host.specs.inside.Performed.{IsPerformed};
+ghost use Rattle.object_host.specs.inside.Performed.{IsPerformed, before_tick, by_tick, may_send};
 ghost use Rattle.sci_telegram.specs.TelegramRead.{reading};
 
 use crate::controller::Controller;
@@ -44,11 +45,11 @@ impl<C: Controller> Host<C> {
     }
 
     /// A datagram has come.
-    #[tactic(auto, using(crate::proofs::OutboxPosts::posting, crate::proofs::UnderWay::items_joined), unfolding(crate::specs::Step::hearing, crate::specs::Step::received))]
+    #[tactic(auto, using(crate::proofs::OutboxPosts::posting, crate::proofs::UnderWay::items_joined, crate::proofs::FewSent::receiving_few), unfolding(crate::specs::Step::hearing, crate::specs::Step::received))]
     fn hear(&mut self, now: Millis, datagram: &[u8], outbox: &mut Outbox)
         requires at { self.old.link.clock ≡ now }
-        requires room { HasRoomFor 120 outbox.old }
-        ensures performed { IsPerformed 76 now (hearing C.behaviour now datagram.now self.old) self.old self.new outbox.old outbox.new }
+        requires room { HasRoomFor 47 outbox.old }
+        ensures performed { IsPerformed most_in_step now (hearing C.behaviour now datagram.now self.old) self.old self.new outbox.old outbox.new }
         ensures rightly { is_refusal (receiving now datagram.now self.old.link).verdict ≡ true → receiving now datagram.now self.old.link ≡ refused (receiving now datagram.now self.old.link).verdict (entered now self.old.link) }
     {
         let mut inbox = Inbox::new();
@@ -70,11 +71,11 @@ impl<C: Controller> Host<C> {
     }
 
     /// What the step is made for.
-    #[tactic(auto, using(crate::proofs::OutboxPosts::posting, crate::proofs::UnderWay::items_joined), unfolding(crate::specs::Step::given))]
+    #[tactic(auto, using(crate::proofs::OutboxPosts::posting, crate::proofs::UnderWay::items_joined, crate::proofs::FewSent::at_most_a_window), unfolding(crate::specs::Step::given))]
     fn give(&mut self, now: Millis, input: &Input, outbox: &mut Outbox)
         requires at { self.old.link.clock ≡ now }
-        requires room { HasRoomFor 120 outbox.old }
-        ensures performed { IsPerformed 76 now (given C.behaviour now input.now self.old) self.old self.new outbox.old outbox.new }
+        requires room { HasRoomFor 47 outbox.old }
+        ensures performed { IsPerformed (before_tick input.now) now (given C.behaviour now input.now self.old) self.old self.new outbox.old outbox.new }
         ensures rightly { RefusesRightly now input.now self.old.link }
     {
         match input {
@@ -85,11 +86,11 @@ impl<C: Controller> Host<C> {
     }
 
     /// A tick is the link's too.
-    #[tactic(auto, using(crate::proofs::OutboxPosts::posting, crate::proofs::UnderWay::items_joined), unfolding(crate::specs::Step::beating))]
+    #[tactic(auto, using(crate::proofs::OutboxPosts::posting, crate::proofs::UnderWay::items_joined, crate::proofs::FewSent::ticking_few), unfolding(crate::specs::Step::beating))]
     fn beat(&mut self, now: Millis, input: &Input, outbox: &mut Outbox)
         requires at { self.old.link.clock ≡ now }
         requires room { HasRoomFor 24 outbox.old }
-        ensures { IsPerformed 1 now (beating now input.now self.old) self.old self.new outbox.old outbox.new }
+        ensures { IsPerformed (may_send self.old.link + by_tick input.now) now (beating now input.now self.old) self.old self.new outbox.old outbox.new }
     {
         if matches!(input, Input::Tick) {
             self.link.tick(now, outbox);
@@ -106,12 +107,12 @@ impl<C: Controller> Host<C> {
         self.object.keep(self.link.alive_until());
     }
 
-    /// A step at a clock reading that hasn't fallen, with an empty outbox for two links.
+    /// A step at a clock reading that hasn't fallen, with an empty outbox.
     #[tactic(auto, using(crate::proofs::OutboxPosts::posting, crate::proofs::UnderWay::items_joined), unfolding(crate::specs::Step::host_step))]
     pub(crate) fn step(&mut self, now: Millis, input: &Input, outbox: &mut Outbox)
         requires clock { MayStep now self.old.link }
-        requires room { HasRoomFor 128 outbox.old }
-        ensures performed { IsPerformed 97 now (host_step C.behaviour now input.now self.old) self.old self.new outbox.old outbox.new }
+        requires room { HasRoomFor 47 outbox.old }
+        ensures performed { IsPerformed most_in_step now (host_step C.behaviour now input.now self.old) self.old self.new outbox.old outbox.new }
         ensures rightly { RefusesRightly now input.now (settled now self.old.link) }
     {
         self.begin(now);

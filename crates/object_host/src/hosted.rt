@@ -1,6 +1,6 @@
 //! A link, the initialisation and one field object.
 
-ghost use Rattle.std.specs.Prelude.{◌≡◌, ◌≤◌, ◌↔◌, ℕ, true, false, [], drop, slice_get, IsTrue, IfOk};
+ghost use Rattle.std.specs.Prelude.{◌≡◌, ◌≤◌, ◌↔◌, ℕ, true, false, [], drop, length, slice_get, IsTrue, IfOk};
 ghost use Rattle.std.specs.Option.{option_map};
 ghost use Rattle.rasta_core.specs.Calls.{IsAt, MayStep};
 ghost use Rattle.rasta_core.specs.Clock.{alive_until};
@@ -40,7 +40,7 @@ impl<C: Controller> Model for Hosted<C> {
 
     ghost view = { λ h. record { host = h.host; outbox = h.outbox } };
 
-    ghost invariant = { λ h. IsHosted C.behaviour h.host × (h.outbox.capacity ≡ 128) };
+    ghost invariant = { λ h. IsHosted C.behaviour h.host × (h.outbox.capacity ≡ 47) };
 }
 
 /// Takes out all datagrams.
@@ -57,7 +57,7 @@ impl<C: Controller> Hosted<C> {
     ghost use Rattle.object_host.specs.Refused.{LeavesRefused};
     ghost use Rattle.object_host.specs.Step.{host_step};
     ghost use Rattle.object_host.specs.Stepped.{EndsStepped};
-    ghost use Rattle.object_host.specs.Hosted.{empty_outbox, new_host};
+    ghost use Rattle.object_host.specs.Hosted.{empty_outbox, most_in_step, new_host};
 
     /// A controller of these names and identities, with a link that isn't in a connection and begins so. The object is as
     /// after a loss. `version` is the version of the telegrams: version 2 has the aspect slow, version 1 doesn't.
@@ -82,7 +82,7 @@ impl<C: Controller> Hosted<C> {
             now,
         } = start;
         let link = Link::server(alloc, own, partner, key, first_sequence_number, now)?;
-        let outbox = Outbox::for_links(alloc, OWN_LINKS)?;
+        let outbox = Outbox::for_datagrams(alloc, DATAGRAMS)?;
         let mut object = object;
         object.lost();
         object.keep(link.alive_until());
@@ -128,6 +128,8 @@ impl<C: Controller> Hosted<C> {
         requires { MayStep now self.old.host.link }
         ensures* after { sem 𝓛 (EndsStepped C.row (record { behaviour = C.behaviour }) self.entry now input.entry) }
         ensures value { result.now ≡ posted self.old.host.link.identity.key (host_step C.behaviour now input.entry self.old.host).pdus empty_outbox }
+        // The items of a window, a retransmission's two ends, and the close.
+        ensures few { length (host_step C.behaviour now input.entry self.old.host).pdus ≤ most_in_step }
         // What it sends are items, so each call of the link is one that may be made.
         ensures items { AreItems (host_step C.behaviour now input.entry self.old.host).calls }
         // A datagram that the link refuses leaves what a step with that refusal in its place leaves.
@@ -155,5 +157,5 @@ impl<C: Controller> Hosted<C> {
     }
 }
 
-/// For how many links the outbox has room: a step hands out fewer than two links may.
-const OWN_LINKS: usize = 2;
+/// For how many datagrams the outbox has room: a step hands out at most 23, and each call of the link asks for room for 24.
+const DATAGRAMS: usize = 47;

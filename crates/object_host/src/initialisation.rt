@@ -1,10 +1,10 @@
 //! The telegrams that begin a connection.
 
-ghost use Rattle.std.specs.Prelude.{◌≡◌};
+ghost use Rattle.std.specs.Prelude.{◌≡◌, ◌+◌};
 ghost use Rattle.rasta_core.specs.Calls.{MayStep};
 ghost use Rattle.rasta_core.specs.Outbox.{HasRoomFor};
 ghost use Rattle.object_host.specs.Step.{answering, initialising, posting, telling_status};
-ghost use Rattle.object_host.specs.inside.Performed.{IsPerformed};
+ghost use Rattle.object_host.specs.inside.Performed.{IsPerformed, may_send};
 
 use crate::controller::Controller;
 use crate::host::Host;
@@ -21,7 +21,7 @@ impl<C: Controller> Host<C> {
     pub(crate) fn answer(&mut self, now: Millis, version: u8, outbox: &mut Outbox)
         requires clock { MayStep now self.old.link }
         requires room { HasRoomFor 24 outbox.old }
-        ensures { IsPerformed 1 now (answering C.behaviour now version self.old) self.old self.new outbox.old outbox.new }
+        ensures { IsPerformed (may_send self.old.link) now (answering C.behaviour now version self.old) self.old self.new outbox.old outbox.new }
     {
         let (agreement, stage) = if version == self.version {
             (Agreement::Match, Stage::AwaitsRequest)
@@ -40,8 +40,8 @@ impl<C: Controller> Host<C> {
     #[tactic(auto, using(crate::proofs::OutboxPosts::posting, crate::proofs::UnderWay::items_joined))]
     fn post_status(&mut self, now: Millis, outbox: &mut Outbox)
         requires at { self.old.link.clock ≡ now }
-        requires room { HasRoomFor 40 outbox.old }
-        ensures { IsPerformed 16 now (telling_status C.behaviour now self.old) self.old self.new outbox.old outbox.new }
+        requires room { HasRoomFor (may_send self.old.link + 24) outbox.old }
+        ensures { IsPerformed (may_send self.old.link) now (telling_status C.behaviour now self.old) self.old self.new outbox.old outbox.new }
     {
         for place in 0..MOST_OBJECTS {
             match self.object.status(place) {
@@ -57,8 +57,8 @@ impl<C: Controller> Host<C> {
     #[tactic(auto, using(crate::proofs::OutboxPosts::posting, crate::proofs::UnderWay::items_joined), unfolding(crate::specs::Step::initialising))]
     pub(crate) fn initialise(&mut self, now: Millis, outbox: &mut Outbox)
         requires at { self.old.link.clock ≡ now }
-        requires room { HasRoomFor 42 outbox.old }
-        ensures { IsPerformed 18 now (initialising C.behaviour now self.old) self.old self.new outbox.old outbox.new }
+        requires room { HasRoomFor (may_send self.old.link + 24) outbox.old }
+        ensures { IsPerformed (may_send self.old.link) now (initialising C.behaviour now self.old) self.old self.new outbox.old outbox.new }
     {
         let start = self.say(Initialisation::StartInitialisation);
         let _ = self.post(now, &start, outbox);

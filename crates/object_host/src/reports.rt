@@ -1,9 +1,9 @@
 //! The reports that the object owes.
 
-ghost use Rattle.std.specs.Prelude.{◌≡◌};
+ghost use Rattle.std.specs.Prelude.{◌≡◌, ◌+◌};
 ghost use Rattle.rasta_core.specs.Outbox.{HasRoomFor};
 ghost use Rattle.object_host.specs.Step.{goes_on, most_owed, paying, paying_first, posting};
-ghost use Rattle.object_host.specs.inside.Performed.{IsPerformed};
+ghost use Rattle.object_host.specs.inside.Performed.{IsPerformed, may_send};
 
 use crate::controller::Controller;
 use crate::host::Host;
@@ -19,7 +19,7 @@ impl<C: Controller> Host<C> {
     fn pay_first(&mut self, now: Millis, outbox: &mut Outbox) -> bool
         requires at { self.old.link.clock ≡ now }
         requires room { HasRoomFor 24 outbox.old }
-        ensures performed { IsPerformed 1 now (paying_first C.behaviour now (C.behaviour.owed self.old.object) self.old) self.old self.new outbox.old outbox.new }
+        ensures performed { IsPerformed (may_send self.old.link) now (paying_first C.behaviour now (C.behaviour.owed self.old.object) self.old) self.old self.new outbox.old outbox.new }
         ensures answer { result ≡ goes_on now (C.behaviour.owed self.old.object) self.old }
     {
         let Some(report) = self.object.owed() else {
@@ -36,8 +36,8 @@ impl<C: Controller> Host<C> {
     #[tactic(auto, using(crate::proofs::OutboxPosts::posting, crate::proofs::UnderWay::items_joined))]
     pub(crate) fn pay(&mut self, now: Millis, outbox: &mut Outbox)
         requires at { self.old.link.clock ≡ now }
-        requires room { HasRoomFor 44 outbox.old }
-        ensures { IsPerformed 20 now (paying C.behaviour now most_owed self.old) self.old self.new outbox.old outbox.new }
+        requires room { HasRoomFor (may_send self.old.link + 24) outbox.old }
+        ensures { IsPerformed (may_send self.old.link) now (paying C.behaviour now most_owed self.old) self.old self.new outbox.old outbox.new }
     {
         for _round in 0..MOST_OWED {
             if !self.pay_first(now, outbox) {

@@ -37,7 +37,15 @@ impl Outbox {
         requires { links ≤ 80 }
         ensures { IfOk result (λ box. box ≡ record { datagrams = []; capacity = 64 * links }) }
     {
-        let datagrams = HeapCircularBuffer::with_capacity(alloc, FOR_EACH_LINK * links)?;
+        Outbox::for_datagrams(alloc, FOR_EACH_LINK * links)
+    }
+
+    /// An empty outbox for so many datagrams, at most 5120.
+    pub fn for_datagrams(alloc: Global, datagrams: usize) -> Result<Outbox, AllocError>
+        requires { datagrams ≤ 5120 }
+        ensures { IfOk result (λ box. box ≡ record { datagrams = []; capacity = datagrams }) }
+    {
+        let datagrams = HeapCircularBuffer::with_capacity(alloc, datagrams)?;
         Ok(Outbox { datagrams })
     }
 

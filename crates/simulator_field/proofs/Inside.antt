@@ -1,5 +1,5 @@
 -- What the code asks of a link, and what it notes, in the words of the definitions.
-use Rattle.std.proofs.Common.{◌≡◌, refl, sym, ap, ◌∙◌, ℕ, ◌+◌, ◌/◌, ◌==◌, ◌<◌, ◌&&◌, ◌||◌, min, not, Bool, true, false, List, [], ◌∷◌, ◌++◌, length, map, Option, Some, subst, if◌then◌else◌, arith}
+use Rattle.std.proofs.Common.{◌≡◌, refl, sym, ap, ◌∙◌, ℕ, ◌+◌, ◌/◌, ◌==◌, ◌<◌, ◌≤◌, ◌&&◌, ◌||◌, min, not, Bool, true, false, List, [], ◌∷◌, ◌++◌, length, map, Option, Some, subst, if◌then◌else◌, arith}
 use Rattle.std.specs.Prelude.{nat_le, nat_lt}
 use Rattle.std.proofs.lemmas.Bool.Decides.{nat_tests}
 use Rattle.std.proofs.lemmas.Grind.{common_steps}
@@ -13,7 +13,7 @@ use Rattle.simulator_spec.specs.rasta_pdu.Spelling.{writing}
 use Rattle.simulator_spec.specs.rasta_pdu.declared.key.Key.{Key}
 use Rattle.simulator_spec.specs.rasta_pdu.declared.pdu.Pdu.{Pdu}
 use Rattle.simulator_spec.specs.object_host.Host.{HostState, HostSoFar}
-use Rattle.simulator_spec.specs.object_host.Hosted.{empty_outbox}
+use Rattle.simulator_spec.specs.object_host.Hosted.{empty_outbox, most_in_step}
 use Rattle.simulator_spec.specs.object_host.Behaviour.{Behaviour}
 use Rattle.simulator_spec.specs.object_host.Step.{host_step}
 use Rattle.simulator_spec.specs.object_host.declared.input.Input.{Input}
@@ -77,9 +77,11 @@ pub datagrams_posted : (key : Key) (pdus : List Pdu) (outbox : OutboxState) → 
 unfolding posted
 datagrams_posted key pdus outbox is_posted = ap (λ (o : OutboxState). o.datagrams) is_posted
 
-pub capacity_posted : (key : Key) (pdus : List Pdu) (outbox : OutboxState) → outbox ≡ posted key pdus empty_outbox → outbox.capacity ≡ 128
-unfolding posted
-capacity_posted key pdus outbox is_posted = ap (λ (o : OutboxState). o.capacity) is_posted
+pub few_posted : (key : Key) (pdus : List Pdu) (outbox : OutboxState) → outbox ≡ posted key pdus empty_outbox → length pdus ≤ most_in_step → length outbox.datagrams ≤ most_in_step
+few_posted key pdus outbox is_posted few =
+    let same = ap length (datagrams_posted key pdus outbox is_posted)
+    in let spelled = length-map pdus (writing key)
+    in omega (arith, same, spelled, few)
 
 pub counted : (key : Key) (pdus : List Pdu) (outbox : OutboxState) (sends : ℕ) → outbox ≡ posted key pdus empty_outbox → sends ≡ length outbox.datagrams → sends ≡ length pdus
 counted key pdus outbox sends is_posted sends_are = sends_are ∙ ap length (datagrams_posted key pdus outbox is_posted) ∙ length-map pdus (writing key)

@@ -13,7 +13,7 @@ use simulator_spec::{MICROS, Millis};
 use std::marker::Model;
 
 /// How many datagrams a step of a controller sends at most.
-pub const MOST_SENT: usize = 128;
+pub const MOST_SENT: usize = 23;
 
 /// An object controller, the server of its link to the interlocking. Contracts see it as a `ClockedControllerState`.
 #[derive(Drop)]
@@ -110,11 +110,11 @@ impl<C: Controller> ClockedController<C> {
     /// A step at its clock, which sends on this link. A datagram that comes was sent in this connection.
     #[tactic(auto, unfolding(crate::proofs::Below::controller_after, crate::proofs::Below::sent_by_controller))]
     pub fn step(&mut self, input: Input<'_>, connection: usize, link: usize, network: &mut Network)
-        requires { 128 ≤ network.old.room }
+        requires { 23 ≤ network.old.room }
         ensures server { self.new ≡ controller_after (step_of C.behaviour input.entry self.old) connection (length network.old.sent) self.old }
         ensures sent { network.new.sent ≡ network.old.sent ++ sent_by_controller (step_of C.behaviour input.entry self.old) network.old.time link self.old self.new }
         ensures time { network.new.time ≡ network.old.time }
-        ensures room { network.old.room ≤ network.new.room + 128 }
+        ensures room { network.old.room ≤ network.new.room + 23 }
     {
         let was_inside = self.is_inside_at(self.clock);
         let now = self.now();

@@ -15,10 +15,10 @@ impl Field {
     /// The signal at this place makes a step. A datagram that comes was sent in this connection.
     pub fn step_signal(&mut self, place: usize, input: Input<'_>, connection: usize)
         requires there { place < length self.old.signals.items }
-        requires room { 128 ≤ self.old.network.room }
+        requires room { 23 ≤ self.old.network.room }
         ensures world { (site : Site) (station : ClockedInterlockingState) (frozen : List Held) → world_of station frozen self.new ≡ signal_stepped site input.entry connection place (world_of station frozen self.old) }
         ensures each { (site : Site) → AreOf site self.old → AreOf site self.new }
-        ensures room { self.old.network.room ≤ self.new.network.room + 128 }
+        ensures room { self.old.network.room ≤ self.new.network.room + 23 }
     {
         self.signals[place].step(input, connection, place, &mut self.network);
     }
@@ -26,10 +26,10 @@ impl Field {
     /// The point at this place makes a step, on this link.
     pub fn step_point(&mut self, place: usize, link: usize, input: Input<'_>, connection: usize)
         requires there { place < length self.old.points.items }
-        requires room { 128 ≤ self.old.network.room }
+        requires room { 23 ≤ self.old.network.room }
         ensures world { (site : Site) (station : ClockedInterlockingState) (frozen : List Held) → link ≡ length site.signals + place → world_of station frozen self.new ≡ point_stepped site input.entry connection place (world_of station frozen self.old) }
         ensures each { (site : Site) → AreOf site self.old → AreOf site self.new }
-        ensures room { self.old.network.room ≤ self.new.network.room + 128 }
+        ensures room { self.old.network.room ≤ self.new.network.room + 23 }
     {
         self.points[place].step(input, connection, link, &mut self.network);
     }
@@ -37,10 +37,10 @@ impl Field {
     /// The detector at this place makes a step, on this link.
     pub fn step_detector(&mut self, place: usize, link: usize, input: Input<'_>, connection: usize)
         requires there { place < length self.old.detectors.items }
-        requires room { 128 ≤ self.old.network.room }
+        requires room { 23 ≤ self.old.network.room }
         ensures world { (site : Site) (station : ClockedInterlockingState) (frozen : List Held) → link ≡ length site.signals + length site.points + place → world_of station frozen self.new ≡ detector_stepped site input.entry connection place (world_of station frozen self.old) }
         ensures each { (site : Site) → AreOf site self.old → AreOf site self.new }
-        ensures room { self.old.network.room ≤ self.new.network.room + 128 }
+        ensures room { self.old.network.room ≤ self.new.network.room + 23 }
     {
         self.detectors[place].step(input, connection, link, &mut self.network);
     }

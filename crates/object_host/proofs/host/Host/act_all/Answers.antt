@@ -1,5 +1,5 @@
 -- each round acts on one item; a closed link drops those that are left
-use Rattle.std.proofs.Common.{ap, sym, ◌∙◌, arith}
+use Rattle.std.proofs.Common.{ap, sym, ◌∙◌}
 use Rattle.rasta_core.specs.State.{is_open}
 use Rattle.object_host.proofs.ItemActions.{acting_next, closed_drops, nothing_at_end}
 use Rattle.object_host.proofs.UnderWay.{begins, comes_to_end}
@@ -14,11 +14,9 @@ loop-item-preserved g c =
     (ap (λ h. is_open h.link.phase) (sym c.self.view_is) ∙ sym c.is_open.ensures ∙ c.if-not-is_open.false) c.act.ensures
 
 pub returns-then-not-is_open : goal.returns-then-not-is_open
-returns-then-not-is_open g c = comes_to_end _ _ _ _ _ _ _ _ _ c.loop-item.invariant.way
+returns-then-not-is_open g c = comes_to_end _ _ _ _ _ _ _ c.loop-item.invariant.way
     (closed_drops g.C.Controller.behaviour _ _ _ (ap (λ h. is_open h.link.phase) (sym c.self.view_is) ∙ sym c.is_open.ensures ∙ c.if-not-is_open.true))
-    (omega (arith, c.loop-item-test.true, c.requires.items))
 
 pub returns : goal.returns
-returns g c = comes_to_end _ _ _ _ _ _ _ _ _ c.loop-item.invariant.way
+returns g c = comes_to_end _ _ _ _ _ _ _ c.loop-item.invariant.way
     (nothing_at_end g.C.Controller.behaviour _ _ _ _ c.loop-item-test.false)
-    (omega (arith, c.loop-item.auto.item-index-end, c.requires.items))

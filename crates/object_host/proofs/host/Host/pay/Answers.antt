@@ -18,6 +18,5 @@ returns-then-not-pay_first g c =
     (sym c.pay_first.ensures.answer ∙ c.if-not-pay_first.true) c.pay_first.ensures.performed
 
 pub returns : goal.returns
-returns g c = comes_to_end _ _ _ _ _ _ _ _ _ c.loop-round.invariant.way
+returns g c = comes_to_end _ _ _ _ _ _ _ c.loop-round.invariant.way
     (nothing_at_end g.C.Controller.behaviour _ _ _ (omega (arith, c.loop-round-test.false, c.loop-round.auto._round-end)))
-    (omega (arith, c.loop-round.auto._round-end))

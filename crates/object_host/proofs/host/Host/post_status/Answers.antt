@@ -14,12 +14,10 @@ loop-place-preserved g c =
     c.post.ensures.performed
 
 pub returns-in-None : goal.returns-in-None
-returns-in-None g c = comes_to_end _ _ _ _ _ _ _ _ _ c.loop-place.invariant.way
+returns-in-None g c = comes_to_end _ _ _ _ _ _ _ c.loop-place.invariant.way
     (nothing_at g.C.Controller.behaviour _ _ _ c.loop-place-test.true
     (ap (λ h. g.C.Controller.behaviour.status c.loop-place.place h.object) (sym c.self.view_is) ∙ sym c.status.ensures ∙ c.in-None.is))
-    (omega (arith, c.loop-place-test.true))
 
 pub returns : goal.returns
-returns g c = comes_to_end _ _ _ _ _ _ _ _ _ c.loop-place.invariant.way
+returns g c = comes_to_end _ _ _ _ _ _ _ c.loop-place.invariant.way
     (nothing_at_end g.C.Controller.behaviour _ _ _ (omega (arith, c.loop-place-test.false, c.loop-place.auto.place-end)))
-    (omega (arith, c.loop-place.auto.place-end))

@@ -1,19 +1,19 @@
 use Rattle.std.proofs.Common.{◌∙◌, ap, sym, length, ◌++◌, arith, rules}
 use Rattle.simulator_spec.specs.rasta_core.Outbox.{OutboxState}
 use Rattle.simulator_spec.specs.Controllers.{controller_after, step_of}
-use Rattle.simulator_field.proofs.Inside.{capacity_posted, step_handed_out, step_performed}
+use Rattle.simulator_field.proofs.Inside.{few_posted, step_handed_out, step_performed}
 use Rattle.simulator_field.proofs.clocked_controller.ClockedController.step.Goals as goal
 
 pub note-requires : goal.note-requires
 note-requires g c =
-    let capacity = capacity_posted _ _ _ c.step.follows.claims.0
-    in omega (arith, c.len-sends.ensures.within, c.len.ensures.fits, c.len.ensures.count, c.requires)
+    let few = few_posted _ _ _ c.step.follows.claims.0 c.step.follows.claims.1.0
+    in omega (arith, few, c.len-sends.ensures.count, c.len.ensures.fits, c.len.ensures.count, c.requires)
 
 pub send_all-requires : goal.send_all-requires
 send_all-requires g c =
-    let capacity = capacity_posted _ _ _ c.step.follows.claims.0
+    let few = few_posted _ _ _ c.step.follows.claims.0 c.step.follows.claims.1.0
     in let lent = ap (λ (o : OutboxState). length o.datagrams) (c.step.follows.claims.0 ∙ sym c.step.follows.holds-at-none.posted)
-    in omega (arith, c.len-sends.ensures.within, c.len-sends.ensures.count, c.requires)
+    in omega (arith, few, lent, c.len-sends.ensures.count, c.requires)
 
 pub returns-clause-server : goal.returns-clause-server
 returns-clause-server g c =
@@ -33,6 +33,6 @@ returns-clause-sent g c =
 
 pub returns-clause-room : goal.returns-clause-room
 returns-clause-room g c =
-    let capacity = capacity_posted _ _ _ c.step.follows.claims.0
+    let few = few_posted _ _ _ c.step.follows.claims.0 c.step.follows.claims.1.0
     in let lent = ap (λ (o : OutboxState). length o.datagrams) (c.step.follows.claims.0 ∙ sym c.step.follows.holds-at-none.posted)
-    in omega (arith, c.send_all.ensures.room, c.len-sends.ensures.within, c.len-sends.ensures.count)
+    in omega (arith, few, lent, c.send_all.ensures.room, c.len-sends.ensures.count)
