@@ -1,0 +1,10 @@
+pub mod Added
+pub mod Loops
+pub mod ValueLemmas
+pub mod Ways
+pub mod StationsFound
+pub mod LinesMade
+pub mod Seen
+pub mod AllTold
+pub mod TracksAmong
+pub mod Locked
