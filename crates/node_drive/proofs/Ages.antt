@@ -4,10 +4,10 @@ use Rattle.std.proofs.lemmas.Bool.Decides.{nat_tests}
 use Rattle.node_lines.specs.declared.order.Order.{Order}
 use Rattle.node_lines.specs.replay_words.declared.fault.Fault.TheVariants.{Number}
 use Rattle.node_drive.specs.Ages.{FindsEmpty, WaitedBriefly, WasEmptyBehind}
-use Rattle.node_drive.specs.Calls.{Call, Rests, Reads, AsksListener, AsksLine, AsksDatagram, ThrowsAway, Writes, BreaksOff, Sends, Complains, Came, Empty, Failed}
-use Rattle.node_drive.specs.Kinds.{Kind, Meaning, InForce, Comes, Faulty}
+use Rattle.node_drive.specs.Calls.{Call, Rests, Reads, AsksListener, AsksLine, AsksDatagram, ThrowsAway, Writes, BreaksOff, Sends, Complains, Keeps, Came, Empty, Failed}
+use Rattle.node_drive.specs.Kinds.{Kind, Meaning, InForce, Comes, Faulty, AskedToKeep, said_if}
 use Rattle.node_drive.specs.Lives.{inputs_of}
-use Rattle.node_drive.specs.Rounds.{Coming, RoundBegins, Listened, Line, NoLine, LinesEnd, Datagram, NoDatagram, FailedDatagram, Tick, CourseState, Done, Standing, all_come, asked, comes, counted, datagram, having_called, heard_one, is_taken, later, line_of, not_heard, read_for, released, sent, step, steps, then_released, told}
+use Rattle.node_drive.specs.Rounds.{Coming, RoundBegins, Listened, Line, NoLine, LinesEnd, Datagram, NoDatagram, FailedDatagram, Tick, CourseState, Done, Ends, Standing, all_come, asked, comes, counted, datagram, having_called, heard_one, is_taken, kept_by, later, later_kept, line_of, next_kept, not_heard, read_for, released, sent, step, steps, then_released, told}
 use Rattle.node_drive.specs.Seen.{all_seen, is_heard, is_recent, nothing_seen, seen_with}
 use Rattle.node_drive.specs.Waiting.{Waiting, leaving}
 use Rattle.node_drive.specs.declared.outside.ThrownAway.{ThrownAway}
@@ -28,13 +28,17 @@ line-seen : (number now : ℕ) (order : Option Order) (seen : SocketSeen) → al
 line-seen number now None seen = refl
 line-seen number now (Some order) seen = refl
 
+kept-seen : (kept : Bool) (keeps : Option AskedToKeep) (seen : SocketSeen) → all_seen (kept_by kept keeps) seen ≡ seen
+kept-seen kept None seen = refl
+kept-seen kept (Some keep) seen = refl
+
 sent-seen : (some : List Waiting) (seen : SocketSeen) → all_seen (sent some) seen ≡ seen
 sent-seen [] seen = refl
 sent-seen (one ∷ some) seen = sent-seen some seen
 
 -- what was seen is what these calls tell
-abbrev Keeps : {Now : Type 0} → (Now → SocketSeen) → SocketSeen → List Call × Now → Type 0
-Keeps seen_of seen done = seen_of done.1 ≡ all_seen done.0 seen
+abbrev SeenSo : {Now : Type 0} → (Now → SocketSeen) → SocketSeen → List Call × Now → Type 0
+SeenSo seen_of seen done = seen_of done.1 ≡ all_seen done.0 seen
 
 keeps_then : (xs ys : List Call) (first mid last : SocketSeen) → mid ≡ all_seen xs first → last ≡ all_seen ys mid → last ≡ all_seen (xs ++ ys) first
 keeps_then xs ys first mid last p q = q ∙ ap (all_seen ys) p ∙ sym (seen-append xs ys first)
@@ -49,42 +53,46 @@ module _ {State In : Type 0} (kind : Kind State In) where
   abbrev seen_of : Standing State → SocketSeen
   seen_of standing = standing.course.seen
 
-  end_keeps : (leaves : ℕ) (seen : SocketSeen) (done : Done (Standing State)) → Keeps seen_of seen done → Keeps seen_of seen (then_released leaves done)
+  end_keeps : (leaves : ℕ) (seen : SocketSeen) (done : Done (Standing State)) → SeenSo seen_of seen done → SeenSo seen_of seen (then_released leaves done)
   end_keeps leaves seen done p = keeps_then done.0 (released leaves done.1.course).0 seen done.1.course.seen _ p (released_keeps leaves done.1.course)
 
-  step_keeps : (now : ℕ) (input : In) (standing : Standing State) → Keeps seen_of (seen_of standing) (step kind now input standing)
-  step_keeps now input standing =
-      let said = kind.says now input standing.state in
-      keeps_then (map Writes said) (line_of _ now _) (seen_of standing) (seen_of standing) (seen_of standing) (sym (writes-seen said (seen_of standing))) (sym (line-seen _ now _ (seen_of standing)))
+  step_keeps : (now : ℕ) (kept : Bool) (input : In) (standing : Standing State) → SeenSo seen_of (seen_of standing) (step kind now kept input standing)
+  step_keeps now kept input standing =
+      let keeps = kind.keeps now input standing.state in
+      let said = said_if kept keeps (kind.says now input standing.state) in
+      let seen = seen_of standing in
+      keeps_then (kept_by kept keeps) (map Writes said ++ line_of _ now _) seen seen seen (sym (kept-seen kept keeps seen))
+      (keeps_then (map Writes said) (line_of _ now _) seen seen seen (sym (writes-seen said seen)) (sym (line-seen _ now _ seen)))
 
-  steps-keep : (now : ℕ) (inputs : List In) (standing : Standing State) → Keeps seen_of (seen_of standing) (steps kind now inputs standing)
-  steps-keep now [] standing = refl
-  steps-keep now (input ∷ inputs) standing =
-      let first = step kind now input standing in
-      keeps_then first.0 (steps kind now inputs first.1).0 (seen_of standing) (seen_of first.1) _ (step_keeps now input standing) (steps-keep now inputs first.1)
+  steps-keep : (now : ℕ) (kept : List Bool) (inputs : List In) (standing : Standing State) → SeenSo seen_of (seen_of standing) (steps kind now kept inputs standing)
+  steps-keep now kept [] standing = refl
+  steps-keep now kept (input ∷ inputs) standing =
+      let first = step kind now (next_kept kept) input standing in
+      keeps_then first.0 (steps kind now (later_kept kept) inputs first.1).0 (seen_of standing) (seen_of first.1) _ (step_keeps now (next_kept kept) input standing) (steps-keep now (later_kept kept) inputs first.1)
 
   forced_keeps : (number : ℕ) (standing : Standing State) (known : Bool) → (cond {A = Done CourseState} known ([], record standing.course { in_force = later standing.course.in_force number }) (Complains standing.course.heard Number ∷ [], standing.course)).1.seen
       ≡ all_seen (cond {A = Done CourseState} known ([], record standing.course { in_force = later standing.course.in_force number }) (Complains standing.course.heard Number ∷ [], standing.course)).0 (seen_of standing)
   forced_keeps number standing true = refl
   forced_keeps number standing false = refl
 
-  told_keeps : (now : ℕ) (meaning : Meaning In) (standing : Standing State) → Keeps seen_of (seen_of standing) (told kind now meaning standing)
-  told_keeps now (InForce number) standing = forced_keeps number standing (nat_le number standing.course.written)
-  told_keeps now (Comes answer inputs) standing =
-      keeps_then (map Writes answer) (steps kind now inputs standing).0 (seen_of standing) (seen_of standing) _ (sym (writes-seen answer (seen_of standing))) (steps-keep now inputs standing)
-  told_keeps now (Faulty fault) standing = refl
+  told_keeps : (now : ℕ) (kept : List Bool) (meaning : Meaning In) (standing : Standing State) → SeenSo seen_of (seen_of standing) (told kind now kept meaning standing)
+  told_keeps now kept (InForce number) standing = forced_keeps number standing (nat_le number standing.course.written)
+  told_keeps now kept (Comes answer inputs) standing =
+      keeps_then (map Writes answer) (steps kind now kept inputs standing).0 (seen_of standing) (seen_of standing) _ (sym (writes-seen answer (seen_of standing))) (steps-keep now kept inputs standing)
+  told_keeps now kept (Faulty fault) standing = refl
 
-  taken_keeps : (now : ℕ) (bytes : List ℕ) (standing : Standing State) (taken : Bool) → Keeps seen_of (seen_of standing) (cond taken (step kind now (kind.datagram bytes) standing) ([], counted standing))
-  taken_keeps now bytes standing true = step_keeps now (kind.datagram bytes) standing
-  taken_keeps now bytes standing false = refl
+  taken_keeps : (now : ℕ) (kept : Bool) (bytes : List ℕ) (standing : Standing State) (taken : Bool) → SeenSo seen_of (seen_of standing) (cond taken (step kind now kept (kind.datagram bytes) standing) ([], counted standing))
+  taken_keeps now kept bytes standing true = step_keeps now kept (kind.datagram bytes) standing
+  taken_keeps now kept bytes standing false = refl
 
-  heard_keeps : (now : ℕ) (origin : Origin) (bytes : List ℕ) (thrown : ThrownAway) (leaves : ℕ) (standing : Standing State) (heard : Bool)
-      → Keeps seen_of (seen_of standing) (cond heard (then_released leaves (datagram kind now origin bytes standing)) (not_heard thrown standing))
-  heard_keeps now origin bytes thrown leaves standing true = end_keeps leaves (seen_of standing) (datagram kind now origin bytes standing) (taken_keeps now bytes standing (is_taken kind origin.from))
-  heard_keeps now origin bytes thrown leaves standing false = refl
+  heard_keeps : (now : ℕ) (origin : Origin) (bytes : List ℕ) (thrown : ThrownAway) (ends : Ends) (standing : Standing State) (heard : Bool)
+      → SeenSo seen_of (seen_of standing) (cond heard (then_released ends.leaves (datagram kind now (next_kept ends.kept) origin bytes standing)) (not_heard thrown standing))
+  heard_keeps now origin bytes thrown ends standing true =
+      end_keeps ends.leaves (seen_of standing) (datagram kind now (next_kept ends.kept) origin bytes standing) (taken_keeps now (next_kept ends.kept) bytes standing (is_taken kind origin.from))
+  heard_keeps now origin bytes thrown ends standing false = refl
 
   -- by what a coming asks for first
-  behind_asked : (now : ℕ) (coming : Coming) (standing : Standing State) (done : Done (Standing State)) → Keeps seen_of (all_seen (asked now coming) (seen_of standing)) done
+  behind_asked : (now : ℕ) (coming : Coming) (standing : Standing State) (done : Done (Standing State)) → SeenSo seen_of (all_seen (asked now coming) (seen_of standing)) done
       → seen_of done.1 ≡ all_seen (asked now coming ++ done.0) (seen_of standing)
   behind_asked now coming standing done p = keeps_then (asked now coming) done.0 (seen_of standing) (all_seen (asked now coming) (seen_of standing)) (seen_of done.1) refl p
 
@@ -92,17 +100,17 @@ module _ {State In : Type 0} (kind : Kind State In) where
   comes_keeps now RoundBegins standing = refl
   comes_keeps now (Listened true) standing = sym (writes-seen (kind.stands now standing.state) (seen_of standing))
   comes_keeps now (Listened false) standing = refl
-  comes_keeps now (Line text leaves) standing =
+  comes_keeps now (Line text ends) standing =
       let here = having_called (Reads now ∷ []) standing in
-      end_keeps leaves (seen_of here) (told kind now (kind.meaning now text standing.state) (heard_one here)) (told_keeps now (kind.meaning now text standing.state) (heard_one here))
+      end_keeps ends.leaves (seen_of here) (told kind now ends.kept (kind.meaning now text standing.state) (heard_one here)) (told_keeps now ends.kept (kind.meaning now text standing.state) (heard_one here))
   comes_keeps now NoLine standing = refl
   comes_keeps now LinesEnd standing = refl
-  comes_keeps now (Datagram origin bytes thrown leaves) standing = heard_keeps now origin bytes thrown leaves (having_called (Reads now ∷ []) standing) (is_heard now standing.course.seen)
+  comes_keeps now (Datagram origin bytes thrown ends) standing = heard_keeps now origin bytes thrown ends (having_called (Reads now ∷ []) standing) (is_heard now standing.course.seen)
   comes_keeps now NoDatagram standing = refl
   comes_keeps now FailedDatagram standing = refl
-  comes_keeps now (Tick leaves) standing =
+  comes_keeps now (Tick ends) standing =
       let here = having_called (Reads now ∷ []) standing in
-      end_keeps leaves (seen_of here) (step kind now kind.tick here) (step_keeps now kind.tick here)
+      end_keeps ends.leaves (seen_of here) (step kind now (next_kept ends.kept) kind.tick here) (step_keeps now (next_kept ends.kept) kind.tick here)
 
   pub all_keep : (comings : List (ℕ × Coming)) (standing : Standing State) → (all_come kind comings standing).1.course.seen ≡ all_seen (all_come kind comings standing).0 standing.course.seen
   all_keep [] standing = refl
@@ -181,6 +189,7 @@ known_with seen calls (Writes text) p = grows seen calls (Writes text ∷ []) p
 known_with seen calls (BreaksOff text) p = grows seen calls (BreaksOff text ∷ []) p
 known_with seen calls (Sends to bytes) p = grows seen calls (Sends to bytes ∷ []) p
 known_with seen calls (Complains line fault) p = grows seen calls (Complains line fault ∷ []) p
+known_with seen calls (Keeps all kept) p = grows seen calls (Keeps all kept ∷ []) p
 
 all-known : (seen : SocketSeen) (calls more : List Call) → Known seen calls → Known (all_seen more seen) (calls ++ more)
 all-known seen calls [] p = subst (Known seen) (sym (append-nil calls)) p
@@ -199,10 +208,10 @@ both_are one false taken e = cc
 
 module _ {State In : Type 0} (kind : Kind State In) where
   pub heard_waited_briefly : (earlier : List Call) (comings : List (ℕ × Coming)) (standing : Standing State) → standing.course.seen ≡ all_seen earlier nothing_seen
-      → (now : ℕ) (origin : Origin) (bytes : List ℕ) (thrown : ThrownAway) (leaves : ℕ)
-      → inputs_of kind now (Datagram origin bytes thrown leaves) (all_come kind comings standing).1 ≡ (now, kind.datagram bytes) ∷ []
+      → (now : ℕ) (origin : Origin) (bytes : List ℕ) (thrown : ThrownAway) (ends : Ends)
+      → inputs_of kind now (Datagram origin bytes thrown ends) (all_come kind comings standing).1 ≡ (now, kind.datagram bytes) ∷ []
       → WaitedBriefly now (earlier ++ (all_come kind comings standing).0)
-  heard_waited_briefly earlier comings standing kept now origin bytes thrown leaves heard =
+  heard_waited_briefly earlier comings standing kept now origin bytes thrown ends heard =
       let after = (all_come kind comings standing).1 in
       let called = (all_come kind comings standing).0 in
       let seen : after.course.seen ≡ all_seen (earlier ++ called) nothing_seen

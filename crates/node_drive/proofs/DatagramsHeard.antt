@@ -2,10 +2,10 @@
 use Rattle.std.proofs.Common.{◌≡◌, ◌<◌, ◌≤◌, ℕ, nat_lt, Bool, true, false, cond, List, [], ◌∷◌, ◌++◌, map, refl, sym, subst, ap, ◌∙◌, append-nil, arith}
 use Rattle.std.proofs.lemmas.Bool.Decides.{nat_tests}
 use Rattle.node_drive.specs.Calls.{Arrival, AsksDatagram, Calls, CallsCut, Came, DatagramHeard, Empty, Failed, Reads, ThrowsAway, Told}
-use Rattle.node_drive.specs.Drives.{AreHeard, EndsDatagrams, full, silent, Performs, Stops, Timed, datagram_in}
+use Rattle.node_drive.specs.Drives.{AreHeard, EndsDatagrams, full, silent, Performs, Stops, Timed, datagram_in, unasked}
 use Rattle.node_drive.specs.Inside.{OneDatagram}
 use Rattle.node_drive.specs.Kinds.{Kind}
-use Rattle.node_drive.specs.Rounds.{Coming, CourseState, Datagram, FailedDatagram, NoDatagram, Standing, all_come, comes, datagram, having_called, many_more, not_heard, one_more, then_released, with_calls}
+use Rattle.node_drive.specs.Rounds.{Coming, CourseState, Datagram, FailedDatagram, NoDatagram, Standing, all_come, comes, datagram, having_called, many_more, next_kept, not_heard, one_more, then_released, with_calls}
 use Rattle.node_drive.specs.Seen.{is_heard}
 use Rattle.node_drive.specs.declared.outside.ThrownAway.{ThrownAway}
 use Rattle.node_drive.specs.declared.socket_seen.SocketSeen.{SocketSeen}
@@ -45,9 +45,9 @@ module _ {State In : Type 0} (kind : Kind State In) where
   heard-push [] one a are e = (e, tt)
   heard-push (first ∷ datagrams) one a are e = (are.0, heard-push datagrams one (comes kind first.now (datagram_in first).1 a).1 are.1 e)
 
-  heard_is : (one : Timed Arrival) (a : Standing State) → is_heard one.now a.course.seen ≡ true → then_released one.leaves (datagram kind one.now one.input.0 one.input.1 (having_called (Reads one.now ∷ []) a)) ≡ comes kind one.now (datagram_in one).1 a
+  heard_is : (one : Timed Arrival) (a : Standing State) → is_heard one.now a.course.seen ≡ true → then_released one.ends.leaves (datagram kind one.now (next_kept one.ends.kept) one.input.0 one.input.1 (having_called (Reads one.now ∷ []) a)) ≡ comes kind one.now (datagram_in one).1 a
   heard_is one a heard =
-      ap (λ (v : Bool). cond v (then_released one.leaves (datagram kind one.now one.input.0 one.input.1 (having_called (Reads one.now ∷ []) a))) (not_heard (record { count = 0; found_empty = false }) (having_called (Reads one.now ∷ []) a)))
+      ap (λ (v : Bool). cond v (then_released one.ends.leaves (datagram kind one.now (next_kept one.ends.kept) one.input.0 one.input.1 (having_called (Reads one.now ∷ []) a))) (not_heard (record { count = 0; found_empty = false }) (having_called (Reads one.now ∷ []) a)))
       (sym heard)
 
 module _ {State In : Type 0} {kind : Kind State In} where
@@ -84,22 +84,22 @@ module _ {State In : Type 0} {kind : Kind State In} where
   -- ---- one datagram
 
   pub one_datagram : {a b z : Standing State} {ta tb tc td : Told} (one : Timed Arrival) → b ≡ having_called (Reads one.now ∷ []) a → is_heard one.now a.course.seen ≡ true → Calls ta tb (AsksDatagram (Came one.input) ∷ []) → Calls tb tc (Reads one.now ∷ [])
-      → z ≡ (then_released one.leaves (datagram kind one.now one.input.0 one.input.1 b)).1 → Calls tc td (then_released one.leaves (datagram kind one.now one.input.0 one.input.1 b)).0 → Performs kind (datagram_in one ∷ []) a z ta td
+      → z ≡ (then_released one.ends.leaves (datagram kind one.now (next_kept one.ends.kept) one.input.0 one.input.1 b)).1 → Calls tc td (then_released one.ends.leaves (datagram kind one.now (next_kept one.ends.kept) one.input.0 one.input.1 b)).0 → Performs kind (datagram_in one ∷ []) a z ta td
   one_datagram {a} one noted heard asks reads e calls =
       let is = heard_is kind one a heard in
       performs_one one.now (datagram_in one).1
-      (e ∙ ap (λ (s : Standing State). (then_released one.leaves (datagram kind one.now one.input.0 one.input.1 s)).1) noted ∙ ap (λ d. d.1) is)
-      (calls_then asks (calls_then reads (calls_same (ap (λ (s : Standing State). (then_released one.leaves (datagram kind one.now one.input.0 one.input.1 s)).0) noted ∙ ap (λ d. d.0) is) calls)))
+      (e ∙ ap (λ (s : Standing State). (then_released one.ends.leaves (datagram kind one.now (next_kept one.ends.kept) one.input.0 one.input.1 s)).1) noted ∙ ap (λ d. d.1) is)
+      (calls_then asks (calls_then reads (calls_same (ap (λ (s : Standing State). (then_released one.ends.leaves (datagram kind one.now (next_kept one.ends.kept) one.input.0 one.input.1 s)).0) noted ∙ ap (λ d. d.0) is) calls)))
 
   pub one_cut : {a b : Standing State} {ta tb tc td : Told} (one : Timed Arrival) → b ≡ having_called (Reads one.now ∷ []) a → is_heard one.now a.course.seen ≡ true → Calls ta tb (AsksDatagram (Came one.input) ∷ []) → Calls tb tc (Reads one.now ∷ [])
-      → CallsCut tc td (datagram kind one.now one.input.0 one.input.1 b).0 → Stops kind (datagram_in one ∷ []) a ta td
+      → CallsCut tc td (datagram kind one.now (next_kept one.ends.kept) one.input.0 one.input.1 b).0 → Stops kind (datagram_in one ∷ []) a ta td
   one_cut {a} {b} one noted heard asks reads cut =
       let is = heard_is kind one a heard in
       stops_one one.now (datagram_in one).1
       (cuts_then asks
       (cuts_then reads
-      (cuts_same (ap (λ (s : Standing State). (then_released one.leaves (datagram kind one.now one.input.0 one.input.1 s)).0) noted ∙ ap (λ d. d.0) is)
-      (end_cut kind one.leaves (datagram kind one.now one.input.0 one.input.1 b) cut))))
+      (cuts_same (ap (λ (s : Standing State). (then_released one.ends.leaves (datagram kind one.now (next_kept one.ends.kept) one.input.0 one.input.1 s)).0) noted ∙ ap (λ d. d.0) is)
+      (end_cut kind one.ends.leaves (datagram kind one.now (next_kept one.ends.kept) one.input.0 one.input.1 b) cut))))
 
   pub none_came : {state : State} {course after : CourseState} {ta tb : Told} → after ≡ with_calls (AsksDatagram Empty ∷ []) course → Calls ta tb (AsksDatagram Empty ∷ [])
       → Performs kind ((0, NoDatagram) ∷ []) (record { state = state; course = course }) (record { state = state; course = after }) ta tb
@@ -111,11 +111,11 @@ module _ {State In : Type 0} {kind : Kind State In} where
   pub old_came : {state : State} {course read after : CourseState} {ta tb tc td : Told} (now : ℕ) (origin : Origin) (bytes : List ℕ) (thrown : ThrownAway) → read ≡ with_calls (Reads now ∷ []) course → is_heard now course.seen ≡ false
       → after ≡ record (with_calls (ThrowsAway thrown.count thrown.found_empty ∷ []) read) { too_old = many_more thrown.count (one_more read.too_old) }
       → Calls ta tb (AsksDatagram (Came (origin, bytes)) ∷ []) → Calls tb tc (Reads now ∷ []) → Calls tc td (ThrowsAway thrown.count thrown.found_empty ∷ [])
-      → Performs kind ((now, Datagram origin bytes thrown 0) ∷ []) (record { state = state; course = course }) (record { state = state; course = after }) ta td
+      → Performs kind ((now, Datagram origin bytes thrown unasked) ∷ []) (record { state = state; course = course }) (record { state = state; course = after }) ta td
   old_came {state} {course} {read} {after} now origin bytes thrown noted late e asks reads throws =
       let here : Standing State = having_called (Reads now ∷ []) (record { state = state; course = course }) in
-      let is : not_heard thrown here ≡ comes kind now (Datagram origin bytes thrown 0) (record { state = state; course = course })
-      = ap (λ (v : Bool). cond v (then_released 0 (datagram kind now origin bytes here)) (not_heard thrown here)) (sym late) in
-      performs_one now (Datagram origin bytes thrown 0)
+      let is : not_heard thrown here ≡ comes kind now (Datagram origin bytes thrown unasked) (record { state = state; course = course })
+      = ap (λ (v : Bool). cond v (then_released 0 (datagram kind now true origin bytes here)) (not_heard thrown here)) (sym late) in
+      performs_one now (Datagram origin bytes thrown unasked)
       (ap (λ (c : CourseState). record { state = state; course = c }) (e ∙ ap (thrown_behind thrown) noted) ∙ ap (λ d. d.1) is)
       (calls_then asks (calls_then reads (calls_same (ap (λ d. d.0) is) throws)))

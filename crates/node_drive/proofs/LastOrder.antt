@@ -7,7 +7,7 @@ use Rattle.node_lines.specs.declared.order.Order.{Order}
 use Rattle.node_lines.specs.declared.order.Order.TheVariants.{ShowStop, ShowProceed, ShowSlow, DriveNone, Drive}
 use Rattle.node_drive.specs.Calls.{Complains, Reads}
 use Rattle.node_drive.specs.Kinds.{Kind, Meaning, InForce, Comes, Faulty}
-use Rattle.node_drive.specs.Rounds.{Coming, RoundBegins, Listened, Line, NoLine, LinesEnd, Datagram, NoDatagram, FailedDatagram, Tick, CourseState, Done, Standing, all_come, comes, counted, datagram, having_called, heard_one, is_taken, last_order, later, new_order, not_heard, step, steps, then_released, told}
+use Rattle.node_drive.specs.Rounds.{Coming, RoundBegins, Listened, Line, NoLine, LinesEnd, Datagram, NoDatagram, FailedDatagram, Tick, CourseState, Done, Ends, Standing, all_come, comes, counted, datagram, having_called, heard_one, is_taken, last_order, later, later_kept, new_order, next_kept, not_heard, step, steps, then_released, told}
 use Rattle.node_drive.specs.Seen.{is_heard}
 use Rattle.node_drive.specs.declared.outside.ThrownAway.{ThrownAway}
 use Rattle.node_lines.specs.ixl_spec.Table.{is_same_side}
@@ -74,39 +74,39 @@ module _ {State In : Type 0} (kind : Kind State In) (some : (state : State) → 
   abbrev Stands : Standing State → Type 0
   Stands standing = standing.course.order ≡ kind.order standing.state
 
-  step-stands : (now : ℕ) (input : In) (standing : Standing State) → Stands (step kind now input standing).1
-  step-stands now input standing = order_kept standing.course.order (kind.order (kind.after now input standing.state)) (some (kind.after now input standing.state))
+  step-stands : (now : ℕ) (kept : Bool) (input : In) (standing : Standing State) → Stands (step kind now kept input standing).1
+  step-stands now kept input standing = order_kept standing.course.order (kind.order (kind.after now input standing.state)) (some (kind.after now input standing.state))
 
-  steps-stands : (now : ℕ) (inputs : List In) (standing : Standing State) → Stands standing → Stands (steps kind now inputs standing).1
-  steps-stands now [] standing h = h
-  steps-stands now (input ∷ inputs) standing h = steps-stands now inputs (step kind now input standing).1 (step-stands now input standing)
+  steps-stands : (now : ℕ) (kept : List Bool) (inputs : List In) (standing : Standing State) → Stands standing → Stands (steps kind now kept inputs standing).1
+  steps-stands now kept [] standing h = h
+  steps-stands now kept (input ∷ inputs) standing h = steps-stands now (later_kept kept) inputs (step kind now (next_kept kept) input standing).1 (step-stands now (next_kept kept) input standing)
 
-  told-stands : (now : ℕ) (meaning : Meaning In) (standing : Standing State) → Stands standing → Stands (told kind now meaning standing).1
-  told-stands now (InForce number) standing h = order_forced number standing.course (nat_le number standing.course.written) ∙ h
-  told-stands now (Comes answer inputs) standing h = steps-stands now inputs standing h
-  told-stands now (Faulty fault) standing h = h
+  told-stands : (now : ℕ) (kept : List Bool) (meaning : Meaning In) (standing : Standing State) → Stands standing → Stands (told kind now kept meaning standing).1
+  told-stands now kept (InForce number) standing h = order_forced number standing.course (nat_le number standing.course.written) ∙ h
+  told-stands now kept (Comes answer inputs) standing h = steps-stands now kept inputs standing h
+  told-stands now kept (Faulty fault) standing h = h
 
-  taken-stands : (now : ℕ) (bytes : List ℕ) (standing : Standing State) (taken : Bool) → Stands standing → Stands (cond taken (step kind now (kind.datagram bytes) standing) ([], counted standing)).1
-  taken-stands now bytes standing true h = step-stands now (kind.datagram bytes) standing
-  taken-stands now bytes standing false h = h
+  taken-stands : (now : ℕ) (kept : Bool) (bytes : List ℕ) (standing : Standing State) (taken : Bool) → Stands standing → Stands (cond taken (step kind now kept (kind.datagram bytes) standing) ([], counted standing)).1
+  taken-stands now kept bytes standing true h = step-stands now kept (kind.datagram bytes) standing
+  taken-stands now kept bytes standing false h = h
 
-  heard-stands : (now : ℕ) (origin : Origin) (bytes : List ℕ) (thrown : ThrownAway) (leaves : ℕ) (standing : Standing State) (heard : Bool) → Stands standing
-      → Stands (cond heard (then_released leaves (datagram kind now origin bytes standing)) (not_heard thrown standing)).1
-  heard-stands now origin bytes thrown leaves standing true h = taken-stands now bytes standing (is_taken kind origin.from) h
-  heard-stands now origin bytes thrown leaves standing false h = h
+  heard-stands : (now : ℕ) (origin : Origin) (bytes : List ℕ) (thrown : ThrownAway) (ends : Ends) (standing : Standing State) (heard : Bool) → Stands standing
+      → Stands (cond heard (then_released ends.leaves (datagram kind now (next_kept ends.kept) origin bytes standing)) (not_heard thrown standing)).1
+  heard-stands now origin bytes thrown ends standing true h = taken-stands now (next_kept ends.kept) bytes standing (is_taken kind origin.from) h
+  heard-stands now origin bytes thrown ends standing false h = h
 
   comes-stands : (now : ℕ) (coming : Coming) (standing : Standing State) → Stands standing → Stands (comes kind now coming standing).1
   comes-stands now RoundBegins standing h = h
   comes-stands now (Listened true) standing h = h
   comes-stands now (Listened false) standing h = h
-  comes-stands now (Line text leaves) standing h = told-stands now (kind.meaning now text standing.state) (heard_one (having_called (Reads now ∷ []) standing)) h
+  comes-stands now (Line text ends) standing h = told-stands now ends.kept (kind.meaning now text standing.state) (heard_one (having_called (Reads now ∷ []) standing)) h
   comes-stands now NoLine standing h = h
   comes-stands now LinesEnd standing h = h
-  comes-stands now (Datagram origin bytes thrown leaves) standing h =
-      heard-stands now origin bytes thrown leaves (having_called (Reads now ∷ []) standing) (is_heard now standing.course.seen) h
+  comes-stands now (Datagram origin bytes thrown ends) standing h =
+      heard-stands now origin bytes thrown ends (having_called (Reads now ∷ []) standing) (is_heard now standing.course.seen) h
   comes-stands now NoDatagram standing h = h
   comes-stands now FailedDatagram standing h = h
-  comes-stands now (Tick leaves) standing h = step-stands now kind.tick (having_called (Reads now ∷ []) standing)
+  comes-stands now (Tick ends) standing h = step-stands now (next_kept ends.kept) kind.tick (having_called (Reads now ∷ []) standing)
 
   pub last_order_stands : (comings : List (ℕ × Coming)) (standing : Standing State) → standing.course.order ≡ kind.order standing.state
       → (all_come kind comings standing).1.course.order ≡ kind.order (all_come kind comings standing).1.state

@@ -7,6 +7,7 @@ pub mod Sending
 pub mod Courses
 pub mod Ordered
 pub mod Forced
+pub mod Kept
 pub mod Performed
 pub mod Steps
 pub mod Lined

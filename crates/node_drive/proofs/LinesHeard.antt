@@ -47,17 +47,17 @@ module _ {State In : Type 0} {kind : Kind State In} where
   -- ---- one line
 
   pub one_line : {a b z : Standing State} {ta tb tc td : Told} (one : Timed (List ℕ)) → b ≡ having_called (Reads one.now ∷ []) a → Calls ta tb (AsksLine (Text one.input) ∷ []) → Calls tb tc (Reads one.now ∷ [])
-      → z ≡ (then_released one.leaves (line kind one.now one.input b)).1 → Calls tc td (then_released one.leaves (line kind one.now one.input b)).0 → Performs kind (line_in one ∷ []) a z ta td
+      → z ≡ (then_released one.ends.leaves (line kind one.now one.ends.kept one.input b)).1 → Calls tc td (then_released one.ends.leaves (line kind one.now one.ends.kept one.input b)).0 → Performs kind (line_in one ∷ []) a z ta td
   one_line one noted asks reads e calls =
-      performs_one one.now (Line one.input one.leaves)
-      (e ∙ ap (λ (s : Standing State). (then_released one.leaves (line kind one.now one.input s)).1) noted)
-      (calls_then asks (calls_then reads (calls_same (ap (λ (s : Standing State). (then_released one.leaves (line kind one.now one.input s)).0) noted) calls)))
+      performs_one one.now (Line one.input one.ends)
+      (e ∙ ap (λ (s : Standing State). (then_released one.ends.leaves (line kind one.now one.ends.kept one.input s)).1) noted)
+      (calls_then asks (calls_then reads (calls_same (ap (λ (s : Standing State). (then_released one.ends.leaves (line kind one.now one.ends.kept one.input s)).0) noted) calls)))
 
   pub one_cut : {a b : Standing State} {ta tb tc td : Told} (one : Timed (List ℕ)) → b ≡ having_called (Reads one.now ∷ []) a → Calls ta tb (AsksLine (Text one.input) ∷ []) → Calls tb tc (Reads one.now ∷ [])
-      → CallsCut tc td (line kind one.now one.input b).0 → Stops kind (line_in one ∷ []) a ta td
+      → CallsCut tc td (line kind one.now one.ends.kept one.input b).0 → Stops kind (line_in one ∷ []) a ta td
   one_cut {a} {b} one noted asks reads cut =
-      stops_one one.now (Line one.input one.leaves)
-      (cuts_then asks (cuts_then reads (cuts_same (ap (λ (s : Standing State). (then_released one.leaves (line kind one.now one.input s)).0) noted) (end_cut kind one.leaves (line kind one.now one.input b) cut))))
+      stops_one one.now (Line one.input one.ends)
+      (cuts_then asks (cuts_then reads (cuts_same (ap (λ (s : Standing State). (then_released one.ends.leaves (line kind one.now one.ends.kept one.input s)).0) noted) (end_cut kind one.ends.leaves (line kind one.now one.ends.kept one.input b) cut))))
 
   pub none_came : {a : Standing State} {ta tb : Told} → Calls ta tb (AsksLine Nothing ∷ []) → Performs kind ((0, NoLine) ∷ []) a a ta tb
   none_came asks = performs_one 0 NoLine refl asks

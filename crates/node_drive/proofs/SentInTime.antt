@@ -6,9 +6,9 @@ use Rattle.node_lines.specs.declared.order.Order.{Order}
 use Rattle.node_lines.specs.replay_words.declared.fault.Fault.TheVariants.{Number}
 use Rattle.node_drive.specs.Ages.{IsIn, SendsBy, SentInTime, handed_by, to_leave}
 use Rattle.node_drive.specs.Calls.{Call, Reads, Writes, Sends, Complains}
-use Rattle.node_drive.specs.Kinds.{Kind, Meaning, InForce, Comes, Faulty}
+use Rattle.node_drive.specs.Kinds.{Kind, Meaning, InForce, Comes, Faulty, AskedToKeep, said_if}
 use Rattle.node_drive.specs.Lives.{came, inputs_of, inputs_told, state_after}
-use Rattle.node_drive.specs.Rounds.{Coming, RoundBegins, Listened, Line, NoLine, LinesEnd, Datagram, NoDatagram, FailedDatagram, Tick, CourseState, Done, Standing, all_come, asked, comes, counted, having_called, heard_one, is_taken, later, line_of, not_heard, released, sent, step, steps, then_released, told}
+use Rattle.node_drive.specs.Rounds.{Coming, RoundBegins, Listened, Line, NoLine, LinesEnd, Datagram, NoDatagram, FailedDatagram, Tick, CourseState, Done, Ends, Standing, all_come, asked, comes, counted, having_called, heard_one, is_taken, kept_by, later, later_kept, line_of, next_kept, not_heard, released, sent, step, steps, then_released, told}
 use Rattle.node_drive.specs.Seen.{all_seen, is_heard, seen_with}
 use Rattle.node_drive.specs.Waiting.{Addressed, Waiting, is_fresh, is_free, leaving, none_waits, waiting_of, waiting_on}
 use Rattle.node_drive.specs.declared.outside.ThrownAway.{ThrownAway}
@@ -60,6 +60,10 @@ module _ (P InTime : ℕ → Addressed → Type 0) (in_time : (now since : ℕ) 
   writes-send [] seen = tt
   writes-send (line ∷ lines) seen = writes-send lines seen
 
+  kept_sends : (kept : Bool) (keeps : Option AskedToKeep) (seen : SocketSeen) → SendsBy InTime seen (kept_by kept keeps)
+  kept_sends kept None seen = tt
+  kept_sends kept (Some keep) seen = tt
+
   line_sends : (number now : ℕ) (order : Option Order) (seen : SocketSeen) → SendsBy InTime seen (line_of number now order)
   line_sends number now None seen = tt
   line_sends number now (Some order) seen = tt
@@ -104,22 +108,25 @@ module _ (P InTime : ℕ → Addressed → Type 0) (in_time : (now since : ℕ) 
       waits = all-left-waiting leaves done.1.course.in_force done.1.course.waiting p.waits;
     }
 
-    step_sound : (now : ℕ) (input : In) (standing : Standing State) (seen : SocketSeen) → AllByRecursion Of standing.course.waiting
-        → AllByRecursion Handed (map (λ (datagram : Addressed). (now, datagram)) (kind.hands now input standing.state)) → Sound seen (step kind now input standing)
-    step_sound now input standing seen waits handed = record {
-      sends = sends-append (map Writes (kind.says now input standing.state)) (line_of _ now _) seen (writes-send (kind.says now input standing.state) seen) (line_sends _ now _ _);
+    step_sound : (now : ℕ) (kept : Bool) (input : In) (standing : Standing State) (seen : SocketSeen) → AllByRecursion Of standing.course.waiting
+        → AllByRecursion Handed (map (λ (datagram : Addressed). (now, datagram)) (kind.hands now input standing.state)) → Sound seen (step kind now kept input standing)
+    step_sound now kept input standing seen waits handed = record {
+      sends =
+          let keeps = kind.keeps now input standing.state in
+          let said = said_if kept keeps (kind.says now input standing.state) in
+          sends-append (kept_by kept keeps) (map Writes said ++ line_of _ now _) seen (kept_sends kept keeps seen) (sends-append (map Writes said) (line_of _ now _) _ (writes-send said _) (line_sends _ now _ _));
       waits = all-append Of standing.course.waiting _ waits (all-waiting _ now (kind.hands now input standing.state) handed);
     }
 
-    steps-sound : (now : ℕ) (inputs : List In) (standing : Standing State) (seen : SocketSeen) → AllByRecursion Of standing.course.waiting
-        → AllByRecursion Handed (handed_by kind (map (λ (input : In). (now, input)) inputs) standing.state) → Sound seen (steps kind now inputs standing)
-    steps-sound now [] standing seen waits handed = record { sends = tt; waits = waits }
-    steps-sound now (input ∷ inputs) standing seen waits handed =
-        let here = step kind now input standing in
+    steps-sound : (now : ℕ) (kept : List Bool) (inputs : List In) (standing : Standing State) (seen : SocketSeen) → AllByRecursion Of standing.course.waiting
+        → AllByRecursion Handed (handed_by kind (map (λ (input : In). (now, input)) inputs) standing.state) → Sound seen (steps kind now kept inputs standing)
+    steps-sound now kept [] standing seen waits handed = record { sends = tt; waits = waits }
+    steps-sound now kept (input ∷ inputs) standing seen waits handed =
+        let here = step kind now (next_kept kept) input standing in
         let hands = map (λ (datagram : Addressed). (now, datagram)) (kind.hands now input standing.state) in
-        let first = step_sound now input standing seen waits (all-left Handed hands _ handed) in
-        let others = steps-sound now inputs here.1 (all_seen here.0 seen) first.waits (all-right Handed hands _ handed) in
-        record { sends = sends-append here.0 (steps kind now inputs here.1).0 seen first.sends others.sends; waits = others.waits }
+        let first = step_sound now (next_kept kept) input standing seen waits (all-left Handed hands _ handed) in
+        let others = steps-sound now (later_kept kept) inputs here.1 (all_seen here.0 seen) first.waits (all-right Handed hands _ handed) in
+        record { sends = sends-append here.0 (steps kind now (later_kept kept) inputs here.1).0 seen first.sends others.sends; waits = others.waits }
 
     forced_sound : (number : ℕ) (standing : Standing State) (seen : SocketSeen) (known : Bool) → AllByRecursion Of standing.course.waiting
         → let done = cond {A = Done CourseState} known ([], record standing.course { in_force = later standing.course.in_force number }) (Complains standing.course.heard Number ∷ [], standing.course)
@@ -127,22 +134,22 @@ module _ (P InTime : ℕ → Addressed → Type 0) (in_time : (now since : ℕ) 
     forced_sound number standing seen true waits = record { sends = tt; waits = waits }
     forced_sound number standing seen false waits = record { sends = tt; waits = waits }
 
-    told_sound : (now : ℕ) (meaning : Meaning In) (standing : Standing State) (seen : SocketSeen) → AllByRecursion Of standing.course.waiting
-        → AllByRecursion Handed (handed_by kind (inputs_told now meaning) standing.state) → Sound seen (told kind now meaning standing)
-    told_sound now (InForce number) standing seen waits handed = forced_sound number standing seen (nat_le number standing.course.written) waits
-    told_sound now (Comes answer inputs) standing seen waits handed =
-        let inside = steps-sound now inputs standing (all_seen (map Writes answer) seen) waits handed in
-        record { sends = sends-append (map Writes answer) (steps kind now inputs standing).0 seen (writes-send answer seen) inside.sends; waits = inside.waits }
-    told_sound now (Faulty fault) standing seen waits handed = record { sends = tt; waits = waits }
+    told_sound : (now : ℕ) (kept : List Bool) (meaning : Meaning In) (standing : Standing State) (seen : SocketSeen) → AllByRecursion Of standing.course.waiting
+        → AllByRecursion Handed (handed_by kind (inputs_told now meaning) standing.state) → Sound seen (told kind now kept meaning standing)
+    told_sound now kept (InForce number) standing seen waits handed = forced_sound number standing seen (nat_le number standing.course.written) waits
+    told_sound now kept (Comes answer inputs) standing seen waits handed =
+        let inside = steps-sound now kept inputs standing (all_seen (map Writes answer) seen) waits handed in
+        record { sends = sends-append (map Writes answer) (steps kind now kept inputs standing).0 seen (writes-send answer seen) inside.sends; waits = inside.waits }
+    told_sound now kept (Faulty fault) standing seen waits handed = record { sends = tt; waits = waits }
 
-    heard_sound : (now : ℕ) (bytes : List ℕ) (thrown : ThrownAway) (leaves : ℕ) (standing : Standing State) (seen : SocketSeen) (heard taken : Bool) → AllByRecursion Of standing.course.waiting
+    heard_sound : (now : ℕ) (bytes : List ℕ) (thrown : ThrownAway) (ends : Ends) (standing : Standing State) (seen : SocketSeen) (heard taken : Bool) → AllByRecursion Of standing.course.waiting
         → AllByRecursion Handed (handed_by kind (cond (heard && taken) ((now, kind.datagram bytes) ∷ []) []) standing.state)
-        → Sound seen (cond heard (then_released leaves (cond taken (step kind now (kind.datagram bytes) standing) ([], counted standing))) (not_heard thrown standing))
-    heard_sound now bytes thrown leaves standing seen true true waits handed =
-        end_sound leaves seen (step kind now (kind.datagram bytes) standing)
-        (step_sound now (kind.datagram bytes) standing seen waits (all-left Handed (map (λ (datagram : Addressed). (now, datagram)) (kind.hands now (kind.datagram bytes) standing.state)) [] handed))
-    heard_sound now bytes thrown leaves standing seen true false waits handed = end_sound leaves seen ([], counted standing) (record { sends = tt; waits = waits })
-    heard_sound now bytes thrown leaves standing seen false taken waits handed = record { sends = tt; waits = waits }
+        → Sound seen (cond heard (then_released ends.leaves (cond taken (step kind now (next_kept ends.kept) (kind.datagram bytes) standing) ([], counted standing))) (not_heard thrown standing))
+    heard_sound now bytes thrown ends standing seen true true waits handed =
+        end_sound ends.leaves seen (step kind now (next_kept ends.kept) (kind.datagram bytes) standing)
+        (step_sound now (next_kept ends.kept) (kind.datagram bytes) standing seen waits (all-left Handed (map (λ (datagram : Addressed). (now, datagram)) (kind.hands now (kind.datagram bytes) standing.state)) [] handed))
+    heard_sound now bytes thrown ends standing seen true false waits handed = end_sound ends.leaves seen ([], counted standing) (record { sends = tt; waits = waits })
+    heard_sound now bytes thrown ends standing seen false taken waits handed = record { sends = tt; waits = waits }
 
     -- with what was asked for first
     abbrev WithAsked : ℕ → Coming → Standing State → SocketSeen → Type 0
@@ -153,22 +160,22 @@ module _ (P InTime : ℕ → Addressed → Type 0) (in_time : (now since : ℕ) 
     comes_sound now RoundBegins standing seen waits handed = record { sends = tt; waits = waits }
     comes_sound now (Listened true) standing seen waits handed = record { sends = writes-send (kind.stands now standing.state) seen; waits = waits }
     comes_sound now (Listened false) standing seen waits handed = record { sends = tt; waits = waits }
-    comes_sound now (Line text leaves) standing seen waits handed =
+    comes_sound now (Line text ends) standing seen waits handed =
         let here = heard_one (having_called (Reads now ∷ []) standing) in
         let meaning = kind.meaning now text standing.state in
-        let done = end_sound leaves (record seen { latest = Some now }) (told kind now meaning here) (told_sound now meaning here (record seen { latest = Some now }) waits handed) in
+        let done = end_sound ends.leaves (record seen { latest = Some now }) (told kind now ends.kept meaning here) (told_sound now ends.kept meaning here (record seen { latest = Some now }) waits handed) in
         record { sends = done.sends; waits = done.waits }
     comes_sound now NoLine standing seen waits handed = record { sends = tt; waits = waits }
     comes_sound now LinesEnd standing seen waits handed = record { sends = tt; waits = waits }
-    comes_sound now (Datagram origin bytes thrown leaves) standing seen waits handed =
-        let done = heard_sound now bytes thrown leaves (having_called (Reads now ∷ []) standing) (record seen { latest = Some now }) (is_heard now standing.course.seen) (is_taken kind origin.from) waits handed in
+    comes_sound now (Datagram origin bytes thrown ends) standing seen waits handed =
+        let done = heard_sound now bytes thrown ends (having_called (Reads now ∷ []) standing) (record seen { latest = Some now }) (is_heard now standing.course.seen) (is_taken kind origin.from) waits handed in
         record { sends = done.sends; waits = done.waits }
     comes_sound now NoDatagram standing seen waits handed = record { sends = tt; waits = waits }
     comes_sound now FailedDatagram standing seen waits handed = record { sends = tt; waits = waits }
-    comes_sound now (Tick leaves) standing seen waits handed =
+    comes_sound now (Tick ends) standing seen waits handed =
         let here = having_called (Reads now ∷ []) standing in
         let hands = map (λ (datagram : Addressed). (now, datagram)) (kind.hands now kind.tick standing.state) in
-        let done = end_sound leaves (record seen { latest = Some now }) (step kind now kind.tick here) (step_sound now kind.tick here (record seen { latest = Some now }) waits (all-left Handed hands [] handed)) in
+        let done = end_sound ends.leaves (record seen { latest = Some now }) (step kind now (next_kept ends.kept) kind.tick here) (step_sound now (next_kept ends.kept) kind.tick here (record seen { latest = Some now }) waits (all-left Handed hands [] handed)) in
         record { sends = done.sends; waits = done.waits }
 
     handed-append : (some more : List (ℕ × In)) (state : State) → handed_by kind (some ++ more) state ≡ handed_by kind some state ++ handed_by kind more (state_after kind some state)

@@ -1,43 +1,56 @@
 -- A step of the node, and what is performed after it.
-use Rattle.std.proofs.Common.{◌≡◌, ℕ, Bool, true, false, cond, List, [], ◌∷◌, map, sym, ap, ◌∙◌, append-nil}
+use Rattle.std.proofs.Common.{◌≡◌, ℕ, Bool, true, false, cond, List, [], ◌∷◌, map, None, refl, sym, ap, ◌∙◌, append-nil}
 use Rattle.node_drive.specs.Calls.{AsksListener, Call, Calls, CallsCut, Reads, Rests, Told, Writes}
 use Rattle.node_drive.specs.Drives.{Performs, Stops, opening}
 use Rattle.node_drive.specs.Inside.{standing_of}
 use Rattle.node_drive.specs.Kinds.{Kind, NodeState, node_after}
-use Rattle.node_drive.specs.Rounds.{CourseState, Standing, counted, datagram, is_taken, performed, released, step, then_released, with_calls}
+use Rattle.node_drive.specs.Rounds.{CourseState, Standing, counted, datagram, is_taken, new_order, performed, released, step, then_released, with_calls, with_datagrams, with_order}
 use Rattle.node_drive.proofs.Calls.{calls_same, calls_then, cuts_before, cuts_same, cuts_then}
 use Rattle.node_drive.specs.declared.outside.Origin.{Origin}
 
 module _ {State In : Type 0} (kind : Kind State In) where
-  abbrev behind : ℕ → CourseState → NodeState State In → List Call × CourseState
-  behind now course node = performed now node.said (kind.order node.state) node.handed course
+  abbrev behind : ℕ → Bool → CourseState → NodeState State In → List Call × CourseState
+  behind now kept course node = performed now kept node.keeps node.said (kind.order node.state) node.handed course
 
-  pub step_calls : {ta tb : Told} (now : ℕ) (input : In) (course : CourseState) (old new : NodeState State In) → new ≡ node_after kind now input old
-      → Calls ta tb (performed now new.said (kind.order new.state) new.handed course).0 → Calls ta tb (step kind now input (standing_of old course)).0
-  step_calls now input course old new e p = calls_same (ap (λ (n : NodeState State In). (behind now course n).0) e) p
+  -- how far the process has come with what a step has left, whatever was answered
+  abbrev course_behind : ℕ → CourseState → NodeState State In → CourseState
+  course_behind now course node = with_datagrams now node.handed (with_order (new_order course.order (kind.order node.state)) course)
 
-  pub step_cut : {ta tb : Told} (now : ℕ) (input : In) (course : CourseState) (old new : NodeState State In) → new ≡ node_after kind now input old
-      → CallsCut ta tb (performed now new.said (kind.order new.state) new.handed course).0 → CallsCut ta tb (step kind now input (standing_of old course)).0
-  step_cut now input course old new e p = cuts_same (ap (λ (n : NodeState State In). (behind now course n).0) e) p
+  pub step_calls : {ta tb : Told} (now : ℕ) (kept : Bool) (input : In) (course : CourseState) (old new : NodeState State In) → new ≡ node_after kind now input old
+      → Calls ta tb (performed now kept new.keeps new.said (kind.order new.state) new.handed course).0 → Calls ta tb (step kind now kept input (standing_of old course)).0
+  step_calls now kept input course old new e p = calls_same (ap (λ (n : NodeState State In). (behind now kept course n).0) e) p
 
-  pub step_standing : (now : ℕ) (input : In) (course after : CourseState) (old new last : NodeState State In) → new ≡ node_after kind now input old
-      → after ≡ (performed now new.said (kind.order new.state) new.handed course).1 → last ≡ record new { handed = []; said = [] }
-      → standing_of last after ≡ (step kind now input (standing_of old course)).1
-  step_standing now input course after old new last e f h =
+  pub step_cut : {ta tb : Told} (now : ℕ) (kept : Bool) (input : In) (course : CourseState) (old new : NodeState State In) → new ≡ node_after kind now input old
+      → CallsCut ta tb (performed now kept new.keeps new.said (kind.order new.state) new.handed course).0 → CallsCut ta tb (step kind now kept input (standing_of old course)).0
+  step_cut now kept input course old new e p = cuts_same (ap (λ (n : NodeState State In). (behind now kept course n).0) e) p
+
+  pub step_standing : (now : ℕ) (kept : Bool) (input : In) (course after : CourseState) (old new last : NodeState State In) → new ≡ node_after kind now input old
+      → after ≡ with_datagrams now new.handed (with_order (new_order course.order (kind.order new.state)) course) → last ≡ record new { handed = []; keeps = None; said = [] }
+      → standing_of last after ≡ (step kind now kept input (standing_of old course)).1
+  step_standing now kept input course after old new last e f h =
       ap (λ (n : NodeState State In). standing_of n after) h
       ∙ ap (λ (n : NodeState State In). standing_of n after) e
-      ∙ ap (λ (c : CourseState). standing_of (node_after kind now input old) c) (f ∙ ap (λ (n : NodeState State In). (behind now course n).1) e)
+      ∙ ap (λ (c : CourseState). standing_of (node_after kind now input old) c) (f ∙ ap (course_behind now course) e)
 
-  pub step_reached : (now : ℕ) (input : In) (old new last : NodeState State In) → new ≡ node_after kind now input old → last ≡ record new { handed = []; said = [] } → last.reached ≡ now
+  pub step_reached : (now : ℕ) (input : In) (old new last : NodeState State In) → new ≡ node_after kind now input old → last ≡ record new { handed = []; keeps = None; said = [] } → last.reached ≡ now
   step_reached now input old new last e h = ap (λ (n : NodeState State In). n.reached) h ∙ ap (λ (n : NodeState State In). n.reached) e
 
   -- ---- a datagram
 
-  pub taken_is : (now : ℕ) (origin : Origin) (bytes : List ℕ) (standing : Standing State) → is_taken kind origin.from ≡ true → step kind now (kind.datagram bytes) standing ≡ datagram kind now origin bytes standing
-  taken_is now origin bytes standing e = ap (λ (v : Bool). cond v (step kind now (kind.datagram bytes) standing) ([], counted standing)) (sym e)
+  pub taken_is : (now : ℕ) (kept : Bool) (origin : Origin) (bytes : List ℕ) (standing : Standing State) → is_taken kind origin.from ≡ true → step kind now kept (kind.datagram bytes) standing ≡ datagram kind now kept origin bytes standing
+  taken_is now kept origin bytes standing e = ap (λ (v : Bool). cond v (step kind now kept (kind.datagram bytes) standing) ([], counted standing)) (sym e)
 
-  pub dropped_is : (now : ℕ) (origin : Origin) (bytes : List ℕ) (standing : Standing State) → is_taken kind origin.from ≡ false → ([], counted standing) ≡ datagram kind now origin bytes standing
-  dropped_is now origin bytes standing e = ap (λ (v : Bool). cond v (step kind now (kind.datagram bytes) standing) ([], counted standing)) (sym e)
+  pub dropped_is : (now : ℕ) (kept : Bool) (origin : Origin) (bytes : List ℕ) (standing : Standing State) → is_taken kind origin.from ≡ false → ([], counted standing) ≡ datagram kind now kept origin bytes standing
+  dropped_is now kept origin bytes standing e = ap (λ (v : Bool). cond v (step kind now kept (kind.datagram bytes) standing) ([], counted standing)) (sym e)
+
+  any_taken : (now : ℕ) (k j : Bool) (bytes : List ℕ) (standing : Standing State) (taken : Bool)
+      → (cond taken (step kind now k (kind.datagram bytes) standing) ([], counted standing)).1 ≡ (cond taken (step kind now j (kind.datagram bytes) standing) ([], counted standing)).1
+  any_taken now k j bytes standing true = refl
+  any_taken now k j bytes standing false = refl
+
+  -- how it stands after a datagram doesn't depend on what was answered
+  pub datagram_any : (now : ℕ) (k j : Bool) (origin : Origin) (bytes : List ℕ) (standing : Standing State) → (datagram kind now k origin bytes standing).1 ≡ (datagram kind now j origin bytes standing).1
+  datagram_any now k j origin bytes standing = any_taken now k j bytes standing (is_taken kind origin.from)
 
   -- ---- the end of what a coming does
 

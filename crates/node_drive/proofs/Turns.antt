@@ -1,10 +1,10 @@
 -- Rounds one after another, and a round that is broken off.
 use Rattle.std.proofs.Common.{◌≡◌, ◌≤◌, ℕ, Bool, true, false, List, [], ◌∷◌, ◌++◌, length, map, refl, sym, ap, ◌∙◌, subst, append_assoc, append-nil, arith}
 use Rattle.node_drive.specs.Calls.{Arrival, Told}
-use Rattle.node_drive.specs.Drives.{AreHeard, AreRounds, EndsDatagrams, GoesOn, is_over, silent, IsRound, Performs, Round, Stops, Timed, behind_lines, datagram_in, in_round, in_rounds, line_in, lines_end, opening}
+use Rattle.node_drive.specs.Drives.{AreHeard, AreRounds, EndsDatagrams, GoesOn, is_over, silent, IsRound, Performs, Round, Stops, Timed, behind_lines, datagram_in, in_round, in_rounds, line_in, lines_end, opening, unasked}
 use Rattle.node_drive.specs.Inside.{closed_end}
 use Rattle.node_drive.specs.Kinds.{Kind}
-use Rattle.node_drive.specs.Rounds.{Coming, NoDatagram, Standing, Tick, all_come}
+use Rattle.node_drive.specs.Rounds.{Coming, Ends, NoDatagram, Standing, Tick, all_come}
 use Rattle.node_drive.proofs.Comings.{come-standing, performs_same, performs_then, stops_before, stops_same, stops_then}
 
 -- ---- one more round
@@ -63,12 +63,12 @@ cut_in_lines begins listened lines closed = record {
   datagrams = [];
   datagrams_end = (0, NoDatagram) ∷ [];
   ticks = 0;
-  leaves = 0;
+  ends = unasked;
 }
 
 -- or after its datagrams
-abbrev pub whole_round : ℕ → Bool → List (Timed (List ℕ)) → List (Timed Arrival) → List (ℕ × Coming) → ℕ → ℕ → Round
-whole_round begins listened lines datagrams ends ticks leaves = record {
+abbrev pub whole_round : ℕ → Bool → List (Timed (List ℕ)) → List (Timed Arrival) → List (ℕ × Coming) → ℕ → Ends → Round
+whole_round begins listened lines datagrams ends ticks answers = record {
   begins = begins;
   listened = listened;
   lines = lines;
@@ -76,7 +76,7 @@ whole_round begins listened lines datagrams ends ticks leaves = record {
   datagrams = datagrams;
   datagrams_end = ends;
   ticks = ticks;
-  leaves = leaves;
+  ends = answers;
 }
 
 module _ {State In : Type 0} (kind : Kind State In) where
@@ -89,10 +89,10 @@ module _ {State In : Type 0} (kind : Kind State In) where
   }
 
   -- by how the process stands before its datagrams
-  pub whole_is_round : {start here : Standing State} {ta tb : Told} (begins : ℕ) (listened : Bool) (lines : List (Timed (List ℕ))) (datagrams : List (Timed Arrival)) (ends : List (ℕ × Coming)) (ticks leaves : ℕ)
+  pub whole_is_round : {start here : Standing State} {ta tb : Told} (begins : ℕ) (listened : Bool) (lines : List (Timed (List ℕ))) (datagrams : List (Timed Arrival)) (ends : List (ℕ × Coming)) (ticks : ℕ) (answers : Ends)
       → Performs kind (opening begins listened ++ (map line_in lines ++ lines_end (length lines))) start here ta tb → length lines ≤ 64 → length datagrams ≤ 64 → AreHeard kind datagrams here
-      → EndsDatagrams (all_come kind (map datagram_in datagrams) here).1.course.seen (length datagrams) ends → IsRound kind start (whole_round begins listened lines datagrams ends ticks leaves)
-  whole_is_round begins listened lines datagrams ends ticks leaves performs few_lines few_datagrams heard end = record {
+      → EndsDatagrams (all_come kind (map datagram_in datagrams) here).1.course.seen (length datagrams) ends → IsRound kind start (whole_round begins listened lines datagrams ends ticks answers)
+  whole_is_round begins listened lines datagrams ends ticks answers performs few_lines few_datagrams heard end = record {
     few_lines = few_lines;
     few_datagrams = few_datagrams;
     heard = subst (λ (s : Standing State). AreHeard kind datagrams s) performs.standing_is heard;
@@ -105,10 +105,10 @@ behind-lines round true = ([], refl)
 behind-lines round false = (behind_lines round false, refl)
 
 -- all of a round, in its parts
-regrouped : (lines : List (Timed (List ℕ))) (datagrams : List (Timed Arrival)) (ends : List (ℕ × Coming)) (ticks leaves : ℕ)
-    → (map line_in lines ++ lines_end (length lines)) ++ ((map datagram_in datagrams ++ ends) ++ (ticks, Tick leaves) ∷ [])
-    ≡ map line_in lines ++ (lines_end (length lines) ++ ((map datagram_in datagrams ++ ends) ++ (ticks, Tick leaves) ∷ []))
-regrouped lines datagrams ends ticks leaves = append_assoc (map line_in lines) (lines_end (length lines)) _
+regrouped : (lines : List (Timed (List ℕ))) (datagrams : List (Timed Arrival)) (ends : List (ℕ × Coming)) (ticks : ℕ) (answers : Ends)
+    → (map line_in lines ++ lines_end (length lines)) ++ ((map datagram_in datagrams ++ ends) ++ (ticks, Tick answers) ∷ [])
+    ≡ map line_in lines ++ (lines_end (length lines) ++ ((map datagram_in datagrams ++ ends) ++ (ticks, Tick answers) ∷ []))
+regrouped lines datagrams ends ticks answers = append_assoc (map line_in lines) (lines_end (length lines)) _
 
 module _ {State In : Type 0} {kind : Kind State In} where
   pub stops_opening : {a : Standing State} {ta tb : Told} (begins : ℕ) (listened : Bool) (round : Round) → round.begins ≡ begins → round.listened ≡ listened
@@ -125,20 +125,20 @@ module _ {State In : Type 0} {kind : Kind State In} where
       stops_then p
       (stops_same (append_assoc (map line_in lines) (closed_end closed) behind.0 ∙ ap (λ l. map line_in lines ++ l) (sym behind.1)) (stops_before behind.0 s))
 
-  pub performs_all : {a b c d e : Standing State} {ta tb tc td te : Told} (begins : ℕ) (listened : Bool) (lines : List (Timed (List ℕ))) (datagrams : List (Timed Arrival)) (ends : List (ℕ × Coming)) (ticks leaves : ℕ)
+  pub performs_all : {a b c d e : Standing State} {ta tb tc td te : Told} (begins : ℕ) (listened : Bool) (lines : List (Timed (List ℕ))) (datagrams : List (Timed Arrival)) (ends : List (ℕ × Coming)) (ticks : ℕ) (answers : Ends)
       → Performs kind (opening begins listened) a b ta tb → Performs kind (map line_in lines ++ lines_end (length lines)) b c tb tc → Performs kind (map datagram_in datagrams ++ ends) c d tc td
-      → Performs kind ((ticks, Tick leaves) ∷ []) d e td te → Performs kind (in_round (whole_round begins listened lines datagrams ends ticks leaves)) a e ta te
-  performs_all begins listened lines datagrams ends ticks leaves p q r s =
-      performs_then p (performs_same (regrouped lines datagrams ends ticks leaves) (performs_then q (performs_then r s)))
+      → Performs kind ((ticks, Tick answers) ∷ []) d e td te → Performs kind (in_round (whole_round begins listened lines datagrams ends ticks answers)) a e ta te
+  performs_all begins listened lines datagrams ends ticks answers p q r s =
+      performs_then p (performs_same (regrouped lines datagrams ends ticks answers) (performs_then q (performs_then r s)))
 
-  pub stops_tick : {a b c d : Standing State} {ta tb tc td te : Told} (begins : ℕ) (listened : Bool) (lines : List (Timed (List ℕ))) (datagrams : List (Timed Arrival)) (ends : List (ℕ × Coming)) (ticks leaves : ℕ)
+  pub stops_tick : {a b c d : Standing State} {ta tb tc td te : Told} (begins : ℕ) (listened : Bool) (lines : List (Timed (List ℕ))) (datagrams : List (Timed Arrival)) (ends : List (ℕ × Coming)) (ticks : ℕ) (answers : Ends)
       → Performs kind (opening begins listened) a b ta tb → Performs kind (map line_in lines ++ lines_end (length lines)) b c tb tc → Performs kind (map datagram_in datagrams ++ ends) c d tc td
-      → Stops kind ((ticks, Tick leaves) ∷ []) d td te → Stops kind (in_round (whole_round begins listened lines datagrams ends ticks leaves)) a ta te
-  stops_tick begins listened lines datagrams ends ticks leaves p q r s =
-      stops_then p (stops_same (regrouped lines datagrams ends ticks leaves) (stops_then q (stops_then r s)))
+      → Stops kind ((ticks, Tick answers) ∷ []) d td te → Stops kind (in_round (whole_round begins listened lines datagrams ends ticks answers)) a ta te
+  stops_tick begins listened lines datagrams ends ticks answers p q r s =
+      stops_then p (stops_same (regrouped lines datagrams ends ticks answers) (stops_then q (stops_then r s)))
 
-  pub stops_datagrams : {a b c : Standing State} {ta tb tc td : Told} (begins : ℕ) (listened : Bool) (lines : List (Timed (List ℕ))) (datagrams : List (Timed Arrival)) (ends : List (ℕ × Coming)) (ticks leaves : ℕ)
+  pub stops_datagrams : {a b c : Standing State} {ta tb tc td : Told} (begins : ℕ) (listened : Bool) (lines : List (Timed (List ℕ))) (datagrams : List (Timed Arrival)) (ends : List (ℕ × Coming)) (ticks : ℕ) (answers : Ends)
       → Performs kind (opening begins listened) a b ta tb → Performs kind (map line_in lines ++ lines_end (length lines)) b c tb tc → Stops kind (map datagram_in datagrams ++ ends) c tc td
-      → Stops kind (in_round (whole_round begins listened lines datagrams ends ticks leaves)) a ta td
-  stops_datagrams begins listened lines datagrams ends ticks leaves p q s =
-      stops_then p (stops_same (regrouped lines datagrams ends ticks leaves) (stops_then q (stops_before ((ticks, Tick leaves) ∷ []) s)))
+      → Stops kind (in_round (whole_round begins listened lines datagrams ends ticks answers)) a ta td
+  stops_datagrams begins listened lines datagrams ends ticks answers p q s =
+      stops_then p (stops_same (regrouped lines datagrams ends ticks answers) (stops_then q (stops_before ((ticks, Tick answers) ∷ []) s)))

@@ -7,6 +7,7 @@ use Rattle.node_drive.specs.declared.outside.NextLine.TheVariants as next
 use Rattle.node_drive.specs.declared.outside.NextDatagram.{NextDatagram}
 use Rattle.node_drive.specs.declared.outside.NextDatagram.TheVariants as next_datagram
 use Rattle.node_drive.specs.declared.outside.Origin.{Origin}
+use Rattle.node_drive.specs.declared.outside.ToKeep.{ToKeep}
 
 -- what was answered to the question for a line: its text without the line feed, none yet, or none any more
 pub data LineHeard : Type 0 where
@@ -50,6 +51,8 @@ pub data Call : Type 0 where
   Sends : (to : NodeId) (bytes : List ℕ) → Call
   -- a faulty line is told on standard error, by its number
   Complains : (line : ℕ) (fault : Fault) → Call
+  -- all this was to be kept in a file for a process that begins later; and whether it is there
+  Keeps : (all : ToKeep) (kept : Bool) → Call
 
 -- The list of what was told grows by these. Who told nothing goes on to tell nothing, and who told may stop telling.
 abbrev pub Grows : {A : Type 0} → Option (List A) → Option (List A) → List A → Type 0

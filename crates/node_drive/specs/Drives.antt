@@ -2,7 +2,7 @@
 use Rattle.std.specs.Prelude.{◌≡◌, ◌<◌, ◌≤◌, ◌-◌, ℕ, nat_le, nat_lt, ◌&&◌, ◌||◌, if◌then◌else◌, Bool, true, false, List, [], ◌∷◌, ◌++◌, length, map, Option, Some, None}
 use Rattle.node_drive.specs.Calls.{Arrival, Calls, CallsCut, Told}
 use Rattle.node_drive.specs.Kinds.{Kind}
-use Rattle.node_drive.specs.Rounds.{Coming, RoundBegins, Listened, Line, NoLine, LinesEnd, Datagram, NoDatagram, FailedDatagram, Tick, CourseState, Standing, all_come, comes}
+use Rattle.node_drive.specs.Rounds.{Coming, RoundBegins, Listened, Line, NoLine, LinesEnd, Datagram, NoDatagram, FailedDatagram, Tick, Ends, CourseState, Standing, all_come, comes}
 use Rattle.node_drive.specs.Seen.{is_heard}
 use Rattle.node_drive.specs.declared.outside.Origin.{Origin}
 use Rattle.node_drive.specs.declared.outside.ThrownAway.{ThrownAway}
@@ -14,11 +14,11 @@ use Rattle.node_drive.specs.declared.socket_seen.SocketSeen.{SocketSeen}
 abbrev pub most_in_a_round : ℕ
 most_in_a_round = 64
 
--- An input, the reading that was taken once it had come, and that at which what waits leaves after it.
+-- An input, the reading that was taken once it had come, and what was answered after it.
 pub record Timed (In : Type 0) : Type 0 where
   pub now : ℕ
   pub input : In
-  pub leaves : ℕ
+  pub ends : Ends
 
 -- What came in a round.
 pub record Round : Type 0 where
@@ -32,19 +32,23 @@ pub record Round : Type 0 where
   -- the datagrams that were heard, and how they ended
   pub datagrams : List (Timed Arrival)
   pub datagrams_end : List (ℕ × Coming)
-  -- the reading of the tick, which comes last, and that at which what waits leaves after it
+  -- the reading of the tick, which comes last, and what was answered after it
   pub ticks : ℕ
-  pub leaves : ℕ
+  pub ends : Ends
 
 abbrev pub line_in : Timed (List ℕ) → ℕ × Coming
-line_in one = (one.now, Line one.input one.leaves)
+line_in one = (one.now, Line one.input one.ends)
 
 -- nothing is thrown away after one that is heard
 abbrev pub nothing_thrown : ThrownAway
 nothing_thrown = record { count = 0; found_empty = false }
 
 abbrev pub datagram_in : Timed Arrival → ℕ × Coming
-datagram_in one = (one.now, Datagram one.input.0 one.input.1 nothing_thrown one.leaves)
+datagram_in one = (one.now, Datagram one.input.0 one.input.1 nothing_thrown one.ends)
+
+-- nothing was asked: no step was made, and nothing leaves
+abbrev pub unasked : Ends
+unasked = record { kept = []; leaves = 0 }
 
 -- fewer than the most, after which there was none
 abbrev pub lines_end : ℕ → List (ℕ × Coming)
@@ -57,7 +61,7 @@ pub data EndsDatagrams (seen : SocketSeen) (taken : ℕ) : List (ℕ × Coming) 
   silent : taken < most_in_a_round → EndsDatagrams seen taken ((0, NoDatagram) ∷ [])
   failed : taken < most_in_a_round → EndsDatagrams seen taken ((0, FailedDatagram) ∷ [])
   too_old : {now : ℕ} {origin : Origin} {bytes : List ℕ} {thrown : ThrownAway} → taken < most_in_a_round → is_heard now seen ≡ false
-      → EndsDatagrams seen taken ((now, Datagram origin bytes thrown 0) ∷ [])
+      → EndsDatagrams seen taken ((now, Datagram origin bytes thrown unasked) ∷ [])
 
 abbrev pub opening : ℕ → Bool → List (ℕ × Coming)
 opening begins listened = (begins, RoundBegins) ∷ (begins, Listened listened) ∷ []
@@ -68,7 +72,7 @@ datagrams_in round = map datagram_in round.datagrams ++ round.datagrams_end
 
 abbrev pub behind_lines : Round → Bool → List (ℕ × Coming)
 behind_lines round true = (0, LinesEnd) ∷ []
-behind_lines round false = lines_end (length round.lines) ++ (datagrams_in round ++ (round.ticks, Tick round.leaves) ∷ [])
+behind_lines round false = lines_end (length round.lines) ++ (datagrams_in round ++ (round.ticks, Tick round.ends) ∷ [])
 
 -- all that comes in it, each with its reading: field lines first, then datagrams, a tick last
 abbrev pub in_round : Round → List (ℕ × Coming)

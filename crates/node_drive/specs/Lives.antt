@@ -12,9 +12,9 @@ inputs_told now (Faulty fault) = []
 
 module _ {State Input : Type 0} (kind : Kind State Input) where
   abbrev pub inputs_of : ℕ → Coming → Standing State → List (ℕ × Input)
-  inputs_of now (Line text leaves) standing = inputs_told now (kind.meaning now text standing.state)
-  inputs_of now (Datagram origin bytes thrown leaves) standing = if is_heard now standing.course.seen && is_taken kind origin.from then (now, kind.datagram bytes) ∷ [] else []
-  inputs_of now (Tick leaves) standing = (now, kind.tick) ∷ []
+  inputs_of now (Line text ends) standing = inputs_told now (kind.meaning now text standing.state)
+  inputs_of now (Datagram origin bytes thrown ends) standing = if is_heard now standing.course.seen && is_taken kind origin.from then (now, kind.datagram bytes) ∷ [] else []
+  inputs_of now (Tick ends) standing = (now, kind.tick) ∷ []
   inputs_of now coming standing = []
 
   -- all that came to the node, oldest first, each with its reading

@@ -6,8 +6,8 @@ use Rattle.node_lines.specs.Orders.{order_text}
 use Rattle.node_lines.specs.declared.order.Order.{Order}
 use Rattle.node_drive.specs.Same.{is_same_order}
 use Rattle.node_drive.specs.Waiting.{Addressed, Waiting, leaving, none_waits, waiting_of, waiting_on}
-use Rattle.node_drive.specs.Calls.{Call, Rests, Reads, AsksListener, AsksLine, AsksDatagram, ThrowsAway, Writes, Sends, Complains, Text, Nothing, Closed as ClosedLine, Came, Empty, Failed}
-use Rattle.node_drive.specs.Kinds.{Kind, Meaning, InForce, Comes, Faulty}
+use Rattle.node_drive.specs.Calls.{Call, Rests, Reads, AsksListener, AsksLine, AsksDatagram, ThrowsAway, Writes, Sends, Complains, Keeps, Text, Nothing, Closed as ClosedLine, Came, Empty, Failed}
+use Rattle.node_drive.specs.Kinds.{Kind, Meaning, AskedToKeep, InForce, Comes, Faulty, said_if}
 use Rattle.node_drive.specs.Seen.{all_seen, is_heard}
 use Rattle.node_drive.specs.declared.outside.Origin.{Origin}
 use Rattle.node_drive.specs.declared.outside.ThrownAway.{ThrownAway}
@@ -98,11 +98,16 @@ with_order new course = record course { written = count new course.written; orde
 abbrev pub with_datagrams : ℕ → List Addressed → CourseState → CourseState
 with_datagrams now handed course = record course { waiting = course.waiting ++ waiting_of course.written now handed }
 
--- The lines of a step are written, and its datagrams wait.
-abbrev pub performed : ℕ → List (List ℕ) → Option Order → List Addressed → CourseState → Done CourseState
-performed now said order handed course =
+-- it is asked to be kept, and answered so
+abbrev pub kept_by : Bool → Option AskedToKeep → List Call
+kept_by kept None = []
+kept_by kept (Some asked) = Keeps asked.all kept ∷ []
+
+-- What a step asks for is kept or not, then its lines are written, and its datagrams wait.
+abbrev pub performed : ℕ → Bool → Option AskedToKeep → List (List ℕ) → Option Order → List Addressed → CourseState → Done CourseState
+performed now kept keeps said order handed course =
     let new = new_order course.order order
-    in (map Writes said ++ line_of (count new course.written) now new, with_datagrams now handed (with_order new course))
+    in (kept_by kept keeps ++ (map Writes (said_if kept keeps said) ++ line_of (count new course.written) now new), with_datagrams now handed (with_order new course))
 
 -- what counts up to the largest number of 64 bits, and stays there
 abbrev pub one_more : ℕ → ℕ
@@ -113,32 +118,46 @@ many_more count number = min (number + count) 18446744073709551615
 
 -- ---- what comes
 
+-- What was answered after a coming: of each of its steps in their order whether what it asked for is kept, where it asked for
+-- something; and the reading at which what waits leaves, once all is done that the coming does.
+pub record Ends : Type 0 where
+  pub kept : List Bool
+  pub leaves : ℕ
+
+-- of the next step, and of those after it
+abbrev pub next_kept : List Bool → Bool
+next_kept [] = true
+next_kept (kept ∷ others) = kept
+
+abbrev pub later_kept : List Bool → List Bool
+later_kept [] = []
+later_kept (kept ∷ others) = others
+
 pub data Coming : Type 0 where
   RoundBegins : Coming
   -- it was asked whether an operator began to listen
   Listened : (began : Bool) → Coming
-  -- A line, without its line feed; that there was none; or that none comes any more. At the reading `leaves` leaves what waits and
-  -- may, once all is done that a coming does.
-  Line : (text : List ℕ) (leaves : ℕ) → Coming
+  -- a line, without its line feed; that there was none; or that none comes any more
+  Line : (text : List ℕ) (ends : Ends) → Coming
   NoLine : Coming
   LinesEnd : Coming
   -- A datagram, and what was thrown away after it where it isn't heard; that none was seen to wait; or that the call failed.
-  Datagram : (origin : Origin) (bytes : List ℕ) (thrown : ThrownAway) (leaves : ℕ) → Coming
+  Datagram : (origin : Origin) (bytes : List ℕ) (thrown : ThrownAway) (ends : Ends) → Coming
   NoDatagram : Coming
   FailedDatagram : Coming
-  Tick : (leaves : ℕ) → Coming
+  Tick : (ends : Ends) → Coming
 
 -- After which calls it comes. The clock is read once an input has come.
 abbrev pub asked : ℕ → Coming → List Call
 asked now RoundBegins = Rests ∷ Reads now ∷ []
 asked now (Listened began) = AsksListener began ∷ []
-asked now (Line text leaves) = AsksLine (Text text) ∷ Reads now ∷ []
+asked now (Line text ends) = AsksLine (Text text) ∷ Reads now ∷ []
 asked now NoLine = AsksLine Nothing ∷ []
 asked now LinesEnd = AsksLine ClosedLine ∷ []
-asked now (Datagram origin bytes thrown leaves) = AsksDatagram (Came (origin, bytes)) ∷ Reads now ∷ []
+asked now (Datagram origin bytes thrown ends) = AsksDatagram (Came (origin, bytes)) ∷ Reads now ∷ []
 asked now NoDatagram = AsksDatagram Empty ∷ []
 asked now FailedDatagram = AsksDatagram Failed ∷ []
-asked now (Tick leaves) = Reads now ∷ []
+asked now (Tick ends) = Reads now ∷ []
 
 module _ {State : Type 0} where
   -- the course goes on, and the node stays as it is
@@ -171,31 +190,31 @@ module _ {State : Type 0} where
       in (done.0 ++ left.0, record done.1 { course = left.1 })
 
 module _ {State Input : Type 0} (kind : Kind State Input) where
-  abbrev pub step : ℕ → Input → Standing State → Done (Standing State)
-  step now input standing =
+  abbrev pub step : ℕ → Bool → Input → Standing State → Done (Standing State)
+  step now kept input standing =
       let state = kind.after now input standing.state
-      in let done = performed now (kind.says now input standing.state) (kind.order state) (kind.hands now input standing.state) standing.course
+      in let done = performed now kept (kind.keeps now input standing.state) (kind.says now input standing.state) (kind.order state) (kind.hands now input standing.state) standing.course
       in (done.0, record { state = state; course = done.1 })
 
-  abbrev pub steps : ℕ → List Input → Standing State → Done (Standing State)
-  steps now [] standing = ([], standing)
-  steps now (input ∷ inputs) standing =
-      let first = step now input standing
-      in let others = steps now inputs first.1
+  abbrev pub steps : ℕ → List Bool → List Input → Standing State → Done (Standing State)
+  steps now kept [] standing = ([], standing)
+  steps now kept (input ∷ inputs) standing =
+      let first = step now (next_kept kept) input standing
+      in let others = steps now (later_kept kept) inputs first.1
       in (first.0 ++ others.0, others.1)
 
   -- ---- lines
 
-  abbrev pub told : ℕ → Meaning Input → Standing State → Done (Standing State)
-  told now (InForce number) standing = of_course standing.state (put_in_force number standing.course)
-  told now (Comes answer inputs) standing =
-      let done = steps now inputs standing
+  abbrev pub told : ℕ → List Bool → Meaning Input → Standing State → Done (Standing State)
+  told now kept (InForce number) standing = of_course standing.state (put_in_force number standing.course)
+  told now kept (Comes answer inputs) standing =
+      let done = steps now kept inputs standing
       in (map Writes answer ++ done.0, done.1)
-  told now (Faulty fault) standing = (Complains standing.course.heard fault ∷ [], standing)
+  told now kept (Faulty fault) standing = (Complains standing.course.heard fault ∷ [], standing)
 
   -- a line, which has the next number
-  abbrev pub line : ℕ → List ℕ → Standing State → Done (Standing State)
-  line now text standing = told now (kind.meaning now text standing.state) (heard_one standing)
+  abbrev pub line : ℕ → List Bool → List ℕ → Standing State → Done (Standing State)
+  line now kept text standing = told now kept (kind.meaning now text standing.state) (heard_one standing)
 
   -- ---- datagrams
 
@@ -205,18 +224,18 @@ module _ {State Input : Type 0} (kind : Kind State Input) where
   is_taken (Some node) = kind.is_partner node
 
   -- and all else is dropped, and counted
-  abbrev pub datagram : ℕ → Origin → List ℕ → Standing State → Done (Standing State)
-  datagram now origin bytes standing = if is_taken origin.from then step now (kind.datagram bytes) standing else ([], counted standing)
+  abbrev pub datagram : ℕ → Bool → Origin → List ℕ → Standing State → Done (Standing State)
+  datagram now kept origin bytes standing = if is_taken origin.from then step now kept (kind.datagram bytes) standing else ([], counted standing)
 
   -- ---- all of it
 
   -- what is done once it was asked for
   abbrev pub acts : ℕ → Coming → Standing State → Done (Standing State)
-  acts now (Line text leaves) standing = then_released leaves (line now text standing)
-  acts now (Datagram origin bytes thrown leaves) standing =
-      if is_heard now standing.course.seen then then_released leaves (datagram now origin bytes standing) else not_heard thrown standing
+  acts now (Line text ends) standing = then_released ends.leaves (line now ends.kept text standing)
+  acts now (Datagram origin bytes thrown ends) standing =
+      if is_heard now standing.course.seen then then_released ends.leaves (datagram now (next_kept ends.kept) origin bytes standing) else not_heard thrown standing
   acts now (Listened true) standing = (map Writes (kind.stands now standing.state), standing)
-  acts now (Tick leaves) standing = then_released leaves (step now kind.tick standing)
+  acts now (Tick ends) standing = then_released ends.leaves (step now (next_kept ends.kept) kind.tick standing)
   acts now coming standing = ([], standing)
 
   abbrev pub comes : ℕ → Coming → Standing State → Done (Standing State)

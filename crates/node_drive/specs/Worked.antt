@@ -4,16 +4,18 @@ use Rattle.std.specs.List.{filter}
 use Rattle.node_lines.specs.replay_words.Read.{decimal}
 use Rattle.node_lines.specs.replay_words.declared.fault.Fault.{Fault}
 use Rattle.node_lines.specs.replay_words.declared.fault.Fault.TheVariants.{Number}
+use Rattle.node_lines.specs.ixl_spec.closings.Closed.{nothing}
 use Rattle.node_lines.specs.declared.order.Order.TheVariants.{ShowStop, ShowProceed}
 use Rattle.node_lines.specs.simulator_event.layout.declared.ids.NodeId.{NodeId}
 use Rattle.node_drive.specs.Beginning.{first_course}
-use Rattle.node_drive.specs.Calls.{Arrival, Call, Rests, Reads, AsksListener, AsksLine, AsksDatagram, ThrowsAway, Writes, Sends, Complains, Nothing, Came, Empty}
-use Rattle.node_drive.specs.Drives.{Round, Timed, in_rounds}
+use Rattle.node_drive.specs.Calls.{Arrival, Call, Rests, Reads, AsksListener, AsksLine, AsksDatagram, ThrowsAway, Writes, Sends, Complains, Keeps, Nothing, Came, Empty}
+use Rattle.node_drive.specs.Drives.{Round, Timed, in_rounds, unasked}
 use Rattle.node_drive.specs.declared.outside.Network.TheVariants.{Alone}
 use Rattle.node_drive.specs.declared.outside.Origin.{Origin}
 use Rattle.node_drive.specs.declared.outside.ThrownAway.{ThrownAway}
-use Rattle.node_drive.specs.Kinds.{Kind, Meaning, InForce, Faulty}
-use Rattle.node_drive.specs.Rounds.{Datagram, FailedDatagram, NoDatagram, Standing, all_come}
+use Rattle.node_drive.specs.declared.outside.ToKeep.{ToKeep}
+use Rattle.node_drive.specs.Kinds.{AskedToKeep, Kind, Meaning, InForce, Faulty}
+use Rattle.node_drive.specs.Rounds.{Datagram, Ends, FailedDatagram, NoDatagram, Standing, all_come}
 use Rattle.node_drive.specs.Waiting.{Addressed}
 
 -- It counts the datagrams that came. It shows proceed from the first on, up to 1000 times their number, and answers each with its
@@ -49,6 +51,7 @@ abbrev pub counting : Kind ℕ Heard
 counting = record {
   after = λ now input n. counted input n;
   hands = λ now input n. answered input n;
+  keeps = λ now input n. None;
   says = λ now input n. [];
   tick = Clock;
   datagram = λ bytes. Bytes;
@@ -75,6 +78,7 @@ abbrev pub is_act : Call → Bool
 is_act (Writes text) = true
 is_act (Sends to bytes) = true
 is_act (Complains line fault) = true
+is_act (Keeps all kept) = true
 is_act call = false
 
 abbrev pub does : List Round → List Call
@@ -89,11 +93,15 @@ heard_from standing made = ((all_come counting (in_rounds made) standing).1.stat
 
 -- ---- rounds
 
+-- what waits leaves at a reading, and nothing was asked to be kept
+abbrev pub leaving_at : ℕ → Ends
+leaving_at time = record { kept = []; leaves = time }
+
 abbrev pub quiet_at : ℕ → Round
-quiet_at time = record { begins = time; listened = false; lines = []; closed = false; datagrams = []; datagrams_end = (0, NoDatagram) ∷ []; ticks = time; leaves = time }
+quiet_at time = record { begins = time; listened = false; lines = []; closed = false; datagrams = []; datagrams_end = (0, NoDatagram) ∷ []; ticks = time; ends = leaving_at time }
 
 abbrev pub one_at : ℕ → Timed Arrival
-one_at time = record { now = time; input = (from_partner, 7 ∷ []); leaves = time }
+one_at time = record { now = time; input = (from_partner, 7 ∷ []); ends = leaving_at time }
 
 abbrev pub hears_at : ℕ → Round
 hears_at time = record (quiet_at time) { datagrams = one_at time ∷ [] }
@@ -108,14 +116,14 @@ fails_at time = record (quiet_at time) { datagrams_end = (0, FailedDatagram) ∷
 
 -- a datagram from an address that is no node's, and one from a node that is no partner
 abbrev pub strange_at : ℕ → Round
-strange_at time = record (quiet_at time) { datagrams = (record { now = time; input = (from None, 7 ∷ []); leaves = time }) ∷ (record { now = time; input = (from (Some (record { 0 = 1 })), 7 ∷ []); leaves = time }) ∷ [] }
+strange_at time = record (quiet_at time) { datagrams = (record { now = time; input = (from None, 7 ∷ []); ends = leaving_at time }) ∷ (record { now = time; input = (from (Some (record { 0 = 1 })), 7 ∷ []); ends = leaving_at time }) ∷ [] }
 
 -- one that isn't heard, with what is thrown away after it
 abbrev pub late_at : ℕ → ThrownAway → Round
-late_at time thrown = record (quiet_at time) { datagrams_end = (time, Datagram from_partner (7 ∷ []) thrown 0) ∷ [] }
+late_at time thrown = record (quiet_at time) { datagrams_end = (time, Datagram from_partner (7 ∷ []) thrown unasked) ∷ [] }
 
 abbrev pub told_at : ℕ → List ℕ → Round
-told_at time text = record (quiet_at time) { lines = (record { now = time; input = text; leaves = time }) ∷ [] }
+told_at time text = record (quiet_at time) { lines = (record { now = time; input = text; ends = leaving_at time }) ∷ [] }
 
 -- a line and a datagram come in one round
 abbrev pub both_at : ℕ → List ℕ → Round
@@ -130,7 +138,22 @@ telling = record counting { order = λ n. None; says = λ now input n. map (λ (
 
 -- a datagram comes at 10, and its line was written at this reading
 abbrev pub told_until : ℕ → List Call
-told_until leaves = filter is_act (all_come telling (in_rounds (record (quiet_at 10) { datagrams = record (one_at 10) { leaves = leaves } ∷ [] } ∷ [])) at_first).0
+told_until leaves = filter is_act (all_come telling (in_rounds (record (quiet_at 10) { datagrams = record (one_at 10) { ends = leaving_at leaves } ∷ [] } ∷ [])) at_first).0
+
+abbrev pub one_release : ToKeep
+one_release = record { counts = record { releases = 1; opens = 0 }; closings = nothing }
+
+-- the same, where each answer is to be kept first, and another line is told where it isn't
+abbrev pub kept_on : Heard → Option AskedToKeep
+kept_on Bytes = Some (record { all = one_release; unless = Some (codes "not kept") })
+kept_on Clock = None
+
+abbrev pub keeping : Kind ℕ Heard
+keeping = record telling { keeps = λ now input n. kept_on input }
+
+-- a datagram comes at 10, and this was answered as its answer was to be kept
+abbrev pub told_where : Bool → List Call
+told_where kept = filter is_act (all_come keeping (in_rounds (record (quiet_at 10) { datagrams = record (one_at 10) { ends = record { kept = kept ∷ []; leaves = 10 } } ∷ [] } ∷ [])) at_first).0
 
 pub record Worked : Type 0 where
   -- the first round writes the first order, and nothing leaves before it is in force
@@ -179,6 +202,9 @@ pub record Worked : Type 0 where
   -- so it is with a datagram whose lines took as long to write
   pub in_time : told_until 509 ≡ Writes (codes "told") ∷ answer 1 ∷ []
   pub slowly_told : told_until 510 ≡ Writes (codes "told") ∷ []
+  -- what a step asks for is kept before a line of it is told and before a datagram of it leaves, and where it isn't, that is told
+  pub kept : told_where true ≡ Keeps one_release true ∷ Writes (codes "told") ∷ answer 1 ∷ []
+  pub not_kept : told_where false ≡ Keeps one_release false ∷ Writes (codes "not kept") ∷ answer 1 ∷ []
   -- a number that no order has is a fault, told with the number of its line; it changes nothing
   pub unknown : does (hears_at 10 ∷ told_at 20 (codes "3") ∷ told_at 30 (codes "2") ∷ [])
       ≡ Writes (codes "2 at 10 show proceed until 1000") ∷ Complains 2 Number ∷ answer 1 ∷ []

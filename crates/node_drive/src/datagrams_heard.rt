@@ -1,6 +1,6 @@
 //! The datagrams of a round.
 
-ghost use Rattle.std.specs.Prelude.{◌≡◌, ◌≤◌, ◌++◌, ℕ, List, length, map, IfOk, OnErr, OnOk};
+ghost use Rattle.std.specs.Prelude.{◌≡◌, ◌≤◌, ◌++◌, ℕ, Bool, List, length, map, true, IfOk, OnErr, OnOk};
 ghost use Rattle.node_drive.specs.Calls.{Arrival, Calls, CallsCut};
 ghost use Rattle.node_drive.specs.Drives.{AreHeard, EndsDatagrams, Performs, Stops, Timed, datagram_in};
 ghost use Rattle.node_drive.specs.Inside.{OneDatagram, OneDatagramCut, standing_of};
@@ -82,10 +82,10 @@ fn hear_datagram<N: NodeMachine, O: Outside>(
     arrived: &Arrived,
 ) -> Result<(), NodeFault>
     requires { (N.node node.old).reached ≤ reading }
-    ensures done { OnOk result (Calls (O.told outside.old) (O.told outside.new) (datagram N.does reading arrived.now.origin arrived.now.bytes.items (standing_of (N.node node.old) course.old)).0) }
-    ensures standing { OnOk result (standing_of (N.node node.new) course.new ≡ (datagram N.does reading arrived.now.origin arrived.now.bytes.items (standing_of (N.node node.old) course.old)).1) }
+    ensures done { OnOk result ((kept : Bool) × Calls (O.told outside.old) (O.told outside.new) (datagram N.does reading kept arrived.now.origin arrived.now.bytes.items (standing_of (N.node node.old) course.old)).0) }
+    ensures standing { OnOk result (standing_of (N.node node.new) course.new ≡ (datagram N.does reading true arrived.now.origin arrived.now.bytes.items (standing_of (N.node node.old) course.old)).1) }
     ensures reached { OnOk result ((N.node node.new).reached ≤ reading) }
-    ensures stopped { OnErr result (CallsCut (O.told outside.old) (O.told outside.new) (datagram N.does reading arrived.now.origin arrived.now.bytes.items (standing_of (N.node node.old) course.old)).0) }
+    ensures stopped { OnErr result ((kept : Bool) × CallsCut (O.told outside.old) (O.told outside.new) (datagram N.does reading kept arrived.now.origin arrived.now.bytes.items (standing_of (N.node node.old) course.old)).0) }
 {
     if !is_taken(node, arrived.origin.from) {
         course.note_stranger();

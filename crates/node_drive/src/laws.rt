@@ -6,7 +6,7 @@ ghost use Rattle.node_drive.specs.Ages.{SendsBy, SentInTime, WaitedBriefly};
 ghost use Rattle.node_drive.specs.Budget.{at_receiver, at_sender, in_network, in_socket, oldest, unseen};
 ghost use Rattle.node_drive.specs.Calls.{Call};
 ghost use Rattle.node_drive.specs.Lives.{came, inputs_of, state_after};
-ghost use Rattle.node_drive.specs.Rounds.{Coming, Datagram, Standing, all_come};
+ghost use Rattle.node_drive.specs.Rounds.{Coming, Datagram, Ends, Standing, all_come};
 ghost use Rattle.node_drive.specs.Seen.{all_seen, nothing_seen};
 ghost use Rattle.node_drive.specs.Waiting.{Waiting, leaving};
 ghost use Rattle.node_drive.specs.Worked.{Worked};
@@ -61,7 +61,7 @@ pub fn what_was_seen_was_called<B: Behaves>()
 /// less than 90 ms before that.
 pub fn what_is_heard_waited_briefly<B: Behaves>()
     ensures { (earlier : List Call) (comings : List (ℕ × Coming)) (standing : Standing B.State) → standing.course.seen ≡ all_seen earlier nothing_seen
-        → (now : ℕ) (origin : Origin) (bytes : List ℕ) (thrown : ThrownAway) (leaves : ℕ) → inputs_of B.does now (Datagram origin bytes thrown leaves) (all_come B.does comings standing).1 ≡ (now, B.does.datagram bytes) ∷ []
+        → (now : ℕ) (origin : Origin) (bytes : List ℕ) (thrown : ThrownAway) (ends : Ends) → inputs_of B.does now (Datagram origin bytes thrown ends) (all_come B.does comings standing).1 ≡ (now, B.does.datagram bytes) ∷ []
         → WaitedBriefly now (earlier ++ (all_come B.does comings standing).0) }
 {}
 

@@ -28,7 +28,7 @@ pub use laws::{
 pub use node::{LineMeaning, NodeMachine, Outgoing};
 pub use orders_written::finish;
 pub use outside::{
-    Arrived, BrokenOff, Network, NextDatagram, NextLine, Origin, Outside, ThrownAway,
+    Arrived, BrokenOff, Network, NextDatagram, NextLine, Origin, Outside, ThrownAway, ToKeep,
 };
 pub use rounds::drive;
 
@@ -36,6 +36,7 @@ pub use rounds::drive;
 pub use node_lines;
 
 // The everyday items of the crates below.
+pub use node_lines::ixl_spec::{Closings, Named, Thing};
 pub use node_lines::{
     Answer, AnswerText, Aspect, BitRow, BorderId, CLOCK_LIMIT, Checked, ClockSteps, Datagram,
     DetectorId, Event, Fault, Held, Key, LATEST_CLOCK, LIFETIME, LIFETIME_MICROS, LONGEST_DATAGRAM,

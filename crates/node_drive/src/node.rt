@@ -1,5 +1,6 @@
 //! The node that runs as a process of its own.
 
+use crate::outside::ToKeep;
 use node_lines::{Datagram, Fault, NodeId, Order};
 use std::alloc::{AllocError, Global};
 
@@ -21,13 +22,13 @@ pub enum LineMeaning {
     Faulty(Fault),
 }
 
-/// A node with what its last step left: the datagrams that it hands out, the lines that it tells, and the inputs of a line that
-/// have to come.
+/// A node with what its last step left: the datagrams that it hands out, what is to be kept before a line of it is told, the lines
+/// that it tells, and the inputs of a line that have to come.
 pub trait NodeMachine {
     ghost use Rattle.std.specs.Prelude.{◌≡◌, ◌≤◌, drop, slice_get, IfOk, OnOk, string_bytes};
     ghost use Rattle.std.specs.Option.{option_map};
     ghost use Rattle.node_drive.specs.Inside.{StepsOn};
-    ghost use Rattle.node_drive.specs.Kinds.{Kind, NodeState, meaning_of, node_after};
+    ghost use Rattle.node_drive.specs.Kinds.{Kind, NodeState, meaning_of, node_after, node_kept};
 
     /// What its answers depend on.
     ghost State: { Type 0 };
@@ -77,6 +78,14 @@ pub trait NodeMachine {
     /// Whether it has nothing more to do once its last order is in force.
     fn is_done(&self) -> bool
         ensures { result ≡ does.is_done (node self.now).state };
+
+    /// What its last step asks to be kept, as long as that isn't answered.
+    fn to_keep(&self) -> Option<ToKeep>
+        ensures { result ≡ option_map (λ asked. asked.all) (node self.now).keeps };
+
+    /// It is answered whether that is kept.
+    fn note_kept(&mut self, kept: bool) -> Result<(), AllocError>
+        ensures { OnOk result (node self.new ≡ node_kept kept (node self.old)) };
 
     /// Takes the oldest of the datagrams.
     fn take_datagram(&mut self) -> Option<Outgoing>

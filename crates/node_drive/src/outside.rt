@@ -1,6 +1,6 @@
 //! What a node's process has outside: its clock, its lines in and out, and its socket.
 
-use node_lines::{Fault, NodeId, Received};
+use node_lines::{AuxiliaryCounts, Closings, Fault, NodeId, Received};
 use std::alloc::{AllocError, Global};
 
 /// A network over which nodes send their datagrams.
@@ -61,6 +61,15 @@ pub enum NextLine {
     Closed,
 }
 
+/// What the process of an interlocking keeps in a file for one that begins later.
+#[derive(Clone, Copy)]
+pub struct ToKeep {
+    /// How many auxiliary commands were accepted.
+    pub counts: AuxiliaryCounts,
+    /// What is to be closed.
+    pub closings: Closings,
+}
+
 /// A line wasn't written whole.
 #[derive(Clone, Copy)]
 pub struct BrokenOff;
@@ -69,7 +78,7 @@ pub struct BrokenOff;
 /// but `rest`.
 pub trait Outside {
     ghost use Rattle.std.specs.Prelude.{◌≡◌, [], ◌∷◌, IfOk, OnErr, OnOk};
-    ghost use Rattle.node_drive.specs.Calls.{AsksDatagram, AsksLine, AsksListener, BreaksOff, Calls, Complains, Reads, Rests, Sends, ThrowsAway, Told, Writes, datagram_heard, line_heard};
+    ghost use Rattle.node_drive.specs.Calls.{AsksDatagram, AsksLine, AsksListener, BreaksOff, Calls, Complains, Keeps, Reads, Rests, Sends, ThrowsAway, Told, Writes, datagram_heard, line_heard};
 
     /// What it tells.
     ghost told: { Self → Told };
@@ -111,4 +120,9 @@ pub trait Outside {
     /// Tells the fault of a line on standard error, with the line's number. Where that fails it isn't told.
     fn complain(&mut self, line: u64, fault: Fault)
         ensures { Calls (told self.old) (told self.new) (Complains line fault ∷ []) };
+
+    /// Keeps this in a file for a process that begins later. It answers whether the file has it on disk; where it doesn't, the file
+    /// has what it had before, or this.
+    fn keep(&mut self, all: ToKeep) -> bool
+        ensures { Calls (told self.old) (told self.new) (Keeps all result ∷ []) };
 }

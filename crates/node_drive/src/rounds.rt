@@ -3,7 +3,7 @@
 ghost use Rattle.std.specs.Prelude.{◌≡◌, ◌≤◌, ◌-◌, ◌∷◌, [], ℕ, Bool, false, IfOk, OnErr, OnOk};
 ghost use Rattle.node_drive.specs.Drives.{CutOff, IsRound, Performs, Ran, Round, Stops, in_round, is_over, opening};
 ghost use Rattle.node_drive.specs.Inside.{standing_of};
-ghost use Rattle.node_drive.specs.Rounds.{Tick};
+ghost use Rattle.node_drive.specs.Rounds.{Ends, Tick};
 
 use crate::course::Course;
 use crate::datagrams_heard::hear_datagrams;
@@ -102,9 +102,9 @@ fn tick<N: NodeMachine, O: Outside>(
 ) -> Result<u64, NodeFault>
     requires { (N.node node.old).reached ≤ (O.told outside.old).latest }
     ensures ticks { IfOk result (λ ticks. ticks ≤ (O.told outside.new).latest) }
-    ensures done { IfOk result (λ ticks. (leaves : ℕ) × Performs N.does ((ticks, Tick leaves) ∷ []) (standing_of (N.node node.old) course.old) (standing_of (N.node node.new) course.new) (O.told outside.old) (O.told outside.new)) }
+    ensures done { IfOk result (λ ticks. (ends : Ends) × Performs N.does ((ticks, Tick ends) ∷ []) (standing_of (N.node node.old) course.old) (standing_of (N.node node.new) course.new) (O.told outside.old) (O.told outside.new)) }
     ensures reached { OnOk result ((N.node node.new).reached ≤ (O.told outside.new).latest) }
-    ensures stopped { OnErr result ((ticks : ℕ) × Stops N.does ((ticks, Tick 0) ∷ []) (standing_of (N.node node.old) course.old) (O.told outside.old) (O.told outside.new)) }
+    ensures stopped { OnErr result ((ticks : ℕ) × (ends : Ends) × Stops N.does ((ticks, Tick ends) ∷ []) (standing_of (N.node node.old) course.old) (O.told outside.old) (O.told outside.new)) }
 {
     let ticks = outside.read_clock();
     course.note_reading(ticks);

@@ -1,8 +1,9 @@
 //! What a process does after each step of its node, and with a line.
 
-ghost use Rattle.std.specs.Prelude.{◌≡◌, ◌≤◌, ◌++◌, [], map, OnErr, OnOk};
-ghost use Rattle.node_drive.specs.Calls.{Calls, CallsCut, Writes};
-ghost use Rattle.node_drive.specs.Rounds.{line, performed, put_in_force, steps};
+ghost use Rattle.std.specs.Prelude.{◌≡◌, ◌≤◌, [], Bool, List, None, OnErr, OnOk};
+ghost use Rattle.node_drive.specs.Calls.{Calls, CallsCut};
+ghost use Rattle.node_drive.specs.Kinds.{node_kept};
+ghost use Rattle.node_drive.specs.Rounds.{kept_by, line, new_order, performed, put_in_force, steps, with_datagrams, with_order};
 ghost use Rattle.node_drive.specs.Inside.{standing_of};
 
 use crate::course::Course;
@@ -14,7 +15,20 @@ use crate::outside::Outside;
 use node_lines::Fault;
 use std::alloc::Global;
 
-/// What a step has left is performed: its lines are written, and its datagrams wait.
+/// What a step asks for is kept, before a line of it is told: what is told as accepted outlives the process.
+fn keep<N: NodeMachine, O: Outside>(node: &mut N, outside: &mut O) -> Result<(), NodeFault>
+    ensures done { OnOk result ((kept : Bool) × Calls (O.told outside.old) (O.told outside.new) (kept_by kept (N.node node.old).keeps) × (N.node node.new ≡ node_kept kept (N.node node.old))) }
+    ensures stopped { OnErr result ((kept : Bool) × Calls (O.told outside.old) (O.told outside.new) (kept_by kept (N.node node.old).keeps)) }
+{
+    let Some(all) = node.to_keep() else {
+        return Ok(());
+    };
+    let kept = outside.keep(all);
+    node.note_kept(kept)?;
+    Ok(())
+}
+
+/// What a step has left is performed: what it asks for is kept, its lines are written, and its datagrams wait.
 pub(crate) fn perform<N: NodeMachine, O: Outside>(
     alloc: Global,
     node: &mut N,
@@ -22,11 +36,13 @@ pub(crate) fn perform<N: NodeMachine, O: Outside>(
     outside: &mut O,
     reading: u64,
 ) -> Result<(), NodeFault>
-    ensures done { OnOk result (Calls (O.told outside.old) (O.told outside.new) (performed reading (N.node node.old).said (N.does.order (N.node node.old).state) (N.node node.old).handed course.old).0) }
-    ensures course { OnOk result (course.new ≡ (performed reading (N.node node.old).said (N.does.order (N.node node.old).state) (N.node node.old).handed course.old).1) }
-    ensures node { OnOk result (N.node node.new ≡ record (N.node node.old) { handed = []; said = [] }) }
-    ensures stopped { OnErr result (CallsCut (O.told outside.old) (O.told outside.new) (performed reading (N.node node.old).said (N.does.order (N.node node.old).state) (N.node node.old).handed course.old).0) }
+    ensures done { OnOk result ((kept : Bool) × Calls (O.told outside.old) (O.told outside.new) (performed reading kept (N.node node.old).keeps (N.node node.old).said (N.does.order (N.node node.old).state) (N.node node.old).handed course.old).0) }
+    // How far the process has come doesn't depend on what was answered.
+    ensures course { OnOk result (course.new ≡ with_datagrams reading (N.node node.old).handed (with_order (new_order course.old.order (N.does.order (N.node node.old).state)) course.old)) }
+    ensures node { OnOk result (N.node node.new ≡ record (N.node node.old) { handed = []; keeps = None; said = [] }) }
+    ensures stopped { OnErr result ((kept : Bool) × CallsCut (O.told outside.old) (O.told outside.new) (performed reading kept (N.node node.old).keeps (N.node node.old).said (N.does.order (N.node node.old).state) (N.node node.old).handed course.old).0) }
 {
+    keep(node, outside)?;
     say_all(node, outside)?;
     write_order(alloc, course, outside, reading, node.order())?;
     take_datagrams(node, course, reading)?;
@@ -54,10 +70,10 @@ fn step_through<N: NodeMachine, O: Outside>(
     reading: u64,
 ) -> Result<(), NodeFault>
     requires { (N.node node.old).reached ≤ reading }
-    ensures done { OnOk result (Calls (O.told outside.old) (O.told outside.new) (steps N.does reading (N.node node.old).left (standing_of (N.node node.old) course.old)).0) }
-    ensures standing { OnOk result (standing_of (N.node node.new) course.new ≡ (steps N.does reading (N.node node.old).left (standing_of (N.node node.old) course.old)).1) }
+    ensures done { OnOk result ((kept : List Bool) × Calls (O.told outside.old) (O.told outside.new) (steps N.does reading kept (N.node node.old).left (standing_of (N.node node.old) course.old)).0) }
+    ensures standing { OnOk result (standing_of (N.node node.new) course.new ≡ (steps N.does reading [] (N.node node.old).left (standing_of (N.node node.old) course.old)).1) }
     ensures reached { OnOk result ((N.node node.new).reached ≤ reading) }
-    ensures stopped { OnErr result (CallsCut (O.told outside.old) (O.told outside.new) (steps N.does reading (N.node node.old).left (standing_of (N.node node.old) course.old)).0) }
+    ensures stopped { OnErr result ((kept : List Bool) × CallsCut (O.told outside.old) (O.told outside.new) (steps N.does reading kept (N.node node.old).left (standing_of (N.node node.old) course.old)).0) }
 {
     while node.step_on(alloc, reading)? {
         perform(alloc, node, course, outside, reading)?;
@@ -75,10 +91,10 @@ pub(crate) fn hear_line<N: NodeMachine, O: Outside>(
     text: &str,
 ) -> Result<(), NodeFault>
     requires { (N.node node.old).reached ≤ reading }
-    ensures done { OnOk result (Calls (O.told outside.old) (O.told outside.new) (line N.does reading text.now (standing_of (N.node node.old) course.old)).0) }
-    ensures standing { OnOk result (standing_of (N.node node.new) course.new ≡ (line N.does reading text.now (standing_of (N.node node.old) course.old)).1) }
+    ensures done { OnOk result ((kept : List Bool) × Calls (O.told outside.old) (O.told outside.new) (line N.does reading kept text.now (standing_of (N.node node.old) course.old)).0) }
+    ensures standing { OnOk result (standing_of (N.node node.new) course.new ≡ (line N.does reading [] text.now (standing_of (N.node node.old) course.old)).1) }
     ensures reached { OnOk result ((N.node node.new).reached ≤ reading) }
-    ensures stopped { OnErr result (CallsCut (O.told outside.old) (O.told outside.new) (line N.does reading text.now (standing_of (N.node node.old) course.old)).0) }
+    ensures stopped { OnErr result ((kept : List Bool) × CallsCut (O.told outside.old) (O.told outside.new) (line N.does reading kept text.now (standing_of (N.node node.old) course.old)).0) }
 {
     let Some(heard) = course.hear_line() else {
         return Err(NodeFault::OutOfNumbers);

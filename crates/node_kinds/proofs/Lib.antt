@@ -1,10 +1,15 @@
 pub mod Cancels
 pub mod Clocks
+pub mod ClosedStays
 pub mod Entries
 pub mod Hosts
 pub mod HostsBelow
 pub mod IxlBelow
+pub mod KeptFirst
+pub mod KeptLast
+pub mod Listed
 pub mod Lists
+pub mod Locked
 pub mod OpeningLines
 pub mod OwnSectionsTold
 pub mod ReportLines

@@ -131,6 +131,7 @@ abbrev pub controller : {Object Contacts : Type 0} → Behaviour Object → (Obj
 controller does order meaning contact = record {
   after = λ now input c. record c { host = (host_step does now input c.host).host; contacts = contact input c.contacts };
   hands = λ now input c. to_interlocking (spellings c.host.link.identity.key (host_step does now input c.host).pdus);
+  keeps = λ now input c. None;
   says = λ now input c. [];
   tick = inputs.Tick;
   datagram = coming;

@@ -1,6 +1,7 @@
 pub mod Controllers
 pub mod Openings
 pub mod Counted
+pub mod Kept
 pub mod Interlockings
 pub mod Made
 pub mod MadeInterlocking

@@ -17,7 +17,7 @@ use Rattle.node_kinds.specs.declared.equipment.Equipment.TheVariants as named
 
 -- at this reading: nothing was handed out or told, and no input of a line is left
 abbrev pub made_at : {State Input : Type 0} → ℕ → State → NodeState State Input
-made_at reading state = record { state = state; reached = reading; handed = []; said = []; left = [] }
+made_at reading state = record { state = state; reached = reading; handed = []; keeps = None; said = []; left = [] }
 
 -- a detector's own sections, of which each was told so
 abbrev pub told_so : DetectorEntry → List Occupancy → OwnSections

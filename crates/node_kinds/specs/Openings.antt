@@ -79,6 +79,7 @@ abbrev pub opening_kind : Kind Opening Opens
 opening_kind = record {
   after = λ now input opening. opened_by input opening;
   hands = λ now input opening. [];
+  keeps = λ now input opening. None;
   says = λ now input opening. [];
   tick = Nothing;
   datagram = λ bytes. Nothing;

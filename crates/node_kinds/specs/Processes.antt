@@ -11,6 +11,7 @@ use Rattle.simulator_spec.specs.point_ctl.Drive.{PointState}
 use Rattle.simulator_spec.specs.tds_ctl.declared.section.Section.{Section as SectionState}
 use Rattle.ixl_state.specs.ixl_table.Table.{IsTableOf}
 use Rattle.simulator_spec.specs.ixl_spec.Table.{Table}
+use Rattle.simulator_spec.specs.ixl_spec.closings.declared.auxiliary.AuxiliaryCounts.{AuxiliaryCounts}
 use Rattle.simulator_spec.specs.First.{new_ixl, new_point, new_signal}
 use Rattle.simulator_spec.specs.Nodes.{Node, Interlocking, Signal, Point, Detector}
 use Rattle.node_kinds.specs.Made.{detector_sensing}
@@ -25,6 +26,7 @@ use Rattle.node_kinds.specs.Controllers.{Controller, OwnSections, detector_kind,
 use Rattle.node_kinds.specs.Interlockings.{InterlockingNode, interlocking_kind}
 use Rattle.node_kinds.specs.Openings.{Equipment, Lamp, Motor, Sections, Opening, opening_kind, rest_order, untold}
 use Rattle.node_kinds.specs.Made.{all_told, told_so}
+use Rattle.node_kinds.specs.declared.keeping.Keeping.{Keeping}
 
 -- the clock was read
 abbrev pub ReadsAt : ℕ → Told → Told → Type 0
@@ -97,29 +99,29 @@ module _ (site : Site) (first : ℕ) where
   abbrev pub detector_made : DetectorEntry → List Occupancy → ℕ → Controller (List SectionState) OwnSections
   detector_made entry sensed now = record { site = site; host = detector_sensing site (record { clock = now; first = first }) sensed entry; contacts = told_so entry sensed }
 
-  -- an interlocking has told nothing yet
-  abbrev pub interlocking_made : Table → ℕ → InterlockingNode
-  interlocking_made table now = record { site = site; table = table; ixl = new_ixl site table (record { clock = now; first = first }); told = []; numbers = no_numbers }
+  -- an interlocking has told nothing yet, and counts auxiliary commands on from what was counted before
+  abbrev pub interlocking_made : Keeping → AuxiliaryCounts → Table → ℕ → InterlockingNode
+  interlocking_made keeping counts table now = record { site = site; table = table; keeping = keeping; ixl = new_ixl site table (record { clock = now; first = first }); told = []; numbers = no_numbers; counts = counts }
 
 -- ---- the whole of it
 
 -- The interlocking of a table that belongs to this layout was made, and lived.
-pub record StationRuns (site : Site) (first for_ms begins : ℕ) (after : CourseState) (old new : Told) : Type 0 where
+pub record StationRuns (site : Site) (keeping : Keeping) (counts : AuxiliaryCounts) (first for_ms begins : ℕ) (after : CourseState) (old new : Told) : Type 0 where
   pub table : Table
   pub is_table : IsTableOf site table
-  pub lives : Lives interlocking_kind (interlocking_made site first table) for_ms begins first_course after old new
+  pub lives : Lives interlocking_kind (interlocking_made site first keeping counts table) for_ms begins first_course after old new
 
 -- It wasn't made, for want of memory, or its life was cut off.
-pub data StationCut (site : Site) (first for_ms begins : ℕ) (old new : Told) : Type 0 where
-  not_made : {now : ℕ} → ReadsAt now old new → StationCut site first for_ms begins old new
+pub data StationCut (site : Site) (keeping : Keeping) (counts : AuxiliaryCounts) (first for_ms begins : ℕ) (old new : Told) : Type 0 where
+  not_made : {now : ℕ} → ReadsAt now old new → StationCut site keeping counts first for_ms begins old new
   cut_off : {table : Table} {now : ℕ} {read : Told} → IsTableOf site table → ReadsAt now old read
-      → CutOff interlocking_kind (left_of for_ms begins now) now (standing (interlocking_made site first table now) first_course) read new → StationCut site first for_ms begins old new
+      → CutOff interlocking_kind (left_of for_ms begins now) now (standing (interlocking_made site first keeping counts table now) first_course) read new → StationCut site keeping counts first for_ms begins old new
 
-module _ (site : Site) (first for_ms begins : ℕ) (after : CourseState) (old new : Told) where
+module _ (site : Site) (keeping : Keeping) (counts : AuxiliaryCounts) (first for_ms begins : ℕ) (after : CourseState) (old new : Told) where
   -- A node of a station ran; where there is no such node nothing was called.
   abbrev pub NodeRuns : Option Node → Type 0
   NodeRuns None = Calls old new []
-  NodeRuns (Some Interlocking) = StationRuns site first for_ms begins after old new
+  NodeRuns (Some Interlocking) = StationRuns site keeping counts first for_ms begins after old new
   NodeRuns (Some (Signal place)) = (entry : SignalEntry) → slice_get site.signals place ≡ Some entry
       → Controls signal_kind site Lamp told_nothing (signal_made site first entry) for_ms begins after old new
   NodeRuns (Some (Point place)) = (entry : PointEntry) → slice_get site.points place ≡ Some entry
@@ -127,11 +129,11 @@ module _ (site : Site) (first for_ms begins : ℕ) (after : CourseState) (old ne
   NodeRuns (Some (Detector place)) = (entry : DetectorEntry) → slice_get site.detectors place ≡ Some entry
       → Controls detector_kind site (Sections entry.sections) told_sections (detector_made site first entry) for_ms begins after old new
 
-module _ (site : Site) (first for_ms begins : ℕ) (old new : Told) where
+module _ (site : Site) (keeping : Keeping) (counts : AuxiliaryCounts) (first for_ms begins : ℕ) (old new : Told) where
   -- It was cut off.
   abbrev pub NodeCut : Option Node → Type 0
   NodeCut None = Calls old new []
-  NodeCut (Some Interlocking) = StationCut site first for_ms begins old new
+  NodeCut (Some Interlocking) = StationCut site keeping counts first for_ms begins old new
   NodeCut (Some (Signal place)) = (entry : SignalEntry) → slice_get site.signals place ≡ Some entry
       → ControlsCut signal_kind site Lamp told_nothing (signal_made site first entry) for_ms begins old new
   NodeCut (Some (Point place)) = (entry : PointEntry) → slice_get site.points place ≡ Some entry
@@ -146,13 +148,13 @@ rest_of (Some (Point place)) = rest_order Motor
 rest_of _ = None
 
 -- A process of a node: its clock was read, the node ran until its process was over, and at the end its equipment was told to rest.
-pub record Process (site : Site) (node : Option Node) (first for_ms : ℕ) (old new : Told) : Type 0 where
+pub record Process (site : Site) (node : Option Node) (keeping : Keeping) (counts : AuxiliaryCounts) (first for_ms : ℕ) (old new : Told) : Type 0 where
   pub begins : ℕ
   pub begun : Told
   pub reads : ReadsAt begins old begun
   pub course : CourseState
   pub ended : Told
-  pub runs : NodeRuns site first for_ms begins course begun ended node
+  pub runs : NodeRuns site keeping counts first for_ms begins course begun ended node
   pub ends : ℕ
   pub rests : Calls ended new (Reads ends ∷ last_line ends (rest_of node) course)
 
@@ -162,6 +164,6 @@ pub data EndsSomehow (rest : Option Order) (old new : Told) : Type 0 where
   resting : {ends : ℕ} (course : CourseState) → CallsCut old new (Reads ends ∷ last_line ends rest course) → EndsSomehow rest old new
 
 -- The same process, which ended before its time: the node was cut off, or its equipment wasn't told to rest.
-pub data ProcessCut (site : Site) (node : Option Node) (first for_ms : ℕ) (old new : Told) : Type 0 where
-  in_life : {begins : ℕ} {begun ended : Told} → ReadsAt begins old begun → NodeCut site first for_ms begins begun ended node → EndsSomehow (rest_of node) ended new → ProcessCut site node first for_ms old new
-  at_end : {begins : ℕ} {begun ended : Told} (course : CourseState) → ReadsAt begins old begun → NodeRuns site first for_ms begins course begun ended node → EndsSomehow (rest_of node) ended new → ProcessCut site node first for_ms old new
+pub data ProcessCut (site : Site) (node : Option Node) (keeping : Keeping) (counts : AuxiliaryCounts) (first for_ms : ℕ) (old new : Told) : Type 0 where
+  in_life : {begins : ℕ} {begun ended : Told} → ReadsAt begins old begun → NodeCut site keeping counts first for_ms begins begun ended node → EndsSomehow (rest_of node) ended new → ProcessCut site node keeping counts first for_ms old new
+  at_end : {begins : ℕ} {begun ended : Told} (course : CourseState) → ReadsAt begins old begun → NodeRuns site keeping counts first for_ms begins course begun ended node → EndsSomehow (rest_of node) ended new → ProcessCut site node keeping counts first for_ms old new

@@ -1,7 +1,7 @@
 //! What changed since it was told.
 
 ghost use Rattle.std.specs.Prelude.{◌≡◌, ◌++◌, slice_get, OnOk};
-ghost use Rattle.node_kinds.specs.Interlockings.{changes, last_told, news};
+ghost use Rattle.node_kinds.specs.Interlockings.{changes, is_at_rest, last_told, news};
 ghost use Rattle.node_kinds.specs.inside.InterlockingSteps.{texts};
 
 use crate::comparison::is_same;
@@ -11,7 +11,21 @@ use simulator_spec::Layout;
 use std::alloc::{AllocError, Global};
 use std::collections::VecDeque;
 
-/// A thing, of which this was told last, is to be told unless nothing is known of it, or still the same.
+/// Whether nothing need be told of a thing to who was told nothing of it: it isn't closed.
+fn is_at_rest(known: Known) -> bool
+    ensures { result ≡ is_at_rest known }
+{
+    match known {
+        Known::Closing {
+            thing: _,
+            is_closed,
+        } => !is_closed,
+        _ => false,
+    }
+}
+
+/// A thing, of which this was told last, is to be told unless nothing is known of it, or still the same, or it isn't closed and never
+/// was.
 fn say_news(
     alloc: Global,
     layout: &Layout,
@@ -23,6 +37,7 @@ fn say_news(
 {
     match (last, known) {
         (_, None) => Ok(()),
+        (None, Some(known)) if is_at_rest(known) => Ok(()),
         (Some(last), Some(known)) if is_same(last, known) => Ok(()),
         (_, Some(known)) => say(alloc, layout, said, OperatorLine::Known(known)),
     }

@@ -3,7 +3,7 @@
 use crate::contacts::Contacts;
 use crate::controller_steps::{INTERLOCKING, SteppedHost};
 use node_drive::node_lines::read_report;
-use node_drive::{LineMeaning, NodeMachine, Order, Outgoing};
+use node_drive::{LineMeaning, NodeMachine, Order, Outgoing, ToKeep};
 use simulator_spec::object_host::{Input, Sense};
 use simulator_spec::{Layout, NodeId};
 use std::alloc::{AllocError, Global};
@@ -86,6 +86,14 @@ impl<'a, C: Contacts> NodeMachine for ControllerNode<'a, C> {
 
     fn is_done(&self) -> bool {
         false
+    }
+
+    fn to_keep(&self) -> Option<ToKeep> {
+        None
+    }
+
+    fn note_kept(&mut self, _kept: bool) -> Result<(), AllocError> {
+        Ok(())
     }
 
     fn take_datagram(&mut self) -> Option<Outgoing> {

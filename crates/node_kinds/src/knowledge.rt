@@ -7,12 +7,12 @@ ghost use Rattle.node_kinds.specs.Interlockings.{all_known, all_of};
 use crate::thing::Thing;
 use crate::thing_known::{count, known_at};
 use ixl::Interlocking;
-use node_drive::node_lines::Known;
+use node_drive::node_lines::{AuxiliaryCounts, Known};
 use simulator_spec::Millis;
 use std::alloc::{AllocError, Global};
 
 /// The kinds of things, in the order in which they are told.
-const THINGS: [Thing; 9] = [
+const THINGS: [Thing; 16] = [
     Thing::SignalLink,
     Thing::PointLink,
     Thing::DetectorLink,
@@ -21,6 +21,13 @@ const THINGS: [Thing; 9] = [
     Thing::Signal,
     Thing::Indication,
     Thing::Route,
+    Thing::Release,
+    Thing::SectionClosing,
+    Thing::LeftClosing,
+    Thing::RightClosing,
+    Thing::SignalClosing,
+    Thing::RouteClosing,
+    Thing::Counter,
     Thing::Readiness,
 ];
 
@@ -28,13 +35,14 @@ const THINGS: [Thing; 9] = [
 fn add_each(
     all: &mut Vec<Option<Known>>,
     ixl: &Interlocking,
+    counts: AuxiliaryCounts,
     now: Millis,
     thing: Thing,
 ) -> Result<(), AllocError>
-    ensures { OnOk result (all.new.items ≡ all.old.items ++ all_of ixl.now.state.sited.site ixl.now.state.sited.table now ixl.now.state.ixl thing) }
+    ensures { OnOk result (all.new.items ≡ all.old.items ++ all_of ixl.now.state.sited.site ixl.now.state.sited.table counts now ixl.now.state.ixl thing) }
 {
     for place in 0..count(ixl, thing) {
-        all.push(known_at(ixl, now, thing, place))?;
+        all.push(known_at(ixl, counts, now, thing, place))?;
     }
     Ok(())
 }
@@ -43,13 +51,14 @@ fn add_each(
 fn add_all(
     all: &mut Vec<Option<Known>>,
     ixl: &Interlocking,
+    counts: AuxiliaryCounts,
     now: Millis,
     things: &[Thing],
 ) -> Result<(), AllocError>
-    ensures { OnOk result (all.new.items ≡ all.old.items ++ flat_map (all_of ixl.now.state.sited.site ixl.now.state.sited.table now ixl.now.state.ixl) things.now) }
+    ensures { OnOk result (all.new.items ≡ all.old.items ++ flat_map (all_of ixl.now.state.sited.site ixl.now.state.sited.table counts now ixl.now.state.ixl) things.now) }
 {
     for thing in things {
-        add_each(all, ixl, now, *thing)?;
+        add_each(all, ixl, counts, now, *thing)?;
     }
     Ok(())
 }
@@ -58,11 +67,12 @@ fn add_all(
 pub(crate) fn all_known(
     alloc: Global,
     ixl: &Interlocking,
+    counts: AuxiliaryCounts,
     now: Millis,
 ) -> Result<Vec<Option<Known>>, AllocError>
-    ensures { IfOk result (λ all. all.items ≡ all_known ixl.now.state.sited.site ixl.now.state.sited.table now ixl.now.state.ixl) }
+    ensures { IfOk result (λ all. all.items ≡ all_known ixl.now.state.sited.site ixl.now.state.sited.table counts now ixl.now.state.ixl) }
 {
     let mut all = Vec::new(alloc);
-    add_all(&mut all, ixl, now, &THINGS)?;
+    add_all(&mut all, ixl, counts, now, &THINGS)?;
     Ok(all)
 }

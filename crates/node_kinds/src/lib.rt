@@ -4,6 +4,8 @@
 
 mod asked;
 mod changes;
+mod closing_lines;
+mod closings_kept;
 mod comparison;
 mod contacts;
 mod controller_node;
@@ -13,6 +15,7 @@ mod detector_node;
 mod equipment;
 mod interlocking_node;
 mod interlocking_steps;
+mod keeping;
 mod knowledge;
 mod laws;
 mod opening_node;
@@ -27,6 +30,7 @@ mod thing_known;
 pub use detector_node::DetectorNode;
 pub use equipment::Equipment;
 pub use interlocking_node::InterlockingNode;
+pub use keeping::Keeping;
 pub use opening_node::OpeningNode;
 pub use point_node::PointNode;
 pub use signal_node::SignalNode;

@@ -12,7 +12,7 @@ ghost use Rattle.node_kinds.specs.inside.ControllerNodes.{opening_now};
 use crate::equipment::{Equipment, own_sections, rest_order};
 use crate::own_sections::{own_place, replace_at};
 use node_drive::node_lines::{FieldReport, read_report};
-use node_drive::{Fault, LineMeaning, NodeMachine, Order, Outgoing};
+use node_drive::{Fault, LineMeaning, NodeMachine, Order, Outgoing, ToKeep};
 use simulator_spec::{Checked, Layout, Millis, NodeId, Occupancy, Position, SectionId};
 use std::alloc::{AllocError, Global};
 
@@ -152,6 +152,14 @@ impl<'a> NodeMachine for OpeningNode<'a> {
             Equipment::Motor => self.position.is_some(),
             Equipment::Sections(_) => is_each_told(&self.sections),
         }
+    }
+
+    fn to_keep(&self) -> Option<ToKeep> {
+        None
+    }
+
+    fn note_kept(&mut self, _kept: bool) -> Result<(), AllocError> {
+        Ok(())
     }
 
     fn take_datagram(&mut self) -> Option<Outgoing> {

@@ -19,6 +19,20 @@ pub enum Thing {
     Indication,
     /// Whether a route is set.
     Route,
+    /// Whether a route that is set was released.
+    Release,
+    /// Whether a section is closed.
+    SectionClosing,
+    /// Whether a point is closed at the left.
+    LeftClosing,
+    /// Whether a point is closed at the right.
+    RightClosing,
+    /// Whether a signal is closed.
+    SignalClosing,
+    /// Whether a route is closed.
+    RouteClosing,
+    /// How many auxiliary commands of a kind were accepted.
+    Counter,
     /// Whether requests are taken.
     Readiness,
 }

@@ -1,6 +1,7 @@
 //! The lines of a node: between a controller and its field equipment, and between an interlocking and its operator.
 #![tactic(auto)]
 
+mod auxiliary;
 mod laws;
 mod operator_command;
 mod operator_line;
@@ -9,6 +10,7 @@ mod order_read;
 mod report;
 mod word_table;
 
+pub use auxiliary::counted_after;
 pub use laws::{
     authority_is_told_apart, commands_are_read_again, lines_are_as_worked_by_hand,
     orders_are_read_again, reports_are_read_again,
@@ -20,12 +22,14 @@ pub use order_read::read_order;
 pub use report::{FieldReport, ReportText, read_report};
 
 // What crates above need of the crates below.
+pub use closings;
 pub use replay_lines;
 pub use replay_lines::ixl_spec;
 pub use replay_words;
 pub use simulator_event;
 
 // The everyday items of the crates below.
+pub use closings::{Auxiliary, AuxiliaryCounts};
 pub use replay_lines::ixl_spec::rasta_pdu::Received;
 pub use replay_lines::ixl_spec::{
     Aspect, BitRow, BorderId, CLOCK_LIMIT, Checked, Closings, Command, Datagram, Detector,

@@ -3,9 +3,14 @@
 ghost use Rattle.std.specs.Prelude.{◌≡◌};
 ghost use Rattle.node_lines.specs.Known.{signal_word};
 
-use crate::word_table::{known_occupancy_word, known_side_word, link_word, route_state_word};
+use crate::word_table::{
+    auxiliary_word, closing_word, known_occupancy_word, known_side_word, link_word,
+    route_state_word,
+};
+use closings::Auxiliary;
 use replay_lines::ixl_spec::{
-    Aspect, Layout, Occupancy, PointId, Refusal, RouteId, SectionId, Side, SignalId,
+    Aspect, Layout, Named, Occupancy, PointId, Refusal, RouteId, SectionId, Side, SignalId, Thing,
+    side_word,
 };
 use replay_lines::{AnswerText, point_word, route_word, section_word};
 use simulator_event::{Answer, NodeId};
@@ -60,6 +65,20 @@ pub enum Known {
     Route {
         route: RouteId,
         is_set: bool,
+    },
+    /// A route that is set was released.
+    Released {
+        route: RouteId,
+    },
+    /// Whether a thing is closed.
+    Closing {
+        thing: Thing,
+        is_closed: bool,
+    },
+    /// How many commands of a kind its process has accepted.
+    Counted {
+        command: Auxiliary,
+        count: u64,
     },
     /// It takes no request yet: less than `HOLD_TIME` has passed since it was made.
     Holding,
@@ -156,6 +175,22 @@ impl<'a> fmt::Display for KnownText<'a> {
                 let word = route_state_word(is_set);
                 write!(f, "route {route} {word}")
             }
+            Known::Released { route } => {
+                let route = route_word(layout, route);
+                write!(f, "route {route} released")
+            }
+            Known::Closing { thing, is_closed } => {
+                let closing = ClosingText {
+                    layout,
+                    thing,
+                    is_closed,
+                };
+                write!(f, "{closing}")
+            }
+            Known::Counted { command, count } => {
+                let word = auxiliary_word(command);
+                write!(f, "counted {word} {count}")
+            }
             Known::Holding => write!(f, "holding"),
             Known::WaitingForResume => write!(f, "waiting for resume"),
         }
@@ -218,5 +253,33 @@ fn signal_word(layout: &Layout, signal: SignalId) -> &str
     match layout.signals().get(signal.0) {
         Some(signal) => signal.name.as_str(),
         None => "_",
+    }
+}
+
+/// Whether a thing is closed, as its line tells it.
+#[derive(Clone, Copy)]
+struct ClosingText<'a> {
+    layout: &'a Layout,
+    thing: Thing,
+    is_closed: bool,
+}
+
+impl<'a> fmt::Display for ClosingText<'a> {
+    ghost use Rattle.std.specs.Prelude.{Some};
+    ghost use Rattle.node_lines.specs.Known.{closing_text};
+
+    ghost output = { λ text. Some (closing_text text.layout.now text.thing text.is_closed) };
+
+    fn fmt<W: fmt::Write>(&self, f: &mut fmt::Formatter<W>) -> fmt::Result {
+        let named = Named::One(self.thing);
+        let word = closing_word(self.is_closed);
+        let name = named.name_word(self.layout);
+        match named.side() {
+            Some(side) => {
+                let side = side_word(side);
+                write!(f, "{word} {name} {side}")
+            }
+            None => write!(f, "{word} {name}"),
+        }
     }
 }

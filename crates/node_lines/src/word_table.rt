@@ -1,9 +1,10 @@
 //! The words for what a line tells.
 
 ghost use Rattle.std.specs.Prelude.{◌≡◌};
-ghost use Rattle.node_lines.specs.Known.{known_occupancy_word, known_side_word, link_word, route_state_word};
+ghost use Rattle.node_lines.specs.Known.{auxiliary_word, closing_word, known_occupancy_word, known_side_word, link_word, route_state_word};
 
 use crate::operator_line::LinkState;
+use closings::Auxiliary;
 use replay_lines::ixl_spec::{Occupancy, Side};
 
 pub(crate) fn link_word(state: LinkState) -> &'static str
@@ -37,4 +38,19 @@ pub(crate) fn route_state_word(is_set: bool) -> &'static str
     ensures { result.now ≡ route_state_word is_set }
 {
     if is_set { "set" } else { "free" }
+}
+
+pub(crate) fn closing_word(is_closed: bool) -> &'static str
+    ensures { result.now ≡ closing_word is_closed }
+{
+    if is_closed { "closed" } else { "open" }
+}
+
+pub(crate) fn auxiliary_word(command: Auxiliary) -> &'static str
+    ensures { result.now ≡ auxiliary_word command }
+{
+    match command {
+        Auxiliary::Release => "release",
+        Auxiliary::Open => "open",
+    }
 }

@@ -1,4 +1,5 @@
 pub mod Cuts
 pub mod Senders
 pub mod Intakes
+pub mod KeptLines
 pub mod NewsTold

@@ -19,6 +19,7 @@ call_of (call.Wrote text) = calls.Writes (string_bytes text)
 call_of (call.BrokeOff text) = calls.BreaksOff (string_bytes text)
 call_of (call.Sent to bytes) = calls.Sends to bytes.items
 call_of (call.Complained line fault) = calls.Complains line fault
+call_of (call.Kept all kept) = calls.Keeps all kept
 
 -- what is told as long as memory wasn't lacking
 abbrev pub told_calls : Bool → List OutsideCall → Option (List calls.Call)

@@ -14,15 +14,27 @@
 --     breaks off 7 at 12000 show st a line wasn't written whole
 --     sends IXL1 3200..             a datagram was sent to a node
 --     complains 3 1                 a line was faulty, by its number and that of its fault
-use Rattle.std.specs.Prelude.{Bool, true, false, List, [], ◌∷◌, ◌++◌, ℕ, codes, Option, Some, None}
+--     keeps releases 2 opens 1: 2, G1, P left
+--                                   so many auxiliary commands were counted, and so many things are to be closed in a later process, and
+--                                   the file has all of it on disk
+--     fails to keep releases 2 opens 1: 2, G1, P left
+--                                   the same, but that a call failed by which the file is written
+use Rattle.std.specs.Prelude.{Bool, true, false, List, [], ◌∷◌, ◌++◌, ℕ, codes, length, Option, Some, None}
 use Rattle.std.specs.Fmt.{decimal as written}
+use Rattle.std.specs.List.{flat_map}
 use Rattle.node_drive.specs.replay_words.Fault.{number_of}
 use Rattle.node_drive.specs.replay_words.Read.{hex_word}
 use Rattle.node_drive.specs.layout.Entries.{Site}
 use Rattle.node_drive.specs.simulator_event.layout.declared.ids.NodeId.{NodeId}
-use Rattle.node_drive.specs.Calls.{Call, Rests, Reads, AsksListener, AsksLine, AsksDatagram, ThrowsAway, Writes, BreaksOff, Sends, Complains, Text, Nothing, Closed, Came, Empty, Failed}
+use Rattle.node_drive.specs.Calls.{Call, Rests, Reads, AsksListener, AsksLine, AsksDatagram, ThrowsAway, Writes, BreaksOff, Sends, Complains, Keeps, Text, Nothing, Closed, Came, Empty, Failed}
+use Rattle.node_drive.specs.node_lines.closings.declared.auxiliary.AuxiliaryCounts.{AuxiliaryCounts}
+use Rattle.node_drive.specs.node_lines.closings.declared.thing.Thing.{Thing}
+use Rattle.node_drive.specs.node_lines.closings.declared.thing.Named.TheVariants.{One}
+use Rattle.node_drive.specs.node_lines.closings.Closed.{closed_things}
+use Rattle.node_drive.specs.node_lines.closings.Words.{words_of}
 use Rattle.node_drive.specs.declared.outside.Network.{Network}
 use Rattle.node_drive.specs.declared.outside.Network.TheVariants.{Alone, First, Second}
+use Rattle.node_drive.specs.declared.outside.ToKeep.{ToKeep}
 use Rattle.node_drive.specs.node_lines.Known.{node_word}
 use Rattle.node_network.specs.declared.entry.Entry.{Entry}
 use Rattle.node_network.specs.declared.entry.Entry.TheVariants as entry
@@ -45,6 +57,26 @@ abbrev pub thrown_words : ℕ → Bool → List ℕ
 thrown_words count true = codes "throws away all " ++ written count
 thrown_words count false = codes "throws away " ++ written count
 
+-- a thing behind others
+abbrev pub thing_words : Site → Thing → List ℕ
+thing_words site thing = codes ", " ++ words_of site (One thing)
+
+-- how many things, and which
+abbrev pub listed_words : Site → List Thing → List ℕ
+listed_words site things = written (length things) ++ flat_map (thing_words site) things
+
+-- how many auxiliary commands were counted
+abbrev pub counts_words : AuxiliaryCounts → List ℕ
+counts_words counts = codes "releases " ++ (written counts.releases ++ (codes " opens " ++ written counts.opens))
+
+abbrev pub kept_word : Bool → List ℕ
+kept_word true = codes "keeps"
+kept_word false = codes "fails to keep"
+
+-- the counts, and what is closed, in the order of the layout's things
+abbrev pub kept_words : Site → ToKeep → Bool → List ℕ
+kept_words site all kept = kept_word kept ++ 32 ∷ (counts_words all.counts ++ (codes ": " ++ listed_words site (closed_things site all.closings)))
+
 -- the line of a call; one that was answered by nothing has none
 abbrev pub call_line : Site → Call → Option (List ℕ)
 call_line site Rests = None
@@ -62,6 +94,7 @@ call_line site (Writes text) = Some (codes "writes " ++ text)
 call_line site (BreaksOff text) = Some (codes "breaks off " ++ text)
 call_line site (Sends to bytes) = Some (codes "sends " ++ bytes_words (node_word site to) [] bytes)
 call_line site (Complains line fault) = Some (codes "complains " ++ (written line ++ 32 ∷ written (number_of fault)))
+call_line site (Keeps all kept) = Some (kept_words site all kept)
 
 -- what the code has as such a call
 abbrev pub call_with : Entry → Call
@@ -76,3 +109,4 @@ call_with (entry.Writes text) = Writes text.now
 call_with (entry.BreaksOff text) = BreaksOff text.now
 call_with (entry.Sends to bytes) = Sends to bytes.now
 call_with (entry.Complains line fault) = Complains line fault
+call_with (entry.Keeps all kept) = Keeps all.now kept

@@ -5,7 +5,7 @@ ghost use Rattle.std.specs.Prelude.{◌≡◌};
 use crate::calling_lines::CallingLines;
 use crate::node_clock::NodeClock;
 use crate::other_end::{next_line, write_line_to};
-use node_drive::{BrokenOff, Fault, NextDatagram, NextLine, NodeId, Outside, ThrownAway};
+use node_drive::{BrokenOff, Fault, NextDatagram, NextLine, NodeId, Outside, ThrownAway, ToKeep};
 use std::alloc::{AllocError, Global};
 use std::net::{Net, SocketAddr};
 use std::time::Clock as Timer;
@@ -82,4 +82,9 @@ impl<'a, R: Net + Timer> Outside for Caller<'a, R> {
     fn send(&mut self, _to: NodeId, _bytes: &[u8]) {}
 
     fn complain(&mut self, _line: u64, _fault: Fault) {}
+
+    /// It has no file.
+    fn keep(&mut self, _all: ToKeep) -> bool {
+        false
+    }
 }

@@ -1,9 +1,14 @@
 //! The lines of a record.
 
-ghost use Rattle.std.specs.Prelude.{◌≡◌, ◌++◌, ◌∷◌, IfOk, Some, string_bytes};
-ghost use Rattle.node_network.specs.Records.{bytes_words, call_line, call_with, over_words, sender_word, thrown_words};
+ghost use Rattle.std.specs.Prelude.{◌≡◌, ◌++◌, ◌∷◌, IfOk, OnOk, Some, codes, string_bytes};
+ghost use Rattle.std.specs.Fmt.{decimal};
+ghost use Rattle.std.specs.List.{flat_map};
+ghost use Rattle.node_network.specs.Records.{bytes_words, call_line, call_with, counts_words, kept_word, kept_words, listed_words, over_words, sender_word, thing_words, thrown_words};
 
-use node_drive::{Fault, Layout, Network, NodeId, Origin, ThrownAway, hex_word};
+use node_drive::node_lines::AuxiliaryCounts;
+use node_drive::{
+    Fault, Layout, Named, Network, NodeId, Origin, Thing, ThrownAway, ToKeep, hex_word,
+};
 use std::alloc::{AllocError, Global};
 
 /// A call of a node's process that has a line in its record.
@@ -31,6 +36,8 @@ pub enum Entry<'a> {
     Sends(NodeId, &'a [u8]),
     /// A line was faulty, by its number.
     Complains(u64, Fault),
+    /// This was to be kept, and whether it is.
+    Keeps(&'a ToKeep, bool),
 }
 
 /// The line of a call, without a line feed.
@@ -55,6 +62,7 @@ pub fn entry_line(alloc: Global, layout: &Layout, entry: Entry<'_>) -> Result<St
             let number = fault.number();
             format!(in alloc; "complains {line} {number}")
         }
+        Entry::Keeps(all, kept) => kept_line(alloc, layout, all, kept),
     }
 }
 
@@ -68,6 +76,68 @@ fn thrown_line(alloc: Global, thrown: ThrownAway) -> Result<String, AllocError>
     } else {
         format!(in alloc; "throws away {count}")
     }
+}
+
+/// Adds the words of a thing behind a comma.
+fn add_thing(layout: &Layout, line: &mut String, thing: Thing) -> Result<(), AllocError>
+    ensures { OnOk result (string_bytes line.new ≡ string_bytes line.old ++ thing_words layout.now thing) }
+{
+    line.push_str(", ")?;
+    Named::One(thing).write(layout, line)
+}
+
+/// Adds the words of things, each behind a comma.
+fn add_things(layout: &Layout, line: &mut String, things: &[Thing]) -> Result<(), AllocError>
+    ensures { OnOk result (string_bytes line.new ≡ string_bytes line.old ++ flat_map (thing_words layout.now) things.now) }
+{
+    for thing in things {
+        add_thing(layout, line, *thing)?;
+    }
+    Ok(())
+}
+
+/// Whether what was to be kept is.
+fn kept_word(kept: bool) -> &'static str
+    ensures { result.now ≡ kept_word kept }
+{
+    if kept { "keeps" } else { "fails to keep" }
+}
+
+/// A line of what was to be kept, up to how many things are closed.
+fn counted_line(
+    alloc: Global,
+    what: &str,
+    counts: AuxiliaryCounts,
+    count: usize,
+) -> Result<String, AllocError>
+    ensures { IfOk result (λ line. string_bytes line ≡ what.now ++ 32 ∷ (codes "releases " ++ (decimal counts.releases ++ (codes " opens " ++ (decimal counts.opens ++ (codes ": " ++ decimal count)))))) }
+{
+    let (releases, opens) = (counts.releases, counts.opens);
+    format!(in alloc; "{what} releases {releases} opens {opens}: {count}")
+}
+
+/// The line of these counts and these things, which were to be kept.
+#[tactic(auto, using(crate::proofs::KeptLines::with_things))]
+fn things_line(
+    alloc: Global,
+    layout: &Layout,
+    kept: bool,
+    counts: AuxiliaryCounts,
+    things: &[Thing],
+) -> Result<String, AllocError>
+    ensures { IfOk result (λ line. string_bytes line ≡ kept_word kept ++ 32 ∷ (counts_words counts ++ (codes ": " ++ listed_words layout.now things.now))) }
+{
+    let mut line = counted_line(alloc, kept_word(kept), counts, things.len())?;
+    add_things(layout, &mut line, things)?;
+    Ok(line)
+}
+
+/// The line of what was to be kept.
+fn kept_line(alloc: Global, layout: &Layout, all: &ToKeep, kept: bool) -> Result<String, AllocError>
+    ensures { IfOk result (λ line. string_bytes line ≡ kept_words layout.now all.now kept) }
+{
+    let things = all.closings.things(alloc, layout)?;
+    things_line(alloc, layout, kept, all.counts, &things)
 }
 
 /// The words for the network over which a datagram came.

@@ -4,7 +4,7 @@ ghost use Rattle.std.specs.Prelude.{[], ◌∷◌};
 ghost use Rattle.node_drive.specs.Calls.{Grows};
 ghost use Rattle.node_network.specs.Log.{call_of, told_calls};
 
-use node_drive::{Fault, NodeId, Origin};
+use node_drive::{Fault, NodeId, Origin, ToKeep};
 
 /// A call of a node's process.
 #[derive(Drop)]
@@ -37,6 +37,8 @@ pub enum OutsideCall {
     Sent(NodeId, Vec<u8>),
     /// It told the fault of a line.
     Complained(u64, Fault),
+    /// It kept this in its file, or the file wasn't written.
+    Kept(ToKeep, bool),
 }
 
 /// The calls of a process.

@@ -10,7 +10,7 @@ use crate::networks_seen::NetworksSeen;
 use crate::node_clock::NodeClock;
 use crate::node_socket::NodeSocket;
 use network_watch::Telling;
-use node_drive::{BrokenOff, Fault, NextDatagram, NextLine, NodeId, Outside, ThrownAway};
+use node_drive::{BrokenOff, Fault, NextDatagram, NextLine, NodeId, Outside, ThrownAway, ToKeep};
 use std::alloc::{AllocError, Global};
 use std::io::{Read, Write};
 use std::net::Net;
@@ -163,6 +163,11 @@ impl<'a, R: Net + Timer, I: Read, O: Write, E: Write> Outside for Machine<'a, R,
     fn complain(&mut self, line: u64, fault: Fault) {
         // Where this fails the fault isn't told.
         let _ = write_complaint(self.alloc, &mut self.complaints, line, fault);
+    }
+
+    /// It has no file.
+    fn keep(&mut self, _all: ToKeep) -> bool {
+        false
     }
 }
 

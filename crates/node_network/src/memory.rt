@@ -11,7 +11,7 @@ use crate::log::{Log, OutsideCall};
 use crate::network_socket::{MOST_THROWN_AWAY, arrived};
 use node_drive::{
     BrokenOff, Fault, LONGEST_DATAGRAM, Network, NextDatagram, NextLine, NodeId, Origin, Outside,
-    ThrownAway,
+    ThrownAway, ToKeep,
 };
 use std::alloc::{AllocError, Global};
 use std::collections::VecDeque;
@@ -36,6 +36,8 @@ pub struct MemoryOutside {
     sent: VecDeque<(NodeId, Vec<u8>)>,
     /// Which of the next calls of its network fails, counted from 1; none at 0.
     failing: u64,
+    /// Whether what is to be kept is kept.
+    keeps: bool,
 }
 
 // Written by hand, so that it is proved and compiled here alone.
@@ -54,12 +56,13 @@ impl Drop for MemoryOutside {
             written: _,
             sent: _,
             failing: _,
+            keeps: _,
         } = self;
     }
 }
 
 impl MemoryOutside {
-    /// A clock of this first reading, and nothing else. No call of its network fails.
+    /// A clock of this first reading, and nothing else. No call of its network fails, and what is to be kept is kept.
     pub fn new(alloc: Global, first: u64, step: u64) -> MemoryOutside
         ensures told { told_calls result.log.tells result.log.calls.items ≡ Some [] }
         ensures time { result.time ≡ first }
@@ -81,6 +84,7 @@ impl MemoryOutside {
             written: VecDeque::new(alloc),
             sent: VecDeque::new(alloc),
             failing: 0,
+            keeps: true,
         }
     }
 
@@ -102,6 +106,13 @@ impl MemoryOutside {
         let before = self.failing;
         self.failing = calls;
         before
+    }
+
+    /// From now on what is to be kept is kept, or it isn't.
+    pub fn put_keeping(&mut self, keeps: bool)
+        ensures { self.new ≡ record self.old { keeps = keeps } }
+    {
+        self.keeps = keeps;
     }
 
     /// What was called so far, oldest first, as far as it was kept.
@@ -254,6 +265,11 @@ impl Outside for MemoryOutside {
 
     fn complain(&mut self, line: u64, fault: Fault) {
         self.log.add(OutsideCall::Complained(line, fault));
+    }
+
+    fn keep(&mut self, all: ToKeep) -> bool {
+        self.log.add(OutsideCall::Kept(all, self.keeps));
+        self.keeps
     }
 }
 

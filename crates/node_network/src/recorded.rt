@@ -3,7 +3,9 @@
 ghost use Rattle.std.specs.Prelude.{◌≡◌};
 
 use crate::entry::{Entry, entry_line};
-use node_drive::{BrokenOff, Fault, Layout, NextDatagram, NextLine, NodeId, Outside, ThrownAway};
+use node_drive::{
+    BrokenOff, Fault, Layout, NextDatagram, NextLine, NodeId, Outside, ThrownAway, ToKeep,
+};
 use std::alloc::{AllocError, Global};
 use std::io::{Eprint, Write};
 
@@ -140,5 +142,11 @@ impl<'a, O: Outside, W: Write + Drop, E: Eprint> Outside for Recorded<'a, O, W, 
     fn complain(&mut self, line: u64, fault: Fault) {
         self.outside.complain(line, fault);
         self.note(Entry::Complains(line, fault));
+    }
+
+    fn keep(&mut self, all: ToKeep) -> bool {
+        let kept = self.outside.keep(all);
+        self.note(Entry::Keeps(&all, kept));
+        kept
     }
 }

@@ -1,12 +1,12 @@
 //! What a record says that came to a node, and whether the node does what it says.
 
-ghost use Rattle.std.specs.Prelude.{◌≡◌, ◌≤◌};
+ghost use Rattle.std.specs.Prelude.{◌≡◌};
 
 use crate::entry::{Entry, entry_line};
 use crate::record_lines::RecordLines;
 use node_drive::{
     Arrived, BrokenOff, Fault, Layout, Lines, Network, NextDatagram, NextLine, NodeId, Origin,
-    Outside, ThrownAway, decimal, hexadecimal_or_none, node_named,
+    Outside, ThrownAway, ToKeep, decimal, hexadecimal_or_none, node_named,
 };
 use std::alloc::{AllocError, Global};
 
@@ -211,5 +211,13 @@ impl<'a> Outside for Replayed<'a> {
 
     fn complain(&mut self, line: u64, fault: Fault) {
         self.does(Entry::Complains(line, fault));
+    }
+
+    fn keep(&mut self, all: ToKeep) -> bool {
+        if self.is_next(Entry::Keeps(&all, false)) {
+            return false;
+        }
+        self.does(Entry::Keeps(&all, true));
+        true
     }
 }

@@ -17,7 +17,7 @@ abbrev forms : List Row
 forms =
     (codes "at", form.Reads) ∷ (codes "from", form.Comes) ∷ (codes "sends", form.Sends) ∷ (codes "throws", form.ThrowsAway)
     ∷ (codes "listens", form.Alone) ∷ (codes "closed", form.Alone) ∷ (codes "fails", form.Fails) ∷ (codes "hears", form.Followed)
-    ∷ (codes "writes", form.Followed) ∷ (codes "breaks", form.BreaksOff) ∷ (codes "complains", form.Complains) ∷ []
+    ∷ (codes "writes", form.Followed) ∷ (codes "breaks", form.BreaksOff) ∷ (codes "complains", form.Complains) ∷ (codes "keeps", form.Followed) ∷ []
 
 abbrev form_in : List ℕ → List Row → Option Form
 form_in first [] = None

@@ -7,7 +7,8 @@
 --     throws away 4096              the same, where more may wait
 --     sends IXL1 3200..             a datagram was sent to a node
 --
--- The other lines tell of none: `fails to receive`, `listens`, `closed`, `hears ..`, `writes ..`, `breaks off ..` and `complains N N`.
+-- The other lines tell of none: `fails to receive`, `listens`, `closed`, `hears ..`, `writes ..`, `breaks off ..`, `complains N N`,
+-- `keeps ..` and `fails to keep ..`.
 use Rattle.std.specs.Prelude.{ℕ, if◌then◌else◌, ◌&&◌, List, [], ◌∷◌, codes, Option, Some, None, Result, Ok, Err}
 use Rattle.std.specs.Str.{bytes_eq}
 use Rattle.control_table.specs.layout.Entries.{Site}
@@ -97,6 +98,7 @@ throws_away more = Err Words
 
 abbrev pub fails : List (List ℕ) → Result Line Fault
 fails (word ∷ next ∷ []) = if bytes_eq word (codes "to") && bytes_eq next (codes "receive") then Ok Other else Err Words
+fails (word ∷ next ∷ text ∷ more) = if bytes_eq word (codes "to") && bytes_eq next (codes "keep") then Ok Other else Err Words
 fails more = Err Words
 
 -- nothing stands after
@@ -133,6 +135,7 @@ other first rest =
     else if bytes_eq first (codes "writes") then followed rest
     else if bytes_eq first (codes "breaks") then breaks_off rest
     else if bytes_eq first (codes "complains") then complains rest
+    else if bytes_eq first (codes "keeps") then followed rest
     else Err Words
 
 -- what words tell, or their first fault

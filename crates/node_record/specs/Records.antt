@@ -1,5 +1,6 @@
--- A node's record: its first line, as `node S1 first 7 for 60000`, and the lines after it.
-use Rattle.std.specs.Prelude.{ℕ, ◌^◌, ◌==◌, ◌&&◌, nat_lt, if◌then◌else◌, Bool, List, [], ◌∷◌, codes, Option, Some, None, Result, Ok, Err}
+-- A node's record: its first line, as `node S1 first 7 for 60000` or `node IXL1 first 7 keeps closings releases 2 opens 1`, and the lines
+-- after it.
+use Rattle.std.specs.Prelude.{ℕ, ◌^◌, ◌==◌, ◌&&◌, ◌||◌, nat_lt, if◌then◌else◌, Bool, List, [], ◌∷◌, codes, Option, Some, None, Result, Ok, Err}
 use Rattle.std.specs.List.{enumerate_from, slice_split}
 use Rattle.std.specs.Str.{bytes_eq}
 use Rattle.control_table.specs.layout.Entries.{Site}
@@ -26,11 +27,32 @@ whole_lines text = but_last (slice_split (λ b. b == 10) text)
 
 -- ---- the first one
 
--- for how many milliseconds the node was to run, if that is told
+-- what the process of an interlocking kept of it in a file: its closings, or its locks, too
+abbrev pub is_kept : List ℕ → List ℕ → Bool
+is_kept word what = bytes_eq word (codes "keeps") && (bytes_eq what (codes "closings") || bytes_eq what (codes "locks"))
+
+-- and how many auxiliary commands were counted before
+abbrev pub are_counts : List ℕ → List ℕ → Bool
+are_counts releases opens = bytes_eq releases (codes "releases") && bytes_eq opens (codes "opens")
+
+-- for how many milliseconds the node was to run, where these words tell what it kept
+abbrev pub time_if_kept : Option ℕ → List ℕ → List (List ℕ) → Result (Option ℕ) Fault
+time_if_kept time keeps (what ∷ releases ∷ released ∷ opens ∷ opened ∷ []) =
+    if is_kept keeps what && are_counts releases opens then (decimal released >>= λ more. decimal opened >>= λ others. Ok time) else Err Words
+time_if_kept time keeps other = Err Words
+
+abbrev pub time_before : Option ℕ → List (List ℕ) → Result (Option ℕ) Fault
+time_before time [] = Ok time
+time_before time (keeps ∷ other) = time_if_kept time keeps other
+
+abbrev pub time_in : List (List ℕ) → Result (Option ℕ) Fault
+time_in [] = Err Words
+time_in (number ∷ other) = decimal number >>= λ time. time_before (Some time) other
+
+-- the same, if it is told
 abbrev pub time_said : List (List ℕ) → Result (Option ℕ) Fault
 time_said [] = Ok None
-time_said (word ∷ number ∷ []) = if bytes_eq word (codes "for") then (decimal number >>= λ time. Ok (Some time)) else Err Words
-time_said other = Err Words
+time_said (word ∷ other) = if bytes_eq word (codes "for") then time_in other else time_if_kept None word other
 
 -- the number of the node's first PDU
 abbrev pub first_said : List ℕ → Result ℕ Fault

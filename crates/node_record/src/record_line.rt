@@ -63,6 +63,7 @@ const FORMS: &[(&str, Form)] = &[
     ("writes", Form::Followed),
     ("breaks", Form::BreaksOff),
     ("complains", Form::Complains),
+    ("keeps", Form::Followed),
 ];
 
 /// What a line of a record tells, or the first fault of its words.
@@ -96,6 +97,7 @@ fn other(form: Form, mut words: Words<'_>) -> Result<RecordLine, Fault>
         },
         Form::Fails => match (word, next, words.next()) {
             (Some("to"), Some("receive"), None) => Ok(RecordLine::Other),
+            (Some("to"), Some("keep"), Some(_)) => Ok(RecordLine::Other),
             _ => Err(Fault::Words),
         },
         Form::Alone => match word {

@@ -12,6 +12,8 @@ use Rattle.node_kinds.specs.node_drive.Rounds.{Coming, CourseState, all_come}
 use Rattle.node_kinds.specs.node_drive.Seen.{nothing_seen}
 use Rattle.node_kinds.specs.Interlockings.{interlocking_kind}
 use Rattle.node_kinds.specs.Openings.{Equipment, Opening, opening_kind, rest_order, untold}
+use Rattle.node_kinds.specs.declared.keeping.Keeping.{Keeping}
+use Rattle.node_kinds.specs.simulator_spec.ixl_spec.closings.declared.auxiliary.AuxiliaryCounts.{AuxiliaryCounts}
 use Rattle.node_kinds.specs.Processes.{Controls, waited, lived, ControlsCut, waiting, opened, living, unmade, cut, Lives, Opens, ReadsAt, StationRuns, StationCut, not_made, cut_off, interlocking_made, left_of, standing}
 use Rattle.node_safety.specs.Records.{Records, WasCalled, WasHandedOut, calls_in, made_before, made_in, station_before}
 use Rattle.node_safety.proofs.Calls.{calls_then}
@@ -78,23 +80,23 @@ module _ {State Input Contacts : Type 0} (kind : Kind State Input) (site : Site)
 
 -- ---- the interlocking
 
-module _ (in_time : AllInTime interlocking_kind) (site : Site) (first for_ms begins : ℕ) (old new : Told) where
-  sends_of : (ended : Bool) (table : Table) (read : Told) (now : ℕ) (comings : List (ℕ × Coming)) (called : WasCalled ended read new (all_come interlocking_kind comings (standing (interlocking_made site first table now) first_course)).0)
-      → SendsBy (WasHandedOut interlocking_kind (came interlocking_kind comings (standing (interlocking_made site first table now) first_course)) (interlocking_made site first table now)) nothing_seen
-      (Reads now ∷ calls_in ended read new (all_come interlocking_kind comings (standing (interlocking_made site first table now) first_course)).0 called)
-  sends_of ended table read now comings called = record_sends interlocking_kind in_time comings (standing (interlocking_made site first table now) first_course) refl ended read new now [] called tt
+module _ (in_time : AllInTime interlocking_kind) (site : Site) (keeping : Keeping) (counts : AuxiliaryCounts) (first for_ms begins : ℕ) (old new : Told) where
+  sends_of : (ended : Bool) (table : Table) (read : Told) (now : ℕ) (comings : List (ℕ × Coming)) (called : WasCalled ended read new (all_come interlocking_kind comings (standing (interlocking_made site first keeping counts table now) first_course)).0)
+      → SendsBy (WasHandedOut interlocking_kind (came interlocking_kind comings (standing (interlocking_made site first keeping counts table now) first_course)) (interlocking_made site first keeping counts table now)) nothing_seen
+      (Reads now ∷ calls_in ended read new (all_come interlocking_kind comings (standing (interlocking_made site first keeping counts table now) first_course)).0 called)
+  sends_of ended table read now comings called = record_sends interlocking_kind in_time comings (standing (interlocking_made site first keeping counts table now) first_course) refl ended read new now [] called tt
 
-  pub station_recorded : (after : CourseState) (ran : StationRuns site first for_ms begins after old new) → Records interlocking_kind (interlocking_made site first) true (Some (ran.table, ran.lives.now)) old new
+  pub station_recorded : (after : CourseState) (ran : StationRuns site keeping counts first for_ms begins after old new) → Records interlocking_kind (interlocking_made site first keeping counts) true (Some (ran.table, ran.lives.now)) old new
   station_recorded after ran = (
-    record { first = standing (interlocking_made site first ran.table ran.lives.now) first_course; comings = in_rounds (ran.lives.ran.earlier ++ ran.lives.ran.last ∷ []) },
+    record { first = standing (interlocking_made site first keeping counts ran.table ran.lives.now) first_course; comings = in_rounds (ran.lives.ran.earlier ++ ran.lives.ran.last ∷ []) },
     record { first_is = refl; told = refl; earlier = []; read = ran.lives.read; reads = ran.lives.reads; called = ran.lives.ran.performs.called },
     sends_of true ran.table ran.lives.read ran.lives.now (in_rounds (ran.lives.ran.earlier ++ ran.lives.ran.last ∷ [])) ran.lives.ran.performs.called,
   )
 
-  pub station_recorded_before : (stopped : StationCut site first for_ms begins old new) → Records interlocking_kind (interlocking_made site first) false (station_before stopped) old new
+  pub station_recorded_before : (stopped : StationCut site keeping counts first for_ms begins old new) → Records interlocking_kind (interlocking_made site first keeping counts) false (station_before stopped) old new
   station_recorded_before (not_made reads) = tt
   station_recorded_before (cut_off {table = table} {now = now} {read = read} is_table reads stopped) = (
-    record { first = standing (interlocking_made site first table now) first_course; comings = in_rounds stopped.made ++ broken_in stopped.broken },
+    record { first = standing (interlocking_made site first keeping counts table now) first_course; comings = in_rounds stopped.made ++ broken_in stopped.broken },
     record { first_is = refl; told = refl; earlier = []; read = read; reads = reads; called = stopped.stops.cut },
     sends_of false table read now (in_rounds stopped.made ++ broken_in stopped.broken) stopped.stops.cut,
   )

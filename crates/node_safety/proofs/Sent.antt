@@ -41,13 +41,13 @@ module _ {State Input : Type 0} (kind : Kind State Input) where
   comes_first now RoundBegins at = tt
   comes_first now (Listened true) at = writes_first (kind.stands now at.state)
   comes_first now (Listened false) at = tt
-  comes_first now (Line text leaves) at = tt
+  comes_first now (Line text ends) at = tt
   comes_first now NoLine at = tt
   comes_first now LinesEnd at = tt
-  comes_first now (Datagram origin bytes thrown leaves) at = tt
+  comes_first now (Datagram origin bytes thrown ends) at = tt
   comes_first now NoDatagram at = tt
   comes_first now FailedDatagram at = tt
-  comes_first now (Tick leaves) at = tt
+  comes_first now (Tick ends) at = tt
 
   all_first : (comings : List (ℕ × Coming)) (at : Standing State) → ReadsFirst (all_come kind comings at).0
   all_first [] at = tt

@@ -14,7 +14,7 @@ use Rattle.node_kinds.specs.node_drive.replay_words.declared.fault.Fault.TheVari
 use Rattle.node_kinds.specs.node_drive.Calls.{Call, Complains, Reads, Writes}
 use Rattle.node_kinds.specs.node_drive.Kinds.{Kind, Meaning, InForce, Comes, Faulty}
 use Rattle.node_kinds.specs.node_drive.Lives.{came, inputs_of, inputs_told}
-use Rattle.node_kinds.specs.node_drive.Rounds.{Coming, RoundBegins, Listened, Line, NoLine, LinesEnd, Datagram, NoDatagram, FailedDatagram, Tick, CourseState, Done, Standing, all_come, asked, comes, counted, having_called, heard_one, is_taken, later, line, not_heard, read_for, sent, step, steps, then_released, told}
+use Rattle.node_kinds.specs.node_drive.Rounds.{Coming, RoundBegins, Listened, Line, NoLine, LinesEnd, Datagram, NoDatagram, FailedDatagram, Tick, CourseState, Done, Ends, Standing, all_come, asked, comes, counted, having_called, heard_one, is_taken, later, later_kept, line, next_kept, not_heard, read_for, sent, step, steps, then_released, told}
 use Rattle.node_kinds.specs.node_drive.Seen.{is_heard}
 use Rattle.node_kinds.specs.node_drive.Waiting.{Waiting, leaving, none_waits}
 use Rattle.node_kinds.specs.node_drive.declared.outside.ThrownAway.{ThrownAway}
@@ -50,13 +50,13 @@ none_released leaves done =
 none_asked : (now : ℕ) (coming : Coming) → texts_in (asked now coming) ≡ []
 none_asked now RoundBegins = refl
 none_asked now (Listened began) = refl
-none_asked now (Line text leaves) = refl
+none_asked now (Line text ends) = refl
 none_asked now NoLine = refl
 none_asked now LinesEnd = refl
-none_asked now (Datagram origin bytes thrown leaves) = refl
+none_asked now (Datagram origin bytes thrown ends) = refl
 none_asked now NoDatagram = refl
 none_asked now FailedDatagram = refl
-none_asked now (Tick leaves) = refl
+none_asked now (Tick ends) = refl
 
 -- ---- a kind of controller, which answers no line
 
@@ -80,18 +80,20 @@ module _ {Object Contacts : Type 0} (does : Behaviour Object) (order : Object �
   abbrev Writes_ : List Call → At → List (ℕ × Input) → At → Type 0
   Writes_ calls after inputs at = (others : List (ℕ × Input)) → texts_in calls ++ lines others after ≡ lines (inputs ++ others) at
 
-  of_step : (now : ℕ) (input : Input) (at : At) → Writes_ (step kind now input at).0 (step kind now input at).1 ((now, input) ∷ []) at
-  of_step now input at others = refl
+  -- a controller asks for nothing to be kept
+  of_step : (now : ℕ) (kept : Bool) (input : Input) (at : At) → Writes_ (step kind now kept input at).0 (step kind now kept input at).1 ((now, input) ∷ []) at
+  of_step now true input at others = refl
+  of_step now false input at others = refl
 
-  of_steps : (now : ℕ) (inputs : List Input) (at : At) → Writes_ (steps kind now inputs at).0 (steps kind now inputs at).1 (map (λ input. (now, input)) inputs) at
-  of_steps now [] at others = refl
-  of_steps now (input ∷ inputs) at others =
-      let first = step kind now input at in
-      let more = steps kind now inputs first.1 in
+  of_steps : (now : ℕ) (kept : List Bool) (inputs : List Input) (at : At) → Writes_ (steps kind now kept inputs at).0 (steps kind now kept inputs at).1 (map (λ input. (now, input)) inputs) at
+  of_steps now kept [] at others = refl
+  of_steps now kept (input ∷ inputs) at others =
+      let first = step kind now (next_kept kept) input at in
+      let more = steps kind now (later_kept kept) inputs first.1 in
       ap (λ l. l ++ lines others more.1) (texts_then first.0 more.0)
       ∙ append_assoc (texts_in first.0) (texts_in more.0) (lines others more.1)
-      ∙ ap (λ l. texts_in first.0 ++ l) (of_steps now inputs first.1 others)
-      ∙ of_step now input at (map (λ input. (now, input)) inputs ++ others)
+      ∙ ap (λ l. texts_in first.0 ++ l) (of_steps now (later_kept kept) inputs first.1 others)
+      ∙ of_step now (next_kept kept) input at (map (λ input. (now, input)) inputs ++ others)
 
   of_force : (number : ℕ) (at : At) (known : Bool) (others : List (ℕ × Input))
       → let done : Done CourseState = cond known ([], record at.course { in_force = later at.course.in_force number }) (Complains at.course.heard Number ∷ [], at.course)
@@ -99,41 +101,41 @@ module _ {Object Contacts : Type 0} (does : Behaviour Object) (order : Object �
   of_force number at true others = refl
   of_force number at false others = refl
 
-  of_told : (now : ℕ) (means : Meaning Input) (at : At) → IsSilent means → Writes_ (told kind now means at).0 (told kind now means at).1 (inputs_told now means) at
-  of_told now (InForce number) at silent_ others = of_force number at (nat_le number at.course.written) others
-  of_told now (Comes answer inputs) at none others =
-      ap (λ (a : List (List ℕ)). texts_in (map Writes a ++ (steps kind now inputs at).0) ++ lines others (steps kind now inputs at).1) none ∙ of_steps now inputs at others
-  of_told now (Faulty fault) at silent_ others = refl
+  of_told : (now : ℕ) (kept : List Bool) (means : Meaning Input) (at : At) → IsSilent means → Writes_ (told kind now kept means at).0 (told kind now kept means at).1 (inputs_told now means) at
+  of_told now kept (InForce number) at silent_ others = of_force number at (nat_le number at.course.written) others
+  of_told now kept (Comes answer inputs) at none others =
+      ap (λ (a : List (List ℕ)). texts_in (map Writes a ++ (steps kind now kept inputs at).0) ++ lines others (steps kind now kept inputs at).1) none ∙ of_steps now kept inputs at others
+  of_told now kept (Faulty fault) at silent_ others = refl
 
   -- and what leaves after it
   of_released : (leaves : ℕ) (done : Done At) (inputs : List (ℕ × Input)) (at : At) → Writes_ done.0 done.1 inputs at → Writes_ (then_released leaves done).0 (then_released leaves done).1 inputs at
   of_released leaves done inputs at writes others = ap (λ l. l ++ lines others done.1) (none_released leaves done) ∙ writes others
 
-  of_datagram : (now leaves : ℕ) (bytes : List ℕ) (thrown : ThrownAway) (at : At) (heard taken : Bool)
-      → let heard_is : Done At = cond taken (step kind now (kind.datagram bytes) at) ([], counted at)
-      in let done : Done At = cond heard (then_released leaves heard_is) (not_heard thrown at)
+  of_datagram : (now : ℕ) (ends : Ends) (bytes : List ℕ) (thrown : ThrownAway) (at : At) (heard taken : Bool)
+      → let heard_is : Done At = cond taken (step kind now (next_kept ends.kept) (kind.datagram bytes) at) ([], counted at)
+      in let done : Done At = cond heard (then_released ends.leaves heard_is) (not_heard thrown at)
       in Writes_ done.0 done.1 (cond (heard && taken) ((now, kind.datagram bytes) ∷ []) []) at
-  of_datagram now leaves bytes thrown at true true others = of_released leaves (step kind now (kind.datagram bytes) at) ((now, kind.datagram bytes) ∷ []) at (of_step now (kind.datagram bytes) at) others
-  of_datagram now leaves bytes thrown at true false others = of_released leaves ([], counted at) [] at (λ more. refl) others
-  of_datagram now leaves bytes thrown at false taken others = refl
+  of_datagram now ends bytes thrown at true true others = of_released ends.leaves (step kind now (next_kept ends.kept) (kind.datagram bytes) at) ((now, kind.datagram bytes) ∷ []) at (of_step now (next_kept ends.kept) (kind.datagram bytes) at) others
+  of_datagram now ends bytes thrown at true false others = of_released ends.leaves ([], counted at) [] at (λ more. refl) others
+  of_datagram now ends bytes thrown at false taken others = refl
 
   of_coming : (now : ℕ) (coming : Coming) (at : At) → Writes_ (comes kind now coming at).0 (comes kind now coming at).1 (inputs_of kind now coming at) at
   of_coming now RoundBegins at others = refl
   of_coming now (Listened true) at others = refl
   of_coming now (Listened false) at others = refl
-  of_coming now (Line text leaves) at others =
-      let here = having_called (asked now (Line text leaves)) at in
+  of_coming now (Line text ends) at others =
+      let here = having_called (asked now (Line text ends)) at in
       let means = kind.meaning now text at.state in
-      of_released leaves (line kind now text here) (inputs_told now means) here (of_told now means (heard_one here) (silent at.state.site text at.state.contacts)) others
+      of_released ends.leaves (line kind now ends.kept text here) (inputs_told now means) here (of_told now ends.kept means (heard_one here) (silent at.state.site text at.state.contacts)) others
   of_coming now NoLine at others = refl
   of_coming now LinesEnd at others = refl
-  of_coming now (Datagram origin bytes thrown leaves) at others =
-      of_datagram now leaves bytes thrown (having_called (asked now (Datagram origin bytes thrown leaves)) at) (is_heard now at.course.seen) (is_taken kind origin.from) others
+  of_coming now (Datagram origin bytes thrown ends) at others =
+      of_datagram now ends bytes thrown (having_called (asked now (Datagram origin bytes thrown ends)) at) (is_heard now at.course.seen) (is_taken kind origin.from) others
   of_coming now NoDatagram at others = refl
   of_coming now FailedDatagram at others = refl
-  of_coming now (Tick leaves) at others =
-      let here = having_called (asked now (Tick leaves)) at in
-      of_released leaves (step kind now kind.tick here) ((now, kind.tick) ∷ []) here (of_step now kind.tick here) others
+  of_coming now (Tick ends) at others =
+      let here = having_called (asked now (Tick ends)) at in
+      of_released ends.leaves (step kind now (next_kept ends.kept) kind.tick here) ((now, kind.tick) ∷ []) here (of_step now (next_kept ends.kept) kind.tick here) others
 
   pub writes_its_orders : (comings : List (ℕ × Coming)) (at : At) → texts_in (all_come kind comings at).0 ≡ lines (came kind comings at) at
   writes_its_orders [] at = refl

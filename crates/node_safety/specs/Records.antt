@@ -1,6 +1,7 @@
 -- What the record of a process says of its node: whether and how it was made, and all that came to it.
 use Rattle.std.specs.Prelude.{◌≡◌, ◌<◌, ◌+◌, ℕ, Bool, true, false, List, [], ◌∷◌, ◌++◌, Option, Some, None}
 use Rattle.node_kinds.specs.simulator_spec.ixl_spec.Table.{Table}
+use Rattle.node_kinds.specs.simulator_spec.ixl_spec.closings.declared.auxiliary.AuxiliaryCounts.{AuxiliaryCounts}
 use Rattle.node_kinds.specs.simulator_spec.layout.Entries.{Site}
 use Rattle.node_kinds.specs.node_drive.Ages.{IsIn, SendsBy, handed_by}
 use Rattle.node_kinds.specs.node_drive.Calls.{Call, Calls, CallsCut, Reads, Told, Writes}
@@ -12,6 +13,7 @@ use Rattle.node_kinds.specs.node_drive.Waiting.{Addressed}
 use Rattle.node_kinds.specs.node_drive.node_lines.declared.order.Order.{Order}
 use Rattle.node_kinds.specs.Openings.{Equipment, Opening}
 use Rattle.node_kinds.specs.Processes.{Controls, waited, lived, ControlsCut, waiting, opened, living, unmade, cut, StationCut, not_made, cut_off}
+use Rattle.node_kinds.specs.declared.keeping.Keeping.{Keeping}
 use Rattle.node_safety.specs.Processes.{Process}
 
 -- what was called, where a process ran to its end (true), and where it was cut off
@@ -44,7 +46,7 @@ module _ {State Input Contacts : Type 0} {kind : Kind State Input} {site : Site}
   made_before (living {contacts = contacts} opens all (cut {now = now} reads stopped)) = Some (contacts, now)
 
 -- an interlocking is made of its table
-abbrev pub station_before : {site : Site} {first for_ms begins : ℕ} {old new : Told} → StationCut site first for_ms begins old new → Option (Table × ℕ)
+abbrev pub station_before : {site : Site} {keeping : Keeping} {counts : AuxiliaryCounts} {first for_ms begins : ℕ} {old new : Told} → StationCut site keeping counts first for_ms begins old new → Option (Table × ℕ)
 station_before (not_made reads) = None
 station_before (cut_off {table = table} {now = now} is_table reads stopped) = Some (table, now)
 

@@ -23,6 +23,8 @@ use Rattle.node_kinds.specs.node_drive.node_lines.declared.order.Order.{Order}
 use Rattle.node_kinds.specs.Controllers.{Controller, detector_kind, drive_order, lamp_order, point_kind, signal_kind}
 use Rattle.node_kinds.specs.Interlockings.{interlocking_kind}
 use Rattle.node_kinds.specs.Processes.{detector_made, interlocking_made, point_made, signal_made}
+use Rattle.node_kinds.specs.declared.keeping.Keeping.{Keeping}
+use Rattle.node_kinds.specs.simulator_spec.ixl_spec.closings.declared.auxiliary.AuxiliaryCounts.{AuxiliaryCounts}
 use Rattle.embedded_host.specs.Calls as loop
 use Rattle.embedded_host.specs.Embedded.{started}
 use Rattle.embedded_host.specs.Inputs.{inputs_by}
@@ -108,7 +110,8 @@ pub data IsController {Object Contacts Sensed : Type 0} (kind : Kind (Controller
   by_calls : IsOfCalls does node.host life.begins.clock life.came → IsController kind does node life
 
 pub data IsInterlocking (site : Site) (table : Table) (life : Life (Unit {0}) ixl.Input) : Type 0 where
-  ixl_by_record : IsNode interlocking_kind (λ (input : ixl.Input). false) (interlocking_made site life.begins.first table life.begins.clock) life → IsInterlocking site table life
+  -- whatever its process keeps of it in a file, and was counted before
+  ixl_by_record : {keeping : Keeping} {counts : AuxiliaryCounts} → IsNode interlocking_kind (λ (input : ixl.Input). false) (interlocking_made site life.begins.first keeping counts table life.begins.clock) life → IsInterlocking site table life
   ixl_by_calls : IsOfIxlCalls site table life.begins.first life.begins.clock life.came → IsInterlocking site table life
 
 -- the last order of a controller

@@ -94,5 +94,6 @@ commands =
     ∷ record (command (codes "decode") (may Word (codes "hex") ∷ may Word (codes "layout") ∷ may File (codes "FILE") ∷ may File (codes "SECOND") ∷ node ∷ [])) { asks = asks_to_decode }
     ∷ command (codes "capture") (layout ∷ second ∷ must File (codes "OUT") ∷ may Word (codes "addresses") ∷ node ∷ may Switch (codes "force") ∷ [])
     ∷ command (codes "node") (layout ∷ must File (codes "NAME") ∷ must Word (codes "addresses") ∷ may Word (codes "operator") ∷ may Word (codes "record") ∷ record_size
-    ∷ may (Number 0 9000000000000) (codes "clock") ∷ may (Number 0 80) (codes "hold") ∷ may time (codes "for") ∷ stop_file ∷ [])
+    ∷ may Word (codes "closings") ∷ may Switch (codes "keep-locks") ∷ may (Number 0 9000000000000) (codes "clock") ∷ may (Number 0 80) (codes "hold")
+    ∷ may time (codes "for") ∷ stop_file ∷ [])
     ∷ []

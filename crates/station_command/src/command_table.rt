@@ -90,6 +90,11 @@ pub(crate) const ADDRESSES: &str = "addresses";
 
 pub(crate) const OPERATOR: &str = "operator";
 
+/// The file of what is closed, and the switch by which it has what is locked too.
+pub(crate) const CLOSINGS: &str = "closings";
+
+pub(crate) const KEEP_LOCKS: &str = "keep-locks";
+
 pub(crate) const CLOCK: &str = "clock";
 
 pub(crate) const HOLD: &str = "hold";
@@ -320,8 +325,8 @@ pub(crate) const COMMANDS: &[Entry] = &[
             Argument(FORCE, Kind::Switch, OPTIONAL, Help::Force),
         ],
     },
-    // `node FILE NAME --addresses ADDRESSES [--operator ADDRESS] [--record R] [--record-size N] [--clock MS] [--hold MS]
-    // [--for MS] [--stop-file F]`
+    // `node FILE NAME --addresses ADDRESSES [--operator ADDRESS] [--record R] [--record-size N] [--closings FILE [--keep-locks]]
+    // [--clock MS] [--hold MS] [--for MS] [--stop-file F]`
     Entry {
         word: NODE,
         help: CommandHelp::Node,
@@ -337,6 +342,8 @@ pub(crate) const COMMANDS: &[Entry] = &[
                 OPTIONAL,
                 Help::RecordSize,
             ),
+            Argument(CLOSINGS, Kind::Word("FILE"), OPTIONAL, Help::Closings),
+            Argument(KEEP_LOCKS, Kind::Switch, OPTIONAL, Help::KeepLocks),
             Argument(
                 CLOCK,
                 Kind::Number("MS", 0, LATEST_CLOCK),

@@ -97,6 +97,8 @@ pub(crate) enum Help {
     Addresses,
     Operator,
     RecordOfNode,
+    Closings,
+    KeepLocks,
     Clock,
     Hold,
     ForOfNode,
@@ -139,6 +141,8 @@ impl Help {
             Help::Addresses => ADDRESSES,
             Help::Operator => OPERATOR,
             Help::RecordOfNode => RECORD_OF_NODE,
+            Help::Closings => CLOSINGS,
+            Help::KeepLocks => KEEP_LOCKS,
             Help::Clock => CLOCK,
             Help::Hold => HOLD,
             Help::ForOfNode => FOR_OF_NODE,
@@ -431,6 +435,11 @@ const OPERATOR: &str =
 
 const RECORD_OF_NODE: &str = "The file to which what came and what was done is written";
 
+const CLOSINGS: &str = "The file in which what is closed outlives the interlocking's process";
+
+const KEEP_LOCKS: &str =
+    "What set routes lock is kept in the file too, and closed in the next process";
+
 const CLOCK: &str =
     "Where the node's clock begins, from 0 to 9000000000000 milliseconds, else at 0";
 
@@ -485,8 +494,17 @@ It answers `accepted`, or `refused N` with the cause, and tells what it knows wh
   signal S ASPECT R, signal S stop -      what a signal may show, and the route into which it leads
   indicates S ASPECT                      what a signal is reported to show
   route R set|free                        whether a route is set
+  route R released                        it is set, and was released: it is free 120 s after that
+  closed X, open X                        whether something is closed; a point with its side
+  counted release N, counted open N       how many of these were accepted
+  closings lost: CAUSE                    the file of closings says less, so all track is closed
+  closings not kept                       that file lacks what was closed or opened last
   holding                                 it was made anew, and takes no command but `close` and `open` yet
   waiting for resume                      it takes no command but these and `resume`
+
+With --closings what is closed is in FILE before `accepted` is told, and the next process closes it
+before it hears anything. It answers `not kept X` where FILE can't be written. Where FILE can't be read
+whole, or is of another layout, every section and every point is closed, and `closings lost` tells why.
 
 With --stop-file it ends where that file is there, as it does after --for: what it drives is told to rest.
 With --record-size its record stands in parts, as for run.

@@ -9,6 +9,8 @@ use Rattle.node_kinds.specs.node_drive.Kinds.{Kind}
 use Rattle.node_kinds.specs.node_drive.Rounds.{CourseState, Standing}
 use Rattle.node_kinds.specs.Interlockings.{InterlockingNode, interlocking_kind}
 use Rattle.node_kinds.specs.Openings.{Equipment, Opening}
+use Rattle.node_kinds.specs.declared.keeping.Keeping.{Keeping}
+use Rattle.node_kinds.specs.simulator_spec.ixl_spec.closings.declared.auxiliary.AuxiliaryCounts.{AuxiliaryCounts}
 use Rattle.node_kinds.specs.ixl_table.Table.{IsTableOf}
 use Rattle.node_kinds.specs.node_drive.node_lines.declared.order.Order.{Order}
 use Rattle.node_kinds.specs.simulator_spec.Nodes.{Node}
@@ -51,27 +53,27 @@ module _ {State Input : Type 0} (kind : Kind State Input) (made : ℕ → State)
 
 -- ---- the interlocking
 
-module _ (site : Site) (first for_ms begins now : ℕ) (before : CourseState) (old read new : Told) (node : InterlockingNode)
-    (site_is : node.site ≡ site) (is_table : IsTableOf node.site node.table) (node_is : node ≡ interlocking_made node.site first node.table now)
+module _ (site : Site) (keeping : Keeping) (counts : AuxiliaryCounts) (first for_ms begins now : ℕ) (before : CourseState) (old read new : Told) (node : InterlockingNode)
+    (site_is : node.site ≡ site) (is_table : IsTableOf node.site node.table) (node_is : node ≡ interlocking_made node.site first keeping counts node.table now)
     (before_is : before ≡ first_course) (reads : ReadsAt now old read) where
-  made_is : node ≡ interlocking_made site first node.table now
-  made_is = node_is ∙ ap (λ s. interlocking_made s first node.table now) site_is
+  made_is : node ≡ interlocking_made site first keeping counts node.table now
+  made_is = node_is ∙ ap (λ s. interlocking_made s first keeping counts node.table now) site_is
 
   table_is : IsTableOf site node.table
   table_is = subst (λ s. IsTableOf s node.table) site_is is_table
 
   pub station_runs : (after : CourseState) → (ticks : ℕ) × (state : InterlockingNode) × Ran interlocking_kind (left_of for_ms begins now) now ticks (standing node before) (standing state after) read new
-      → StationRuns site first for_ms begins after old new
+      → StationRuns site keeping counts first for_ms begins after old new
   station_runs after ran = record {
     table = node.table;
     is_table = table_is;
-    lives = subst (λ b. Lives interlocking_kind (interlocking_made site first node.table) for_ms begins b after old new) before_is
-        (it_lives interlocking_kind (interlocking_made site first node.table) for_ms begins now before node old read new reads made_is after ran);
+    lives = subst (λ b. Lives interlocking_kind (interlocking_made site first keeping counts node.table) for_ms begins b after old new) before_is
+        (it_lives interlocking_kind (interlocking_made site first keeping counts node.table) for_ms begins now before node old read new reads made_is after ran);
   }
 
-  pub station_is_cut : CutOff interlocking_kind (left_of for_ms begins now) now (standing node before) read new → StationCut site first for_ms begins old new
+  pub station_is_cut : CutOff interlocking_kind (left_of for_ms begins now) now (standing node before) read new → StationCut site keeping counts first for_ms begins old new
   station_is_cut stopped = cut_off table_is reads
-      (subst (λ b. CutOff interlocking_kind (left_of for_ms begins now) now (standing (interlocking_made site first node.table now) b) read new) before_is
+      (subst (λ b. CutOff interlocking_kind (left_of for_ms begins now) now (standing (interlocking_made site first keeping counts node.table now) b) read new) before_is
       (subst (λ n. CutOff interlocking_kind (left_of for_ms begins now) now (standing n before) read new) made_is stopped))
 
 -- ---- a controller
@@ -125,18 +127,18 @@ all_called whole called = record {
 
 -- ---- the end of a process
 
-module _ (site : Site) (node : Option Node) (first for_ms begins : ℕ) (course : CourseState) (old begun ended : Told) (reads : ReadsAt begins old begun) where
-  pub ends_at_once : NodeCut site first for_ms begins begun ended node → ProcessCut site node first for_ms old ended
+module _ (site : Site) (node : Option Node) (keeping : Keeping) (counts : AuxiliaryCounts) (first for_ms begins : ℕ) (course : CourseState) (old begun ended : Told) (reads : ReadsAt begins old begun) where
+  pub ends_at_once : NodeCut site keeping counts first for_ms begins begun ended node → ProcessCut site node keeping counts first for_ms old ended
   ends_at_once cut_ = in_life reads cut_ (at_once (none_called ended))
 
   pub ends_resting : {A E : Type 0} (ran : Result A E) (new : Told) (rest : Option Order) → rest ≡ rest_of node → (ends : ℕ) → CallsCut ended new (Reads ends ∷ last_line ends rest course)
-      → OnOk ran (NodeRuns site first for_ms begins course begun ended node) → OnErr ran (NodeCut site first for_ms begins begun ended node) → ProcessCut site node first for_ms old new
+      → OnOk ran (NodeRuns site keeping counts first for_ms begins course begun ended node) → OnErr ran (NodeCut site keeping counts first for_ms begins begun ended node) → ProcessCut site node keeping counts first for_ms old new
   ends_resting (Ok x) new rest rest_is ends called runs cut_ =
       at_end course reads runs (resting course (subst (λ r. CallsCut ended new (Reads ends ∷ last_line ends r course)) rest_is called))
   ends_resting (Err e) new rest rest_is ends called runs cut_ =
       in_life reads cut_ (resting course (subst (λ r. CallsCut ended new (Reads ends ∷ last_line ends r course)) rest_is called))
 
-  pub ends_rested : (new : Told) (rest : Option Order) → rest ≡ rest_of node → (ends : ℕ) → Calls ended new (Reads ends ∷ last_line ends rest course) → NodeCut site first for_ms begins begun ended node
-      → ProcessCut site node first for_ms old new
+  pub ends_rested : (new : Told) (rest : Option Order) → rest ≡ rest_of node → (ends : ℕ) → Calls ended new (Reads ends ∷ last_line ends rest course) → NodeCut site keeping counts first for_ms begins begun ended node
+      → ProcessCut site node keeping counts first for_ms old new
   ends_rested new rest rest_is ends called cut_ =
       in_life reads cut_ (resting course (subst (λ r. CallsCut ended new (Reads ends ∷ last_line ends r course)) rest_is (all_called (Reads ends ∷ last_line ends rest course) called)))

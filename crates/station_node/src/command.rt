@@ -1,28 +1,31 @@
 //! What `station node` does.
 
-ghost use Rattle.std.specs.Prelude.{◌≤◌, IfOk, length};
-ghost use Rattle.node_kinds.specs.node_drive.replay_lines.Names.{node_names};
+ghost use Rattle.std.specs.Prelude.{◌≡◌, ◌≤◌, IfOk, OnOk, string_bytes};
+ghost use Rattle.station_node.specs.Closings.{CountsOn, keeps_words};
 
 use crate::digest::layout_digest;
 use crate::failure::NodeFailure;
 use crate::numbered::Numbered;
-use crate::process::run_node;
+use crate::process::{NodeRun, run_node};
 use crate::stoppable::Stoppable;
+use crate::with_file::WithFile;
+use node_kinds::node_drive::node_lines::AuxiliaryCounts;
 use node_kinds::node_drive::{NodeFault, Outside};
-use node_kinds::node_named;
 use node_kinds::simulator_spec::{Checked, Layout, NodeId};
+use node_kinds::{Keeping, node_named};
 use node_network::{
     LONGEST_HOLD, Lines, Machine, NetworkWatch, NetworksSeen, NodeClock, NodeSocket, OpenFault,
     Recorded,
 };
 use run_files::{RecordFile, RunFiles, StopFile, record_file};
 use station_check::{Networks, read_networks, table_of, tell};
-use std::alloc::Global;
+use std::alloc::{AllocError, Global};
 use std::fs::Files;
 use std::io::{self, Eprint, Read, Write};
 use std::net::{Net, SocketAddr};
 use std::random::RandomSource;
 use std::time::Clock as Timer;
+use whole_file::DiskPlace;
 
 /// What `station node` is asked.
 #[derive(Clone, Copy)]
@@ -37,6 +40,10 @@ pub struct NodeOptions<'a> {
     pub operator: Option<&'a str>,
     /// The path of the record, if there is to be one.
     pub record: Option<&'a str>,
+    /// The path of the file in which the closings of the interlocking are kept, if they are.
+    pub closings: Option<&'a str>,
+    /// Whether what set routes lock is kept there too.
+    pub keep_locks: bool,
     /// What is asked of the record's parts, and of the file that ends the process.
     pub files: RunFiles<'a>,
     /// For how many milliseconds a datagram that came ahead of its turn waits for those before it, 80 at most.
@@ -87,8 +94,29 @@ fn begin<
     complaints: E,
 ) -> Result<(), NodeFailure> {
     let own = own_of(rt, table.layout(), asked)?;
+    may_keep(asked, own.node)?;
     let lines = lines_of(rt, asked.operator, own.node, input, output)?;
     run_own(rt, asked, table, &own, lines, complaints)
+}
+
+/// Whether a process may keep what it is to keep.
+fn may_keep(asked: &NodeOptions<'_>, node: NodeId) -> Result<(), NodeFailure> {
+    if asked.closings.is_some() && node.0 != 0 {
+        return Err(NodeFailure::Closings);
+    }
+    if asked.keep_locks && asked.closings.is_none() {
+        return Err(NodeFailure::Locks);
+    }
+    Ok(())
+}
+
+/// What is kept of the interlocking.
+fn keeping_of(asked: &NodeOptions<'_>) -> Keeping {
+    match asked.closings {
+        None => Keeping::Nothing,
+        Some(_) if asked.keep_locks => Keeping::Locks,
+        Some(_) => Keeping::Closings,
+    }
 }
 
 /// What a process is of its own: which node it is, where all nodes are in each network, and the number of its first PDU.
@@ -189,7 +217,14 @@ fn start_clock<'a, R: Timer + Eprint + AllocGlobal>(
     Ok(clock)
 }
 
-/// Runs a node over what it has outside. That of the interlocking is counted, and told to an operator who asks for it.
+/// What a process has outside as it begins, and how many auxiliary commands were counted before.
+struct Begun<O> {
+    outside: O,
+    counts: AuxiliaryCounts,
+}
+
+/// Runs a node over what it has outside. What that of the interlocking has is counted, and told to an operator who asks for it; and
+/// what is closed is kept in a file, if that is asked for.
 fn run_on<R: Files + Eprint + AllocGlobal, O: Outside + Drop>(
     rt: &R,
     asked: &NodeOptions<'_>,
@@ -197,35 +232,66 @@ fn run_on<R: Files + Eprint + AllocGlobal, O: Outside + Drop>(
     own: &Own,
     outside: O,
 ) -> Result<(), NodeFailure> {
+    let counts = AuxiliaryCounts::none();
     if own.node.0 != 0 {
-        return run_over(rt, asked, table, own, outside);
+        return run_over(rt, asked, table, own, Begun { outside, counts });
     }
-    match Numbered::new(rt, outside) {
-        Ok(numbered) => run_over(rt, asked, table, own, numbered),
+    let Ok(outside) = Numbered::new(rt, outside) else {
+        return Err(NodeFailure::Ended(NodeFault::OutOfMemory));
+    };
+    let Some(path) = asked.closings else {
+        return run_over(rt, asked, table, own, Begun { outside, counts });
+    };
+    match with_file(rt, asked.layout, table.layout(), outside, path) {
+        Ok(begun) => run_over(rt, asked, table, own, begun),
         Err(_) => Err(NodeFailure::Ended(NodeFault::OutOfMemory)),
     }
 }
 
+/// What a process has outside, with the file of this path for a layout of this text. It counts on from what the file told.
+fn with_file<'a, R: Files + Eprint + AllocGlobal, O: Outside + Drop>(
+    rt: &'a R,
+    text: &str,
+    layout: &'a Layout,
+    outside: O,
+    path: &str,
+) -> Result<Begun<WithFile<'a, O, DiskPlace<'a, R>, R>>, AllocError>
+    ensures { IfOk result (λ begun. begun.counts ≡ begun.outside.takeover.found.counts) }
+{
+    let digest = layout_digest(rt.alloc(), text)?;
+    let place = DiskPlace::new(rt, path)?;
+    let outside = WithFile::begin(rt.alloc(), layout, digest.as_str(), outside, place, rt)?;
+    let counts = outside.counts();
+    Ok(Begun { outside, counts })
+}
+
 /// Runs a node over what it has outside, for so many milliseconds, or for ever, or until a file ends it, and records what comes to it and
-/// what it does, if that is asked for.
+/// what it does, if that is asked for. It counts auxiliary commands on from what was counted before.
 fn run_over<R: Files + Eprint + AllocGlobal, O: Outside + Drop>(
     rt: &R,
     asked: &NodeOptions<'_>,
     table: &Checked,
     own: &Own,
-    outside: O,
-) -> Result<(), NodeFailure> {
-    let recorder = recorder_for(rt, asked, own.first)?;
+    begun: Begun<O>,
+) -> Result<(), NodeFailure>
+    ensures { OnOk result (CountsOn table.now begun.counts) }
+{
+    let Begun { outside, counts } = begun;
+    let recorder = recorder_for(rt, asked, own.first, counts)?;
     let alloc = rt.alloc();
+    let Ok(copy) = table.copy(alloc) else {
+        return Err(NodeFailure::Ended(NodeFault::OutOfMemory));
+    };
     let stop = StopFile::new(rt, asked.files.stop_file);
     let stoppable = Stoppable::new(outside, StopFile::new(rt, asked.files.stop_file));
     let mut recorded = Recorded::new(alloc, table.layout(), stoppable, recorder, rt);
-    let for_ms = asked.for_ms.unwrap_or(u64::MAX);
-    let ran = match table.copy(alloc) {
-        Ok(copy) => run_node(alloc, copy, own.node, own.first, for_ms, &mut recorded),
-        Err(_) => Err(NodeFault::OutOfMemory),
+    let asked = NodeRun {
+        first: own.first,
+        for_ms: asked.for_ms.unwrap_or(u64::MAX),
+        keeping: keeping_of(asked),
+        counts,
     };
-    match ran {
+    match run_node(alloc, copy, own.node, asked, &mut recorded) {
         Ok(()) => Ok(()),
         Err(NodeFault::LinesEnded) if stop.is_there() => Ok(()),
         Err(fault) => Err(NodeFailure::Ended(fault)),
@@ -237,6 +303,7 @@ fn recorder_for<'a, R: Files + AllocGlobal>(
     rt: &'a R,
     asked: &NodeOptions<'_>,
     first: u32,
+    counts: AuxiliaryCounts,
 ) -> Result<Option<RecordFile<'a, R>>, NodeFailure> {
     let Some(path) = asked.record else {
         return Ok(None);
@@ -244,18 +311,47 @@ fn recorder_for<'a, R: Files + AllocGlobal>(
     let Ok(mut recorder) = record_file(rt, path, asked.files.record_size) else {
         return Err(NodeFailure::NoRecord);
     };
-    match write_head(asked, first, &mut recorder) {
+    let Ok(keeps) = keeps_text(rt.alloc(), keeping_of(asked), counts) else {
+        return Err(NodeFailure::NoRecord);
+    };
+    match write_head(asked, first, keeps.as_str(), &mut recorder) {
         Ok(()) => Ok(Some(recorder)),
         Err(_) => Err(NodeFailure::NoRecord),
     }
 }
 
+/// What the first line of a record says of what is kept, and of how many auxiliary commands were counted before: nothing where nothing
+/// is kept.
+fn keeps_text(
+    alloc: Global,
+    keeping: Keeping,
+    counts: AuxiliaryCounts,
+) -> Result<String, AllocError>
+    ensures { IfOk result (λ text. string_bytes text ≡ keeps_words keeping counts) }
+{
+    let AuxiliaryCounts { releases, opens } = counts;
+    match keeping {
+        Keeping::Nothing => String::from_str(alloc, ""),
+        Keeping::Closings => {
+            format!(in alloc; " keeps closings releases {releases} opens {opens}")
+        }
+        Keeping::Locks => format!(in alloc; " keeps locks releases {releases} opens {opens}"),
+    }
+}
+
 /// Writes the first line of a record.
-fn write_head<W: Write>(asked: &NodeOptions<'_>, first: u32, recorder: &mut W) -> io::Result<()> {
+fn write_head<W: Write>(
+    asked: &NodeOptions<'_>,
+    first: u32,
+    keeps: &str,
+    recorder: &mut W,
+) -> io::Result<()> {
     let name = asked.name;
     match asked.for_ms {
-        Some(for_ms) => recorder.writeln(format_args!("node {name} first {first} for {for_ms}")),
-        None => recorder.writeln(format_args!("node {name} first {first}")),
+        Some(for_ms) => recorder.writeln(format_args!(
+            "node {name} first {first} for {for_ms}{keeps}"
+        )),
+        None => recorder.writeln(format_args!("node {name} first {first}{keeps}")),
     }
 }
 

@@ -16,6 +16,10 @@ pub(crate) enum NodeFailure {
     Operator,
     NoRandom,
     NoRecord,
+    /// Closings are kept of the interlocking alone.
+    Closings,
+    /// Locks are kept in the file of closings.
+    Locks,
     /// What the process has outside can't be opened.
     Open(OpenFault),
     /// It ended before its time.
@@ -32,6 +36,8 @@ impl fmt::Display for NodeFailure {
             }
             NodeFailure::NoRandom => "the system gives no random number",
             NodeFailure::NoRecord => "the record can't be made",
+            NodeFailure::Closings => "closings are kept of the interlocking alone",
+            NodeFailure::Locks => "--keep-locks takes --closings FILE",
             NodeFailure::Open(fault) => return fault.fmt(f),
             NodeFailure::Ended(fault) => return fault.fmt(f),
         };

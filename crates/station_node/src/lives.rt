@@ -9,18 +9,21 @@ ghost use Rattle.node_kinds.specs.node_drive.Drives.{CutOff, Ran};
 ghost use Rattle.node_kinds.specs.Openings.{opening_kind, untold};
 ghost use Rattle.station_node.specs.Processes.{Opens, left_of, standing};
 
+use node_kinds::node_drive::node_lines::AuxiliaryCounts;
 use node_kinds::node_drive::{Course, NodeFault, NodeMachine, Outside, drive};
 use node_kinds::simulator_spec::Checked;
-use node_kinds::{Equipment, OpeningNode};
+use node_kinds::{Equipment, Keeping, OpeningNode};
 use std::alloc::Global;
 
-/// The life of a process: the number of its first PDU, when it began by the reading of its clock, and for how many milliseconds it
-/// runs.
+/// The life of a process: the number of its first PDU, when it began by the reading of its clock, for how many milliseconds it runs,
+/// and, of an interlocking, what it keeps in a file, and how many auxiliary commands were counted before.
 #[derive(Clone, Copy)]
 pub(crate) struct Life {
     pub(crate) first: u32,
     pub(crate) begins: u64,
     pub(crate) for_ms: u64,
+    pub(crate) keeping: Keeping,
+    pub(crate) counts: AuxiliaryCounts,
 }
 
 /// What a process is told of itself: the station, and its life.

@@ -4,7 +4,9 @@ ghost use Rattle.std.specs.Prelude.{◌≡◌, IfOk};
 
 use crate::resident::resident;
 use node_kinds::Fault;
-use node_kinds::node_drive::{BrokenOff, NextDatagram, NextLine, NodeId, Outside, ThrownAway};
+use node_kinds::node_drive::{
+    BrokenOff, NextDatagram, NextLine, NodeId, Outside, ThrownAway, ToKeep,
+};
 use node_kinds::run_numbers::{NumberText, Numbers, PROCESS_ROWS, Row};
 use std::alloc::{AllocError, Global};
 use std::fs::Files;
@@ -153,6 +155,11 @@ impl<'a, R: Files + AllocGlobal, O: Outside> Outside for Numbered<'a, R, O> {
     #[tactic(auto, using(crate::proofs::Silent::silent))]
     fn complain(&mut self, line: u64, fault: Fault) {
         self.outside.complain(line, fault);
+    }
+
+    #[tactic(auto, using(crate::proofs::Silent::silent))]
+    fn keep(&mut self, all: ToKeep) -> bool {
+        self.outside.keep(all)
     }
 }
 

@@ -7,10 +7,21 @@ ghost use Rattle.station_node.specs.Processes.{NodeCut, NodeRuns, Process, Proce
 
 use crate::controllers::{run_detector, run_point, run_signal};
 use crate::lives::{Life, Told, live};
+use node_kinds::node_drive::node_lines::AuxiliaryCounts;
 use node_kinds::node_drive::{Course, NodeFault, Outside, finish};
 use node_kinds::simulator_spec::{Checked, Layout, Node, NodeId};
-use node_kinds::{InterlockingNode, Order};
+use node_kinds::{InterlockingNode, Keeping, Order};
 use std::alloc::Global;
+
+/// How a node is to run: the number of its first PDU, for how many milliseconds, and, of an interlocking, what its process keeps of
+/// it in a file, and how many auxiliary commands were counted before.
+#[derive(Clone, Copy)]
+pub struct NodeRun {
+    pub first: u32,
+    pub for_ms: u64,
+    pub keeping: Keeping,
+    pub counts: AuxiliaryCounts,
+}
 
 /// Runs a node of a station as a process of its own, for so many milliseconds. Its PDUs are numbered from `first` on. A controller
 /// waits until its equipment rests, and until each contact has told how it is. At its end the equipment is told to rest, also where
@@ -19,20 +30,21 @@ pub fn run_node<O: Outside>(
     alloc: Global,
     checked: Checked,
     node: NodeId,
-    first: u32,
-    for_ms: u64,
+    asked: NodeRun,
     outside: &mut O,
 ) -> Result<(), NodeFault>
-    ensures done { OnOk result (Process checked (node_at checked node.0) first for_ms (O.told outside.old) (O.told outside.new)) }
-    ensures stopped { OnErr result (ProcessCut checked (node_at checked node.0) first for_ms (O.told outside.old) (O.told outside.new)) }
+    ensures done { OnOk result (Process checked (node_at checked node.0) asked.keeping asked.counts asked.first asked.for_ms (O.told outside.old) (O.told outside.new)) }
+    ensures stopped { OnErr result (ProcessCut checked (node_at checked node.0) asked.keeping asked.counts asked.first asked.for_ms (O.told outside.old) (O.told outside.new)) }
 {
     let begins = outside.read_clock();
     let rest = rest_of(checked.layout(), node);
     let mut course = Course::new(alloc);
     let life = Life {
-        first,
+        first: asked.first,
         begins,
-        for_ms,
+        for_ms: asked.for_ms,
+        keeping: asked.keeping,
+        counts: asked.counts,
     };
     let ran = run(alloc, checked, node, life, &mut course, outside);
     if matches!(ran, Err(NodeFault::WriteFailed)) {
@@ -54,8 +66,8 @@ fn run<O: Outside>(
     outside: &mut O,
 ) -> Result<(), NodeFault>
     requires { course.old ≡ first_course }
-    ensures done { OnOk result (NodeRuns checked life.first life.for_ms life.begins course.new (O.told outside.old) (O.told outside.new) (node_at checked node.0)) }
-    ensures stopped { OnErr result (NodeCut checked life.first life.for_ms life.begins (O.told outside.old) (O.told outside.new) (node_at checked node.0)) }
+    ensures done { OnOk result (NodeRuns checked life.keeping life.counts life.first life.for_ms life.begins course.new (O.told outside.old) (O.told outside.new) (node_at checked node.0)) }
+    ensures stopped { OnErr result (NodeCut checked life.keeping life.counts life.first life.for_ms life.begins (O.told outside.old) (O.told outside.new) (node_at checked node.0)) }
 {
     let told = Told {
         table: &checked,
@@ -79,11 +91,12 @@ fn run_interlocking<O: Outside>(
     outside: &mut O,
 ) -> Result<(), NodeFault>
     requires { course.old ≡ first_course }
-    ensures done { OnOk result (StationRuns checked life.first life.for_ms life.begins course.new (O.told outside.old) (O.told outside.new)) }
-    ensures stopped { OnErr result (StationCut checked life.first life.for_ms life.begins (O.told outside.old) (O.told outside.new)) }
+    ensures done { OnOk result (StationRuns checked life.keeping life.counts life.first life.for_ms life.begins course.new (O.told outside.old) (O.told outside.new)) }
+    ensures stopped { OnErr result (StationCut checked life.keeping life.counts life.first life.for_ms life.begins (O.told outside.old) (O.told outside.new)) }
 {
     let now = outside.read_clock();
-    let station = InterlockingNode::new(alloc, checked, now, life.first)?;
+    let mut station = InterlockingNode::new(alloc, checked, now, life.first, life.keeping)?;
+    station.count_on(life.counts);
     live(alloc, station, course, outside, now, life)
 }
 

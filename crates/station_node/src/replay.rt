@@ -3,21 +3,21 @@
 ghost use Rattle.std.specs.Prelude.{◌≡◌, ◌⊎◌, IfErr};
 ghost use Rattle.station_check.specs.Failures.{status_of};
 
-use crate::process::run_node;
+use crate::process::{NodeRun, run_node};
 use node_kinds::node_drive::NodeFault;
+use node_kinds::node_drive::node_lines::AuxiliaryCounts;
 use node_kinds::simulator_spec::{Checked, Layout, NodeId};
-use node_kinds::{Fault, Lines, SessionFault, Words, decimal, node_named};
+use node_kinds::{Fault, Keeping, Lines, SessionFault, Words, decimal, node_named};
 use node_network::Replayed;
 use station_check::{Failure, table_of, tell};
 use std::alloc::Global;
 use std::io::Write;
 
-/// What the first line of a record says: the node, the number of its first PDU, and for how many milliseconds it was to run.
+/// What the first line of a record says: the node, and how it was to run.
 #[derive(Clone, Copy)]
 struct Head {
     node: NodeId,
-    first: u32,
-    for_ms: u64,
+    run: NodeRun,
 }
 
 /// Applies the record of a node's process to a fresh node of this name again, and writes to `out` whether it does the same: `same`, or
@@ -83,14 +83,7 @@ fn difference(
     };
     let copy = table.copy(alloc)?;
     let mut replayed = Replayed::new(alloc, table.layout(), lines);
-    let ran = run_node(
-        alloc,
-        copy,
-        head.node,
-        head.first,
-        head.for_ms,
-        &mut replayed,
-    );
+    let ran = run_node(alloc, copy, head.node, head.run, &mut replayed);
     // A process that ends early otherwise does so since its record ends: what is told is whether it did the same to there.
     if matches!(ran, Err(NodeFault::OutOfMemory)) || !replayed.is_whole() {
         return Err(Failure::OutOfMemory);
@@ -123,12 +116,8 @@ fn head_said(layout: &Layout, name: &str, line: &str) -> Result<Head, Fault> {
     let Ok(first) = u32::try_from(decimal(first)?) else {
         return Err(Fault::Number);
     };
-    let for_ms = time_said(words)?;
-    Ok(Head {
-        node,
-        first,
-        for_ms,
-    })
+    let run = rest_said(first, words)?;
+    Ok(Head { node, run })
 }
 
 /// The next word of a line, or nothing where there is none.
@@ -136,16 +125,50 @@ fn word<'a>(words: &mut Words<'a>) -> &'a str {
     words.next().unwrap_or("")
 }
 
-/// For how many milliseconds a process was to run, or for ever.
-fn time_said(mut words: Words<'_>) -> Result<u64, Fault> {
-    let Some(kind) = words.next() else {
-        return Ok(u64::MAX);
+/// What stands after the number of the first PDU: for how many milliseconds the process was to run, or for ever, what it was to keep, if
+/// anything, and how many auxiliary commands were counted before then.
+fn rest_said(first: u32, mut words: Words<'_>) -> Result<NodeRun, Fault> {
+    let word = words.next();
+    let (for_ms, word) = match word {
+        Some("for") => (decimal(words.next().ok_or(Fault::Words)?)?, words.next()),
+        _ => (u64::MAX, word),
     };
-    let Some(number) = words.next() else {
-        return Err(Fault::Words);
+    let (keeping, counts) = match word {
+        None => (Keeping::Nothing, AuxiliaryCounts::none()),
+        Some("keeps") => (keeping_said(&mut words)?, counts_said(words)?),
+        Some(_) => return Err(Fault::Words),
     };
-    if kind != "for" || words.next().is_some() {
+    Ok(NodeRun {
+        first,
+        for_ms,
+        keeping,
+        counts,
+    })
+}
+
+/// What a process was to keep, by the next word.
+fn keeping_said(words: &mut Words<'_>) -> Result<Keeping, Fault> {
+    match words.next() {
+        Some("closings") => Ok(Keeping::Closings),
+        Some("locks") => Ok(Keeping::Locks),
+        _ => Err(Fault::Words),
+    }
+}
+
+/// How many auxiliary commands were counted, by the last words.
+fn counts_said(mut words: Words<'_>) -> Result<AuxiliaryCounts, Fault> {
+    let releases = number_behind("releases", &mut words)?;
+    let opens = number_behind("opens", &mut words)?;
+    if words.next().is_some() {
         return Err(Fault::Words);
     }
-    decimal(number)
+    Ok(AuxiliaryCounts { releases, opens })
+}
+
+/// The number behind a word.
+fn number_behind(label: &str, words: &mut Words<'_>) -> Result<u64, Fault> {
+    if word(words) != label {
+        return Err(Fault::Words);
+    }
+    decimal(words.next().ok_or(Fault::Words)?)
 }

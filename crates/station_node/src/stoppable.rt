@@ -3,7 +3,7 @@
 ghost use Rattle.std.specs.Prelude.{◌≤◌};
 
 use node_kinds::node_drive::{
-    BrokenOff, Fault, NextDatagram, NextLine, NodeId, Outside, ThrownAway,
+    BrokenOff, Fault, NextDatagram, NextLine, NodeId, Outside, ThrownAway, ToKeep,
 };
 use run_files::StopFile;
 use std::alloc::{AllocError, Global};
@@ -84,5 +84,9 @@ impl<'a, O: Outside, R: Files> Outside for Stoppable<'a, O, R> {
 
     fn complain(&mut self, line: u64, fault: Fault) {
         self.outside.complain(line, fault);
+    }
+
+    fn keep(&mut self, all: ToKeep) -> bool {
+        self.outside.keep(all)
     }
 }

@@ -1,5 +1,5 @@
 -- The nodes of this crate as the engine sees them.
-use Rattle.std.specs.Prelude.{List, []}
+use Rattle.std.specs.Prelude.{List, [], None}
 use Rattle.simulator_spec.specs.object_host.declared.input.Input.{Input}
 use Rattle.simulator_spec.specs.point_ctl.Drive.{PointState}
 use Rattle.simulator_spec.specs.sci_telegram.declared.message.Position.{Position}
@@ -22,6 +22,7 @@ controller_now kept n = record {
   state = record { site = n.layout.now; host = n.stepped.host; contacts = kept n.contacts };
   reached = n.stepped.reached;
   handed = n.stepped.handed;
+  keeps = None;
   said = [];
   left = sense_left n.left;
 }
@@ -45,6 +46,7 @@ opening_now n = record {
   state = record { site = n.layout.now; equipment = equipment_of n.equipment; position = n.position; sections = n.sections.items };
   reached = n.reached;
   handed = [];
+  keeps = None;
   said = [];
   left = contact_left n.left;
 }

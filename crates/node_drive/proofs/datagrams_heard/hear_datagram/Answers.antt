@@ -1,4 +1,4 @@
-use Rattle.std.proofs.Common.{◌∙◌, List, ℕ, sym, ap, arith}
+use Rattle.std.proofs.Common.{◌∙◌, List, ℕ, true, sym, ap, arith}
 use Rattle.std.proofs.lemmas.Result.{on_err_weaker, on_ok_weaker}
 use Rattle.node_drive.specs.Inside.{standing_of}
 use Rattle.node_drive.specs.Kinds.{node_after}
@@ -12,7 +12,7 @@ returns-then-not-is_taken-clause-done g c =
     let does = g.N.NodeMachine.does in
     let here = standing_of (g.N.NodeMachine.node c.args.node.now) c.args.course.now in
     let strange = sym c.is_taken.ensures ∙ c.if-not-is_taken.true in
-    calls_same (ap (λ d. d.0) (dropped_is does c.args.reading c.args.arrived.now.origin c.args.arrived.now.bytes.items here strange)) (calls_none _)
+    (true, calls_same (ap (λ d. d.0) (dropped_is does c.args.reading true c.args.arrived.now.origin c.args.arrived.now.bytes.items here strange)) (calls_none _))
 
 pub returns-then-not-is_taken-clause-standing : goal.returns-then-not-is_taken-clause-standing
 returns-then-not-is_taken-clause-standing g c =
@@ -20,11 +20,11 @@ returns-then-not-is_taken-clause-standing g c =
     let node = g.N.NodeMachine.node c.args.node.now in
     let strange = sym c.is_taken.ensures ∙ c.if-not-is_taken.true in
     ap (standing_of node) c.note_stranger.ensures
-    ∙ ap (λ d. d.1) (dropped_is does c.args.reading c.args.arrived.now.origin c.args.arrived.now.bytes.items (standing_of node c.args.course.now) strange)
+    ∙ ap (λ d. d.1) (dropped_is does c.args.reading true c.args.arrived.now.origin c.args.arrived.now.bytes.items (standing_of node c.args.course.now) strange)
 
 -- no memory for its step
 pub returns-in_err-hear-clause-stopped : goal.returns-in_err-hear-clause-stopped
-returns-in_err-hear-clause-stopped g c = stopped c.from_residual.result (cuts_none _ _)
+returns-in_err-hear-clause-stopped g c = stopped c.from_residual.result (true, cuts_none _ _)
 
 pub returns-clause-done : goal.returns-clause-done
 returns-clause-done g c =
@@ -36,7 +36,7 @@ returns-clause-done g c =
     let taken = sym c.is_taken.ensures ∙ c.if-not-is_taken.false in
     let heard = c.in_ok-hear.ensures ∙ ap (λ (b : List ℕ). node_after does c.args.reading (does.datagram b) old) c.deref.ensures.0 in
     on_ok_weaker c.perform.result
-    (λ calls. calls_same (ap (λ d. d.0) (taken_is does c.args.reading c.args.arrived.now.origin bytes (standing_of old c.args.course.now) taken)) (step_calls does c.args.reading (does.datagram bytes) c.args.course.now old new heard calls))
+    (λ calls. (calls.0, calls_same (ap (λ d. d.0) (taken_is does c.args.reading calls.0 c.args.arrived.now.origin bytes (standing_of old c.args.course.now) taken)) (step_calls does c.args.reading calls.0 (does.datagram bytes) c.args.course.now old new heard calls.1)))
     c.perform.ensures.done
 
 pub returns-clause-standing : goal.returns-clause-standing
@@ -50,8 +50,8 @@ returns-clause-standing g c =
     let heard = c.in_ok-hear.ensures ∙ ap (λ (b : List ℕ). node_after does c.args.reading (does.datagram b) old) c.deref.ensures.0 in
     on_ok_weaker c.perform.result
     (λ both.
-    step_standing does c.args.reading (does.datagram bytes) c.args.course.now c.perform.new.course old new (n c.perform.new.node) heard both.0 both.1
-    ∙ ap (λ d. d.1) (taken_is does c.args.reading c.args.arrived.now.origin bytes (standing_of old c.args.course.now) taken))
+    step_standing does c.args.reading true (does.datagram bytes) c.args.course.now c.perform.new.course old new (n c.perform.new.node) heard both.0 both.1
+    ∙ ap (λ d. d.1) (taken_is does c.args.reading true c.args.arrived.now.origin bytes (standing_of old c.args.course.now) taken))
     (both_ok _ _ c.perform.result c.perform.ensures.course c.perform.ensures.node)
 
 pub returns-clause-reached : goal.returns-clause-reached
@@ -76,5 +76,5 @@ returns-clause-stopped g c =
     let taken = sym c.is_taken.ensures ∙ c.if-not-is_taken.false in
     let heard = c.in_ok-hear.ensures ∙ ap (λ (b : List ℕ). node_after does c.args.reading (does.datagram b) old) c.deref.ensures.0 in
     on_err_weaker c.perform.result
-    (λ cut. cuts_same (ap (λ d. d.0) (taken_is does c.args.reading c.args.arrived.now.origin bytes (standing_of old c.args.course.now) taken)) (step_cut does c.args.reading (does.datagram bytes) c.args.course.now old new heard cut))
+    (λ cut. (cut.0, cuts_same (ap (λ d. d.0) (taken_is does c.args.reading cut.0 c.args.arrived.now.origin bytes (standing_of old c.args.course.now) taken)) (step_cut does c.args.reading cut.0 (does.datagram bytes) c.args.course.now old new heard cut.1)))
     c.perform.ensures.stopped

@@ -1,5 +1,6 @@
 use Rattle.std.proofs.Common.{refl, false, [], arith}
 use Rattle.std.proofs.lemmas.Result.{IfOk-weaker, on_err_weaker}
+use Rattle.node_drive.specs.Drives.{unasked}
 use Rattle.node_drive.proofs.Calls.{stopped}
 use Rattle.node_drive.proofs.Comings.{performs_then}
 use Rattle.node_drive.proofs.Turns.{cut_in_lines, cut_is_round, performs_all, stops_datagrams, stops_lines, stops_opening, stops_tick, whole_is_round, whole_round}
@@ -30,9 +31,9 @@ returns-in_err-hear_datagrams-clause-stopped g c =
     let lines = c.in_ok-hear_lines.ensures.done in
     let cut = c.in_err-hear_datagrams.ensures.stopped in
     stopped c.from_residual-in_err-hear_datagrams.result (
-      whole_round begun.0 begun.1 lines.0 cut.0 cut.1 0 0,
-      whole_is_round g.N.NodeMachine.does begun.0 begun.1 lines.0 cut.0 cut.1 0 0 (performs_then begun.2 lines.2) lines.1 cut.2 cut.3 cut.4,
-      stops_datagrams begun.0 begun.1 lines.0 cut.0 cut.1 0 0 begun.2 lines.2 cut.5,
+      whole_round begun.0 begun.1 lines.0 cut.0 cut.1 0 unasked,
+      whole_is_round g.N.NodeMachine.does begun.0 begun.1 lines.0 cut.0 cut.1 0 unasked (performs_then begun.2 lines.2) lines.1 cut.2 cut.3 cut.4,
+      stops_datagrams begun.0 begun.1 lines.0 cut.0 cut.1 0 unasked begun.2 lines.2 cut.5,
     )
 
 pub returns-clause-done : goal.returns-clause-done
@@ -57,8 +58,8 @@ returns-clause-stopped g c =
     let datagrams = c.in_ok-hear_datagrams.ensures.done in
     on_err_weaker c.tick.result
     (λ cut. (
-      whole_round begun.0 begun.1 lines.0 datagrams.0 datagrams.1 cut.0 0,
-      whole_is_round g.N.NodeMachine.does begun.0 begun.1 lines.0 datagrams.0 datagrams.1 cut.0 0 (performs_then begun.2 lines.2) lines.1 datagrams.2 datagrams.3 datagrams.4,
-      stops_tick begun.0 begun.1 lines.0 datagrams.0 datagrams.1 cut.0 0 begun.2 lines.2 datagrams.5 cut.1,
+      whole_round begun.0 begun.1 lines.0 datagrams.0 datagrams.1 cut.0 cut.1,
+      whole_is_round g.N.NodeMachine.does begun.0 begun.1 lines.0 datagrams.0 datagrams.1 cut.0 cut.1 (performs_then begun.2 lines.2) lines.1 datagrams.2 datagrams.3 datagrams.4,
+      stops_tick begun.0 begun.1 lines.0 datagrams.0 datagrams.1 cut.0 cut.1 begun.2 lines.2 datagrams.5 cut.2,
     ))
     c.tick.ensures.stopped

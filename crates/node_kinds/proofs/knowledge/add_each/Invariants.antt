@@ -6,5 +6,5 @@ use Rattle.node_kinds.proofs.knowledge.add_each.Given as goal
 abbrev pub invariant-loop-place : goal.invariant-loop-place
 invariant-loop-place l =
     let state = l.ixl.state in
-    l.all.items ++ each (known_at state.sited.table l.now state.ixl l.thing) l.place (count state.sited.site state.ixl l.thing - l.place)
-    ≡ l.initial.all.items ++ all_of state.sited.site state.sited.table l.now state.ixl l.thing
+    l.all.items ++ each (known_at state.sited.table l.counts l.now state.ixl l.thing) l.place (count state.sited.site state.ixl l.thing - l.place)
+    ≡ l.initial.all.items ++ all_of state.sited.site state.sited.table l.counts l.now state.ixl l.thing

@@ -1,5 +1,5 @@
-use Rattle.std.proofs.Common.{◌≡◌, ℕ, List, Option, refl, ap}
-use Rattle.node_kinds.specs.simulator_spec.First.{Beginning, new_point, new_signal}
+use Rattle.std.proofs.Common.{Option, refl, ap}
+use Rattle.node_kinds.specs.simulator_spec.First.{new_point, new_signal}
 use Rattle.node_kinds.specs.simulator_spec.layout.Entries.{DetectorEntry}
 use Rattle.node_kinds.specs.simulator_spec.layout.declared.entries.Point.{Point as PointEntry}
 use Rattle.node_kinds.specs.simulator_spec.layout.declared.entries.Signal.{Signal as SignalEntry}

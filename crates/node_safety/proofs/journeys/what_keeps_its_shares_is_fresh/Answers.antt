@@ -1,4 +1,4 @@
-use Rattle.std.proofs.Common.{◌≡◌, ◌≤◌, ◌+◌, ℕ, subst}
+use Rattle.std.proofs.Common.{◌≤◌, ◌+◌, ℕ, subst}
 use Rattle.node_kinds.specs.simulator_spec.rasta_core.Bag.{lifetime}
 use Rattle.node_safety.proofs.Aged.{age}
 use Rattle.node_safety.proofs.journeys.what_keeps_its_shares_is_fresh.Goals as goal
