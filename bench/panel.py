@@ -4,13 +4,17 @@ signaller does, and looks at what is drawn. A judge that knows the layout alone 
 between them: each lit signal has a route whose points are all drawn right and still, and no two such routes conflict. It ends with a table
 of what was seen, and with status 1 where anything was unsafe or didn't come.
 
-    python3 bench/panel.py STATION [--to FOLDER] [--size 1280x720] [walk] [nodes] [storm] [load]
+    python3 bench/panel.py STATION [--to FOLDER] [--size 1280x720] [walk] [hand] [nodes] [storm] [load]
 
 walk       on Halden and on Neustadt: a refusal and its cause, a route by two clicks, a train through the station, a point that doesn't
            arrive, a link that is cut, a restart of the interlocking, a route by the keyboard; then the record is replayed
+hand       on Halden and on Neustadt: a section, a leg of a point, a signal and a route are closed, which keeps routes from being set; each is
+           opened after a second question, and not before, and is counted; a train turns back, and its route is released and free 120 s
+           later; a route is set again behind each train, and one waits for another, also while the page is loaded again
 nodes      the same page for nodes that run as processes of their own: a route by two clicks, a train, all cancelled by a key; the
            interlocking's process is killed, and started again
-storm      five commands a second for 60 s, drawn from a seed: routes, occupancies, and every kind of fault
+storm      five commands a second for 60 s, drawn from a seed: routes, closings, moves, releases, what is set by itself, occupancies, and every
+           kind of fault
 load       50 clients that ask as the page does, for 60 s, beside 100 connections that stay half open: how long rounds took
 """
 import argparse
@@ -229,6 +233,11 @@ DRAWN = """(() => {
     causes: [...document.querySelectorAll('#p-plan .cause')].map(of => of.id),
     can: [...document.querySelectorAll('#p-plan .can')].map(of => name(of)),
     trains: [...document.querySelectorAll('#p-plan .train')].length,
+    closed: [...document.querySelectorAll('#p-plan .closed[id]')].map(of => of.id),
+    closings: by('p-closings').hidden ? '' : by('p-closings').textContent,
+    barred: [...document.querySelectorAll('.p-route.p-closed')].map(of => of.id.slice(8)),
+    counts: by('p-counts').textContent,
+    standing: [...document.querySelectorAll('#p-standing li')].map(of => of.querySelector('.p-grow')?.textContent || ''),
   };
 })()"""
 
@@ -302,12 +311,16 @@ class Signaller:
         if self.folder:
             self.browser.shot(self.folder / f"{self.name}-{name}.png")
 
-    def opened(self):
+    def painted(self):
+        """Waits until the page has what stands."""
         for _ in range(100):
             with contextlib.suppress(RuntimeError):
                 if self.browser.tell("number > 0"):
                     break
             time.sleep(0.1)
+
+    def opened(self):
+        self.painted()
         self.wait("all links up, waits for resume", lambda it: it["mode"] == "resume" and it["lost"] == "all links up", 40)
 
     def point_at(self, route):
@@ -395,6 +408,99 @@ class Signaller:
         self.by_keys(route)
         self.shot("again")
 
+    def close(self, words, kind):
+        """Closes what words name, and looks for its sign in the plan or in the list."""
+        name, *side = words.split()
+        sign = {"section": f"section.{name}", "signal": f"signal.{name}", "point": f"{side[0] if side else 'left'}.{name}"}.get(kind)
+        self.choose("p-thing", words)
+        self.browser.click("#p-close")
+        self.wait(f"{kind} {words} is closed", lambda it: f"{kind} {words}" in it["standing"] and (sign in it["closed"] if sign else name in it["barred"]), 5)
+
+    def refused(self, route, why):
+        """The list asks for a route, and the bar says why it is refused."""
+        self.browser.tell(f"by('p-route-{route}').focus()")
+        self.browser.key("Enter")
+        self.wait(f"{route} is refused: {why}", lambda it: why in it["said"] and route not in it["set"], 5)
+
+    def sure(self, answer):
+        """Answers the second question."""
+        self.wait("it is asked a second time", lambda it: self.browser.tell("by('p-sure').open"), 5)
+        self.shot("sure")
+        self.browser.click(f"#p-sure-{answer}")
+
+    def ask_to_open(self, words, kind):
+        self.browser.tell(f"[...document.querySelectorAll('#p-standing li')].find(of => of.textContent.includes({json.dumps(kind + ' ' + words)})).querySelector('button').focus()")
+        self.browser.key("Enter")
+
+    def open(self, words, kind, so_far):
+        """Opens what was closed. Who leaves it at the second question leaves it closed, and uncounted."""
+        told = f"{kind} {words}"
+        self.ask_to_open(words, kind)
+        self.sure("no")
+        time.sleep(1)
+        self.wait(f"{told} is left closed", lambda it: told in it["standing"] and it["counts"].endswith(f"{so_far} opened"), 5)
+        self.ask_to_open(words, kind)
+        self.sure("yes")
+        self.wait(f"{told} is open, and counted", lambda it: told not in it["standing"] and it["counts"].endswith(f"{so_far + 1} opened"), 5)
+
+    def occupy(self, section, is_occupied=True):
+        self.browser.click(f'[id="section.{section}"] .label')
+        self.wait(f"{section} is {'occupied' if is_occupied else 'clear'}", lambda it: (section in it["occupied"]) == is_occupied, 5)
+
+    def turn_back(self, route):
+        """A train comes to the signal, passes it, and goes back. Its route is cancelled and released."""
+        one = self.judge.routes[route]
+        approach, first = one["approach"][-1], self.judge.sections[one["path"][0].split(".")[0]]
+        self.occupy(approach)
+        self.browser.tell(f"command('set {route}')")
+        self.wait(f"{route} is set, its signal clears", self.lit(route))
+        self.occupy(first)
+        self.wait(f"{one['entry']} falls to stop", lambda it: it["shows"][one["entry"]] == "stop", 10)
+        self.occupy(first, False)
+        self.browser.tell(f"command('cancel {route}')")
+        time.sleep(2)
+        self.wait(f"{route} is cancelled, and stays set", lambda it: route in it["set"], 5)
+        self.browser.click(f"#p-release-{route}")
+        self.sure("yes")
+        began = time.monotonic()
+        self.wait(f"{route} is released, and counted", lambda it: f"{route} is released" in it["standing"] and it["counts"].startswith("1 released"), 5)
+        self.shot("released")
+        self.wait(f"{route} is free", lambda it: route not in it["set"], 130)
+        took = time.monotonic() - began
+        self.rows.append((f"{route} was free after 120 s", "came" if 119 <= took <= 123 else "DIDN'T COME", f"{took:.1f} s", ""))
+        self.occupy(approach, False)
+
+    def load(self):
+        """The page is loaded again: what the panel does by itself goes on."""
+        self.browser.tell("number = -1")
+        self.browser.call("Page.reload")
+        self.painted()
+
+    def by_itself(self, route, other):
+        """A route is automatic: it is set, and set again when a train has passed. Another waits for it, and comes once it is manual."""
+        one = self.judge.routes[route]
+        self.browser.click(f"#p-automatic-{route}")
+        self.wait(f"{route} is automatic: it is set by itself", self.lit(route))
+        self.browser.tell(f"command('queue {other}')")
+        self.wait(f"{other} waits", lambda it: f"{other} waits" in it["standing"] and other not in it["set"], 5)
+        self.shot("automatic")
+        self.load()
+        sections = [one["approach"][-1], *dict.fromkeys(self.judge.sections[port.split(".")[0]] for port in one["path"])]
+        for number, section in enumerate(sections):
+            self.browser.tell(f"command('occupy {section}')")
+            time.sleep(0.6)
+            if number:
+                self.browser.tell(f"command('clear {sections[number - 1]}')")
+                time.sleep(0.6)
+        self.browser.tell(f"command('clear {sections[-1]}')")
+        self.wait(f"a train has passed: {other} is set, and {route} waits", lambda it: other in it["set"] and f"{route} waits" in it["standing"])
+        self.browser.tell(f"command('cancel {other}')")
+        self.wait(f"{other} is cancelled: {route} is set again", self.lit(route))
+        self.browser.key("x")
+        self.wait("one key cancels all, and nothing is set by itself", lambda it: not it["set"] and not any("automatic" in of or "waits" in of for of in it["standing"]), 10)
+        time.sleep(3)
+        self.wait("nothing is set", lambda it: not it["set"], 1)
+
     def resume(self):
         self.browser.key("r")
         self.wait("a key resumes", lambda it: it["mode"] == "ready", 5)
@@ -454,6 +560,39 @@ def walk_over(signaller, steps):
     signaller.restart(steps.routes[0])
 
 
+def hand(program, layout, size, folder):
+    with tempfile.TemporaryDirectory() as place:
+        panel, steps = Panel(program, layout, place), WALKS[pathlib.Path(layout).stem]
+        signaller = Signaller(panel, Judge(layout), size, folder)
+        signaller.name += "-hand"
+        faults = worked(signaller, panel, lambda: work_by_hand(signaller, steps.routes[0], steps.moving))
+        same, said = panel.replays()
+        signaller.rows.append(("the record is replayed", "came" if same else "DIDN'T COME", "", said))
+    return is_well(signaller, faults)
+
+
+def work_by_hand(signaller, route, other):
+    """Closes and opens what a route uses, releases it, and has it set by itself; another route begins at the same signal."""
+    one = signaller.judge.routes[route]
+    section = signaller.judge.sections[one["path"][-1].split(".")[0]]
+    point, side = next(iter(one["points"].items()))
+    # In the order in which a refusal names the first of them.
+    closed = [(route, "route", f"route {route} is closed"), (one["entry"], "signal", f"signal {one['entry']} is closed"),
+              (section, "section", f"section {section} is closed"), (f"{point} {side}", "point", f"point {point} is closed at the {side}")]
+    signaller.opened()
+    signaller.resume()
+    for words, kind, _ in closed:
+        signaller.close(words, kind)
+    signaller.shot("closed")
+    for number, (words, kind, why) in enumerate(closed):
+        signaller.load()
+        signaller.wait("all that is closed stands at the head", lambda it: f"{len(closed) - number} closed" in it["closings"], 5)
+        signaller.refused(route, why)
+        signaller.open(words, kind, number)
+    signaller.turn_back(route)
+    signaller.by_itself(route, other)
+
+
 def nodes(program, layout, size, folder):
     with tempfile.TemporaryDirectory() as place:
         panel = PanelOfNodes(program, layout, place)
@@ -491,7 +630,10 @@ def drawn_command(draw, judge, held):
     told, route = judge.told, draw.choice(list(judge.routes))
     controllers = [it["name"] for kind in ("signal", "point", "detector") for it in told[kind]]
     node, point, section = draw.choice(controllers), draw.choice([it["name"] for it in told["point"]]), draw.choice(told["section"])
-    kinds = {f"set {route}": 30, f"cancel {draw.choice(held or [route])}": 6, f"occupy {section}": 3, f"clear {section}": 12, f"cut {node}": 2, f"mend {node}": 6,
+    thing = draw.choice([section, f"{point} {draw.choice(['left', 'right'])}", draw.choice(told["signal"])["name"], route])
+    kinds = {f"close {thing}": 1, f"open {thing}": 15, f"move {point} {draw.choice(['left', 'right'])}": 3, f"release {draw.choice(held or [route])}": 3,
+             f"automatic {route}": 1, f"queue {route}": 3, f"manual {route}": 3,
+             f"set {route}": 30, f"cancel {draw.choice(held or [route])}": 6, f"occupy {section}": 2, f"clear {section}": 15, f"cut {node}": 1, f"mend {node}": 8,
              f"restart {node} 0 {draw.getrandbits(32)}": 1, f"restart {told['station']['name']} 0 {draw.getrandbits(32)}": 0.3, f"jam {point}": 2,
              f"unjam {point}": 8, f"drop {draw.choice([0, 0, 0, 20, 5])}": 2, f"delay {draw.choice([0, 0, 0, 100, 400])}": 2}
     return draw.choices(list(kinds), list(kinds.values()))[0]
@@ -619,7 +761,7 @@ def main():
     words.add_argument("--to", type=pathlib.Path, help="a folder for pictures of the page")
     words.add_argument("--size", default="1280x720", type=lambda text: tuple(map(int, text.split("x"))))
     words.add_argument("--layout", action="append", help="examples/halden.toml and examples/neustadt.toml, if not said")
-    words.add_argument("kinds", nargs="*", default=["walk", "nodes", "storm", "load"])
+    words.add_argument("kinds", nargs="*", default=["walk", "hand", "nodes", "storm", "load"])
     given = words.parse_intermixed_args()
     if given.to:
         given.to.mkdir(parents=True, exist_ok=True)

@@ -1,8 +1,18 @@
 -- The words of a line say again what it tells.
-use Rattle.std.proofs.Common.{◌≡◌, ◌≢◌, ◌<◌, ◌∙◌, ◌++◌, ℕ, zero, suc, ◌&&◌, nat_lt, Bool, true, false, List, [], ◌∷◌, codes, length, map, Option, Some, None, slice_get, Result, Ok, refl, ap, arith, if◌then◌else◌}
+use Rattle.std.proofs.Common.{◌≡◌, ◌≢◌, ◌<◌, ◌∙◌, ◌^◌, ◌++◌, ℕ, zero, suc, ◌&&◌, nat_lt, Bool, true, false, List, [], ◌∷◌, codes, length, map, Option, Some, None, slice_get, Result, Ok, refl, sym, ap, arith, if◌then◌else◌}
+use Rattle.std.specs.Fmt.{decimal as written}
 use Rattle.std.specs.List.{join_with_byte}
 use Rattle.std.specs.Option.{option_map, option_map_or}
 use Rattle.std.proofs.lemmas.Bool.Decides.{nat_tests}
+use Rattle.panel_desk.specs.node_lines.closings.Things.{HasThing}
+use Rattle.panel_desk.specs.node_lines.closings.Words.{Says as NamedBy, name_of, name_word, named, thing_name, thing_side}
+use Rattle.panel_desk.specs.node_lines.closings.declared.auxiliary.Auxiliary.{Auxiliary}
+use Rattle.panel_desk.specs.node_lines.closings.declared.auxiliary.Auxiliary.TheVariants as auxiliary
+use Rattle.panel_desk.specs.node_lines.closings.declared.thing.Named.{Named}
+use Rattle.panel_desk.specs.node_lines.closings.declared.thing.Named.TheVariants.{One}
+use Rattle.panel_desk.specs.node_lines.closings.declared.thing.Thing.{Thing}
+use Rattle.panel_desk.specs.node_lines.closings.declared.thing.Thing.TheVariants as things
+use Rattle.panel_desk.specs.node_lines.replay_words.Read.{decimal}
 use Rattle.panel_desk.specs.node_lines.layout.Nodes.{Signal as AtSignal, node_at}
 use Rattle.panel_desk.specs.node_lines.layout.Entries.{RouteEntry, Site}
 use Rattle.panel_desk.specs.node_lines.layout.declared.entries.Point.{Point as PointEntry}
@@ -30,7 +40,7 @@ use Rattle.panel_desk.specs.node_lines.declared.operator_line.Known.{Known}
 use Rattle.panel_desk.specs.node_lines.declared.operator_line.Known.TheVariants as known
 use Rattle.panel_desk.specs.node_lines.declared.operator_line.LinkState.{LinkState}
 use Rattle.panel_desk.specs.node_lines.declared.operator_line.LinkState.TheVariants.{Ready, Lost}
-use Rattle.node_panel.specs.Lines.{IsOf, authority_said, known_route, route_of, signal_named, signal_of, told_known, told_said}
+use Rattle.node_panel.specs.Lines.{IsOf, authority_said, closable, closing, known_route, one_thing, route_of, signal_named, signal_of, told_known, told_said}
 use Rattle.node_panel.specs.declared.told.Told.TheVariants.{Tells}
 
 -- what the crates below say of the names of a layout
@@ -44,6 +54,10 @@ pub record Names (site : Site) : Type 0 where
   pub section_words : (k : ℕ) (name : List ℕ) → slice_get site.sections k ≡ Some name → is_without 32 name ≡ true
   pub point_words : (k : ℕ) (point : PointEntry) → slice_get site.points k ≡ Some point → is_without 32 point.name ≡ true
   pub route_words : (k : ℕ) (route : RouteEntry) → slice_get site.routes k ≡ Some route → is_without 32 route.name ≡ true
+  pub things : (n : Named) (word : List ℕ) (side : Option Side) → NamedBy site n word side → named site word side ≡ Some n
+  pub thing_words : (n : Named) (name : List ℕ) → name_of site n ≡ Some name → is_without 32 name ≡ true
+  pub numbers : (n : ℕ) → n < 2 ^ 64 → decimal (written n) ≡ Ok n
+  pub number_words : (n : ℕ) → n < 2 ^ 64 → is_without 32 (written n) ≡ true
 
 -- a word that is read as this, and has no space
 record Says (A : Type 0) (read : List ℕ → Result A Fault) (word : List ℕ) (value : A) : Type 0 where
@@ -64,6 +78,9 @@ signal_node (y ∷ ys) rest (suc k) x e = signal_node ys rest k x e
 chosen : {A : Type 0} (test : Bool) (one other : A) → test ≡ true → (if test then one else other) ≡ one
 chosen true one other e = refl
 chosen false one other e = absurd (cc)
+
+two : (first name : List ℕ) → is_without 32 first ≡ true → is_without 32 name ≡ true → are_words (first ∷ name ∷ []) ≡ true
+two first name e f = ap (λ v. v && are_words (name ∷ [])) e ∙ ap (λ v. v && true) f
 
 three : (first name last : List ℕ) → is_without 32 first ≡ true → is_without 32 name ≡ true → is_without 32 last ≡ true → are_words (first ∷ name ∷ last ∷ []) ≡ true
 three first name last e f g = ap (λ v. v && are_words (name ∷ last ∷ [])) e ∙ ap (λ v. v && are_words (last ∷ [])) f ∙ ap (λ v. v && true) g
@@ -166,6 +183,97 @@ module _ (site : Site) (names : Names site) where
   route-read route true is = line (codes "route") (route_word site route) (codes "set") (known_route site) (λ r. known.Route r true) route refl refl (route-says route is) refl
   route-read route false is = line (codes "route") (route_word site route) (codes "free") (known_route site) (λ r. known.Route r false) route refl refl (route-says route is) refl
 
+  released-read : (route : RouteId) → route.0 < length site.routes → told_said site (words (known_text site (known.Released route))) ≡ Ok (Tells (known.Released route))
+  released-read route is = line (codes "route") (route_word site route) (codes "released") (known_route site) (λ r. known.Released r) route refl refl (route-says route is) refl
+
+  -- ---- what is closed, and isn't
+
+  -- a thing of the layout has a name
+  thing-name : (thing : Thing) → HasThing site thing → (name : List ℕ) × (thing_name site thing ≡ Some name)
+  thing-name (things.Section section) is = by (slice_get site.sections section.0) refl
+    where
+      by : (found : Option (List ℕ)) → slice_get site.sections section.0 ≡ found → (name : List ℕ) × (thing_name site (things.Section section) ≡ Some name)
+      by (Some name) e = (name, e)
+      by None e = absurd (not_past site.sections section.0 is e)
+  thing-name (things.Point point side) is = by (slice_get site.points point.0) refl
+    where
+      by : (found : Option PointEntry) → slice_get site.points point.0 ≡ found → (name : List ℕ) × (thing_name site (things.Point point side) ≡ Some name)
+      by (Some entry) e = (entry.name, ap (option_map (λ (p : PointEntry). p.name)) e)
+      by None e = absurd (not_past site.points point.0 is e)
+  thing-name (things.Signal signal) is = by (slice_get site.signals signal.0) refl
+    where
+      by : (found : Option SignalEntry) → slice_get site.signals signal.0 ≡ found → (name : List ℕ) × (thing_name site (things.Signal signal) ≡ Some name)
+      by (Some entry) e = (entry.name, ap (option_map (λ (s : SignalEntry). s.name)) e)
+      by None e = absurd (not_past site.signals signal.0 is e)
+  thing-name (things.Route route) is = by (slice_get site.routes route.0) refl
+    where
+      by : (found : Option RouteEntry) → slice_get site.routes route.0 ≡ found → (name : List ℕ) × (thing_name site (things.Route route) ≡ Some name)
+      by (Some entry) e = (entry.name, ap (option_map (λ (r : RouteEntry). r.name)) e)
+      by None e = absurd (not_past site.routes route.0 is e)
+
+  -- its word is read as the thing, with its side where it has one
+  thing-says : (thing : Thing) → HasThing site thing → Says Thing (λ word. one_thing (named site word (thing_side thing))) (name_word site (One thing)) thing
+  thing-says thing is =
+      let found = thing-name thing is in
+      let word : name_word site (One thing) ≡ found.0 = ap (λ f. option_map_or (λ n. n) f (codes "_")) found.1 in
+      record {
+        is_read = ap (λ (n : Option Named). one_thing n) (names.things (One thing) (name_word site (One thing)) (thing_side thing) (record { name = found.1 ∙ ap Some (sym word); at = refl }));
+        is_word = ap (is_without 32) word ∙ names.thing_words (One thing) found.0 found.1;
+      }
+
+  -- a line of two words, for a thing without a side
+  whole-line : (kind : List ℕ) (is_closed : Bool) (thing : Thing) → is_without 32 kind ≡ true → HasThing site thing → thing_side thing ≡ None
+      → ((word : List ℕ) → told_said site (kind ∷ word ∷ []) ≡ told_known (closing site is_closed (word ∷ [])))
+      → told_said site (words (join_with_byte 32 (kind ∷ name_word site (One thing) ∷ []))) ≡ Ok (Tells (known.Closing thing is_closed))
+  whole-line kind is_closed thing is_kind is whole said =
+      let says = thing-says thing is in
+      let word : List ℕ = name_word site (One thing) in
+      let read : closable site word None ≡ Ok thing = ap (λ (s : Option Side). one_thing (named site word s)) (sym whole) ∙ says.is_read in
+      ap (told_said site) (names.joined (kind ∷ word ∷ []) (omega arith) (two kind word is_kind says.is_word))
+      ∙ said word
+      ∙ ap (λ (r : Result Thing Fault). told_known (r >>= (λ (t : Thing). Ok (known.Closing t is_closed)))) read
+
+  -- and of three, for a point at a side
+  sided-line : (kind at : List ℕ) (is_closed : Bool) (point : PointId) (side : Side) → is_without 32 kind ≡ true → is_without 32 at ≡ true → point.0 < length site.points
+      → ((word : List ℕ) → told_said site (kind ∷ word ∷ at ∷ []) ≡ told_known (one_thing (named site word (Some side)) >>= (λ (t : Thing). Ok (known.Closing t is_closed))))
+      → told_said site (words (join_with_byte 32 (kind ∷ name_word site (One (things.Point point side)) ∷ at ∷ []))) ≡ Ok (Tells (known.Closing (things.Point point side) is_closed))
+  sided-line kind at is_closed point side is_kind is_at is said =
+      let says = thing-says (things.Point point side) is in
+      let word : List ℕ = name_word site (One (things.Point point side)) in
+      ap (told_said site) (names.joined (kind ∷ word ∷ at ∷ []) (omega arith) (three kind word at is_kind says.is_word is_at))
+      ∙ said word
+      ∙ ap (λ (r : Result Thing Fault). told_known (r >>= (λ (t : Thing). Ok (known.Closing t is_closed)))) says.is_read
+
+  closing-read : (thing : Thing) (is_closed : Bool) → HasThing site thing → told_said site (words (known_text site (known.Closing thing is_closed))) ≡ Ok (Tells (known.Closing thing is_closed))
+  closing-read (things.Section section) true is = whole-line (codes "closed") true (things.Section section) refl is refl (λ word. refl)
+  closing-read (things.Section section) false is = whole-line (codes "open") false (things.Section section) refl is refl (λ word. refl)
+  closing-read (things.Point point Left) true is = sided-line (codes "closed") (codes "left") true point Left refl refl is (λ word. refl)
+  closing-read (things.Point point Left) false is = sided-line (codes "open") (codes "left") false point Left refl refl is (λ word. refl)
+  closing-read (things.Point point Right) true is = sided-line (codes "closed") (codes "right") true point Right refl refl is (λ word. refl)
+  closing-read (things.Point point Right) false is = sided-line (codes "open") (codes "right") false point Right refl refl is (λ word. refl)
+  closing-read (things.Signal signal) true is = whole-line (codes "closed") true (things.Signal signal) refl is refl (λ word. refl)
+  closing-read (things.Signal signal) false is = whole-line (codes "open") false (things.Signal signal) refl is refl (λ word. refl)
+  closing-read (things.Route route) true is = whole-line (codes "closed") true (things.Route route) refl is refl (λ word. refl)
+  closing-read (things.Route route) false is = whole-line (codes "open") false (things.Route route) refl is refl (λ word. refl)
+
+  -- ---- what was counted
+
+  number-says : (count : ℕ) → count < 2 ^ 64 → Says ℕ decimal (written count) count
+  number-says count is = record { is_read = names.numbers count is; is_word = names.number_words count is }
+
+  counted-line : (kind : List ℕ) (command : Auxiliary) (count : ℕ) → is_without 32 kind ≡ true → count < 2 ^ 64
+      → ((word : List ℕ) → told_said site (codes "counted" ∷ kind ∷ word ∷ []) ≡ told_known (decimal word >>= (λ (n : ℕ). Ok (known.Counted command n))))
+      → told_said site (words (join_with_byte 32 (codes "counted" ∷ kind ∷ written count ∷ []))) ≡ Ok (Tells (known.Counted command count))
+  counted-line kind command count is_kind is said =
+      let says = number-says count is in
+      ap (told_said site) (names.joined (codes "counted" ∷ kind ∷ written count ∷ []) (omega arith) (three (codes "counted") kind (written count) refl is_kind says.is_word))
+      ∙ said (written count)
+      ∙ ap (λ (r : Result ℕ Fault). told_known (r >>= (λ (n : ℕ). Ok (known.Counted command n)))) says.is_read
+
+  counted-read : (command : Auxiliary) (count : ℕ) → count < 2 ^ 64 → told_said site (words (known_text site (known.Counted command count))) ≡ Ok (Tells (known.Counted command count))
+  counted-read auxiliary.Release count is = counted-line (codes "release") auxiliary.Release count refl is (λ word. refl)
+  counted-read auxiliary.Open count is = counted-line (codes "open") auxiliary.Open count refl is (λ word. refl)
+
   -- ---- authority
 
   -- a signal's line, of which the third word is an aspect, and the fourth a route or a hyphen
@@ -200,5 +308,8 @@ module _ (site : Site) (names : Names site) where
   told-read (known.Signal signal authority) is = authority-read signal authority is
   told-read (known.Indicates signal aspect) is = indication-read signal aspect is
   told-read (known.Route route is_set) is = route-read route is_set is
+  told-read (known.Released route) is = released-read route is
+  told-read (known.Closing thing is_closed) is = closing-read thing is_closed is
+  told-read (known.Counted command count) is = counted-read command count is
   told-read known.Holding is = ap (told_said site) (names.joined (codes "holding" ∷ []) (omega arith) refl)
   told-read known.WaitingForResume is = ap (told_said site) (names.joined (codes "waiting" ∷ codes "for" ∷ codes "resume" ∷ []) (omega arith) refl)

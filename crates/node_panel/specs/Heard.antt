@@ -1,5 +1,5 @@
 -- What an interlocking's node has told since its operator's connection began, and what is shown of it.
-use Rattle.std.specs.Prelude.{ℕ, zero, suc, ◌+◌, ◌-◌, ◌&&◌, nat_le, nat_lt, Bool, true, false, if◌then◌else◌, List, [], ◌∷◌, ◌++◌, codes, length, replicate, slice_set, Option, Some, None, Result, Ok, Err}
+use Rattle.std.specs.Prelude.{ℕ, zero, suc, ◌-◌, ◌&&◌, nat_le, Bool, true, false, if◌then◌else◌, List, [], ◌∷◌, ◌++◌, codes, length, replicate, Option, Some, None, Result, Ok, Err}
 use Rattle.std.specs.Str.{bytes_eq}
 use Rattle.panel_desk.specs.declared.panel_line.Mode.{Mode}
 use Rattle.panel_desk.specs.declared.panel_line.Mode.TheVariants as mode
@@ -20,19 +20,24 @@ use Rattle.panel_desk.specs.node_lines.declared.operator_command.OperatorCommand
 use Rattle.panel_desk.specs.node_lines.declared.operator_command.OperatorCommand.TheVariants.{One}
 use Rattle.panel_desk.specs.node_lines.declared.operator_line.Authority.{Authority}
 use Rattle.panel_desk.specs.node_lines.declared.operator_line.Known.{Known}
-use Rattle.panel_desk.specs.node_lines.declared.operator_line.Known.TheVariants.{Link, Section, Point, Signal, Indicates, Route, Holding, WaitingForResume}
+use Rattle.panel_desk.specs.node_lines.declared.operator_line.Known.TheVariants.{Link, Section, Point, Signal, Indicates, Route, Released, Closing, Counted, Holding, WaitingForResume}
 use Rattle.panel_desk.specs.node_lines.declared.operator_line.LinkState.{LinkState}
 use Rattle.panel_desk.specs.node_lines.declared.operator_line.LinkState.TheVariants.{Ready, Lost}
 use Rattle.node_drive.specs.Calls.{LineHeard, Text, Nothing, Closed}
+use Rattle.panel_desk.specs.node_lines.closings.Auxiliaries.{none_counted}
+use Rattle.panel_desk.specs.node_lines.closings.declared.auxiliary.Auxiliary.{Auxiliary}
+use Rattle.panel_desk.specs.node_lines.closings.declared.auxiliary.Auxiliary.TheVariants.{Release, Open}
+use Rattle.panel_desk.specs.node_lines.closings.declared.auxiliary.AuxiliaryCounts.{AuxiliaryCounts}
+use Rattle.node_panel.specs.ClosedHeard.{ClosedView, all_open, closed_lines, each, nothing_closed, put_at, put_closing}
 use Rattle.node_panel.specs.Lines.{told_said}
 use Rattle.node_panel.specs.declared.told.Told.{Told}
 use Rattle.panel_desk.specs.run_numbers.Metrics.{nothing_told, told}
-use Rattle.node_panel.specs.declared.told.Told.TheVariants.{Answer, Counts, Network, Tells}
+use Rattle.node_panel.specs.declared.told.Told.TheVariants.{Answer, Counts, Network, Process, Tells}
 
 pub record HeardView : Type 0 where
   -- the operator's clock, in milliseconds
   pub millis : ℕ
-  -- whether it told anything
+  -- whether it told anything of the station
   pub joined : Bool
   -- what it takes
   pub mode : Mode
@@ -46,6 +51,11 @@ pub record HeardView : Type 0 where
   pub indications : List (Option Aspect)
   -- of each route, whether it is set
   pub routes : List Bool
+  -- of each route, whether it was released in its present setting
+  pub released : List Bool
+  pub closed : ClosedView
+  -- how many auxiliary commands it has accepted
+  pub counts : AuxiliaryCounts
   -- of each controller, whether the first network is lost there, and the second, if that was told
   pub first_lost : List (Option Bool)
   pub second_lost : List (Option Bool)
@@ -68,6 +78,9 @@ unheard site = record {
   authorities = replicate (length site.signals) None;
   indications = replicate (length site.signals) None;
   routes = replicate (length site.routes) false;
+  released = replicate (length site.routes) false;
+  closed = nothing_closed site;
+  counts = none_counted;
   first_lost = replicate (link_count site) None;
   second_lost = replicate (link_count site) None;
   asked = [];
@@ -86,6 +99,9 @@ forgotten heard = record heard {
   authorities = replicate (length heard.authorities) None;
   indications = replicate (length heard.indications) None;
   routes = replicate (length heard.routes) false;
+  released = replicate (length heard.released) false;
+  closed = all_open heard.closed;
+  counts = none_counted;
   first_lost = replicate (length heard.first_lost) None;
   second_lost = replicate (length heard.second_lost) None;
   asked = [];
@@ -95,23 +111,28 @@ forgotten heard = record heard {
 
 -- ---- something is told
 
--- a value is put at a place; nothing is where there is no such place
-abbrev pub put_at : {A : Type 0} → ℕ → A → List A → List A
-put_at place value all = if nat_lt place (length all) then slice_set all place value else all
-
 -- what a controller indicated isn't known any more when its link is lost
 abbrev pub put_link : ℕ → LinkState → HeardView → HeardView
 put_link zero state heard = heard
 put_link (suc place) Ready heard = record heard { links = put_at place true heard.links }
 put_link (suc place) Lost heard = record heard { links = put_at place false heard.links; indications = put_at place None heard.indications }
 
+-- so many auxiliary commands of a kind were accepted
+abbrev pub counts_with : Auxiliary → ℕ → AuxiliaryCounts → AuxiliaryCounts
+counts_with Release count counts = record counts { releases = count }
+counts_with Open count counts = record counts { opens = count }
+
+-- What was told of a release ends with the setting of its route: the route is told as free, and later perhaps as set.
 abbrev pub put : Known → HeardView → HeardView
 put (Link node state) heard = put_link node.0 state heard
 put (Section section occupancy) heard = record heard { sections = put_at section.0 occupancy heard.sections }
 put (Point point side) heard = record heard { points = put_at point.0 side heard.points }
 put (Signal signal authority) heard = record heard { authorities = put_at signal.0 authority heard.authorities }
 put (Indicates signal aspect) heard = record heard { indications = put_at signal.0 (Some aspect) heard.indications }
-put (Route route is_set) heard = record heard { routes = put_at route.0 is_set heard.routes }
+put (Route route is_set) heard = record heard { routes = put_at route.0 is_set heard.routes; released = put_at route.0 false heard.released }
+put (Released route) heard = record heard { released = put_at route.0 true heard.released }
+put (Closing thing is_closed) heard = record heard { closed = put_closing thing is_closed heard.closed }
+put (Counted command count) heard = record heard { counts = counts_with command count heard.counts }
 put Holding heard = record heard { mode = mode.Holding }
 put WaitingForResume heard = record heard { mode = mode.WaitingForResume }
 
@@ -131,12 +152,14 @@ abbrev pub answered_by : List ℕ → List OperatorCommand → HeardView → Hea
 answered_by text [] heard = heard
 answered_by text (command ∷ more) heard = record heard { asked = more; mode = mode_after command text heard.mode }
 
--- a line that says nothing changes nothing
+-- What the process tells of its file says nothing of what the interlocking knows: it stands in the log alone. A line that says nothing
+-- changes nothing.
 abbrev pub told_by : List ℕ → Result Told Fault → HeardView → HeardView
 told_by text (Ok Answer) heard = answered_by text heard.asked heard
 told_by text (Ok (Tells known)) heard = put known (record heard { joined = true })
 told_by text (Ok (Network network node is_lost)) heard = put_network network node.0 is_lost (record heard { joined = true })
 told_by text (Ok (Counts row value)) heard = record heard { numbers = told row value heard.numbers }
+told_by text (Ok (Process closings)) heard = heard
 told_by text (Err fault) heard = heard
 
 -- what is known after the question for a line: what the line told; and nothing where the node has gone
@@ -166,11 +189,6 @@ abbrev pub link_state : Bool → LinkState
 link_state true = Ready
 link_state false = Lost
 
--- a line of each thing in a list, by its place, from one on
-abbrev pub each : {A : Type 0} → (ℕ → A → PanelLine) → ℕ → List A → List PanelLine
-each of place [] = []
-each of place (one ∷ more) = of place one ∷ each of (suc place) more
-
 abbrev pub link_line : ℕ → Bool → PanelLine
 link_line node ready = shows.Known (Link (record { 0 = node }) (link_state ready))
 
@@ -190,6 +208,9 @@ indication_line place None = Silent (record { 0 = place })
 abbrev pub route_line : ℕ → Bool → PanelLine
 route_line place is_set = shows.Known (Route (record { 0 = place }) is_set)
 
+abbrev pub released_line : ℕ → Bool → PanelLine
+released_line place is_released = shows.Released (record { 0 = place }) is_released
+
 abbrev pub network_line : PanelNetwork → ℕ → Option Bool → PanelLine
 network_line network node is_lost = shows.Network network (record { 0 = node }) is_lost
 
@@ -198,4 +219,5 @@ abbrev pub pictured : HeardView → List PanelLine
 pictured heard =
     Time heard.millis ∷ Interlocking heard.mode ∷ link_line 0 heard.joined ∷ (each link_line 1 heard.links ++ (each section_line 0 heard.sections
     ++ (each point_line 0 heard.points ++ (each authority_line 0 heard.authorities ++ (each indication_line 0 heard.indications ++ (each route_line 0 heard.routes
-    ++ (each (network_line A) 1 heard.first_lost ++ each (network_line B) 1 heard.second_lost)))))))
+    ++ (each released_line 0 heard.released ++ (closed_lines heard.closed ++ shows.Counted heard.counts
+    ∷ (each (network_line A) 1 heard.first_lost ++ each (network_line B) 1 heard.second_lost)))))))))

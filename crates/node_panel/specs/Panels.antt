@@ -1,5 +1,5 @@
 -- What comes of a panel of an interlocking's node.
-use Rattle.std.specs.Prelude.{◌≡◌, ◌≤◌, ◌-◌, ◌^◌, ℕ, List, [], ◌∷◌, length, take, codes, Option, Some, unwrap_or}
+use Rattle.std.specs.Prelude.{◌≡◌, ◌≤◌, ◌-◌, ◌^◌, ℕ, List, [], ◌++◌, length, take, codes, Option, Some, unwrap_or}
 use Rattle.std.specs.Io.KnownBytes.{Appends}
 use Rattle.serde_json.specs.Read.{read}
 use Rattle.node_drive.specs.Calls.{Call, Calls, Told}
@@ -8,6 +8,7 @@ use Rattle.panel_desk.specs.declared.desk_opened.PageAsked.{PageAsked}
 use Rattle.panel_desk.specs.node_lines.layout.Entries.{Site}
 use Rattle.panel_desk.specs.run_numbers.Metrics.{nothing_told}
 use Rattle.panel_desk.specs.Lines.{blank}
+use Rattle.panel_desk.specs.StandingOrders.{none_standing, standing_lines}
 use Rattle.panel_desk.specs.State.{about}
 use Rattle.station_check.specs.Failures.{ExplainsTable, Tells as TellsText}
 use Rattle.station_check.specs.Report.{IsSound}
@@ -30,7 +31,7 @@ pub record IsOpened (site : Site) (page : PageAsked) (desk : DeskView) : Type 0 
   pub access : desk.access ≡ access_at page.port desk.access.token
   pub page_is : desk.page ≡ page.page.now
   pub station : read desk.station ≡ Some (about page.kind.now page.layout.now site.station.name page.record.now page.plan.now desk.access.token page.version.now)
-  pub board : desk.board ≡ blank (length (pictured (unheard site)))
+  pub board : desk.board ≡ blank (length (pictured (unheard site) ++ standing_lines (none_standing (length site.routes))))
   pub numbers : desk.numbers ≡ nothing_told
   pub waiting : desk.waiting ≡ []
 
@@ -46,7 +47,7 @@ pub record Stood (site : Site) (page : PageAsked) (until : ℕ) : Type 0 where
   pub calls : List Call
   pub called : Calls told_old told_new calls
   pub last : Moment
-  pub turns : Turns site (record { heard = unheard site; desk = opened }) calls last
+  pub turns : Turns site (record { heard = unheard site; orders = none_standing (length site.routes); desk = opened }) calls last
   pub over : until ≤ told_new.latest
 
 -- ---- why it doesn't

@@ -1,17 +1,17 @@
 //! What was asked for at the desk is asked of the node.
 
-ghost use Rattle.std.specs.Prelude.{◌≡◌, [], ◌∷◌, List, OnOk};
+ghost use Rattle.std.specs.Prelude.{◌≡◌, [], ◌∷◌, List, OnOk, map};
 ghost use Rattle.std.specs.List.{flat_map};
 ghost use Rattle.std.specs.Option.{option_to_list};
 ghost use Rattle.node_drive.specs.Calls.{Call, Calls};
-ghost use Rattle.node_panel.specs.Turns.{AsksEach, AsksNumbers, IsQuestion, IsQuestionIf, asked_by};
+ghost use Rattle.node_panel.specs.Turns.{AsksEach, AsksNumbers, IsQuestion, IsQuestionIf, asked_by, requested};
 ghost use Rattle.panel_desk.specs.Boards.{Notes};
 
 use crate::heard::Heard;
-use crate::hearing::note_command;
+use crate::noted::note_command;
 use node_drive::Outside;
 use panel_desk::node_lines::{CommandText, OperatorCommand};
-use panel_desk::{Desk, Event, Layout, PanelCommand};
+use panel_desk::{Command, Desk, Event, Layout, PanelCommand, RouteId, StandingOrderText};
 use std::alloc::{AllocError, Global};
 
 /// The word by which an operator asks for the numbers.
@@ -47,12 +47,48 @@ fn ask_wanted<O: Outside>(
 {
     match operator_command(command) {
         Some(command) => ask(alloc, layout, outside, command, heard, desk),
-        None => {
-            let reading = heard.millis;
-            let line = format!(in alloc; "{reading} an occupancy or a fault = not taken here")?;
-            desk.note(line.as_str())
-        }
+        None => note_own(alloc, layout, heard.millis, command, desk),
     }
+}
+
+/// Notes what isn't asked of the node: what the panel does by itself, or what isn't taken here.
+fn note_own(
+    alloc: Global,
+    layout: &Layout,
+    reading: u64,
+    command: &PanelCommand,
+    desk: &mut Desk,
+) -> Result<(), AllocError>
+    ensures { OnOk result (Notes desk.old desk.new) }
+{
+    if let PanelCommand::Stand(order) = command {
+        let order = StandingOrderText {
+            layout,
+            order: *order,
+        };
+        let line = format!(in alloc; "{reading} {order} = accepted")?;
+        return desk.note(line.as_str());
+    }
+    let line = format!(in alloc; "{reading} an occupancy or a fault = not taken here")?;
+    desk.note(line.as_str())
+}
+
+/// Asks the node to set routes, one after the other.
+pub(crate) fn ask_routes<O: Outside>(
+    alloc: Global,
+    layout: &Layout,
+    outside: &mut O,
+    routes: &[RouteId],
+    heard: &mut Heard,
+    desk: &mut Desk,
+) -> Result<(), AllocError>
+    ensures { OnOk result ((calls : List Call) × Calls (O.told outside.old) (O.told outside.new) calls × AsksEach layout.now (map requested routes.now) heard.old calls heard.new × Notes desk.old desk.new) }
+{
+    for route in routes {
+        let command = OperatorCommand::One(Command::Request(*route));
+        ask(alloc, layout, outside, command, heard, desk)?;
+    }
+    Ok(())
 }
 
 /// What of a command an interlocking is asked, if anything is.

@@ -1,6 +1,7 @@
 //! What `station panel --node` does.
 
-ghost use Rattle.std.specs.Prelude.{◌≡◌, ◌≤◌, IfOk, OnOk};
+ghost use Rattle.std.specs.Prelude.{◌≡◌, ◌≤◌, IfOk, OnOk, length};
+ghost use Rattle.panel_desk.specs.StandingOrders.{none_standing};
 ghost use Rattle.node_panel.specs.Heard.{unheard};
 ghost use Rattle.node_panel.specs.Panels.{Explained, IsOpened, Stood, until};
 ghost use Rattle.panel_desk.specs.node_lines.layout.Entries.{Site};
@@ -12,7 +13,7 @@ use crate::heard::Heard;
 use crate::stoppable::Stoppable;
 use node_network::{Caller, NodeClock};
 use panel_connections::{Loopback, tell_address};
-use panel_desk::{Checked, Desk, PageAsked, Pictured, open_desk};
+use panel_desk::{Checked, PageAsked, Pictured, StandingOrders, open_desk};
 use run_files::StopFile;
 use station_check::{table_of, tell};
 use std::alloc::Global;
@@ -124,17 +125,21 @@ fn open_room<'a, R: RandomSource>(
     table: &'a Checked,
     page: &PageAsked<'_>,
 ) -> Result<Room<'a>, NodePanelFailure>
-    ensures layout { IfOk result (λ room. room.layout.now ≡ table.now) }
+    ensures table { IfOk result (λ room. room.table.now ≡ table.now) }
     ensures heard { IfOk result (λ room. room.heard ≡ unheard table.now) }
+    ensures orders { IfOk result (λ room. room.orders ≡ none_standing (length table.now.routes)) }
     ensures desk { IfOk result (λ room. IsOpened table.now page.now room.desk) }
 {
     let layout = table.layout();
     let heard = Heard::nothing(alloc, layout)?;
-    let places = heard.picture(alloc)?.len();
-    let desk = open_desk(rt, alloc, table.copy(alloc)?, places, page)?;
+    let orders = StandingOrders::none(alloc, layout.routes().len())?;
+    let mut lines = heard.picture(alloc)?;
+    orders.add_lines(&mut lines)?;
+    let desk = open_desk(rt, alloc, table.copy(alloc)?, lines.len(), page)?;
     Ok(Room {
-        layout,
+        table,
         heard,
+        orders,
         desk,
     })
 }

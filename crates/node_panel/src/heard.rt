@@ -1,11 +1,17 @@
 //! What an interlocking's node has told.
 
 ghost use Rattle.std.specs.Prelude.{◌≡◌, ◌∷◌, ◌++◌, [], IfOk, OnOk, length, replicate};
-ghost use Rattle.node_panel.specs.Heard.{answered_by, forgotten, is_due, mode_after, put, put_at, put_link, put_network, told_by, unheard, wants_numbers};
+ghost use Rattle.node_panel.specs.ClosedHeard.{put_at};
+ghost use Rattle.node_panel.specs.Heard.{answered_by, counts_with, forgotten, is_due, mode_after, put, put_link, put_network, told_by, unheard, wants_numbers};
+ghost use Rattle.node_panel.specs.Noted.{noting_answer, noting_of};
 ghost use Rattle.node_panel.specs.Turns.{begun, questioned_if, timed};
 
+use crate::closed_heard::ClosedHeard;
+use crate::noted::Noting;
 use crate::told::Told;
-use panel_desk::node_lines::{Authority, Known, LinkState, OperatorCommand};
+use panel_desk::node_lines::{
+    Authority, Auxiliary, AuxiliaryCounts, Known, LinkState, OperatorCommand,
+};
 use panel_desk::run_numbers::NumbersTold;
 use panel_desk::{Aspect, Command, Fault, Layout, Mode, Occupancy, PanelNetwork, Side};
 use std::alloc::{AllocError, Global};
@@ -27,6 +33,10 @@ pub struct Heard {
     pub(crate) authorities: Vec<Option<Authority>>,
     pub(crate) indications: Vec<Option<Aspect>>,
     pub(crate) routes: Vec<bool>,
+    /// Of each route, whether it was released in its present setting.
+    pub(crate) released: Vec<bool>,
+    pub(crate) closed: ClosedHeard,
+    pub(crate) counts: AuxiliaryCounts,
     pub(crate) first_lost: Vec<Option<bool>>,
     pub(crate) second_lost: Vec<Option<bool>>,
     pub(crate) asked: Vec<OperatorCommand>,
@@ -40,7 +50,7 @@ impl Model for Heard {
 
     ghost Value = { HeardView };
 
-    ghost view = { λ h. record { millis = h.millis; joined = h.joined; mode = h.mode; links = h.links.items; sections = h.sections.items; points = h.points.items; authorities = h.authorities.items; indications = h.indications.items; routes = h.routes.items; first_lost = h.first_lost.items; second_lost = h.second_lost.items; asked = h.asked.items; numbers = h.numbers; questioned = h.questioned } };
+    ghost view = { λ h. record { millis = h.millis; joined = h.joined; mode = h.mode; links = h.links.items; sections = h.sections.items; points = h.points.items; authorities = h.authorities.items; indications = h.indications.items; routes = h.routes.items; released = h.released.items; closed = h.closed; counts = h.counts; first_lost = h.first_lost.items; second_lost = h.second_lost.items; asked = h.asked.items; numbers = h.numbers; questioned = h.questioned } };
 }
 
 impl Heard {
@@ -60,6 +70,9 @@ impl Heard {
             authorities: vec![in alloc; None; signals]?,
             indications: vec![in alloc; None; signals]?,
             routes: vec![in alloc; false; layout.routes().len()]?,
+            released: vec![in alloc; false; layout.routes().len()]?,
+            closed: ClosedHeard::nothing(alloc, layout)?,
+            counts: AuxiliaryCounts::none(),
             first_lost: vec![in alloc; None; layout.links()]?,
             second_lost: vec![in alloc; None; layout.links()]?,
             asked: Vec::new(alloc),
@@ -80,6 +93,9 @@ impl Heard {
         put_all(&mut self.authorities, None);
         put_all(&mut self.indications, None);
         put_all(&mut self.routes, false);
+        put_all(&mut self.released, false);
+        self.closed.forget();
+        self.counts = AuxiliaryCounts::none();
         put_all(&mut self.first_lost, None);
         put_all(&mut self.second_lost, None);
         self.asked.clear();
@@ -121,16 +137,17 @@ impl Heard {
         }
     }
 
-    /// A line tells something. It answers the command to which it is the answer, if it is one.
-    pub(crate) fn hear(&mut self, told: Result<Told, Fault>, text: &str) -> Option<OperatorCommand>
-        ensures { self.new ≡ told_by text.now told self.old }
+    /// A line tells something. It answers what of it is noted.
+    pub(crate) fn hear(&mut self, told: Result<Told, Fault>, text: &str) -> Noting
+        ensures heard { self.new ≡ told_by text.now told self.old }
+        ensures noting { result ≡ noting_of told self.old.asked }
     {
         match told {
             Ok(Told::Answer) => self.answer(text),
             Ok(Told::Tells(known)) => {
                 self.joined = true;
                 self.put(known);
-                None
+                Noting::Nothing
             }
             Ok(
                 Told::Network {
@@ -141,26 +158,28 @@ impl Heard {
             ) => {
                 self.joined = true;
                 self.put_network(network, node.0, is_lost);
-                None
+                Noting::Nothing
             }
             Ok(Told::Counts(row, value)) => {
                 self.numbers.tell(row, value);
-                None
+                Noting::Nothing
             }
-            Err(_) => None,
+            Ok(Told::Process(_)) => Noting::Line,
+            Err(_) => Noting::Nothing,
         }
     }
 
-    /// The oldest command is answered.
-    fn answer(&mut self, text: &str) -> Option<OperatorCommand>
-        ensures { self.new ≡ answered_by text.now self.old.asked self.old }
+    /// The oldest command is answered, if one was asked.
+    fn answer(&mut self, text: &str) -> Noting
+        ensures heard { self.new ≡ answered_by text.now self.old.asked self.old }
+        ensures noting { result ≡ noting_answer self.old.asked }
     {
         if self.asked.is_empty() {
-            return None;
+            return Noting::Nothing;
         }
         let command = self.asked.remove(0);
         self.mode = mode_after(command, text, self.mode);
-        Some(command)
+        Noting::Answer(command)
     }
 
     /// What is known of one thing is told.
@@ -179,7 +198,17 @@ impl Heard {
             Known::Indicates { signal, aspect } => {
                 put_at(&mut self.indications, signal.0, Some(aspect));
             }
-            Known::Route { route, is_set } => put_at(&mut self.routes, route.0, is_set),
+            Known::Route { route, is_set } => {
+                put_at(&mut self.routes, route.0, is_set);
+                put_at(&mut self.released, route.0, false);
+            }
+            Known::Released { route } => put_at(&mut self.released, route.0, true),
+            Known::Closing { thing, is_closed } => self.closed.put(thing, is_closed),
+            Known::Counted { command, count } => self.counts = counts_with(
+                self.counts,
+                command,
+                count,
+            ),
             Known::Holding => self.mode = Mode::Holding,
             Known::WaitingForResume => self.mode = Mode::WaitingForResume,
         }
@@ -215,6 +244,22 @@ impl Heard {
     }
 }
 
+/// The counts, of which this is told of a kind.
+fn counts_with(counts: AuxiliaryCounts, command: Auxiliary, count: u64) -> AuxiliaryCounts
+    ensures { result ≡ counts_with command count counts }
+{
+    match command {
+        Auxiliary::Release => AuxiliaryCounts {
+            releases: count,
+            opens: counts.opens,
+        },
+        Auxiliary::Open => AuxiliaryCounts {
+            releases: counts.releases,
+            opens: count,
+        },
+    }
+}
+
 /// Whether 10 s have passed since a question, if there was one.
 fn is_due(questioned: Option<u64>, millis: u64) -> bool
     ensures { result ≡ is_due questioned millis }
@@ -236,7 +281,7 @@ fn mode_after(command: OperatorCommand, text: &str, before: Mode) -> Mode
 }
 
 /// Puts a value at each place.
-fn put_all<T: Copy>(all: &mut [T], value: T)
+pub(crate) fn put_all<T: Copy>(all: &mut [T], value: T)
     ensures { all.new ≡ replicate (length all.old) value }
 {
     for place in 0..all.len() {
@@ -245,7 +290,7 @@ fn put_all<T: Copy>(all: &mut [T], value: T)
 }
 
 /// Puts a value at a place; nothing where there is no such place.
-fn put_at<T: Copy>(all: &mut [T], place: usize, value: T)
+pub(crate) fn put_at<T: Copy>(all: &mut [T], place: usize, value: T)
     ensures { all.new ≡ put_at place value all.old }
 {
     if place < all.len() {

@@ -3,19 +3,19 @@
 ghost use Rattle.std.specs.Prelude.{◌≡◌, [], ◌∷◌, List, map, IfOk, OnOk};
 ghost use Rattle.node_drive.specs.Calls.{AsksLine, Calls, LineHeard, Text};
 ghost use Rattle.node_panel.specs.Heard.{heard_all, heard_by};
-ghost use Rattle.panel_desk.specs.Boards.{Notes};
+ghost use Rattle.node_panel.specs.Noted.{noted_all, noted_by};
 
 use crate::heard::Heard;
+use crate::noted::note_as;
 use crate::told::read_told;
 use node_drive::{NextLine, Outside};
-use panel_desk::node_lines::{CommandText, OperatorCommand};
 use panel_desk::{Desk, Layout};
 use std::alloc::{AllocError, Global};
 
 /// How many lines a turn takes at most: those of a node at every limit, of which all is told at once.
 const MOST_LINES: usize = 1024;
 
-/// Hears the lines that have come. Answers are noted.
+/// Hears the lines that have come. Answers are noted, and what the process tells of its file.
 pub(crate) fn hear_lines<O: Outside>(
     alloc: Global,
     layout: &Layout,
@@ -24,7 +24,7 @@ pub(crate) fn hear_lines<O: Outside>(
     heard: &mut Heard,
     desk: &mut Desk,
 ) -> Result<(), AllocError>
-    ensures { OnOk result ((lines : List LineHeard) × Calls (O.told outside.old) (O.told outside.new) (map AsksLine lines) × (heard.new ≡ heard_all layout.now lines heard.old) × Notes desk.old desk.new) }
+    ensures { OnOk result ((lines : List LineHeard) × Calls (O.told outside.old) (O.told outside.new) (map AsksLine lines) × (heard.new ≡ heard_all layout.now lines heard.old) × (desk.new ≡ noted_all layout.now reading lines heard.old desk.old)) }
 {
     for _ in 0..MOST_LINES {
         if !hear_next(alloc, layout, outside, reading, heard, desk)? {
@@ -43,7 +43,7 @@ fn hear_next<O: Outside>(
     heard: &mut Heard,
     desk: &mut Desk,
 ) -> Result<bool, AllocError>
-    ensures { OnOk result ((line : LineHeard) × Calls (O.told outside.old) (O.told outside.new) (AsksLine line ∷ []) × (heard.new ≡ heard_by layout.now line heard.old) × Notes desk.old desk.new) }
+    ensures { OnOk result ((line : LineHeard) × Calls (O.told outside.old) (O.told outside.new) (AsksLine line ∷ []) × (heard.new ≡ heard_by layout.now line heard.old) × (desk.new ≡ noted_by layout.now reading line heard.old desk.old)) }
 {
     let line = outside.next_line(alloc)?;
     match line {
@@ -59,7 +59,7 @@ fn hear_next<O: Outside>(
     }
 }
 
-/// Hears a line. An answer is noted with its command.
+/// Hears a line. An answer is noted with its command, and what the process tells of its file as it came.
 fn hear_text(
     alloc: Global,
     layout: &Layout,
@@ -69,41 +69,8 @@ fn hear_text(
     desk: &mut Desk,
 ) -> Result<(), AllocError>
     ensures heard { heard.new ≡ heard_by layout.now (Text text.now) heard.old }
-    ensures notes { OnOk result (Notes desk.old desk.new) }
+    ensures noted { OnOk result (desk.new ≡ noted_by layout.now reading (Text text.now) heard.old desk.old) }
 {
-    let answered = heard.hear(read_told(layout, text), text);
-    note_answer(alloc, layout, reading, answered, text, desk)
-}
-
-/// Notes the answer to a command, if there is one.
-fn note_answer(
-    alloc: Global,
-    layout: &Layout,
-    reading: u64,
-    command: Option<OperatorCommand>,
-    answer: &str,
-    desk: &mut Desk,
-) -> Result<(), AllocError>
-    ensures { OnOk result (Notes desk.old desk.new) }
-{
-    match command {
-        Some(command) => note_command(alloc, layout, reading, command, answer, desk),
-        None => Ok(()),
-    }
-}
-
-/// Notes a command with its answer.
-pub(crate) fn note_command(
-    alloc: Global,
-    layout: &Layout,
-    reading: u64,
-    command: OperatorCommand,
-    answer: &str,
-    desk: &mut Desk,
-) -> Result<(), AllocError>
-    ensures { OnOk result (Notes desk.old desk.new) }
-{
-    let command = CommandText { layout, command };
-    let line = format!(in alloc; "{reading} {command} = {answer}")?;
-    desk.note(line.as_str())
+    let noting = heard.hear(read_told(layout, text), text);
+    note_as(alloc, layout, reading, noting, text, desk)
 }

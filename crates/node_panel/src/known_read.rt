@@ -1,12 +1,13 @@
 //! What an interlocking knows, read from the words of a line.
 
-ghost use Rattle.std.specs.Prelude.{◌≡◌};
-ghost use Rattle.node_panel.specs.Lines.{authority_said, holding, indicates, known_route, known_said, link, link_said, or_unknown, point, route, route_of, route_state_said, section, signal, signal_named, waiting};
+ghost use Rattle.std.specs.Prelude.{◌≡◌, ◌∷◌};
+ghost use Rattle.node_panel.specs.Lines.{authority_said, auxiliary_said, closable, closing, counted, holding, indicates, known_route, known_said, link, link_said, one_thing, or_unknown, point, route, route_of, route_said, route_state_said, section, side_named, signal, signal_named, waiting, word_there};
 
-use panel_desk::node_lines::{Authority, Known, LinkState};
+use panel_desk::node_lines::ixl_spec::side_said;
+use panel_desk::node_lines::{Authority, Auxiliary, Known, LinkState};
 use panel_desk::{
-    Aspect, Fault, Layout, Node, Occupancy, RouteId, Side, SignalId, Words, node_named,
-    point_named, route_named, section_named,
+    Aspect, Fault, Layout, Named, Node, Occupancy, RouteId, Side, SignalId, Thing, Words, decimal,
+    node_named, point_named, route_named, section_named,
 };
 
 /// What an interlocking knows by the words of a line, or their lowest fault.
@@ -14,14 +15,27 @@ pub(crate) fn read_known(layout: &Layout, mut words: Words<'_>) -> Result<Known,
     ensures { result ≡ known_said layout.now words.entry }
 {
     match words.next() {
-        Some("link") => link(layout, words),
-        Some("section") => section(layout, words),
-        Some("point") => point(layout, words),
-        Some("signal") => signal(layout, words),
-        Some("indicates") => indicates(layout, words),
-        Some("route") => route(layout, words),
-        Some("holding") => holding(words),
-        Some("waiting") => waiting(words),
+        Some(first) => known_said(layout, first, words),
+        None => Err(Fault::Words),
+    }
+}
+
+/// What it knows by the first word of a line and those after it.
+fn known_said(layout: &Layout, first: &str, words: Words<'_>) -> Result<Known, Fault>
+    ensures { result ≡ known_said layout.now (first.now ∷ words.entry) }
+{
+    match first {
+        "link" => link(layout, words),
+        "section" => section(layout, words),
+        "point" => point(layout, words),
+        "signal" => signal(layout, words),
+        "indicates" => indicates(layout, words),
+        "route" => route(layout, words),
+        "closed" => closing(layout, true, words),
+        "open" => closing(layout, false, words),
+        "counted" => counted(words),
+        "holding" => holding(words),
+        "waiting" => waiting(words),
         _ => Err(Fault::Words),
     }
 }
@@ -93,8 +107,82 @@ fn route(layout: &Layout, mut words: Words<'_>) -> Result<Known, Fault>
         return Err(Fault::Words);
     };
     let route = known_route(layout, name)?;
+    route_said(route, word)
+}
+
+/// What a word tells of a route.
+fn route_said(route: RouteId, word: &str) -> Result<Known, Fault>
+    ensures { result ≡ route_said route word.now }
+{
+    if word == "released" {
+        return Ok(Known::Released { route });
+    }
     let is_set = route_state_said(word)?;
     Ok(Known::Route { route, is_set })
+}
+
+/// What is closed, or isn't: a name, and of a point its side.
+fn closing(layout: &Layout, is_closed: bool, mut words: Words<'_>) -> Result<Known, Fault>
+    ensures { result ≡ closing layout.now is_closed words.entry }
+{
+    let (Some(name), side, None) = (words.next(), words.next(), words.next()) else {
+        return Err(Fault::Words);
+    };
+    let thing = closable(layout, name, side)?;
+    Ok(Known::Closing { thing, is_closed })
+}
+
+/// The thing of a name, a point at the side that a word says.
+fn closable(layout: &Layout, name: &str, side: Option<&str>) -> Result<Thing, Fault>
+    ensures { result ≡ closable layout.now name.now (word_there side.entry) }
+{
+    let side = side_named(side)?;
+    one_thing(Named::of(layout, name, side))
+}
+
+/// What is named is one thing.
+fn one_thing(named: Option<Named>) -> Result<Thing, Fault>
+    ensures { result ≡ one_thing named }
+{
+    match named {
+        Some(Named::One(thing)) => Ok(thing),
+        _ => Err(Fault::Name),
+    }
+}
+
+/// The side that a word says, if there is a word.
+fn side_named(word: Option<&str>) -> Result<Option<Side>, Fault>
+    ensures { result ≡ side_named (word_there word.entry) }
+{
+    let Some(word) = word else {
+        return Ok(None);
+    };
+    match side_said(word) {
+        Some(side) => Ok(Some(side)),
+        None => Err(Fault::Words),
+    }
+}
+
+/// How many auxiliary commands of a kind were accepted.
+fn counted(mut words: Words<'_>) -> Result<Known, Fault>
+    ensures { result ≡ counted words.entry }
+{
+    let (Some(word), Some(number), None) = (words.next(), words.next(), words.next()) else {
+        return Err(Fault::Words);
+    };
+    let command = auxiliary_said(word)?;
+    let count = decimal(number)?;
+    Ok(Known::Counted { command, count })
+}
+
+fn auxiliary_said(word: &str) -> Result<Auxiliary, Fault>
+    ensures { result ≡ auxiliary_said word.now }
+{
+    match word {
+        "release" => Ok(Auxiliary::Release),
+        "open" => Ok(Auxiliary::Open),
+        _ => Err(Fault::Words),
+    }
 }
 
 fn holding(mut words: Words<'_>) -> Result<Known, Fault>

@@ -1,17 +1,21 @@
 //! What an interlocking tells is heard.
 
-ghost use Rattle.std.specs.Prelude.{◌≡◌, ◌<◌, ◌^◌, ℕ, Ok};
+ghost use Rattle.std.specs.Prelude.{◌≡◌, ◌<◌, ◌^◌, ℕ, List, Ok, length, true};
 ghost use Rattle.panel_desk.specs.node_lines.layout.Entries.{Site};
 ghost use Rattle.panel_desk.specs.node_lines.layout.Once.{Once};
 ghost use Rattle.panel_desk.specs.node_lines.layout.Station.{IsStation};
 ghost use Rattle.panel_desk.specs.node_lines.replay_words.Cut.{words};
+ghost use Rattle.panel_desk.specs.node_lines.replay_words.Words.{are_words};
 ghost use Rattle.panel_desk.specs.node_lines.Known.{known_text};
 ghost use Rattle.panel_desk.specs.node_lines.declared.operator_line.Known.{Known as Thing};
-ghost use Rattle.node_panel.specs.Lines.{IsOf, told_said};
+ghost use Rattle.node_panel.specs.Lines.{IsOf, closings_lost, closings_not_kept, told_said};
 ghost use Rattle.panel_desk.specs.run_numbers.Lines.{number_text};
 ghost use Rattle.panel_desk.specs.run_numbers.declared.row.Row.{Row as Number};
-ghost use Rattle.node_panel.specs.declared.told.Told.TheVariants.{Counts, Tells};
+ghost use Rattle.node_panel.specs.declared.told.ClosingsTold.TheVariants.{Lost, NotKept};
+ghost use Rattle.node_panel.specs.declared.told.Told.TheVariants.{Counts, Process, Tells};
 
+use panel_desk::node_lines::closings::a_name_names_what_has_it;
+use panel_desk::node_lines::replay_words::a_number_is_read_again;
 use panel_desk::run_numbers::numbers_are_read_again;
 use panel_desk::{joined_words_are_read_again, names_are_read_again, names_are_words};
 
@@ -22,6 +26,8 @@ pub fn lines_are_read_again()
     joined_words_are_read_again();
     names_are_read_again();
     names_are_words();
+    a_name_names_what_has_it();
+    a_number_is_read_again();
 }
 
 /// The line of a number is heard as this number of this row.
@@ -29,4 +35,12 @@ pub fn numbers_are_heard()
     ensures { (site : Site) (row : Number) (value : ℕ) → value < 2 ^ 64 → told_said site (words (number_text row value)) ≡ Ok (Counts row value) }
 {
     numbers_are_read_again();
+}
+
+/// What the process of an interlocking writes of its file of closings is heard as this, whatever the cause of a loss is.
+pub fn closings_of_the_process_are_heard()
+    ensures lost { (site : Site) (cause : List (List ℕ)) → 0 < length cause → are_words cause ≡ true → told_said site (words (closings_lost cause)) ≡ Ok (Process Lost) }
+    ensures not_kept { (site : Site) → told_said site (words closings_not_kept) ≡ Ok (Process NotKept) }
+{
+    joined_words_are_read_again();
 }

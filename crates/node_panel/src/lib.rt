@@ -4,12 +4,14 @@
 
 mod asking;
 mod attendance;
+mod closed_heard;
 mod command;
 mod failure;
 mod heard;
 mod hearing;
 mod known_read;
 mod laws;
+mod noted;
 mod pictured;
 mod stoppable;
 mod told;
@@ -17,5 +19,5 @@ mod told;
 pub use attendance::{Room, attend_node};
 pub use command::{NodePanelOptions, panel_of_node};
 pub use heard::Heard;
-pub use laws::{lines_are_read_again, numbers_are_heard};
-pub use told::{Told, read_told};
+pub use laws::{closings_of_the_process_are_heard, lines_are_read_again, numbers_are_heard};
+pub use told::{ClosingsTold, Told, read_told};

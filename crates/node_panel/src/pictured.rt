@@ -1,7 +1,8 @@
 //! The picture of what an interlocking's node has told.
 
-ghost use Rattle.std.specs.Prelude.{◌≡◌, ◌++◌, IfOk, OnOk};
-ghost use Rattle.node_panel.specs.Heard.{authority_line, each, indication_line, link_line, link_state, network_line, pictured, point_line, route_line, section_line};
+ghost use Rattle.std.specs.Prelude.{◌≡◌, ◌++◌, OnOk};
+ghost use Rattle.node_panel.specs.ClosedHeard.{each};
+ghost use Rattle.node_panel.specs.Heard.{authority_line, indication_line, link_line, network_line, pictured, point_line, released_line, route_line, section_line};
 
 use crate::heard::Heard;
 use panel_desk::node_lines::{Authority, Known, LinkState};
@@ -28,6 +29,9 @@ impl Pictured for Heard {
         add_authorities(&mut lines, &self.authorities)?;
         add_indications(&mut lines, &self.indications)?;
         add_routes(&mut lines, &self.routes)?;
+        add_released(&mut lines, &self.released)?;
+        self.closed.add_lines(&mut lines)?;
+        lines.push(PanelLine::Counted(self.counts))?;
         add_networks(&mut lines, PanelNetwork::A, &self.first_lost)?;
         add_networks(&mut lines, PanelNetwork::B, &self.second_lost)?;
         Ok(lines)
@@ -131,6 +135,18 @@ fn add_routes(lines: &mut Vec<PanelLine>, routes: &[bool]) -> Result<(), AllocEr
             route: RouteId(place),
             is_set: *is_set,
         }))?;
+    }
+    Ok(())
+}
+
+fn add_released(lines: &mut Vec<PanelLine>, released: &[bool]) -> Result<(), AllocError>
+    ensures { OnOk result (lines.new.items ≡ lines.old.items ++ each released_line 0 released.now) }
+{
+    for (place, is_released) in released.iter().enumerate() {
+        lines.push(PanelLine::Released {
+            route: RouteId(place),
+            is_released: *is_released,
+        })?;
     }
     Ok(())
 }

@@ -2,7 +2,7 @@
 
 ghost use Rattle.std.specs.Prelude.{◌≡◌, ◌≤◌};
 
-use node_drive::{BrokenOff, Fault, NextDatagram, NextLine, NodeId, Outside, ThrownAway};
+use node_drive::{BrokenOff, Fault, NextDatagram, NextLine, NodeId, Outside, ThrownAway, ToKeep};
 use run_files::StopFile;
 use std::alloc::{AllocError, Global};
 use std::fs::Files;
@@ -84,5 +84,9 @@ impl<'a, O: Outside, R: Files> Outside for Stoppable<'a, O, R> {
 
     fn complain(&mut self, line: u64, fault: Fault) {
         self.outside.complain(line, fault);
+    }
+
+    fn keep(&mut self, all: ToKeep) -> bool {
+        self.outside.keep(all)
     }
 }

@@ -2,12 +2,21 @@
 
 ghost use Rattle.std.specs.Prelude.{◌≡◌};
 ghost use Rattle.panel_desk.specs.node_lines.replay_words.Cut.{words};
-ghost use Rattle.node_panel.specs.Lines.{is_answer, lost_said, network_named, network_told, told_known, told_number, told_said};
+ghost use Rattle.node_panel.specs.Lines.{closings_told, is_answer, lost_said, network_named, network_told, told_known, told_number, told_said};
 
 use crate::known_read::read_known;
 use panel_desk::node_lines::Known;
 use panel_desk::run_numbers::{Row, read_number};
 use panel_desk::{Fault, Layout, NodeId, PanelNetwork, Words, node_named};
+
+/// What the process of an interlocking tells of the file in which it keeps what is closed.
+#[derive(Clone, Copy)]
+pub enum ClosingsTold {
+    /// The file couldn't be taken at its word, so all track is closed.
+    Lost,
+    /// The file lacks what was closed or opened last.
+    NotKept,
+}
 
 /// What a line of an interlocking's node tells its operator.
 #[derive(Clone, Copy)]
@@ -24,6 +33,8 @@ pub enum Told {
     },
     /// A number of the node or of its process.
     Counts(Row, u64),
+    /// What its process tells of the file of closings.
+    Process(ClosingsTold),
 }
 
 /// What a line tells, or the lowest fault of its words.
@@ -35,6 +46,7 @@ pub fn read_told(layout: &Layout, line: &str) -> Result<Told, Fault>
         Some(first) if is_answer(first) => Ok(Told::Answer),
         Some("network") => network_told(layout, words),
         Some("number") => told_number(read_number(line)),
+        Some("closings") => closings_told(words),
         Some(_) => told_known(read_known(layout, Words::of(line))),
         None => Err(Fault::Words),
     }
@@ -44,7 +56,7 @@ pub fn read_told(layout: &Layout, line: &str) -> Result<Told, Fault>
 fn is_answer(word: &str) -> bool
     ensures { result ≡ is_answer word.now }
 {
-    word == "accepted" || word == "refused"
+    word == "accepted" || word == "refused" || word == "not"
 }
 
 fn told_number(said: Result<(Row, u64), Fault>) -> Result<Told, Fault>
@@ -58,6 +70,17 @@ fn told_known(said: Result<Known, Fault>) -> Result<Told, Fault>
     ensures { result ≡ told_known said }
 {
     Ok(Told::Tells(said?))
+}
+
+/// What a line of the process tells of the file of closings, after its first word. The cause of a loss is told in its own words.
+fn closings_told(mut words: Words<'_>) -> Result<Told, Fault>
+    ensures { result ≡ closings_told words.entry }
+{
+    match (words.next(), words.next(), words.next()) {
+        (Some("lost:"), Some(_), _) => Ok(Told::Process(ClosingsTold::Lost)),
+        (Some("not"), Some("kept"), None) => Ok(Told::Process(ClosingsTold::NotKept)),
+        _ => Err(Fault::Words),
+    }
 }
 
 /// What a line tells of a network, after its first word.

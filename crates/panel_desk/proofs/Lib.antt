@@ -5,3 +5,10 @@ pub mod WorkedRequests
 pub mod Commands
 pub mod Texts
 pub mod Pictures
+pub mod Waits
+pub mod Tries
+pub mod LeftAlone
+pub mod InTheWay
+pub mod TriesEach
+pub mod FlagRows
+pub mod Judged

@@ -1,6 +1,6 @@
 -- What an operator asks for at a panel, a line each:
 --
---     set ROUTE, cancel ROUTE, resume     as in a script
+--     set ROUTE, cancel ROUTE, resume     as in a script; also release, move, close, open
 --     occupy SECTION, clear SECTION
 --     restart NODE CLOCK SN
 --     cancel all         each route of the table, whatever a route is called
@@ -10,19 +10,22 @@
 --     delay MS           datagrams come so much late, up to 2000
 --     jam POINT          the point doesn't reach an end position
 --     unjam POINT        it does again
-use Rattle.std.specs.Prelude.{ℕ, nat_le, if◌then◌else◌, List, [], ◌∷◌, codes, Result, Ok, Err}
+--     automatic ROUTE, queue ROUTE, manual ROUTE     what the panel does by itself (`StandingOrders`)
+use Rattle.std.specs.Prelude.{ℕ, nat_le, nat_lt, if◌then◌else◌, List, [], ◌∷◌, codes, length, Result, Ok, Err}
 use Rattle.std.specs.Str.{bytes_eq}
 use Rattle.node_lines.specs.replay_words.declared.fault.Fault.{Fault}
-use Rattle.node_lines.specs.replay_words.declared.fault.Fault.TheVariants.{Words, Number}
+use Rattle.node_lines.specs.replay_words.declared.fault.Fault.TheVariants.{Name, Words, Number}
 use Rattle.node_lines.specs.replay_words.Fault.{◌>>=◌}
 use Rattle.node_lines.specs.replay_words.Read.{decimal}
 use Rattle.node_lines.specs.layout.Entries.{Site}
 use Rattle.node_lines.specs.ixl_spec.rasta_core.time.TheConstants.{LIFETIME}
-use Rattle.node_lines.specs.replay_lines.Names.{node_named, point_named}
+use Rattle.node_lines.specs.replay_lines.Names.{node_named, point_named, route_named}
 use Rattle.node_lines.specs.replay_lines.Scripted.{script_event}
 use Rattle.panel_desk.specs.declared.panel_command.Disturbance.TheVariants.{Cut, Mend, Drop, Delay, Jam, Unjam}
 use Rattle.panel_desk.specs.declared.panel_command.PanelCommand.{PanelCommand}
-use Rattle.panel_desk.specs.declared.panel_command.PanelCommand.TheVariants.{Event, CancelAll, Disturb}
+use Rattle.panel_desk.specs.declared.panel_command.PanelCommand.TheVariants.{Event, CancelAll, Disturb, Stand}
+use Rattle.panel_desk.specs.declared.standing_order.StandingOrder.TheVariants.{Automatic, Queue, Manual}
+use Rattle.node_lines.specs.layout.declared.ids.RouteId.{RouteId}
 
 -- ---- by the words after the first
 
@@ -68,6 +71,26 @@ unjam site (word ∷ []) = do
   Ok (Disturb (Unjam point))
 unjam site other = Err Words
 
+-- the route of the table that a word names
+abbrev pub route_there : Site → List (List ℕ) → Result RouteId Fault
+route_there site (word ∷ []) = if nat_lt (route_named site word).0 (length site.routes) then Ok (route_named site word) else Err Name
+route_there site other = Err Words
+
+abbrev pub automatic : Site → List (List ℕ) → Result PanelCommand Fault
+automatic site words = do
+  route ← route_there site words
+  Ok (Stand (Automatic route))
+
+abbrev pub queue : Site → List (List ℕ) → Result PanelCommand Fault
+queue site words = do
+  route ← route_there site words
+  Ok (Stand (Queue route))
+
+abbrev pub manual : Site → List (List ℕ) → Result PanelCommand Fault
+manual site words = do
+  route ← route_there site words
+  Ok (Stand (Manual route))
+
 -- ---- by all words
 
 -- the event that they say in a script
@@ -91,6 +114,9 @@ said_by site words first rest =
     else if bytes_eq first (codes "delay") then delay rest
     else if bytes_eq first (codes "jam") then jam site rest
     else if bytes_eq first (codes "unjam") then unjam site rest
+    else if bytes_eq first (codes "automatic") then automatic site rest
+    else if bytes_eq first (codes "queue") then queue site rest
+    else if bytes_eq first (codes "manual") then manual site rest
     else event site words
 
 -- what words ask for, or their lowest fault

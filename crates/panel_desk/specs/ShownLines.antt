@@ -9,6 +9,11 @@
 --     lies POINT left|right|none             with `driven left` or `driven right` after it, if it is
 --     stands SECTION clear|occupied
 --     locked SECTION ROUTE                   for which route; a hyphen for none
+--     released ROUTE yes|no                  whether it was released in its present setting
+--     closed-section SECTION yes|no, closed-left POINT .., closed-right POINT .., closed-signal SIGNAL .., closed-route ROUTE ..
+--     counted RELEASES OPENS                 how many auxiliary commands were accepted
+--     automatic ROUTE yes|no
+--     waits ROUTE N                          its place among those that wait until they are set; a hyphen for none
 --     cut NODE yes|no
 --     network-a NODE lost|back, network-b .. nothing until it was lost for the first time
 --     jam POINT yes|no
@@ -20,15 +25,21 @@ use Rattle.node_lines.specs.layout.declared.ids.RouteId.{RouteId}
 use Rattle.node_lines.specs.sci_telegram.Words.{aspect_word, occupancy_word, position_word}
 use Rattle.node_lines.specs.sci_telegram.declared.message.Side.{Side}
 use Rattle.node_lines.specs.sci_telegram.declared.message.Side.TheVariants.{Left, Right}
+use Rattle.node_lines.specs.closings.Words.{name_word}
+use Rattle.node_lines.specs.closings.declared.thing.Named.TheVariants.{One}
+use Rattle.node_lines.specs.closings.declared.thing.Thing.{Thing}
+use Rattle.node_lines.specs.closings.declared.thing.Thing.TheVariants as thing
 use Rattle.node_lines.specs.simulator_event.layout.declared.ids.NodeId.{NodeId}
 use Rattle.node_lines.specs.replay_lines.Names.{point_word, route_word, section_word}
 use Rattle.node_lines.specs.Known.{known_text, node_word, signal_word}
 use Rattle.panel_desk.specs.declared.panel_command.Disturbance.{Disturbance}
 use Rattle.panel_desk.specs.declared.panel_command.Disturbance.TheVariants as asked
+use Rattle.panel_desk.specs.declared.standing_order.StandingOrder.{StandingOrder}
+use Rattle.panel_desk.specs.declared.standing_order.StandingOrder.TheVariants as order
 use Rattle.panel_desk.specs.declared.panel_line.Mode.{Mode}
 use Rattle.panel_desk.specs.declared.panel_line.Mode.TheVariants.{Ready, Holding, WaitingForResume}
 use Rattle.panel_desk.specs.declared.panel_line.PanelLine.{PanelLine}
-use Rattle.panel_desk.specs.declared.panel_line.PanelLine.TheVariants.{Time, Interlocking, Known, Shows, Silent, Lies, Stands, Locked, Cut, Network, Jam, Drop, Delay, Memory}
+use Rattle.panel_desk.specs.declared.panel_line.PanelLine.TheVariants.{Time, Interlocking, Known, Shows, Silent, Lies, Stands, Locked, Released, Closed, Counted, Automatic, Waits, Cut, Network, Jam, Drop, Delay, Memory}
 use Rattle.panel_desk.specs.declared.panel_line.PanelNetwork.{PanelNetwork}
 use Rattle.panel_desk.specs.declared.panel_line.PanelNetwork.TheVariants.{A, B}
 
@@ -60,7 +71,27 @@ abbrev pub route_or_none : Site → Option RouteId → List ℕ
 route_or_none site (Some route) = route_word site route
 route_or_none site None = codes "-"
 
+-- what kind of thing is closed; a point has a word for each side
+abbrev pub closing_kind : Thing → List ℕ
+closing_kind (thing.Section section) = codes "section"
+closing_kind (thing.Point point Left) = codes "left"
+closing_kind (thing.Point point Right) = codes "right"
+closing_kind (thing.Signal signal) = codes "signal"
+closing_kind (thing.Route route) = codes "route"
+
 -- ---- lines
+
+abbrev pub place_word : Option ℕ → List ℕ
+place_word (Some place) = decimal place
+place_word None = codes "-"
+
+-- what is told of a route, and of what is closed
+abbrev pub route_text : Site → PanelLine → List ℕ
+route_text site (Released route is_released) = codes "released " ++ (route_word site route ++ 32 ∷ yes_or_no is_released)
+route_text site (Closed thing is_closed) = codes "closed-" ++ (closing_kind thing ++ 32 ∷ (name_word site (One thing) ++ 32 ∷ yes_or_no is_closed))
+route_text site (Automatic route is_automatic) = codes "automatic " ++ (route_word site route ++ 32 ∷ yes_or_no is_automatic)
+route_text site (Waits route place) = codes "waits " ++ (route_word site route ++ 32 ∷ place_word place)
+route_text site other = []
 
 abbrev pub cut_text : Site → NodeId → Bool → List ℕ
 cut_text site node is_cut = codes "cut " ++ (node_word site node ++ 32 ∷ yes_or_no is_cut)
@@ -79,12 +110,13 @@ thing_text site (Locked section route) = codes "locked " ++ (section_word site s
 thing_text site (Cut node is_cut) = cut_text site node is_cut
 thing_text site (Network network node is_lost) = network_text site network node is_lost
 thing_text site (Jam point is_jammed) = codes "jam " ++ (point_word site point ++ 32 ∷ yes_or_no is_jammed)
-thing_text site other = []
+thing_text site other = route_text site other
 
 abbrev pub panel_text : Site → PanelLine → List ℕ
 panel_text site (Time millis) = codes "time " ++ decimal millis
 panel_text site (Interlocking mode) = codes "ixl " ++ mode_word mode
 panel_text site (Known known) = known_text site known
+panel_text site (Counted counts) = codes "counted " ++ (decimal counts.releases ++ 32 ∷ decimal counts.opens)
 panel_text site (Drop one_in) = codes "drop " ++ decimal one_in
 panel_text site (Delay millis) = codes "delay " ++ decimal millis
 panel_text site (Memory bytes limit) = codes "memory " ++ (decimal bytes ++ 32 ∷ decimal limit)
@@ -98,3 +130,9 @@ disturbance_text site (asked.Drop one_in) = codes "drop " ++ decimal one_in
 disturbance_text site (asked.Delay millis) = codes "delay " ++ decimal millis
 disturbance_text site (asked.Jam point) = codes "jam " ++ point_word site point
 disturbance_text site (asked.Unjam point) = codes "unjam " ++ point_word site point
+
+-- the line that asks for a standing order
+abbrev pub order_text : Site → StandingOrder → List ℕ
+order_text site (order.Automatic route) = codes "automatic " ++ route_word site route
+order_text site (order.Queue route) = codes "queue " ++ route_word site route
+order_text site (order.Manual route) = codes "manual " ++ route_word site route

@@ -2,11 +2,13 @@
 
 ghost use Rattle.std.specs.Prelude.{◌≡◌};
 ghost use Rattle.node_lines.specs.replay_words.Cut.{words};
-ghost use Rattle.panel_desk.specs.CommandLines.{cancel, cut, delay, dropped, event, jam, mend, panel_said, unjam, up_to};
+ghost use Rattle.panel_desk.specs.CommandLines.{automatic, cancel, cut, delay, dropped, event, jam, manual, mend, panel_said, queue, route_there, said_by, unjam, up_to};
 
 use crate::panel_command::{Disturbance, PanelCommand};
+use crate::standing_order::StandingOrder;
 use node_lines::{
-    Fault, LIFETIME, Layout, Words, decimal, node_named, point_named, read_script_event,
+    Fault, LIFETIME, Layout, RouteId, Words, decimal, node_named, point_named, read_script_event,
+    route_named,
 };
 
 /// What a line asks for, or the lowest fault of its words.
@@ -15,14 +17,32 @@ pub fn read_panel_command(layout: &Layout, line: &str) -> Result<PanelCommand, F
 {
     let mut rest = Words::of(line);
     match rest.next() {
-        Some("cancel") => cancel(layout, Words::of(line), rest),
-        Some("cut") => cut(layout, rest),
-        Some("mend") => mend(layout, rest),
-        Some("drop") => dropped(rest),
-        Some("delay") => delay(rest),
-        Some("jam") => jam(layout, rest),
-        Some("unjam") => unjam(layout, rest),
-        _ => event(layout, Words::of(line)),
+        Some(first) => said_by(layout, Words::of(line), first, rest),
+        None => event(layout, Words::of(line)),
+    }
+}
+
+/// What all words ask for, by the first and those after it.
+fn said_by(
+    layout: &Layout,
+    whole: Words<'_>,
+    first: &str,
+    rest: Words<'_>,
+) -> Result<PanelCommand, Fault>
+    ensures { result ≡ said_by layout.now whole.entry first.now rest.entry }
+{
+    match first {
+        "cancel" => cancel(layout, whole, rest),
+        "cut" => cut(layout, rest),
+        "mend" => mend(layout, rest),
+        "drop" => dropped(rest),
+        "delay" => delay(rest),
+        "jam" => jam(layout, rest),
+        "unjam" => unjam(layout, rest),
+        "automatic" => automatic(layout, rest),
+        "queue" => queue(layout, rest),
+        "manual" => manual(layout, rest),
+        _ => event(layout, whole),
     }
 }
 
@@ -112,4 +132,40 @@ fn unjam(layout: &Layout, mut words: Words<'_>) -> Result<PanelCommand, Fault>
     };
     let point = point_named(layout, point)?;
     Ok(PanelCommand::Disturb(Disturbance::Unjam(point)))
+}
+
+/// The route of the table that words name, and nothing more.
+fn route_there(layout: &Layout, mut words: Words<'_>) -> Result<RouteId, Fault>
+    ensures { result ≡ route_there layout.now words.entry }
+{
+    let (Some(route), None) = (words.next(), words.next()) else {
+        return Err(Fault::Words);
+    };
+    let route = route_named(layout, route);
+    if route.0 < layout.routes().len() {
+        Ok(route)
+    } else {
+        Err(Fault::Name)
+    }
+}
+
+fn automatic(layout: &Layout, words: Words<'_>) -> Result<PanelCommand, Fault>
+    ensures { result ≡ automatic layout.now words.entry }
+{
+    let route = route_there(layout, words)?;
+    Ok(PanelCommand::Stand(StandingOrder::Automatic(route)))
+}
+
+fn queue(layout: &Layout, words: Words<'_>) -> Result<PanelCommand, Fault>
+    ensures { result ≡ queue layout.now words.entry }
+{
+    let route = route_there(layout, words)?;
+    Ok(PanelCommand::Stand(StandingOrder::Queue(route)))
+}
+
+fn manual(layout: &Layout, words: Words<'_>) -> Result<PanelCommand, Fault>
+    ensures { result ≡ manual layout.now words.entry }
+{
+    let route = route_there(layout, words)?;
+    Ok(PanelCommand::Stand(StandingOrder::Manual(route)))
 }

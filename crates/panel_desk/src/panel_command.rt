@@ -2,6 +2,7 @@
 
 ghost use Rattle.std.specs.Prelude.{◌≡◌};
 
+use crate::standing_order::StandingOrder;
 use node_lines::replay_lines::point_word;
 use node_lines::{Event, Layout, NodeId, PointId};
 use std::fmt;
@@ -32,6 +33,8 @@ pub enum PanelCommand {
     CancelAll,
     /// To disturb the station.
     Disturb(Disturbance),
+    /// That the panel does something by itself from now on.
+    Stand(StandingOrder),
 }
 
 // Written by hand, so that it is proved and compiled here alone.
@@ -41,6 +44,7 @@ impl Drop for PanelCommand {
             Self::Event(_) => {}
             Self::CancelAll => {}
             Self::Disturb(_) => {}
+            Self::Stand(_) => {}
         }
     }
 }

@@ -4,12 +4,12 @@ ghost use Rattle.std.specs.Prelude.{◌≡◌};
 ghost use Rattle.panel_desk.specs.ShownLines.{route_or_none};
 
 use crate::word_table::{
-    driven_words, lost_word, mode_word, network_letter, signal_word, yes_or_no,
+    closing_kind, driven_words, lost_word, mode_word, network_letter, signal_word, yes_or_no,
 };
 use node_lines::replay_lines::{point_word, route_word, section_word};
 use node_lines::{
-    Aspect, Known, Layout, NodeId, Occupancy, OperatorLine, OperatorText, PointId, Position,
-    RouteId, SectionId, Side, SignalId,
+    Aspect, AuxiliaryCounts, Known, Layout, Named, NodeId, Occupancy, OperatorLine, OperatorText,
+    PointId, Position, RouteId, SectionId, Side, SignalId, Thing,
 };
 use std::fmt;
 
@@ -67,6 +67,28 @@ pub enum PanelLine {
         section: SectionId,
         route: Option<RouteId>,
     },
+    /// Whether a route was released in its present setting.
+    Released {
+        route: RouteId,
+        is_released: bool,
+    },
+    /// Whether a thing is closed.
+    Closed {
+        thing: Thing,
+        is_closed: bool,
+    },
+    /// How many auxiliary commands were accepted.
+    Counted(AuxiliaryCounts),
+    /// Whether a route is automatic.
+    Automatic {
+        route: RouteId,
+        is_automatic: bool,
+    },
+    /// The place of a route among those that wait until they are set, if it does.
+    Waits {
+        route: RouteId,
+        place: Option<usize>,
+    },
     /// Whether what goes to a node and comes from it is lost.
     Cut {
         node: NodeId,
@@ -123,6 +145,10 @@ impl<'a> fmt::Display for PanelText<'a> {
                 let line = OperatorLine::Known(known);
                 let known = OperatorText { layout, line };
                 write!(f, "{known}")
+            }
+            PanelLine::Counted(counts) => {
+                let AuxiliaryCounts { releases, opens } = counts;
+                write!(f, "counted {releases} {opens}")
             }
             PanelLine::Drop { one_in } => write!(f, "drop {one_in}"),
             PanelLine::Delay { millis } => write!(f, "delay {millis}"),
@@ -205,6 +231,60 @@ impl<'a> fmt::Display for ThingText<'a> {
                 let point = point_word(layout, point);
                 let word = yes_or_no(is_jammed);
                 write!(f, "jam {point} {word}")
+            }
+            line => {
+                let order = RouteText { layout, line };
+                write!(f, "{order}")
+            }
+        }
+    }
+}
+
+/// What is told of a route, and of what is closed.
+#[derive(Clone, Copy)]
+struct RouteText<'a> {
+    layout: &'a Layout,
+    line: PanelLine,
+}
+
+impl<'a> fmt::Display for RouteText<'a> {
+    ghost use Rattle.std.specs.Prelude.{Some};
+    ghost use Rattle.panel_desk.specs.ShownLines.{route_text};
+
+    ghost output = { λ text. Some (route_text text.layout.now text.line) };
+
+    fn fmt<W: fmt::Write>(&self, f: &mut fmt::Formatter<W>) -> fmt::Result {
+        let layout = self.layout;
+        match self.line {
+            PanelLine::Released { route, is_released } => {
+                let route = route_word(layout, route);
+                let word = yes_or_no(is_released);
+                write!(f, "released {route} {word}")
+            }
+            PanelLine::Closed { thing, is_closed } => {
+                let kind = closing_kind(thing);
+                let name = Named::One(thing).name_word(layout);
+                let word = yes_or_no(is_closed);
+                write!(f, "closed-{kind} {name} {word}")
+            }
+            PanelLine::Automatic {
+                route,
+                is_automatic,
+            } => {
+                let route = route_word(layout, route);
+                let word = yes_or_no(is_automatic);
+                write!(f, "automatic {route} {word}")
+            }
+            PanelLine::Waits {
+                route,
+                place: Some(place),
+            } => {
+                let route = route_word(layout, route);
+                write!(f, "waits {route} {place}")
+            }
+            PanelLine::Waits { route, place: None } => {
+                let route = route_word(layout, route);
+                write!(f, "waits {route} -")
             }
             _ => Ok(()),
         }

@@ -2,10 +2,10 @@
 
 ghost use Rattle.std.specs.Prelude.{◌≡◌};
 ghost use Rattle.node_lines.specs.Known.{signal_word};
-ghost use Rattle.panel_desk.specs.ShownLines.{driven_words, lost_word, mode_word, network_letter, yes_or_no};
+ghost use Rattle.panel_desk.specs.ShownLines.{closing_kind, driven_words, lost_word, mode_word, network_letter, yes_or_no};
 
 use crate::panel_line::{Mode, PanelNetwork};
-use node_lines::{Layout, Side, SignalId};
+use node_lines::{Layout, Side, SignalId, Thing};
 
 /// What stands after the position of a point that is driven.
 pub(crate) fn driven_words(driven: Option<Side>) -> &'static str
@@ -47,6 +47,19 @@ pub(crate) fn yes_or_no(is_so: bool) -> &'static str
     ensures { result.now ≡ yes_or_no is_so }
 {
     if is_so { "yes" } else { "no" }
+}
+
+/// What kind of thing is closed; a point has a word for each side.
+pub(crate) fn closing_kind(thing: Thing) -> &'static str
+    ensures { result.now ≡ closing_kind thing }
+{
+    match thing {
+        Thing::Section(_) => "section",
+        Thing::Point(_, Side::Left) => "left",
+        Thing::Point(_, Side::Right) => "right",
+        Thing::Signal(_) => "signal",
+        Thing::Route(_) => "route",
+    }
 }
 
 /// The word that stands for a signal: its name, or `_` where the layout lacks it.

@@ -30,6 +30,11 @@ header .p-right{margin-left:auto;display:flex;gap:14px;align-items:center;font-v
 #p-mode[data-mode=resume]{background:#fff;outline:2px dashed #f7d36b}
 #p-mode[data-mode=gone]{background:#000;color:#fff;outline:2px solid #fff}
 #p-resume{background:#f7d36b;font-weight:600}
+#p-closings{min-width:0;overflow:hidden;text-overflow:ellipsis;white-space:nowrap;padding:1px 8px;border-radius:3px;background:#fff3e6;color:#111;border:2px solid #c25700;font-weight:600}
+#p-counts{white-space:nowrap;margin-left:auto;font-weight:400}
+.p-box h2 #p-counts+kbd{margin-left:0}
+header h1,#p-mode,header>button,.p-right{flex:none}
+header>#p-closings{flex:0 1 auto}
 #p-plan{position:relative;min-height:0;background:#fff;border-bottom:1px solid #b6c1c9;overflow:auto hidden}
 #p-plan>svg{display:block;width:100%;height:100%}
 .p-gone #p-plan,.p-gone main{opacity:.45;filter:grayscale(1)}
@@ -39,15 +44,16 @@ header .p-right{margin-left:auto;display:flex;gap:14px;align-items:center;font-v
 #p-word[data-kind=refused]{background:#2b2b2b;color:#fff}
 #p-word[data-kind=refused] b::before{content:"\2716  "}
 #p-word[data-kind=refused] .p-hint{color:#cdd}
-main{display:grid;grid-template-columns:minmax(180px,.8fr) minmax(330px,1.25fr) minmax(236px,.9fr) minmax(320px,1.4fr);gap:8px;padding:8px;min-height:0}
+main{display:grid;grid-template-columns:minmax(232px,1.05fr) minmax(238px,1fr) minmax(256px,1.05fr) minmax(212px,.8fr) minmax(250px,1.2fr);gap:6px;padding:6px;min-height:0}
 section.p-box{display:flex;flex-direction:column;min-height:0;min-width:0;background:#fff;border:1px solid #b6c1c9;border-radius:4px}
-.p-box h2{font-size:12px;margin:0;padding:3px 8px;background:#dfe7ec;display:flex;gap:6px;align-items:center;border-radius:4px 4px 0 0}
+.p-box h2{white-space:nowrap;font-size:12px;margin:0;padding:3px 8px;background:#dfe7ec;display:flex;gap:6px;align-items:center;border-radius:4px 4px 0 0}
 .p-box h2 kbd,.p-box h2 .p-push{margin-left:auto}
 .p-rows{overflow:auto;padding:4px 8px;flex:1;min-height:0}
 .p-row{display:flex;gap:5px;align-items:center;margin-bottom:4px}
 .p-row label{display:flex;gap:5px;align-items:center;white-space:nowrap}
 .p-row .p-wide{flex:1;min-width:0}
-.p-row input[type=number]{width:70px}
+.p-row input[type=number]{width:58px}
+.p-row:has(.p-now){flex-wrap:wrap}
 .p-now{color:#4a5b68;white-space:nowrap}
 ul.p-list{list-style:none;margin:0;padding:0}
 ul.p-list li{display:flex;gap:5px;align-items:center;padding:1px 0;flex-wrap:wrap}
@@ -58,6 +64,19 @@ ul.p-list .p-grow{flex:1;min-width:0;overflow:hidden;text-overflow:ellipsis;whit
 .p-route[aria-pressed=true]{border-color:#14682e;border-width:1px 1px 1px 6px;font-weight:600}
 .p-route.p-can{border-color:#0b5fd0;border-style:dashed}
 .p-route.p-cause{outline:3px dashed #b5009b}
+.p-route.p-closed{border-style:double;border-width:3px;border-color:#c25700;text-decoration:line-through}
+.p-small{padding:0 4px;min-width:24px}
+.p-small[aria-pressed=true]{background:#0b5fd0;color:#fff;border-color:#0b5fd0;font-weight:600}
+.p-small[aria-pressed=true]:hover:enabled{background:#0a4fae}
+.p-closed-sign{color:#c25700;font-weight:700}
+ul.p-list li.p-head{font-weight:600;color:#4a5b68;padding-top:4px}
+#p-trains select{flex:1;min-width:74px}
+#p-trains .p-grow{order:1;flex:1 0 40%;color:#4a5b68}
+#p-trains .p-why{order:2;flex:1 1 50%;padding-left:0}
+#p-sure p{max-width:52ch;margin:6px 0}
+#p-sure .p-row{justify-content:flex-end;margin:12px 0 0;gap:10px}
+#p-sure-yes{background:#c25700;color:#fff;border-color:#8a3e00;font-weight:600}
+#p-sure-yes:hover:enabled{background:#8a3e00}
 .p-none{color:#4a5b68;margin:4px 0}
 #p-log{font:12px/1.4 ui-monospace,monospace;overflow-wrap:anywhere}
 #p-log div{display:flex;gap:8px}
@@ -97,6 +116,15 @@ dialog td:first-child{white-space:nowrap}
 #p-plan .slow .bar.of-slow{stroke:#111}
 #p-plan .sign{display:none;fill:#b5009b;font-weight:bold}
 #p-plan .lost .sign.of-lost,#p-plan .stuck .sign.of-stuck,#p-plan .unlike .sign.of-unlike,#p-plan .network-a .sign.of-network-a,#p-plan .network-b .sign.of-network-b{display:inline}
+#p-plan .sign.of-closed{fill:#c25700}
+#p-plan .closed .sign.of-closed{display:inline}
+#p-plan .fence,#p-plan .cross{visibility:hidden;pointer-events:none}
+#p-plan .fence.outer{stroke:#c25700;stroke-width:17}
+#p-plan .fence.inner{stroke:#fff;stroke-width:13}
+#p-plan .fence.bars{stroke:#c25700;stroke-width:13;stroke-dasharray:1.8 2.6}
+#p-plan .cross{stroke:#c25700;stroke-width:2}
+#p-plan .closed .fence,#p-plan .closed .cross{visibility:visible}
+#p-plan .point{cursor:pointer}
 #p-plan .train{pointer-events:none}
 #p-plan .train rect{fill:#111;stroke:#fff;stroke-width:1}
 #p-plan .train text{font-weight:700;font-size:8.5px;fill:#fff}
@@ -106,7 +134,8 @@ dialog td:first-child{white-space:nowrap}
 #p-plan .cause .name,#p-plan .cause .label{fill:#b5009b;text-decoration:underline}
 @keyframes p-blink{50%{opacity:.3}}
 @media (prefers-reduced-motion:reduce){#p-plan *{animation:none!important;transition:none!important}}
-@media (min-width:1600px){body{font-size:15px}.p-box h2{font-size:14px}#p-log{font-size:14px}main{grid-template-columns:minmax(240px,.8fr) minmax(400px,1.1fr) minmax(300px,.9fr) minmax(420px,1.4fr)}}
+@media (max-width:1500px){#p-record{display:none}}
+@media (min-width:1600px){body{font-size:15px}.p-box h2{font-size:14px}#p-log{font-size:14px}main{grid-template-columns:minmax(330px,1fr) minmax(270px,.8fr) minmax(350px,1fr) minmax(270px,.75fr) minmax(400px,1.3fr)}}
 </style>
 </head>
 <body>
@@ -114,13 +143,18 @@ dialog td:first-child{white-space:nowrap}
   <h1 id="p-name">…</h1>
   <span id="p-mode" role="status">no answer yet</span>
   <button id="p-resume" hidden title="it can't be taken back but by a restart">Resume <kbd>r</kbd></button>
-  <button id="p-cancel-all">Cancel all <kbd>x</kbd></button>
+  <button id="p-closings" hidden></button>
+  <button id="p-cancel-all" title="each route, and what is set by itself">Cancel all <kbd>x</kbd></button>
   <span class="p-right"><span id="p-links"></span><span id="p-memory" title="what the datagrams take that were sent; at the limit the panel stops"></span><span id="p-record"></span><b id="p-time"></b><button id="p-help">Keys and signs <kbd>?</kbd></button></span>
 </header>
 <div id="p-plan" role="group" aria-label="track plan"></div>
 <div id="p-word" aria-live="assertive"><b id="p-said"></b><span class="p-hint" id="p-hint"></span></div>
 <main>
   <section class="p-box" aria-label="routes"><h2>Routes<kbd>/</kbd></h2><div class="p-rows"><ul class="p-list" id="p-routes"></ul></div></section>
+  <section class="p-box" aria-label="by hand" id="p-hand-box"><h2>By hand<span id="p-counts" title="auxiliary commands that were accepted: each is counted"></span><kbd>h</kbd></h2><div class="p-rows">
+    <div class="p-row"><select id="p-thing" class="p-wide" aria-label="thing to close"></select><button id="p-close">Close</button></div>
+    <div class="p-row"><select id="p-moved" class="p-wide" aria-label="point to move"></select><button id="p-move-left">Left</button><button id="p-move-right">Right</button></div>
+    <ul class="p-list" id="p-standing"></ul></div></section>
   <section class="p-box" aria-label="trains" id="p-trains-box"><h2>Trains<kbd>t</kbd></h2><div class="p-rows">
     <div class="p-row"><select id="p-place" class="p-wide" aria-label="where a train is put"></select><button id="p-put">Put a train</button></div>
     <ul class="p-list" id="p-trains"></ul>
@@ -136,6 +170,12 @@ dialog td:first-child{white-space:nowrap}
     <section class="p-box" aria-label="strip chart"><h2>Last three minutes</h2><div class="p-rows" style="padding:0;overflow:hidden"><canvas id="p-chart" role="img" aria-label="what was seen in the last three minutes"></canvas></div></section>
   </div>
 </main>
+<dialog id="p-sure" aria-labelledby="p-sure-head">
+  <h2 id="p-sure-head"></h2>
+  <p id="p-sure-text"></p>
+  <p id="p-sure-count"></p>
+  <form method="dialog" class="p-row"><button id="p-sure-no" value="no" autofocus></button><button id="p-sure-yes" value="yes"></button></form>
+</dialog>
 <dialog id="p-keys">
   <h2>Keys and signs</h2>
   <div class="p-two">
@@ -143,8 +183,10 @@ dialog td:first-child{white-space:nowrap}
     <tr><td><kbd>p</kbd></td><td>to the plan; arrows go from one signal, border or section to the next, <kbd>Enter</kbd> clicks</td></tr>
     <tr><td><kbd>Esc</kbd></td><td>leaves the entry signal that was chosen</td></tr>
     <tr><td><kbd>/</kbd></td><td>to the routes; arrows, or letters with Shift; <kbd>Enter</kbd> sets or cancels</td></tr>
+    <tr><td><kbd>a</kbd> <kbd>w</kbd></td><td>in the list of routes: the route is automatic, or not; it waits, or not</td></tr>
     <tr><td><kbd>x</kbd></td><td>cancels every route, from wherever you are</td></tr>
     <tr><td><kbd>r</kbd></td><td>resume, when the interlocking waits for it</td></tr>
+    <tr><td><kbd>h</kbd></td><td>to what is done by hand; <kbd>Shift</kbd> and a click on a section, a point or a signal takes it there</td></tr>
     <tr><td><kbd>t</kbd> <kbd>s</kbd></td><td>to the trains; steps the first one</td></tr>
     <tr><td><kbd>f</kbd> <kbd>l</kbd></td><td>to the faults; to the log</td></tr>
     <tr><td><kbd>?</kbd></td><td>this</td></tr>
@@ -311,6 +353,13 @@ const aspect = name => first("shows", name) || (first("link", name) === "ready" 
 const occupancy = name => first("stands", name) || first("section", name);
 // What the interlocking knows of a section: what is told of that, or what its detector tells as long as its link is up.
 const reported = name => first("section", name) || (first("link", layout.detectorOf.get(name)) === "ready" ? first("stands", name) : "unknown");
+// What is closed is told of each thing: of a point at each side.
+const isClosed = (kind, name) => first("closed-" + kind, name) === "yes";
+const SIDES = ["left", "right"];
+const closedSides = name => SIDES.filter(side => isClosed(side, name));
+const isAutomatic = name => first("automatic", name) === "yes";
+const waitsAt = name => +first("waits", name) || 0;
+const isReleased = name => first("released", name) === "yes";
 const authority = name => { const said = words("signal", name); return said[0] === "stop" || said.length < 2 ? null : said[1]; };
 const isWorld = () => station.kind === "world";
 // A panel of a node that doesn't answer: nothing is known then.
@@ -368,7 +417,7 @@ function drawPlan() {
   fitPlan(plan);
   for (const name of layout.signals.keys()) markSignal(name);
   for (const name of layout.borders) markTarget("border", name, boxOf(group("border", name), ".arrow,.name"));
-  for (const name of layout.points) markSigns("point", name);
+  for (const name of layout.points) markPoint(name);
   for (const name of layout.sections) markSection(name);
   const leader = plan.querySelector("[tabindex]");
   if (leader) leader.setAttribute("tabindex", "0");
@@ -399,7 +448,7 @@ function markTarget(kind, name, box) {
   const of = group(kind, name);
   if (!of) return null;
   of.prepend(element(of, "rect", {class: "hit", x: box.x - 2.5, y: box.y - 2.5, width: box.width + 5, height: box.height + 5, rx: 3}));
-  makeButton(of, () => clickTarget(kind, name));
+  makeButton(of, key => key?.shiftKey && kind === "signal" ? pick(name) : clickTarget(kind, name));
   of.setAttribute("aria-label", kind + " " + name);
   markSigns(kind, name);
   return of;
@@ -413,13 +462,36 @@ function makeButton(of, does) {
     if (key.key !== "Enter" && key.key !== " ") return;
     key.preventDefault();
     key.stopPropagation();
-    does();
+    does(key);
   });
 }
 
 function markSection(name) {
   const of = group("section", name);
-  if (of && isWorld()) makeButton(of, () => clickSection(name));
+  if (!of) return;
+  fence(of, ".band", ["inner", "outer"]);
+  for (const label of of.querySelectorAll(".label")) element(label, "tspan", {class: "sign of-closed"}, "\u22a0");
+  if (isWorld()) makeButton(of, key => key?.shiftKey ? pick(name) : clickSection(name));
+  else of.addEventListener("click", key => { if (key.shiftKey) pick(name); });
+}
+
+function markPoint(name) {
+  markSigns("point", name);
+  for (const side of SIDES) fence(group(side, name), ".rail", ["bars"]);
+  group("point", name)?.addEventListener("click", () => pick(name));
+}
+
+// A closed section stands between two lines along its track: two copies of each piece, below it, of which the inner one leaves the edges
+// of the outer. A closed leg of a point has bars across it.
+function fence(of, piece, copies) {
+  const pieces = [...of?.querySelectorAll(piece) || []];
+  for (const word of copies) {
+    for (const one of pieces) {
+      const copy = one.cloneNode();
+      copy.setAttribute("class", "fence " + word);
+      of.prepend(copy);
+    }
+  }
 }
 
 // A lit lamp has a bar beside its colour: level for stop, upright for proceed, oblique ones in both lamps for slow.
@@ -428,9 +500,11 @@ function markSignal(name) {
   if (!of) return;
   const near = of.querySelector(".lamp.near"), distant = of.querySelector(".lamp.distant");
   const [one, other] = [near, distant].map(lamp => ({x: +lamp.getAttribute("cx"), y: +lamp.getAttribute("cy"), r: +lamp.getAttribute("r") - 1}));
-  markTarget("signal", name, boxOf(of, ".mast,.lamp"));
+  const box = boxOf(of, ".mast,.lamp");
+  markTarget("signal", name, box);
   element(of, "line", {class: "bar of-stop", x1: one.x - one.r, y1: one.y, x2: one.x + one.r, y2: one.y});
   element(of, "line", {class: "bar of-proceed", x1: other.x, y1: other.y - other.r, x2: other.x, y2: other.y + other.r});
+  for (const [from, to] of [[0, 1], [1, 0]]) element(of, "line", {class: "cross", x1: box.x, y1: box.y + from * box.height, x2: box.x + box.width, y2: box.y + to * box.height});
   for (const {x, y, r} of [one, other]) element(of, "line", {class: "bar of-slow", x1: x - r / 1.5, y1: y + r / 1.5, x2: x + r / 1.5, y2: y - r / 1.5});
 }
 
@@ -443,6 +517,7 @@ function markSigns(kind, name) {
   element(label, "tspan", {class: "sign of-unlike"}, "\u2260");
   element(label, "tspan", {class: "sign of-network-a"}, "\u24b6");
   element(label, "tspan", {class: "sign of-network-b"}, "\u24b7");
+  if (kind !== "border") element(label, "tspan", {class: "sign of-closed"}, "\u22a0");
 }
 
 function setClasses(of, all, now) {
@@ -465,8 +540,9 @@ function paintSignal(name) {
   of?.classList.toggle("unlike", !isWorld() && !["", "unknown"].includes(indicated) && given !== indicated);
   of?.classList.toggle("lost", first("link", name) === "lost");
   paintNetworks(of, name);
+  of?.classList.toggle("closed", isClosed("signal", name));
   const silent = NETWORKS.filter(network => isSilent(network, name)).map(network => ", network " + network.toUpperCase() + " is lost");
-  of?.setAttribute("aria-label", "signal " + name + " shows " + aspect(name) + (way === null ? "" : ", route " + way) + (first("link", name) === "lost" ? ", its link is down" : "") + silent.join(""));
+  of?.setAttribute("aria-label", "signal " + name + " shows " + aspect(name) + (way === null ? "" : ", route " + way) + (first("link", name) === "lost" ? ", its link is down" : "") + (isClosed("signal", name) ? ", closed" : "") + silent.join(""));
 }
 
 function paintPoint(name) {
@@ -478,13 +554,16 @@ function paintPoint(name) {
   group("point", name)?.classList.toggle("lost", first("link", name) === "lost");
   paintNetworks(group("point", name), name);
   group("point", name)?.classList.toggle("stuck", first("jam", name) === "yes");
+  for (const side of SIDES) group(side, name)?.classList.toggle("closed", isClosed(side, name));
+  group("point", name)?.classList.toggle("closed", closedSides(name).length > 0);
 }
 
 function paintSection(name) {
   const of = group("section", name);
   setClasses(of, ["occupied", "clear"], [occupancy(name)]);
   of?.classList.toggle("unknown", reported(name) === "unknown");
-  of?.setAttribute("aria-label", "section " + name + " " + occupancy(name));
+  of?.classList.toggle("closed", isClosed("section", name));
+  of?.setAttribute("aria-label", "section " + name + " " + occupancy(name) + (isClosed("section", name) ? ", closed" : ""));
 }
 
 // A route is drawn set over the elements whose sections it still locks: what a train has freed isn't drawn.
@@ -509,7 +588,9 @@ const isExit = (one, kind, name) => one.kind === kind ? one.exit === name : kind
 // Whether a route could be set, as far as the page sees it. The interlocking decides.
 function isPossible(one) {
   if (first("ixl", "") !== "ready" || held(one.name) || first("link", one.entry) === "lost") return false;
-  if (one.sections.some(section => reported(section) !== "clear")) return false;
+  if (one.sections.some(section => reported(section) !== "clear" || isClosed("section", section))) return false;
+  if (isClosed("route", one.name) || isClosed("signal", one.entry)) return false;
+  if (Object.entries(one.points).some(([point, side]) => isClosed(side, point))) return false;
   if (Object.keys(one.points).some(point => first("link", point) === "lost")) return false;
   return !layout.routes.some(other => held(other.name) && inTheWay(other, one));
 }
@@ -587,17 +668,136 @@ function drawRoutes() {
   for (const one of layout.routes) {
     const ends = html("span", {className: "p-ends", textContent: one.entry + " \u2192 " + one.exit});
     const button = html("button", {className: "p-route", id: "p-route-" + one.name, onclick: () => clickRoute(one.name)}, html("span", {}), html("span", {textContent: one.name}), ends);
-    by("p-routes").append(html("li", {}, button));
+    const small = (id, does) => html("button", {className: "p-small", id: id + one.name, onclick: does});
+    by("p-routes").append(html("li", {}, button, small("p-release-", () => release(one.name)), small("p-wait-", () => toggleWait(one.name)), small("p-automatic-", () => toggleAutomatic(one.name))));
   }
+}
+
+// What a route is, as a sign and in words.
+function stateOf(one) {
+  if (!held(one.name)) return ["\u25a1", "free: a click sets"];
+  if (isReleased(one.name)) return ["\u25d4", "set, and released: it is freed 120 s after that"];
+  return authority(one.entry) === one.name ? ["\u25b6", "set, with authority: a click cancels"] : ["\u25a3", "set, without authority: a click cancels"];
 }
 
 function paintList() {
   for (const one of layout.routes) {
-    const button = by("p-route-" + one.name), lit = held(one.name) && authority(one.entry) === one.name;
+    const button = by("p-route-" + one.name), [sign, text] = stateOf(one), closed = isClosed("route", one.name);
     button.setAttribute("aria-pressed", held(one.name));
-    button.children[0].textContent = lit ? "\u25b6" : held(one.name) ? "\u25a3" : "\u25a1";
-    button.title = one.name + ", " + one.entry + " \u2192 " + one.exit + ": " + (held(one.name) ? (lit ? "set, with authority: a click cancels" : "set, without authority: a click cancels") : "free: a click sets");
+    button.classList.toggle("p-closed", closed);
+    button.children[0].textContent = closed ? "\u22a0" : sign;
+    button.title = one.name + ", " + one.entry + " \u2192 " + one.exit + ": " + text + (closed ? "; closed" : "");
+    paintSmall("p-release-" + one.name, "\u23cf", "release " + one.name + ": it is cancelled first", false, !held(one.name) || authority(one.entry) === one.name || isReleased(one.name));
+    const place = waitsAt(one.name);
+    paintSmall("p-wait-" + one.name, place ? String(place) : "\u2026", place ? one.name + " waits at place " + place + ": a click ends that" : one.name + " waits until it can be set", place > 0, held(one.name));
+    paintSmall("p-automatic-" + one.name, "\u21bb", isAutomatic(one.name) ? one.name + " is set again and again: a click ends that" : "set " + one.name + " again whenever a train has passed", isAutomatic(one.name), false);
   }
+}
+
+function paintSmall(id, text, title, pressed, hidden) {
+  const button = by(id);
+  button.textContent = text;
+  button.title = title;
+  button.setAttribute("aria-label", title);
+  button.setAttribute("aria-pressed", pressed);
+  button.hidden = hidden;
+}
+
+function toggleAutomatic(name) {
+  command((isAutomatic(name) ? "manual " : "automatic ") + name);
+}
+
+function toggleWait(name) {
+  command((waitsAt(name) ? "manual " : "queue ") + name);
+}
+
+// ---- by hand: what is closed, what waits, and commands that are asked a second time
+
+function drawHand() {
+  const thing = by("p-thing"), some = (label, lines) => {
+    const of = html("optgroup", {label});
+    for (const line of lines) of.append(new Option(line, line));
+    if (lines.length) thing.append(of);
+  };
+  some("sections", layout.sections);
+  some("points", layout.points.flatMap(name => [name, name + " left", name + " right"]));
+  some("signals", [...layout.signals.keys()]);
+  some("routes", layout.routes.map(one => one.name));
+  fill(by("p-moved"), layout.points);
+  by("p-close").onclick = () => command("close " + thing.value);
+  by("p-closings").onclick = () => (by("p-standing").querySelector("button") || thing).focus();
+  for (const side of SIDES) by("p-move-" + side).onclick = () => command("move " + by("p-moved").value + " " + side);
+}
+
+// A thing of the plan is chosen for what is done by hand.
+function pick(name) {
+  by("p-thing").value = name;
+  if (layout.points.includes(name)) by("p-moved").value = name;
+  say(name + " is chosen for what is done by hand", "");
+}
+
+// All that is closed: by what words, and what it is.
+function closings() {
+  const whole = (kind, names) => names.filter(name => isClosed(kind, name)).map(name => ({line: name, kind}));
+  const points = layout.points.filter(name => closedSides(name).length).map(name => ({line: closedSides(name).length === 2 ? name : name + " " + closedSides(name)[0], kind: "point"}));
+  return [...whole("section", layout.sections), ...points, ...whole("signal", [...layout.signals.keys()]), ...whole("route", layout.routes.map(one => one.name))];
+}
+
+let standing = "";
+
+// What is closed, what was released, what waits, and what is automatic, each with the button that ends it.
+function paintHand() {
+  const all = closings(), waits = layout.routes.filter(one => waitsAt(one.name)).sort((one, other) => waitsAt(one.name) - waitsAt(other.name));
+  by("p-closings").hidden = all.length === 0;
+  by("p-closings").textContent = "\u22a0 " + all.length + " closed: " + all.map(one => one.line).join(", ");
+  by("p-closings").title = by("p-closings").textContent;
+  const rows = [];
+  const row = (sign, text, ...endings) => rows.push([sign, text, ...endings]);
+  for (const {line, kind} of all) row("\u22a0", kind + " " + line, ["Open", () => open(line, kind)], ...sidesOf(line).map(side => [side, () => open(line + " " + side, kind)]));
+  for (const one of layout.routes.filter(one => isReleased(one.name))) row("\u25d4", one.name + " is released");
+  for (const one of waits) row(String(waitsAt(one.name)), one.name + " waits", ["Leave", () => command("manual " + one.name)]);
+  for (const one of layout.routes.filter(one => isAutomatic(one.name))) row("\u21bb", one.name + " is automatic", ["End", () => command("manual " + one.name)]);
+  const none = isApart() ? "The node doesn't answer: what is closed isn't known." : "Nothing is closed, and nothing waits.";
+  const told = JSON.stringify([rows, none]);
+  if (told === standing) return;
+  standing = told;
+  by("p-standing").replaceChildren(...(rows.length ? rows.map(rowOf) : [html("li", {className: "p-none", textContent: none})]));
+}
+
+// A point that is closed at both sides may be opened at one.
+const sidesOf = line => layout.points.includes(line) ? SIDES : [];
+
+function rowOf([sign, text, ...endings]) {
+  const closed = sign === "\u22a0" ? "p-closed-sign" : "", buttons = endings.map(([textContent, onclick]) => html("button", {textContent, onclick}));
+  return html("li", {}, html("span", {className: closed, textContent: sign}), html("span", {className: "p-grow", textContent: text, title: text}), ...buttons);
+}
+
+function paintCounts() {
+  const [releases, opens] = words("counted", "").map(Number);
+  by("p-counts").textContent = isApart() ? "not known" : (releases || 0) + " released, " + (opens || 0) + " opened";
+}
+
+// An auxiliary command is asked a second time, and says what it vouches for. It is one more of those that are counted.
+function sure(line, head, text, count, yes, no) {
+  by("p-sure-head").textContent = head;
+  by("p-sure-text").textContent = text;
+  by("p-sure-count").textContent = count;
+  by("p-sure-yes").textContent = yes;
+  by("p-sure-no").textContent = no;
+  by("p-sure").returnValue = "";
+  by("p-sure").onclose = () => { if (by("p-sure").returnValue === "yes") command(line); };
+  by("p-sure").showModal();
+  by("p-sure-no").focus();
+}
+
+function release(name) {
+  const text = "120 s after this the route is freed, whatever is reported of its sections. Who releases vouches that no train is in the route, or that it stands and will not move on.";
+  sure("release " + name, "Release route " + name + "?", text, "Releases are counted: " + (words("counted", "")[0] || 0) + " so far.", "Release " + name, "Leave it set");
+}
+
+function open(line, kind) {
+  const text = "Who opens vouches that nobody works there any more, and that trains may use it: routes are set over it from then on.";
+  sure("open " + line, "Open " + kind + " " + line + "?", text, "Openings are counted: " + (words("counted", "")[1] || 0) + " so far.", "Open " + line, "Leave it closed");
 }
 
 // ---- refusals
@@ -613,7 +813,12 @@ const REFUSALS = {
   8: () => "the link of the entry signal isn't ready, or the signal isn't at known stop",
   9: () => "the route isn't set",
   10: name => "section " + name + " isn't known: the link of its detector isn't ready",
+  11: () => "there is no such thing",
+  12: () => "it wasn't cancelled, or its authority isn't ended",
+  13: (name, side) => kindOf(name) + " " + name + (side ? " is closed at the " + side : " is closed"),
+  14: name => "route " + name + " is set and uses it",
 };
+const kindOf = name => layout.sections.includes(name) ? "section" : layout.points.includes(name) ? "point" : layout.signals.has(name) ? "signal" : "route";
 const IMPOSSIBLE = {
   1: "there is no such node, section or point",
   2: "the network doesn't have that datagram",
@@ -622,7 +827,7 @@ const IMPOSSIBLE = {
   5: "a clock is at its limit",
   6: "memory is lacking",
 };
-const CAUSES = {5: "route", 6: "section", 7: "point", 10: "section"};
+const CAUSES = {5: () => "route", 6: () => "section", 7: () => "point", 10: () => "section", 13: name => kindOf(name), 14: () => "route"};
 
 // What is in the way is lit for some seconds, in the plan and in the list.
 function light(kind, name) {
@@ -647,16 +852,17 @@ function unlight() {
 }
 
 function tellAnswer(line, answer) {
-  const [word, code, name] = answer.split(" "), meant = route(line.split(" ")[1]);
+  const [word, code, name, side] = answer.split(" "), meant = route(line.split(" ")[1]);
   line = worded(line);
   unlight();
   if (word === "refused") {
-    say(line + " is refused: " + (REFUSALS[code] || (() => answer))(name), "refused");
-    if (CAUSES[code]) light(CAUSES[code], name);
+    say(line + " is refused: " + (REFUSALS[code] || (() => answer))(name, side), "refused");
+    if (CAUSES[code]) light(CAUSES[code](name), name);
     if (code === "8" && meant) light("signal", meant.entry);
-    if ((code === "4" || code === "9") && meant) light("route", meant.name);
+    if (["4", "9", "12"].includes(code) && meant) light("route", meant.name);
   } else if (word === "no") say(line + " can't happen: " + (IMPOSSIBLE[code] || answer), "refused");
   else if (word === "lost") say(line + ": the node doesn't answer", "refused");
+  else if (word === "not") say(line + " is done, but " + UNKEPT, "refused");
   else say(line + ": " + answer, "");
 }
 
@@ -684,13 +890,17 @@ function log(line) {
   if (answer && isOwn && !(own.isQuiet && answer === "ok")) tellAnswer(what, answer);
 }
 
+// What `not kept` means.
+const UNKEPT = "isn't in the file of closings: after a restart it may be otherwise";
+
 // A command as it is told: of a restart without the clock and the number with which a node begins.
 const worded = line => line.replace(/^(restart \S+) .*$/, "$1");
 
 function answered(answer) {
-  const [word, code, name] = answer.split(" ");
-  if (word === "refused") return "refused, " + (REFUSALS[code] || (() => answer))(name);
+  const [word, code, name, side] = answer.split(" ");
+  if (word === "refused") return "refused, " + (REFUSALS[code] || (() => answer))(name, side);
   if (word === "lost") return "not asked, since the node doesn't answer";
+  if (word === "not") return "done, but " + UNKEPT;
   return word === "no" ? "can't happen, " + (IMPOSSIBLE[code] || answer) : answer;
 }
 
@@ -708,8 +918,17 @@ const REPORTS = {
   "network-b": (name, said) => silence("B", name, said),
   jam: (name, said) => "point " + name + (said === "yes" ? " doesn't arrive any more" : " arrives again"),
   cut: (name, said) => name + (said === "yes" ? " is cut off" : " isn't cut off any more"),
+  "closed-section": (name, said) => closing("section " + name, said),
+  "closed-left": (name, said) => closing("point " + name + " left", said),
+  "closed-right": (name, said) => closing("point " + name + " right", said),
+  "closed-signal": (name, said) => closing("signal " + name, said),
+  "closed-route": (name, said) => closing("route " + name, said),
+  released: (name, said) => said === "yes" ? "route " + name + " is released" : null,
+  automatic: (name, said) => "route " + name + (said === "yes" ? " is automatic" : " isn't automatic any more"),
+  waits: (name, said) => said === "-" ? "route " + name + " waits no more" : "route " + name + " waits at place " + said,
   ixl: (name, said) => MODES[said],
 };
+const closing = (what, said) => what + (said === "yes" ? " is closed" : " is open again");
 const silence = (network, name, said) => "network " + network + (said === "lost" ? " brings nothing from " : " is back at ") + name;
 const MODES = {ready: "the interlocking takes commands", holding: "the interlocking holds", resume: "the interlocking waits for resume"};
 
@@ -925,7 +1144,7 @@ function drawFaults() {
   by("p-delay").onchange = input => command("delay " + Math.min(2000, Math.max(0, Math.floor(+input.target.value))));
   by("p-put").onclick = putTrain;
   for (const box of ["p-trains-box", "p-faults-box"]) by(box).hidden = !isWorld();
-  document.querySelector("main").style.gridTemplateColumns = isWorld() ? "" : "1fr 2fr";
+  document.querySelector("main").style.gridTemplateColumns = isWorld() ? "" : "1.1fr 1fr 2fr";
 }
 
 // What is disturbed, each with the button that ends it, and what follows from it.
@@ -948,9 +1167,10 @@ const lostLinks = () => layout.nodes.filter(name => first("link", name) === "los
 // ---- the strip chart, over the station's time
 
 const WINDOW = 180000, LEAST = 30000;
-const ORDER = ["shows", "indicates", "route", "stands", "section", "lies", "point", "link"];
-const NAMED = {shows: "signal", indicates: "signal", stands: "section", lies: "point"};
-const RESTS = ["stop", "clear", "free", "ready", "left", "right"];
+const CLOSINGS = ["closed-section", "closed-left", "closed-right", "closed-signal", "closed-route"];
+const ORDER = [...CLOSINGS, "shows", "indicates", "route", "stands", "section", "lies", "point", "link"];
+const NAMED = {shows: "signal", indicates: "signal", stands: "section", lies: "point", "closed-section": "closed", "closed-left": "closed l", "closed-right": "closed r", "closed-signal": "closed", "closed-route": "closed"};
+const RESTS = ["stop", "clear", "free", "ready", "left", "right", "no"];
 const strips = new Map();
 let told = {time: 0, at: 0};
 let began = null;
@@ -1003,7 +1223,7 @@ function drawChart() {
 }
 
 function drawMinutes(pen, x, until, shown, height, foot) {
-  const each = shown > 60000 ? 30000 : 10000;
+  const least = 44 * shown / (x(until) - x(until - shown)), each = [10000, 30000, 60000].find(one => one >= least) || 60000;
   pen.textAlign = "center";
   for (let at = Math.floor(until / each) * each; at >= Math.max(0, until - shown); at -= each) {
     pen.fillStyle = "#dde3e8";
@@ -1014,13 +1234,15 @@ function drawMinutes(pen, x, until, shown, height, foot) {
   pen.textAlign = "left";
 }
 
-// A piece of a strip: a thin line at rest; full for proceed, half for slow, hatched for lost and unknown, black for occupied, a frame for set.
+// A piece of a strip: a thin line at rest; full for proceed, half for slow, hatched for lost and unknown, black for occupied, a frame for set,
+// crosses for closed.
 function drawPiece(pen, value, from, to, y) {
   const width = Math.max(1, to - from);
-  pen.strokeStyle = pen.fillStyle = {proceed: "#1a8f3c", slow: "#c98a00", occupied: "#111", lost: "#b5009b", unknown: "#b5009b", none: "#b5009b"}[value] || "#14682e";
+  pen.strokeStyle = pen.fillStyle = {proceed: "#1a8f3c", slow: "#c98a00", occupied: "#111", lost: "#b5009b", unknown: "#b5009b", none: "#b5009b", yes: "#c25700"}[value] || "#14682e";
   if (value === "proceed" || value === "occupied") pen.fillRect(from, y - 5, width, 10);
   else if (value === "slow") pen.fillRect(from, y, width, 5);
   else if (value === "lost" || value === "unknown" || value === "none") hatch(pen, from, to, y);
+  else if (value === "yes") crosses(pen, from, to, y);
   else if (value === "right") pen.fillRect(from, y + 3, width, 2);
   else if (RESTS.includes(value)) { pen.fillStyle = "#8a97a0"; pen.fillRect(from, value === "left" ? y - 4 : y, width, value === "left" ? 2 : 1); }
   else pen.strokeRect(from + .5, y - 4.5, Math.max(0, width - 1), 9);
@@ -1032,6 +1254,18 @@ function hatch(pen, from, to, y) {
     pen.moveTo(at, y + 4);
     pen.lineTo(Math.min(at + 5, Math.max(to, from + 1)), y - 4);
     pen.stroke();
+  }
+}
+
+function crosses(pen, from, to, y) {
+  for (let at = from; at < to; at += 9) {
+    const until = Math.min(at + 8, Math.max(to, from + 1));
+    for (const [one, other] of [[4, -4], [-4, 4]]) {
+      pen.beginPath();
+      pen.moveTo(at, y + one);
+      pen.lineTo(until, y + other);
+      pen.stroke();
+    }
   }
 }
 
@@ -1067,7 +1301,7 @@ function paintApart() {
 }
 
 // A line is a kind and its words; the kinds of one thing alone have no name.
-const ALONE = ["time", "ixl", "memory", "drop", "delay", "lost"];
+const ALONE = ["time", "ixl", "memory", "drop", "delay", "lost", "counted"];
 
 // The thing of which the line at a place tells.
 const placed = new Map();
@@ -1102,12 +1336,14 @@ function takeTime(changed) {
 
 function paint(kinds) {
   const any = (...some) => some.some(kind => kinds.has(kind));
-  if (any("shows", "indicates", "signal", "link", "network-a", "network-b")) [...layout.signals.keys()].forEach(paintSignal);
-  if (any("lies", "point", "jam", "link", "network-a", "network-b")) layout.points.forEach(paintPoint);
-  if (any("stands", "section", "link")) layout.sections.forEach(paintSection);
-  if (any("route", "locked", "signal")) { paintRoutes(); paintList(); }
+  if (any("shows", "indicates", "signal", "link", "network-a", "network-b", "closed-signal")) [...layout.signals.keys()].forEach(paintSignal);
+  if (any("lies", "point", "jam", "link", "network-a", "network-b", "closed-left", "closed-right")) layout.points.forEach(paintPoint);
+  if (any("stands", "section", "link", "closed-section")) layout.sections.forEach(paintSection);
+  if (any("route", "locked", "signal", "released", "automatic", "waits", "closed-route")) { paintRoutes(); paintList(); }
+  if (any("released", "automatic", "waits", "link", ...CLOSINGS)) paintHand();
+  if (any("counted", "link")) paintCounts();
   if (any("cut", "jam", "link", "drop", "delay")) paintFaults();
-  if (entry && any("route", "locked", "section", "stands", "link", "ixl")) paintChoice();
+  if (entry && any("route", "locked", "section", "stands", "link", "ixl", ...CLOSINGS)) paintChoice();
   paintHeader();
 }
 
@@ -1150,7 +1386,7 @@ async function askOn() {
 // ---- the keyboard
 
 function onKey(key) {
-  if (key.ctrlKey || key.metaKey || key.altKey || by("p-keys").open) return;
+  if (key.ctrlKey || key.metaKey || key.altKey || by("p-keys").open || by("p-sure").open) return;
   const isInList = document.activeElement.matches(".p-route");
   if (isInList && key.shiftKey && /^[A-Za-z0-9-]$/.test(key.key)) return spell(key.key);
   if (key.key === "x" || key.key === "X") return cancelAll(key);
@@ -1160,6 +1396,9 @@ function onKey(key) {
     r: () => { if (first("ixl", "") === "resume") command("resume"); },
     p: () => by("p-plan").querySelector("[tabindex='0']")?.focus(),
     "/": () => by("p-routes").querySelector("button")?.focus(),
+    a: () => ofRoute(toggleAutomatic),
+    w: () => ofRoute(toggleWait),
+    h: () => by("p-thing").focus(),
     t: () => by("p-place").focus(),
     s: () => { if (trains[0]) stepOnce(trains[0]); },
     f: () => by("p-node").focus(),
@@ -1167,6 +1406,12 @@ function onKey(key) {
     "?": () => by("p-keys").showModal(),
   }[key.key] || arrow(key.key);
   if (does) { key.preventDefault(); does(); }
+}
+
+// Something is done with the route that has the focus in their list.
+function ofRoute(does) {
+  const focused = document.activeElement;
+  if (focused.matches(".p-route")) does(focused.id.slice("p-route-".length));
 }
 
 function cancelAll(key) {
@@ -1229,6 +1474,11 @@ const SAMPLES = [
   [LAMPS("#fff", "#1a8f3c", "M31 4v10"), "proceed"],
   [LAMPS("#f0b400", "#f0b400", "M14 12l6-6M28 12l6-6"), "slow"],
   ["<text x='2' y='14' style='fill:#b5009b;font:bold 14px monospace'>\u2715 \u25b2 \u2260</text>", "link down; point doesn't arrive; shows other than given"],
+  [LINE(17, "#c25700") + LINE(13, "#fff") + BAND + RAIL, "closed section"],
+  [BAND + LINE(13, "#c25700", "1.8 2.6") + RAIL, "leg of a point that is closed at this side"],
+  [LAMPS("#c9211e", "#fff", "M12 9h10") + "<path d='M8 2l32 14M8 16l32-14' style='stroke:#c25700;stroke-width:2'/>", "closed signal"],
+  ["<text x='2' y='14' style='fill:#c25700;font:bold 14px monospace'>\u22a0</text>", "closed: behind a name, and at a route of the list"],
+  ["<text x='2' y='14' style='font:bold 11px monospace'>\u21bb \u2026 \u25d4 \u23cf</text>", "set again by itself; waits until it can be set; released; release"],
   ["<text x='2' y='14' style='fill:#b5009b;font:bold 14px monospace'>\u24b6 \u24b7</text>", "network A, network B brings nothing from there"],
 ];
 
@@ -1251,6 +1501,7 @@ async function start() {
   by("p-record").title = station.record;
   drawPlan();
   drawRoutes();
+  drawHand();
   drawFaults();
   drawSigns();
   keepTrains();

@@ -25,6 +25,7 @@ use station_command::{
 };
 use station_layout::{Form, explain_text, plan_text, table_text};
 use station_node::node_network::WaitedStream;
+use station_node::whole_file::{DiskPlace, keep};
 use station_node::{self, NodeOptions, layout_digest, replay_node_text};
 use station_run::station_record::{
     CaptureOptions, Cut, capture_to_file, chart_text, decode_session_text,
@@ -38,7 +39,6 @@ use std::process::ExitCode;
 use table_review::{
     ApproachRule, Asked, Completed, ReviewFault, completed_text, lacking_text, review_text,
 };
-use whole_file::{DiskPlace, keep};
 
 fn main(rt: HostRuntime) -> ExitCode {
     let status = match answer(&rt) {
@@ -494,8 +494,8 @@ fn capture_node(rt: &HostRuntime, asked: &CaptureOptions<'_>, name: &str, ends: 
 /// How many milliseconds a line may wait until it can be written.
 const PATIENCE: u16 = 50;
 
-/// `node FILE NAME --addresses ADDRESSES [--operator ADDRESS] [--record R] [--record-size N] [--clock MS] [--hold MS] [--for MS]
-/// [--stop-file F]`. The lines of the node go over standard input and output.
+/// `node FILE NAME --addresses ADDRESSES [--operator ADDRESS] [--record R] [--record-size N] [--closings FILE [--keep-locks]]
+/// [--clock MS] [--hold MS] [--for MS] [--stop-file F]`. The lines of the node go over standard input and output.
 fn node(rt: &HostRuntime, arguments: NodeArguments<'_>) -> Result<u8, Failure> {
     let (layout, addresses) = texts_of(rt, arguments.layout, arguments.addresses)?;
     let files = RunFiles {
@@ -508,6 +508,8 @@ fn node(rt: &HostRuntime, arguments: NodeArguments<'_>) -> Result<u8, Failure> {
         addresses: addresses.as_str(),
         operator: arguments.operator,
         record: arguments.record,
+        closings: arguments.closings,
+        keep_locks: arguments.keep_locks,
         files: files_of(rt, arguments.record, files)?,
         hold: arguments.longest_wait(),
         clock: arguments.first_reading(),

@@ -3,3 +3,4 @@ pub mod Cancels
 pub mod DisturbedCalls
 pub mod Readings
 pub mod Turn
+pub mod Unasked

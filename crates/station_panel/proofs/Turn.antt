@@ -4,6 +4,7 @@ use Rattle.std.specs.Result.{IfOk, OnErr, OnOk}
 use Rattle.panel_desk.specs.Answers.{DeskView}
 use Rattle.panel_desk.specs.Boards.{Notes, none, shown_anew}
 use Rattle.panel_desk.specs.declared.pictured.Pictured as pictures
+use Rattle.panel_desk.specs.node_lines.closings.declared.auxiliary.AuxiliaryCounts.{AuxiliaryCounts}
 use Rattle.panel_desk.specs.node_lines.layout.Entries.{Site}
 use Rattle.panel_desk.specs.node_lines.simulator_event.declared.event.Event.{Event}
 use Rattle.station_drive.specs.declared.datagrams.Datagrams as networks
@@ -11,10 +12,10 @@ use Rattle.station_drive.specs.simulator_event.declared.station.Station as stati
 use Rattle.station_drive.specs.Drives.{BreaksRound, MakesRound}
 use Rattle.station_drive.specs.Rounds.{RunSoFar, run_after}
 use Rattle.station_panel.specs.DisturbedNetwork.{DisturbedView, Passes, Released, heeded}
-use Rattle.station_panel.specs.Shown.{fault_lines}
+use Rattle.station_panel.specs.Shown.{own_lines}
 use Rattle.station_panel.specs.declared.ending.Ending.{Ending}
 use Rattle.station_panel.specs.declared.ending.Ending.TheVariants as ends
-use Rattle.station_panel.specs.Turns.{HasPartOfRound, HasRound, IsLived, IsOver, Moment, asked_at, engine_of, wanted, with_numbers}
+use Rattle.station_panel.specs.Turns.{HasPartOfRound, HasRound, IsLived, IsOver, Moment, Wants, engine_of, with_numbers}
 use Rattle.station_panel.proofs.Readings.{as_many}
 
 pub stopped : {T E : Type 0} {A : Type 0} (result : Result T E) → A → OnErr result A
@@ -87,14 +88,12 @@ module _ {Station Network : Type 0} (s : stations.Ghosts Station) (n : networks.
           b.station_is b.text_is made);
     })
 
-  -- the round of what was wanted
-  pub round_wanted : (reading : ℕ) (old start new : Moment Station Network) (events : List Event) → start ≡ wanted old → events ≡ asked_at s old
-      → HasRound s n reading events start new → HasRound s n reading (asked_at s old) (wanted old) new
-  round_wanted reading old start new events is are round = moved (λ e m. HasRound s n reading e m new) are is round
+  -- a round of events that are equal
+  pub round_of : (reading : ℕ) (old new : Moment Station Network) (some events : List Event) → some ≡ events → HasRound s n reading some old new → HasRound s n reading events old new
+  round_of reading old new some events are round = subst (λ (e : List Event). HasRound s n reading e old new) are round
 
-  pub part_wanted : (reading : ℕ) (old start new : Moment Station Network) (events : List Event) → start ≡ wanted old → events ≡ asked_at s old
-      → HasPartOfRound s n reading events start new → HasPartOfRound s n reading (asked_at s old) (wanted old) new
-  part_wanted reading old start new events is are round = moved (λ e m. HasPartOfRound s n reading e m new) are is round
+  pub part_of : (reading : ℕ) (old new : Moment Station Network) (some events : List Event) → some ≡ events → HasPartOfRound s n reading some old new → HasPartOfRound s n reading events old new
+  part_of reading old new some events are round = subst (λ (e : List Event). HasPartOfRound s n reading e old new) are round
 
   -- after it the desk alone was changed
   at_another_desk : {reading : ℕ} {asked : List Event} {old new : Moment Station Network} (desk : DeskView) → HasRound s n reading asked old new → HasRound s n reading asked old (record new { desk = desk })
@@ -104,15 +103,22 @@ module _ {Station Network : Type 0} (s : stations.Ghosts Station) (n : networks.
   round_shown reading asked old mid new desk is h = subst (λ (m : Moment Station Network). HasRound s n reading asked old m) (sym is) (at_another_desk desk h)
 
 module _ {Station Network : Type 0} (s : stations.Ghosts Station) (n : networks.Ghosts Network) (p : pictures.Ghosts Station) where
-  -- a turn, by its round and by what the desk shows after it
-  pub lived : (limit reading : ℕ) (old mid : Moment Station Network) (desk : DeskView) (bytes : ℕ) (numbers : List (Option ℕ))
-      → HasRound s n reading (asked_at s old) (wanted old) mid → mid.run ≡ run_after s.does (s.state mid.station) old.run reading → mid.desk ≡ (wanted old).desk → mid.faults ≡ (wanted old).faults
-      → Notes (shown_anew (s.site mid.station) (p.lines mid.station ++ fault_lines mid.faults bytes limit) (with_numbers numbers mid.desk)) desk → IsLived s n p limit reading old (record mid { desk = desk })
-  lived limit reading old mid desk bytes numbers round run desk_is faults notes = record {
+  -- a turn, by what was wanted in it, by its round and by what the desk shows after it
+  pub lived : (limit reading : ℕ) (old mid after : Moment Station Network) (events : List Event) (desk : DeskView) (bytes : ℕ) (numbers : List (Option ℕ)) (counts : AuxiliaryCounts)
+      → Wants s p reading old events mid → HasRound s n reading events mid after → after.run ≡ run_after s.does (s.state after.station) mid.run reading → after.desk ≡ mid.desk → after.faults ≡ mid.faults → after.orders ≡ mid.orders
+      → Notes (shown_anew (s.site after.station) (p.lines after.station ++ own_lines after.faults after.orders counts bytes limit) (with_numbers numbers after.desk)) desk → IsLived s n p limit reading old (record after { desk = desk })
+  lived limit reading old mid after events desk bytes numbers counts wants round run desk_is faults orders notes = record {
+    events = events;
+    mid = mid;
+    wants = wants;
     round = at_another_desk s n desk round;
-    run = run;
+    run = run ∙ ap (λ (m : Moment Station Network). run_after s.does (s.state after.station) m.run reading) wants.new_is;
     faults = faults;
+    orders = orders;
+    counts = counts;
     bytes = bytes;
     numbers = numbers;
-    notes = subst (λ (d : DeskView). Notes (shown_anew (s.site mid.station) (p.lines mid.station ++ fault_lines mid.faults bytes limit) (with_numbers numbers d)) desk) desk_is notes;
+    notes =
+        subst (λ (d : DeskView). Notes (shown_anew (s.site after.station) (p.lines after.station ++ own_lines after.faults after.orders counts bytes limit) (with_numbers numbers d)) desk)
+        (desk_is ∙ ap (λ (m : Moment Station Network). m.desk) wants.new_is) notes;
   }

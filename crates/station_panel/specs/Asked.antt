@@ -1,7 +1,8 @@
 -- What the commands of a round ask for.
 use Rattle.std.specs.Prelude.{ℕ, zero, suc, Bool, true, false, if◌then◌else◌, List, [], ◌∷◌}
 use Rattle.std.specs.List.{flat_map}
-use Rattle.panel_desk.specs.node_lines.ixl_spec.declared.command.Command.TheVariants.{Cancel}
+use Rattle.panel_desk.specs.node_lines.ixl_spec.declared.command.Command.TheVariants.{Cancel, Request as Set}
+use Rattle.panel_desk.specs.node_lines.layout.declared.ids.RouteId.{RouteId}
 use Rattle.panel_desk.specs.node_lines.simulator_event.declared.event.Event.{Event}
 use Rattle.panel_desk.specs.node_lines.simulator_event.declared.event.Event.TheVariants as happens
 use Rattle.panel_desk.specs.declared.panel_command.PanelCommand.{PanelCommand}
@@ -25,10 +26,15 @@ abbrev pub events_by : ℕ → PanelCommand → List Event
 events_by routes (wants.Event event) = if may_be_asked event then event ∷ [] else []
 events_by routes wants.CancelAll = cancels 0 routes
 events_by routes (wants.Disturb disturbance) = []
+events_by routes (wants.Stand order) = []
 
 -- those for which commands ask, one after the other, each once
 abbrev pub events_asked : ℕ → List PanelCommand → List Event
 events_asked routes commands = flat_map (events_by routes) commands
+
+-- that a route is set: so the panel asks by itself
+abbrev pub requested : RouteId → Event
+requested route = happens.Request (Set route)
 
 -- what is disturbed after a command, and after commands
 abbrev pub faults_by : PanelCommand → FaultsView → FaultsView

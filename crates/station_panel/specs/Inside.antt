@@ -50,4 +50,4 @@ module _ {Station Network : Type 0} (s : stations.Ghosts Station) (n : networks.
     pub readings : List ℕ
     pub last : Moment Station Network
     pub turns : Turns s n p limits.memory old readings last
-    pub cut : CutShort s n last new
+    pub cut : CutShort s n p last new

@@ -6,11 +6,13 @@ use Rattle.panel_desk.specs.declared.panel_line.PanelLine.{PanelLine}
 use Rattle.panel_desk.specs.node_lines.layout.Entries.{Site}
 use Rattle.panel_desk.specs.node_lines.replay_lines.Names.{node_names}
 use Rattle.panel_desk.specs.run_numbers.Metrics.{nothing_told}
+use Rattle.panel_desk.specs.StandingOrders.{none_standing}
+use Rattle.panel_desk.specs.node_lines.closings.Auxiliaries.{none_counted}
 use Rattle.panel_desk.specs.Lines.{blank}
 use Rattle.panel_desk.specs.State.{about}
 use Rattle.serde_json.specs.Read.{read}
 use Rattle.station_panel.specs.Faults.{no_faults}
-use Rattle.station_panel.specs.Shown.{fault_lines}
+use Rattle.station_panel.specs.Shown.{own_lines}
 
 -- what a panel's page is made of, and where it is
 pub record PageView : Type 0 where
@@ -34,9 +36,10 @@ page_of asked = record {
   path = asked.record.now;
 }
 
--- how many places a desk has for the picture of a station, and for what is disturbed
+-- how many places a desk has for the picture of a station, and for what a panel shows of itself
 abbrev pub place_count : Site → List PanelLine → ℕ
-place_count site lines = length (lines ++ fault_lines (no_faults (length (node_names site)) (length site.points)) 0 0)
+place_count site lines =
+    length (lines ++ own_lines (no_faults (length (node_names site)) (length site.points)) (none_standing (length site.routes)) none_counted 0 0)
 
 -- The desk of a layout, a page, and a station with such a picture: who may command is known by its port and by a token, which its page is
 -- told; it serves this page, and what it tells of the station is of this layout's text and plan. Its board is blank, and no command waits.

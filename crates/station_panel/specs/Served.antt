@@ -37,7 +37,7 @@ module _ {Station Network : Type 0} (s : stations.Ghosts Station) (n : networks.
     pub last : Moment Station Network
     pub attended : Attended s n p limits.memory engine desk readings_old None last
     pub left : Moment Station Network
-    pub cut : CutShort s n last left
+    pub cut : CutShort s n p last left
     pub text : left.text ≡ text_new
 
   -- The desk of a page was opened for the station of an engine, and its panel was attended up to its limits.

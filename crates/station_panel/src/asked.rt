@@ -1,13 +1,15 @@
 //! What the commands of a round ask for.
 
-ghost use Rattle.std.specs.Prelude.{◌≡◌, ◌++◌, OnOk};
+ghost use Rattle.std.specs.Prelude.{◌≡◌, ◌++◌, ◌/◌, IfOk, OnOk, map};
 ghost use Rattle.std.specs.List.{flat_map};
+ghost use Rattle.panel_desk.specs.StandingOrders.{Tried};
 ghost use Rattle.panel_desk.specs.declared.panel_command.PanelCommand.TheVariants.{Event as Wants};
-ghost use Rattle.station_panel.specs.Asked.{cancels, events_by, faults_after, faults_by, may_be_asked};
+ghost use Rattle.station_panel.specs.Asked.{cancels, events_by, faults_after, faults_by, may_be_asked, requested};
 
 use crate::faults::Faults;
-use panel_desk::{Command, Event, PanelCommand, RouteId};
-use std::alloc::AllocError;
+use panel_desk::{Command, Event, MICROS, PanelCommand, Pictured, RouteId, StandingOrders};
+use station_drive::Station;
+use std::alloc::{AllocError, Global};
 
 /// Whether an operator may ask for an event: a command, an occupancy, or a restart.
 pub(crate) fn may_be_asked(event: &Event) -> bool
@@ -44,7 +46,7 @@ fn add_events_by(
     match command {
         PanelCommand::Event(event) => add_event(events, event),
         PanelCommand::CancelAll => add_cancels(events, routes),
-        PanelCommand::Disturb(_) => Ok(()),
+        PanelCommand::Disturb(_) | PanelCommand::Stand(_) => Ok(()),
     }
 }
 
@@ -70,6 +72,33 @@ fn add_event(events: &mut Vec<Event>, event: &Event) -> Result<(), AllocError>
         _ => return Ok(()),
     };
     events.push(copy)?;
+    Ok(())
+}
+
+/// The routes that a panel tries to set by itself at a reading of its clock, by the picture of its station.
+pub(crate) fn routes_by_itself<S: Station + Pictured>(
+    alloc: Global,
+    station: &S,
+    orders: &mut StandingOrders,
+    reading: u64,
+) -> Result<Vec<RouteId>, AllocError>
+    ensures { IfOk result (λ routes. Tried (S.site station.now) (S.lines station.now) (reading / 1000) orders.old routes.items orders.new) }
+{
+    if orders.is_empty() {
+        return Ok(Vec::new(alloc));
+    }
+    let lines = station.picture(alloc)?;
+    let millis = reading / MICROS;
+    orders.try_routes(alloc, station.table(), &lines, millis)
+}
+
+/// Adds a request of each of these routes, in their order.
+pub(crate) fn add_requests(events: &mut Vec<Event>, routes: &[RouteId]) -> Result<(), AllocError>
+    ensures { OnOk result (events.new.items ≡ events.old.items ++ map requested routes.now) }
+{
+    for route in routes {
+        events.push(Event::Request(Command::Request(*route)))?;
+    }
     Ok(())
 }
 

@@ -44,9 +44,9 @@ impl<S: Station + Pictured, N: Datagrams, W: Write> Panel<'_, S, N, W> {
     /// What a turn does after the answers to its requests.
     fn turn(&mut self, reading: u64, limit: u64) -> Result<(), DriveFault>
         ensures done { OnOk result (IsLived S.Station N.Datagrams S.Pictured limit reading self.old self.new) }
-        ensures stopped { OnErr result (IsLivedShort S.Station N.Datagrams reading self.old self.new) }
+        ensures stopped { OnErr result (IsLivedShort S.Station N.Datagrams S.Pictured reading self.old self.new) }
     {
-        let events = self.want()?;
+        let events = self.want(reading)?;
         self.live(reading, &events)?;
         self.show(&events, reading, limit)?;
         Ok(())

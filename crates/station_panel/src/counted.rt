@@ -1,12 +1,12 @@
 //! What a panel counts of its station.
 
-use panel_desk::node_lines::{Known, LinkState};
+use panel_desk::node_lines::{Known, LinkState, counted_after};
 use panel_desk::run_numbers::{Numbers, NumbersTold, Outcome, Reason, Row};
-use panel_desk::{Answer, PanelLine, Refused};
+use panel_desk::{Answer, AuxiliaryCounts, Event, MICROS, PanelLine, Refused};
 use std::alloc::{AllocError, Global};
 
 /// The numbers that a panel of a played station tells.
-const TOLD: [Row; 23] = [
+const TOLD: [Row; 27] = [
     Row::LinksUp,
     Row::Commands(Outcome::Accepted),
     Row::Commands(Outcome::Refused1),
@@ -19,6 +19,10 @@ const TOLD: [Row; 23] = [
     Row::Commands(Outcome::Refused8),
     Row::Commands(Outcome::Refused9),
     Row::Commands(Outcome::Refused10),
+    Row::Commands(Outcome::Refused11),
+    Row::Commands(Outcome::Refused12),
+    Row::Commands(Outcome::Refused13),
+    Row::Commands(Outcome::Refused14),
     Row::AsksSent,
     Row::ClosingsSent(Reason::User),
     Row::ClosingsSent(Reason::State),
@@ -32,6 +36,13 @@ const TOLD: [Row; 23] = [
     Row::SentMemory,
 ];
 
+/// A turn is counted at a reading of the clock, with how many links are ready, and how much memory is taken.
+pub(crate) fn count_turn(numbers: &mut Numbers, reading: u64, ready: u64, bytes: u64) {
+    numbers.begin(reading / MICROS);
+    numbers.put(Row::LinksUp, ready);
+    numbers.put(Row::SentMemory, bytes);
+}
+
 /// Commands are counted by what a station answered to them.
 pub(crate) fn count_answers(numbers: &mut Numbers, answers: &[Result<Answer, Refused>]) {
     for answer in answers {
@@ -42,6 +53,31 @@ pub(crate) fn count_answers(numbers: &mut Numbers, answers: &[Result<Answer, Ref
             }
             Ok(Answer::Done) | Err(_) => (),
         }
+    }
+}
+
+/// The auxiliary commands among events that were accepted are counted.
+pub(crate) fn count_auxiliaries(
+    counts: AuxiliaryCounts,
+    events: &[Event],
+    answers: &[Result<Answer, Refused>],
+) -> AuxiliaryCounts {
+    let mut all = counts;
+    for place in 0..events.len().min(answers.len()) {
+        all = counted_by(all, &events[place], answers[place]);
+    }
+    all
+}
+
+/// An event is counted if it is an auxiliary command that was accepted.
+fn counted_by(
+    counts: AuxiliaryCounts,
+    event: &Event,
+    answer: Result<Answer, Refused>,
+) -> AuxiliaryCounts {
+    match (event, answer) {
+        (Event::Request(command), Ok(Answer::Accepted)) => counted_after(*command, counts),
+        _ => counts,
     }
 }
 

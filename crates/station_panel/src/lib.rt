@@ -24,7 +24,9 @@ pub use service::{PanelOptions, Served, serve};
 // What a panel is made of.
 pub use panel_connections::{Listens, Loopback, tell_address};
 pub use panel_desk::node_lines::{Authority, Known, LinkState};
-pub use panel_desk::{Desk, Mode, PageAsked, PanelLine, Pictured, open_desk};
+pub use panel_desk::{
+    Desk, Mode, PageAsked, PanelLine, Pictured, StandingOrders, Thing as Closable, open_desk,
+};
 
 // What crates above need of the crates below.
 pub use station_drive;

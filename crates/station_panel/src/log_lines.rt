@@ -6,7 +6,7 @@ ghost use Rattle.panel_desk.specs.Boards.{Notes};
 use crate::noting::Noting;
 use panel_desk::{
     Answer, AnswerText, Checked, Command, Desk, DisturbanceText, Event, Layout, PanelCommand,
-    Refused, write_event,
+    Refused, StandingOrderText, write_event,
 };
 use station_drive::Station;
 use std::alloc::{AllocError, Global};
@@ -35,7 +35,7 @@ impl LogLines {
         self.note_answers(table, events, &station.answers, cancels_all, desk)
     }
 
-    /// Notes each cancel of all routes, and each disturbance.
+    /// Notes each cancel of all routes, each disturbance, and each standing order.
     fn note_commands(
         &self,
         layout: &Layout,
@@ -72,6 +72,14 @@ impl LogLines {
                     disturbance: *disturbance,
                 };
                 let line = format!(in self.alloc; "{millis} {asked} = ok")?;
+                note(desk, line.as_str())
+            }
+            PanelCommand::Stand(order) => {
+                let asked = StandingOrderText {
+                    layout,
+                    order: *order,
+                };
+                let line = format!(in self.alloc; "{millis} {asked} = accepted")?;
                 note(desk, line.as_str())
             }
         }

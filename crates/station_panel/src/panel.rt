@@ -6,34 +6,39 @@ ghost use Rattle.panel_desk.specs.Answers.{Answered};
 ghost use Rattle.panel_desk.specs.Boards.{Notes, shown_anew};
 ghost use Rattle.station_drive.specs.Rounds.{run_after};
 ghost use Rattle.station_panel.specs.DisturbedNetwork.{Released, disturbance, heeded};
-ghost use Rattle.station_panel.specs.Shown.{fault_lines};
-ghost use Rattle.station_panel.specs.Turns.{HasPartOfRound, HasRound, asked_at, emptied, wanted, with_numbers};
+ghost use Rattle.panel_desk.specs.node_lines.closings.declared.auxiliary.AuxiliaryCounts.{AuxiliaryCounts as Counts};
+ghost use Rattle.station_panel.specs.Shown.{own_lines};
+ghost use Rattle.station_panel.specs.Turns.{HasPartOfRound, HasRound, Wants, emptied, with_numbers};
 ghost use Rattle.station_panel.specs.declared.ending.Ending.TheVariants as ends;
 
-use crate::asked::{add_events, disturb_by};
-use crate::counted::{count_answers, told};
+use crate::asked::{add_events, add_requests, disturb_by, routes_by_itself};
+use crate::counted::{count_answers, count_auxiliaries, count_turn, told};
 use crate::disturbed::Disturbed;
 use crate::ending::{Ending, Limits};
 use crate::faults::Faults;
 use crate::log_lines::LogLines;
 use crate::memory::Memory;
 use crate::noting::Noting;
-use crate::picture_shown::show_picture;
+use crate::picture_shown::{OwnPicture, show_picture};
 use panel_connections::{Connections, Listens};
-use panel_desk::run_numbers::{Numbers, Row};
-use panel_desk::{Desk, Event, MICROS, PanelCommand, Pictured};
+use panel_desk::run_numbers::Numbers;
+use panel_desk::{AuxiliaryCounts, Desk, Event, MICROS, PanelCommand, Pictured, StandingOrders};
 use station_drive::{Course, Datagrams, DriveFault, Engine, Station};
 use std::alloc::AllocError;
 use std::io::Write;
 use std::marker::Model;
 use std::random::RandomSource;
 
-/// A panel between its turns: its station, over a network that an operator disturbs, how far the run has come, and the desk.
+/// A panel between its turns: its station, over a network that an operator disturbs, how far the run has come, what it does by itself, and
+/// the desk.
 pub(crate) struct Panel<'a, S: Station, N, W: Write> {
     pub(crate) engine: Engine<Noting<S>, Disturbed<N>, W>,
     pub(crate) course: Course<'a>,
     pub(crate) desk: Desk,
     pub(crate) faults: Faults,
+    pub(crate) orders: StandingOrders,
+    /// How many auxiliary commands were accepted.
+    pub(crate) counts: AuxiliaryCounts,
     /// The commands of the turn.
     pub(crate) commands: Vec<PanelCommand>,
     pub(crate) memory: Memory,
@@ -47,7 +52,7 @@ impl<'a, S: Station, N, W: Write> Model for Panel<'a, S, N, W> {
 
     ghost Value = { Moment S N };
 
-    ghost view = { λ p. record { station = p.engine.station.station; net = disturbance p.engine.net; run = p.course; desk = p.desk; faults = p.faults; text = p.engine.text } };
+    ghost view = { λ p. record { station = p.engine.station.station; net = disturbance p.engine.net; run = p.course; desk = p.desk; faults = p.faults; orders = p.orders; text = p.engine.text } };
 
     ghost invariant = { λ p. length p.course.drives ≡ length (S.site p.engine.station.station).points };
 }
@@ -68,26 +73,12 @@ impl<S: Station, N: Datagrams, W: Write> Panel<'_, S, N, W> {
         connections.serve(rt, self.engine.alloc, listener, &mut self.desk, millis);
     }
 
-    /// The commands that wait are taken, and what they disturb is disturbed. Hands out the events for which they ask.
-    pub(crate) fn want(&mut self) -> Result<Vec<Event>, AllocError>
-        ensures events { IfOk result (λ events. events.items ≡ asked_at S.Station self.old) }
-        ensures wanted { OnOk result (self.new ≡ wanted self.old) }
-        ensures failed { OnErr result (self.new ≡ record self.old { desk = emptied self.old.desk }) }
-    {
-        self.commands = self.desk.take();
-        let routes = self.engine.station.table().layout().routes().len();
-        let mut events = Vec::new(self.engine.alloc);
-        add_events(&mut events, routes, &self.commands)?;
-        disturb_by(&mut self.faults, &self.commands);
-        Ok(events)
-    }
-
     /// A round at a reading of the clock, in which what was asked for happens.
     pub(crate) fn live(&mut self, reading: u64, events: &[Event]) -> Result<(), DriveFault>
         ensures done { OnOk result (HasRound S.Station N.Datagrams reading events.now self.old self.new) }
         ensures run { OnOk result (self.new.run ≡ run_after S.does (S.state self.new.station) self.old.run reading) }
         ensures stopped { OnErr result (HasPartOfRound S.Station N.Datagrams reading events.now self.old self.new) }
-        ensures kept { self.new ≡ record self.new { desk = self.old.desk; faults = self.old.faults } }
+        ensures kept { self.new ≡ record self.new { desk = self.old.desk; faults = self.old.faults; orders = self.old.orders } }
     {
         let faults = &self.faults;
         begin_round(&mut self.engine, faults, reading);
@@ -104,6 +95,28 @@ impl<S: Station, N: Datagrams, W: Write> Panel<'_, S, N, W> {
 }
 
 impl<S: Station + Pictured, N, W: Write> Panel<'_, S, N, W> {
+    /// The commands that wait are taken; what they disturb is disturbed, and what they ask of the panel itself is done. Hands out the events
+    /// for which they ask, and behind them those for which the panel asks by itself.
+    pub(crate) fn want(&mut self, reading: u64) -> Result<Vec<Event>, AllocError>
+        ensures wanted { IfOk result (λ events. Wants S.Station S.Pictured reading self.old events.items self.new) }
+        ensures failed { OnErr result (self.new ≡ record self.old { desk = emptied self.old.desk; faults = self.new.faults; orders = self.new.orders }) }
+    {
+        self.commands = self.desk.take();
+        let routes = self.engine.station.table().layout().routes().len();
+        let mut events = Vec::new(self.engine.alloc);
+        add_events(&mut events, routes, &self.commands)?;
+        disturb_by(&mut self.faults, &self.commands);
+        self.orders.obey(&self.commands)?;
+        let tried = routes_by_itself(
+            self.engine.alloc,
+            &self.engine.station,
+            &mut self.orders,
+            reading,
+        )?;
+        add_requests(&mut events, &tried)?;
+        Ok(events)
+    }
+
     /// What is seen after a round is shown, with what was counted, and what was asked for in it is noted in the log.
     pub(crate) fn show(
         &mut self,
@@ -111,22 +124,21 @@ impl<S: Station + Pictured, N, W: Write> Panel<'_, S, N, W> {
         reading: u64,
         limit: u64,
     ) -> Result<(), AllocError>
-        ensures shown { OnOk result ((bytes : ℕ) × (numbers : List (Option ℕ)) × Notes (shown_anew (S.site self.old.station) (S.lines self.old.station ++ fault_lines self.old.faults bytes limit) (with_numbers numbers self.old.desk)) self.new.desk) }
+        ensures shown { OnOk result ((bytes : ℕ) × (numbers : List (Option ℕ)) × (counts : Counts) × Notes (shown_anew (S.site self.old.station) (S.lines self.old.station ++ own_lines self.old.faults self.old.orders counts bytes limit) (with_numbers numbers self.old.desk)) self.new.desk) }
         ensures kept { self.new ≡ record self.old { desk = self.new.desk } }
     {
         let engine = &self.engine;
+        self.counts = count_auxiliaries(self.counts, events, &engine.station.answers);
         self.memory.count(&engine.station, &mut self.numbers);
-        let ready = show_picture(
-            engine.alloc,
-            &engine.station,
-            &self.faults,
-            self.memory.bytes,
+        let own = OwnPicture {
+            faults: &self.faults,
+            orders: &self.orders,
+            counts: self.counts,
+            bytes: self.memory.bytes,
             limit,
-            &mut self.desk,
-        )?;
-        self.numbers.begin(reading / MICROS);
-        self.numbers.put(Row::LinksUp, ready);
-        self.numbers.put(Row::SentMemory, self.memory.bytes);
+        };
+        let ready = show_picture(engine.alloc, &engine.station, &own, &mut self.desk)?;
+        count_turn(&mut self.numbers, reading, ready, self.memory.bytes);
         count_answers(&mut self.numbers, &engine.station.answers);
         let numbers = told(engine.alloc, &self.numbers)?;
         self.desk.tell_numbers(numbers);
@@ -148,6 +160,8 @@ impl<S: Station + Drop, N: Drop, W: Write> Panel<'_, S, N, W> {
             course: _,
             desk: _,
             faults: _,
+            orders: _,
+            counts: _,
             commands: _,
             memory: _,
             numbers: _,

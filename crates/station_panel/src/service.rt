@@ -2,6 +2,7 @@
 
 ghost use Rattle.std.specs.Prelude.{◌≡◌, [], IfOk, IsErr, OnErr, length};
 ghost use Rattle.panel_desk.specs.node_lines.replay_lines.Names.{node_names};
+ghost use Rattle.panel_desk.specs.StandingOrders.{none_standing};
 ghost use Rattle.station_drive.specs.Drives.{beginning};
 ghost use Rattle.station_panel.specs.DisturbedNetwork.{disturbance, undisturbed};
 ghost use Rattle.station_panel.specs.Faults.{no_faults};
@@ -17,7 +18,7 @@ use crate::panel::Panel;
 use crate::picture_shown::places;
 use panel_connections::{Listens, tell_address};
 use panel_desk::run_numbers::Numbers;
-use panel_desk::{Desk, PageAsked, Pictured, open_desk};
+use panel_desk::{AuxiliaryCounts, Desk, PageAsked, Pictured, StandingOrders, open_desk};
 use station_drive::{Clock, Course, Datagrams, Engine, Station};
 use std::alloc::{AllocError, Global};
 use std::io::Write;
@@ -116,7 +117,12 @@ fn attend_engine<
     ensures stopped { OnErr result.ended (IsBroken S.Station N.Datagrams S.Pictured limits (seen_engine engine) desk (C.readings clock.old) (W.contents result.recorder)) }
 {
     let first = clock.read();
-    let (course, faults, numbers) = match begin(&engine, first) {
+    let Beginning {
+        course,
+        faults,
+        orders,
+        numbers,
+    } = match begin(&engine, first) {
         Ok(all) => all,
         Err(_) => {
             let (_, recorder) = engine.into_outside();
@@ -129,6 +135,8 @@ fn attend_engine<
         course,
         desk,
         faults,
+        orders,
+        counts: AuxiliaryCounts::none(),
         commands,
         memory: Memory::new(),
         numbers,
@@ -143,18 +151,36 @@ fn attend_engine<
     }
 }
 
-/// How a run of a panel begins at a first reading of the clock: nothing is disturbed, and nothing was counted.
+/// How a run of a panel begins.
+#[derive(Drop)]
+struct Beginning<'a> {
+    course: Course<'a>,
+    faults: Faults,
+    orders: StandingOrders,
+    numbers: Numbers,
+}
+
+/// How a run of a panel begins at a first reading of the clock: nothing is disturbed, no route is automatic or waits, and nothing was
+/// counted.
 fn begin<'a, S: Station, N, W: Write>(
     engine: &Engine<S, N, W>,
     first: u64,
-) -> Result<(Course<'a>, Faults, Numbers), AllocError>
-    ensures course { IfOk result (λ all. all.0 ≡ beginning (S.site engine.now.station) [] first) }
-    ensures faults { IfOk result (λ all. all.1 ≡ no_faults (length (node_names (S.site engine.now.station))) (length (S.site engine.now.station).points)) }
+) -> Result<Beginning<'a>, AllocError>
+    ensures course { IfOk result (λ all. all.course ≡ beginning (S.site engine.now.station) [] first) }
+    ensures orders { IfOk result (λ all. all.orders ≡ none_standing (length (S.site engine.now.station).routes)) }
+    ensures faults { IfOk result (λ all. all.faults ≡ no_faults (length (node_names (S.site engine.now.station))) (length (S.site engine.now.station).points)) }
 {
     let layout = engine.station.table().layout();
     let faults = Faults::none(engine.alloc, layout.nodes(), layout.points().len())?;
+    let orders = StandingOrders::none(engine.alloc, layout.routes().len())?;
     let numbers = Numbers::none(engine.alloc)?;
-    Ok((engine.begin(&[], first)?, faults, numbers))
+    let course = engine.begin(&[], first)?;
+    Ok(Beginning {
+        course,
+        faults,
+        orders,
+        numbers,
+    })
 }
 
 /// Makes the desk of a station, and its network.

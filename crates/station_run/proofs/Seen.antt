@@ -5,6 +5,7 @@ use Rattle.std.specs.List.{Contains, list_any}
 use Rattle.std.specs.Option.{option_map, option_map_or}
 use Rattle.std.proofs.lemmas.Bool.{eq-eqb, eqb-true, false≢true}
 use Rattle.std.proofs.lemmas.List.{append_assoc, append-nil}
+use Rattle.std.proofs.lemmas.Option.{slice_get_past}
 use Rattle.station_record.specs.replay.ixl_spec.State.{IxlState, RouteState}
 use Rattle.station_record.specs.replay.ixl_spec.Table.{Row, at}
 use Rattle.station_record.specs.replay.ixl_spec.Due.{HoldsSection}
@@ -14,7 +15,7 @@ use Rattle.station_record.specs.replay.layout.declared.ids.RouteId.{RouteId}
 use Rattle.station_record.specs.replay.simulator.ixl_state.ixl_known.Field.{FieldState, Rest, kept}
 use Rattle.station_record.specs.replay.simulator.ixl_state.State.{AtRoute, HasRoute, StateView, field_of, rest_of}
 use Rattle.station_panel.specs.panel_desk.declared.panel_line.PanelLine.{PanelLine}
-use Rattle.station_run.specs.Panel.{each, lock_of, locking}
+use Rattle.station_run.specs.Panel.{each, is_released, lock_of, locking, released_at}
 
 -- ---- what stands at a place
 
@@ -40,6 +41,15 @@ unfolding at
 at_past [] place test beyond = refl
 at_past (first ∷ others) zero test beyond = absurd (omega (arith, beyond))
 at_past (first ∷ others) (suc place) test beyond = at_past others place test (omega (arith, beyond))
+
+-- ---- a route that was released
+
+pub released_there : (routes : List RouteState) (place : ℕ) (seen found : RouteState) (told : Bool) → slice_get routes place ≡ Some found → seen ≡ found → told ≡ is_released seen → told ≡ released_at routes place
+released_there routes place seen found told at same is =
+    is ∙ ap is_released same ∙ sym (ap (λ (kept : Option RouteState). option_map_or is_released kept false) at)
+
+pub released_past : (routes : List RouteState) (place : ℕ) → length routes ≤ place → false ≡ released_at routes place
+released_past routes place beyond = sym (ap (λ (kept : Option RouteState). option_map_or is_released kept false) (slice_get_past routes place beyond))
 
 -- ---- routes that lock a section
 

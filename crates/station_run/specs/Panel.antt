@@ -1,6 +1,6 @@
 -- What a panel shows of a world: true time, what the interlocking takes, and of each thing what is seen of it, or what the
 -- interlocking knows of it, in the order of the layout.
-use Rattle.std.specs.Prelude.{ℕ, zero, suc, ◌/◌, ◌==◌, Bool, true, false, if◌then◌else◌, List, [], ◌∷◌, length, Option, Some, None, slice_get}
+use Rattle.std.specs.Prelude.{ℕ, zero, suc, ◌/◌, ◌==◌, ◌&&◌, Bool, true, false, if◌then◌else◌, List, [], ◌∷◌, length, Option, Some, None, is_some, slice_get}
 use Rattle.std.specs.List.{flat_map}
 use Rattle.std.specs.Option.{option_map_or}
 use Rattle.station_record.specs.replay.layout.Entries.{RouteEntry, Site}
@@ -9,6 +9,10 @@ use Rattle.station_record.specs.replay.layout.declared.ids.RouteId.{RouteId}
 use Rattle.station_record.specs.replay.sci_telegram.declared.message.Aspect.TheVariants as aspects
 use Rattle.station_record.specs.replay.sci_telegram.declared.message.Occupancy.TheVariants as occupancies
 use Rattle.station_record.specs.replay.sci_telegram.declared.message.Position.TheVariants as positions
+use Rattle.station_record.specs.replay.sci_telegram.declared.message.Side.TheVariants as sides
+use Rattle.station_record.specs.replay.ixl_spec.closings.Closed.{is_closed}
+use Rattle.station_record.specs.replay.ixl_spec.closings.declared.thing.Thing.{Thing as Closable}
+use Rattle.station_record.specs.replay.ixl_spec.closings.declared.thing.Thing.TheVariants as closable
 use Rattle.station_record.specs.replay.ixl_spec.State.{IxlState, RouteState}
 use Rattle.station_record.specs.replay.ixl_spec.Table.{Row, at}
 use Rattle.station_record.specs.replay.ixl_spec.View.{holds_section, is_holding, is_point_ready, is_set, is_signal_ready}
@@ -27,7 +31,7 @@ use Rattle.station_panel.specs.panel_desk.node_lines.declared.operator_line.Know
 use Rattle.station_panel.specs.panel_desk.node_lines.declared.operator_line.LinkState.TheVariants as link
 use Rattle.station_record.specs.replay.World.{Played}
 use Rattle.station_run.specs.declared.thing.Thing.{Thing}
-use Rattle.station_run.specs.declared.thing.Thing.TheVariants.{Aspect as SignalAspect, Lies, Stands, Locked, SignalLink, PointLink, DetectorLink, HeldRoute, Route}
+use Rattle.station_run.specs.declared.thing.Thing.TheVariants.{Aspect as SignalAspect, Lies, Stands, Locked, SignalLink, PointLink, DetectorLink, HeldRoute, Route, Release, SectionClosing, LeftClosing, RightClosing, SignalClosing, RouteClosing}
 
 -- ---- the interlocking
 
@@ -78,6 +82,25 @@ is_detector_ready ixl place = at ixl.detectors place (λ detector. is_ready dete
 
 -- ---- each thing
 
+-- whether a route was released in its present setting
+abbrev pub is_released : RouteState → Bool
+is_released kept = is_set kept.phase && is_some kept.released
+
+abbrev pub released_at : List RouteState → ℕ → Bool
+released_at routes place = option_map_or is_released (slice_get routes place) false
+
+-- the thing of which a kind of closing tells, at a place
+abbrev pub closing_of : Thing → ℕ → Closable
+closing_of SectionClosing place = closable.Section (record { 0 = place })
+closing_of LeftClosing place = closable.Point (record { 0 = place }) sides.Left
+closing_of RightClosing place = closable.Point (record { 0 = place }) sides.Right
+closing_of SignalClosing place = closable.Signal (record { 0 = place })
+closing_of other place = closable.Route (record { 0 = place })
+
+-- whether the interlocking has it closed
+abbrev pub closing_line : Played → Closable → PanelLine
+closing_line world thing = line.Closed thing (is_closed world.run.interlocking.ixl.closed thing)
+
 -- what is shown of the thing of a kind at a place
 abbrev pub line_at : Played → Thing → ℕ → PanelLine
 line_at world SignalAspect place = line.Shows (record { 0 = place }) (option_map_or shown_by (slice_get world.run.signals place) aspects.Stop)
@@ -90,6 +113,8 @@ line_at world DetectorLink place = link_line (suc (detector_link world.sited.sit
 line_at world HeldRoute place =
     line.Known (known.Signal (record { 0 = place }) (authority_of world.sited.site.routes (route_held place (held_of world.sited.table world.run.interlocking world.run.frozen))))
 line_at world Route place = line.Known (known.Route (record { 0 = place }) (option_map_or (λ kept. is_set kept.phase) (slice_get world.run.interlocking.ixl.routes place) false))
+line_at world Release place = line.Released (record { 0 = place }) (released_at world.run.interlocking.ixl.routes place)
+line_at world closing place = closing_line world (closing_of closing place)
 
 -- how many things of a kind there are
 abbrev pub count : Site → Thing → ℕ
@@ -102,6 +127,12 @@ count site PointLink = length site.points
 count site DetectorLink = length site.detectors
 count site HeldRoute = length site.signals
 count site Route = length site.routes
+count site Release = length site.routes
+count site SectionClosing = length site.sections
+count site LeftClosing = length site.points
+count site RightClosing = length site.points
+count site SignalClosing = length site.signals
+count site RouteClosing = length site.routes
 
 -- of so many things, from a place on
 abbrev pub each : (ℕ → PanelLine) → ℕ → ℕ → List PanelLine
@@ -112,7 +143,7 @@ abbrev pub all_of : Played → Thing → List PanelLine
 all_of world thing = each (line_at world thing) 0 (count world.sited.site thing)
 
 abbrev pub things : List Thing
-things = SignalAspect ∷ Lies ∷ Stands ∷ Locked ∷ SignalLink ∷ PointLink ∷ DetectorLink ∷ HeldRoute ∷ Route ∷ []
+things = SignalAspect ∷ Lies ∷ Stands ∷ Locked ∷ SignalLink ∷ PointLink ∷ DetectorLink ∷ HeldRoute ∷ Route ∷ Release ∷ SectionClosing ∷ LeftClosing ∷ RightClosing ∷ SignalClosing ∷ RouteClosing ∷ []
 
 -- ---- the picture
 

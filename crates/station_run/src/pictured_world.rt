@@ -3,16 +3,15 @@
 ghost use Rattle.std.specs.Prelude.{◌≡◌, ◌<◌, ◌+◌, ◌++◌, ◌/◌, IfOk, OnOk, length, slice_get};
 ghost use Rattle.std.specs.List.{flat_map};
 ghost use Rattle.station_record.specs.replay.ixl_spec.View.{is_point_ready, is_signal_ready};
-ghost use Rattle.std.specs.Option.{option_map_or};
-ghost use Rattle.station_run.specs.Panel.{all_of, authority_of, count, is_detector_ready, line_at, link_line, lock_of, locking, mode_seen, pictured, route_held};
-ghost use Rattle.station_run.specs.declared.thing.Thing.TheVariants.{Aspect, DetectorLink, Lies, PointLink, Route as RouteSet, SignalLink, Stands};
+ghost use Rattle.station_run.specs.Panel.{all_of, authority_of, closing_line, closing_of, count, is_detector_ready, line_at, link_line, lock_of, locking, mode_seen, pictured, released_at, route_held};
+ghost use Rattle.station_run.specs.declared.thing.Thing.TheVariants.{Aspect, DetectorLink, Lies, PointLink, Release, Route as RouteSet, SignalLink, Stands};
 ghost use Rattle.station_record.specs.replay.simulator_spec.Interlocking.{held_of};
 ghost use Rattle.station_record.specs.replay.World.{played};
 ghost use Rattle.station_record.specs.replay.layout.Nodes.{HasNode, meant_node, number_of};
 
 use crate::thing::Thing;
 use control_table::{Checked, Side};
-use station_panel::{Authority, Known, LinkState, Mode, PanelLine, Pictured};
+use station_panel::{Authority, Closable, Known, LinkState, Mode, PanelLine, Pictured};
 use station_record::{
     DetectorId, Event, Held, MICROS, Node, Outgoing, PointId, Refused, Reply, Route, RouteId,
     SectionId, SignalId, Station, World,
@@ -20,7 +19,7 @@ use station_record::{
 use std::alloc::{AllocError, Global};
 
 /// The kinds of things, in the order in which they are shown.
-const THINGS: [Thing; 9] = [
+const THINGS: [Thing; 15] = [
     Thing::Aspect,
     Thing::Lies,
     Thing::Stands,
@@ -30,6 +29,12 @@ const THINGS: [Thing; 9] = [
     Thing::DetectorLink,
     Thing::HeldRoute,
     Thing::Route,
+    Thing::Release,
+    Thing::SectionClosing,
+    Thing::LeftClosing,
+    Thing::RightClosing,
+    Thing::SignalClosing,
+    Thing::RouteClosing,
 ];
 
 /// A world as a panel shows it.
@@ -125,7 +130,11 @@ fn count(world: &World, thing: Thing) -> usize
         Thing::Lies | Thing::PointLink => layout.points().len(),
         Thing::Stands | Thing::Locked => layout.sections().len(),
         Thing::DetectorLink => layout.detectors().len(),
-        Thing::Route => layout.routes().len(),
+        Thing::Route | Thing::Release => layout.routes().len(),
+        Thing::SectionClosing => layout.sections().len(),
+        Thing::LeftClosing | Thing::RightClosing => layout.points().len(),
+        Thing::SignalClosing => layout.signals().len(),
+        Thing::RouteClosing => layout.routes().len(),
     }
 }
 
@@ -150,6 +159,8 @@ fn line_at(world: &World, thing: Thing, place: usize) -> PanelLine
             authority: authority_of(world.table().layout().routes(), held_at(world, place)),
         }),
         Thing::Route => route_line(world, place),
+        Thing::Release => release_line(world, place),
+        closing => closing_line(world, closing_of(closing, place)),
     }
 }
 
@@ -217,6 +228,53 @@ fn route_line(world: &World, place: usize) -> PanelLine
         route,
         is_set: world.is_set(route),
     })
+}
+
+/// Whether a route was released in its present setting.
+fn release_line(world: &World, place: usize) -> PanelLine
+    ensures { result ≡ line_at (played world.now) Release place }
+{
+    PanelLine::Released {
+        route: RouteId(place),
+        is_released: is_released(world, place),
+    }
+}
+
+/// Whether a route is set, and was released in this setting.
+#[tactic(auto, using(crate::proofs::Seen::released_there, crate::proofs::Seen::released_past))]
+fn is_released(world: &World, place: usize) -> bool
+    ensures { result ≡ released_at world.now.run.interlocking.ixl.routes place }
+{
+    let state = world.interlocking();
+    if place >= state.table().rows().len() {
+        return false;
+    }
+    state.keeps_route(place);
+    let kept = state.route(place);
+    kept.is_set() && kept.released().is_some()
+}
+
+/// The thing of which a kind of closing tells, at a place.
+fn closing_of(kind: Thing, place: usize) -> Closable
+    ensures { result ≡ closing_of kind place }
+{
+    match kind {
+        Thing::SectionClosing => Closable::Section(SectionId(place)),
+        Thing::LeftClosing => Closable::Point(PointId(place), Side::Left),
+        Thing::RightClosing => Closable::Point(PointId(place), Side::Right),
+        Thing::SignalClosing => Closable::Signal(SignalId(place)),
+        _ => Closable::Route(RouteId(place)),
+    }
+}
+
+/// Whether a thing is closed.
+fn closing_line(world: &World, thing: Closable) -> PanelLine
+    ensures { result ≡ closing_line (played world.now) thing }
+{
+    PanelLine::Closed {
+        thing,
+        is_closed: world.interlocking().closed().is_closed(thing),
+    }
 }
 
 /// The link to a controller.

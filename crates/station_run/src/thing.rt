@@ -21,4 +21,16 @@ pub enum Thing {
     HeldRoute,
     /// Whether a route is set.
     Route,
+    /// Whether a route was released in its present setting.
+    Release,
+    /// Whether a section is closed.
+    SectionClosing,
+    /// Whether a point is closed at the left.
+    LeftClosing,
+    /// Whether a point is closed at the right.
+    RightClosing,
+    /// Whether a signal is closed.
+    SignalClosing,
+    /// Whether a route is closed.
+    RouteClosing,
 }

@@ -6,6 +6,7 @@ mod changes;
 mod desk;
 mod driven;
 mod gear;
+mod kept_closings;
 mod place;
 mod plant;
 mod records;
@@ -13,6 +14,12 @@ mod script;
 mod station;
 mod stories;
 
+use crate::node_stories::kept_closings::{
+    counts_go_on_in_the_next_process, failing_disks_leave_what_was_accepted,
+    killed_processes_leave_what_they_accepted, killed_processes_leave_what_they_take_over,
+    locks_are_closed_in_the_next_process, lost_files_close_all_track,
+    nobody_is_heard_before_he_may_listen,
+};
 use crate::node_stories::records::records_are_same;
 use crate::node_stories::station::{Station, free_addresses};
 use crate::node_stories::stories::{
@@ -32,6 +39,15 @@ enum Trial {
     LateDatagrams,
     FailingCalls,
     Records,
+    /// The interlocking's process is killed, also as it takes over what its file has, its disk fails, its file is lost, its locks are
+    /// kept, somebody speaks early, and it counts on.
+    Kills,
+    KillsWhileItTakesOver,
+    FailingDisks,
+    LostFiles,
+    Locks,
+    EarlyLines,
+    Counts,
     /// It rests for so many rounds.
     Rest(u64),
 }
@@ -62,6 +78,13 @@ fn comes_out(rt: &HostRuntime, trial: Trial) -> bool {
         Trial::LateDatagrams => nothing_old_is_heard(station),
         Trial::FailingCalls => calls_that_fail_change_nothing(station),
         Trial::Records => records_are_same(station),
+        Trial::Kills => killed_processes_leave_what_they_accepted(station),
+        Trial::KillsWhileItTakesOver => killed_processes_leave_what_they_take_over(station),
+        Trial::FailingDisks => failing_disks_leave_what_was_accepted(station),
+        Trial::LostFiles => lost_files_close_all_track(station),
+        Trial::Locks => locks_are_closed_in_the_next_process(station),
+        Trial::EarlyLines => nobody_is_heard_before_he_may_listen(station),
+        Trial::Counts => counts_go_on_in_the_next_process(station),
         Trial::Rest(rounds) => rests(station, rounds),
     }
 }
@@ -89,6 +112,41 @@ fn a_call_of_the_network_that_fails_changes_nothing(rt: HostRuntime) {
 #[test]
 fn the_record_of_each_node_is_the_same_once_more(rt: HostRuntime) {
     assert!(rt; comes_out(&rt, Trial::Records));
+}
+
+#[test]
+fn what_was_accepted_outlives_a_kill_between_any_two_calls(rt: HostRuntime) {
+    assert!(rt; comes_out(&rt, Trial::Kills));
+}
+
+#[test]
+fn what_is_taken_over_outlives_a_kill_between_any_two_calls(rt: HostRuntime) {
+    assert!(rt; comes_out(&rt, Trial::KillsWhileItTakesOver));
+}
+
+#[test]
+fn what_was_accepted_outlives_each_call_that_fails(rt: HostRuntime) {
+    assert!(rt; comes_out(&rt, Trial::FailingDisks));
+}
+
+#[test]
+fn a_file_that_is_lost_closes_all_track(rt: HostRuntime) {
+    assert!(rt; comes_out(&rt, Trial::LostFiles));
+}
+
+#[test]
+fn what_a_route_locks_is_closed_in_the_next_process(rt: HostRuntime) {
+    assert!(rt; comes_out(&rt, Trial::Locks));
+}
+
+#[test]
+fn what_is_said_before_the_operator_may_listen_is_answered(rt: HostRuntime) {
+    assert!(rt; comes_out(&rt, Trial::EarlyLines));
+}
+
+#[test]
+fn auxiliary_commands_are_counted_on_in_the_next_process(rt: HostRuntime) {
+    assert!(rt; comes_out(&rt, Trial::Counts));
 }
 
 #[test]

@@ -1,12 +1,14 @@
 //! The numbers that an operator may look at: their lines, Prometheus' text, and what a node tells that is asked.
 
 use crate::run_bench::SMALL;
+use node_kinds::Keeping;
 use node_kinds::node_drive::NodeId;
+use node_kinds::node_drive::node_lines::AuxiliaryCounts;
 use node_kinds::run_numbers::{
     Fate, NumberText, Numbers, NumbersTold, ROWS, Reason, Row, metrics_text, read_number,
 };
 use station_node::node_network::MemoryOutside;
-use station_node::run_node;
+use station_node::{NodeRun, run_node};
 use station_run::table_of;
 use std::alloc::Global;
 use std::process::Abort;
@@ -80,7 +82,13 @@ fn told_by(rt: &impl Abort, alloc: Global, lines: &[&str]) -> MemoryOutside {
     for line in lines {
         outside.bring_line(line).expect(rt, "a line");
     }
-    assert!(rt; run_node(alloc, table, NodeId(0), 1, 50, &mut outside).is_ok());
+    let asked = NodeRun {
+        first: 1,
+        for_ms: 50,
+        keeping: Keeping::Nothing,
+        counts: AuxiliaryCounts::none(),
+    };
+    assert!(rt; run_node(alloc, table, NodeId(0), asked, &mut outside).is_ok());
     outside.listen();
     outside
 }

@@ -2,10 +2,10 @@
 
 use crate::panel_bench::{Asks, Sevens, Visit, Visits, count, has, page};
 use crate::run_bench::SMALL;
-use control_table::{Checked, Layout};
+use control_table::Checked;
 use node_panel::{Heard, Room, attend_node};
 use station_node::node_network::MemoryOutside;
-use station_panel::{Pictured, open_desk};
+use station_panel::{Pictured, StandingOrders, open_desk};
 use station_run::table_of;
 use std::alloc::Global;
 use std::cell::RefCell;
@@ -22,16 +22,20 @@ struct Seat<'a> {
 }
 
 /// A panel whose node is joined in its first turn.
-fn panel_joined<'a>(rt: &impl Abort, alloc: Global, layout: &'a Layout) -> Seat<'a> {
-    let table = small_table(rt, alloc);
+fn panel_joined<'a>(rt: &impl Abort, alloc: Global, table: &'a Checked) -> Seat<'a> {
+    let layout = table.layout();
     let heard = Heard::nothing(alloc, layout).expect(rt, "nothing heard");
-    let places = heard.picture(alloc).expect(rt, "a picture").len();
-    let desk = open_desk(&Sevens, alloc, table, places, &page(8080)).expect(rt, "a desk");
+    let orders = StandingOrders::none(alloc, layout.routes().len()).expect(rt, "no orders");
+    let mut lines = heard.picture(alloc).expect(rt, "a picture");
+    orders.add_lines(&mut lines).expect(rt, "lines of orders");
+    let own = small_table(rt, alloc);
+    let desk = open_desk(&Sevens, alloc, own, lines.len(), &page(8080)).expect(rt, "a desk");
     let mut outside = MemoryOutside::new(alloc, 0, 10);
     outside.listen();
     let room = Room {
-        layout,
+        table,
         heard,
+        orders,
         desk,
     };
     Seat { outside, room }
@@ -139,7 +143,7 @@ const GONE: Stage = (&[], &[(2, Asks::Get("/state?after=0"))], 800);
 #[test]
 fn a_panel_shows_what_a_node_tells(rt: HostRuntime) {
     let table = small_table(&rt, rt.alloc());
-    let mut seat = panel_joined(&rt, rt.alloc(), table.layout());
+    let mut seat = panel_joined(&rt, rt.alloc(), &table);
     let told = attend(&rt, rt.alloc(), &mut seat, &JOINED);
     assert!(rt; has(&told, "link IXL1 ready") && has(&told, "link S1 ready"));
     assert!(rt; has(&told, "section GP unknown") && has(&told, "indicates S1 stop"));
@@ -169,7 +173,7 @@ const COUNTED: Stage = (
 #[test]
 fn a_panel_serves_the_numbers_of_its_node(rt: HostRuntime) {
     let table = small_table(&rt, rt.alloc());
-    let mut seat = panel_joined(&rt, rt.alloc(), table.layout());
+    let mut seat = panel_joined(&rt, rt.alloc(), &table);
     attend(&rt, rt.alloc(), &mut seat, &JOINED);
     let told = attend(&rt, rt.alloc(), &mut seat, &COUNTED);
     assert!(rt; has(&told, "content-type: text/plain; version=0.0.4"));
@@ -193,7 +197,7 @@ const LOOKED_AT: Stage = (&[], &[(1, Asks::Get("/metrics"))], 10_400);
 #[test]
 fn a_panel_knows_nothing_of_a_node_that_has_gone(rt: HostRuntime) {
     let table = small_table(&rt, rt.alloc());
-    let mut seat = panel_joined(&rt, rt.alloc(), table.layout());
+    let mut seat = panel_joined(&rt, rt.alloc(), &table);
     attend(&rt, rt.alloc(), &mut seat, &JOINED);
     attend(&rt, rt.alloc(), &mut seat, &SET);
     let told = attend(&rt, rt.alloc(), &mut seat, &LOST);
@@ -202,4 +206,96 @@ fn a_panel_knows_nothing_of_a_node_that_has_gone(rt: HostRuntime) {
     seat.outside.close();
     let told = attend(&rt, rt.alloc(), &mut seat, &GONE);
     assert!(rt; has(&told, "link IXL1 lost") && has(&told, "signal S1 stop -"));
+}
+
+/// What is closed, released and counted is told. A node tells a point with its side.
+const CLOSED: Stage = (
+    &[
+        "closed GA",
+        "closed P1 right",
+        "closed S3",
+        "open S3",
+        "closed R1",
+        "closed P1",
+        "route R2 set",
+        "route R2 released",
+        "counted open 3",
+    ],
+    &[(2, Asks::Get("/state?after=0"))],
+    200,
+);
+
+#[test]
+fn a_panel_shows_what_is_closed(rt: HostRuntime) {
+    let table = small_table(&rt, rt.alloc());
+    let mut seat = panel_joined(&rt, rt.alloc(), &table);
+    let told = attend(&rt, rt.alloc(), &mut seat, &CLOSED);
+    assert!(rt; has(&told, "closed-section GA yes") && has(&told, "closed-section GP no"));
+    assert!(rt; has(&told, "closed-right P1 yes") && has(&told, "closed-left P1 no"));
+    assert!(rt; has(&told, "closed-signal S3 no") && has(&told, "closed-route R1 yes"));
+    assert!(rt; has(&told, "released R2 yes") && has(&told, "released R1 no"));
+    assert!(rt; has(&told, "counted 0 3"));
+}
+
+/// All is clear and ready. One route is automatic, and another that conflicts with it waits.
+const STANDING: Stage = (
+    &[
+        "link S1 ready",
+        "link P1 ready",
+        "link D1 ready",
+        "section GA clear",
+        "section GP clear",
+        "section G1 clear",
+        "section G2 clear",
+    ],
+    &[(2, Asks::Post("automatic R2")), (3, Asks::Post("queue R1"))],
+    500,
+);
+
+/// The automatic one is set.
+const SET_BY_ITSELF: Stage = (
+    &["accepted", "route R2 set"],
+    &[(2, Asks::Get("/state?after=0"))],
+    1000,
+);
+
+/// A train has passed over it.
+const PASSED: Stage = (&["route R2 free"], &[], 1500);
+
+/// The other is set. Then all are cancelled.
+const CANCELLED: Stage = (
+    &["accepted", "route R1 set"],
+    &[
+        (2, Asks::Get("/state?after=0")),
+        (3, Asks::Post("cancel all")),
+    ],
+    2000,
+);
+
+/// Nothing is set any more.
+const FREE: Stage = (
+    &["accepted", "route R1 free"],
+    &[(2, Asks::Get("/state?after=0"))],
+    4000,
+);
+
+#[test]
+fn a_panel_sets_routes_by_itself(rt: HostRuntime) {
+    let table = small_table(&rt, rt.alloc());
+    let mut seat = panel_joined(&rt, rt.alloc(), &table);
+    attend(&rt, rt.alloc(), &mut seat, &STANDING);
+    assert!(rt; asks(&rt, &mut seat, "numbers") && asks(&rt, &mut seat, "set R2"));
+    assert!(rt; seat.outside.take_written().is_none());
+    let told = attend(&rt, rt.alloc(), &mut seat, &SET_BY_ITSELF);
+    assert!(rt; has(&told, "automatic R2 yes") && has(&told, "waits R2 -"));
+    assert!(rt; has(&told, "waits R1 1") && has(&told, "set R2 = accepted"));
+    assert!(rt; seat.outside.take_written().is_none());
+    attend(&rt, rt.alloc(), &mut seat, &PASSED);
+    assert!(rt; asks(&rt, &mut seat, "set R1") && seat.outside.take_written().is_none());
+    let told = attend(&rt, rt.alloc(), &mut seat, &CANCELLED);
+    assert!(rt; has(&told, "waits R1 -") && has(&told, "waits R2 1"));
+    assert!(rt; asks(&rt, &mut seat, "cancel all"));
+    let told = attend(&rt, rt.alloc(), &mut seat, &FREE);
+    assert!(rt; has(&told, "automatic R2 no") && has(&told, "waits R2 -"));
+    assert!(rt; seat.outside.take_written().is_none());
 }

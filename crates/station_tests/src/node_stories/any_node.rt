@@ -5,7 +5,7 @@ use crate::node_stories::gear::Gear;
 use crate::node_stories::station::{D1, INTERLOCKING, P1, S1, Station};
 use control_table::{DetectorId, Occupancy, PointId, SignalId};
 use node_kinds::node_drive::{Course, NodeFault};
-use node_kinds::{DetectorNode, InterlockingNode, PointNode, SignalNode};
+use node_kinds::{DetectorNode, InterlockingNode, Keeping, PointNode, SignalNode};
 use station_node::node_network::{MemoryOutside, NodeSocket};
 use std::alloc::Global;
 
@@ -70,7 +70,7 @@ impl<'a> AnyNode<'a> {
 fn interlocking<'a>(station: Station<'a>, begins: Beginning) -> Option<AnyNode<'a>> {
     let (alloc, now) = (station.alloc, begins.now);
     let table = station.table.copy(alloc).ok()?;
-    let node = InterlockingNode::new(alloc, table, now, begins.first).ok()?;
+    let node = InterlockingNode::new(alloc, table, now, begins.first, Keeping::Nothing).ok()?;
     Some(AnyNode::Interlocking(Driven::begun(node, now)))
 }
 

@@ -4,7 +4,9 @@ ghost use Rattle.std.specs.Prelude.{◌≡◌};
 
 use crate::node_stories::station::Station;
 use node_kinds::Fault;
-use node_kinds::node_drive::{BrokenOff, NextDatagram, NextLine, NodeId, Outside, ThrownAway};
+use node_kinds::node_drive::{
+    BrokenOff, NextDatagram, NextLine, NodeId, Outside, ThrownAway, ToKeep,
+};
 use station_node::node_network::{MemoryOutside, NodeSocket};
 use std::alloc::{AllocError, Global};
 
@@ -98,6 +100,10 @@ impl<'d, O: Others> Outside for Desk<'d, O> {
 
     fn complain(&mut self, line: u64, fault: Fault) {
         self.memory.complain(line, fault);
+    }
+
+    fn keep(&mut self, all: ToKeep) -> bool {
+        self.memory.keep(all)
     }
 }
 

@@ -6,10 +6,12 @@ use crate::node_stories::plant::{BEGINS, Plant, Played, STEP};
 use crate::node_stories::script::{LATE, LATE_ROUNDS};
 use crate::node_stories::station::{NAMES, Station, name};
 use crate::run_bench::SMALL;
+use node_kinds::Keeping;
 use node_kinds::node_drive::Outside;
+use node_kinds::node_drive::node_lines::AuxiliaryCounts;
 use node_kinds::simulator_spec::NodeId;
 use station_node::node_network::Recorded;
-use station_node::{replay_node_text, run_node};
+use station_node::{NodeRun, replay_node_text, run_node};
 
 /// From which number on the node numbers its PDUs, and another one.
 const FIRST: u32 = 77;
@@ -92,7 +94,13 @@ fn record_whole<O: Outside + Drop>(
     match table.copy(alloc) {
         Ok(copy) => {
             let node = NodeId(number);
-            run_node(alloc, copy, node, FIRST, FOR_MS, &mut recorded).is_ok()
+            let asked = NodeRun {
+                first: FIRST,
+                for_ms: FOR_MS,
+                keeping: Keeping::Nothing,
+                counts: AuxiliaryCounts::none(),
+            };
+            run_node(alloc, copy, node, asked, &mut recorded).is_ok()
         }
         Err(_) => false,
     }

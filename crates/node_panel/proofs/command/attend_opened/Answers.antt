@@ -1,7 +1,7 @@
-use Rattle.std.proofs.Common.{◌≤◌, ℕ, List, None, subst}
-use Rattle.node_drive.specs.Calls.{Call}
+use Rattle.std.proofs.Common.{◌≤◌, ℕ, None, length, subst}
+use Rattle.panel_desk.specs.StandingOrders.{StandingView, none_standing}
 use Rattle.panel_desk.specs.node_lines.layout.Entries.{Site}
-use Rattle.node_panel.specs.Heard.{HeardView, pictured}
+use Rattle.node_panel.specs.Heard.{HeardView}
 use Rattle.node_panel.specs.Turns.{Moment, Turns}
 use Rattle.node_panel.proofs.command.attend_opened.Goals as goal
 
@@ -11,7 +11,8 @@ returns g c =
     let ended = c.in_ok-attend_node.ensures in
     let desk = c.in_ok-room.room.desk in
     let heard = c.in_ok-room.room.heard in
-    let last : Moment = record { heard = c.attend_node.new.room.heard; desk = c.attend_node.new.room.desk } in
+    let orders = c.in_ok-room.room.orders in
+    let last : Moment = record { heard = c.attend_node.new.room.heard; orders = c.attend_node.new.room.orders; desk = c.attend_node.new.room.desk } in
     record {
       opened = desk;
       desk = room.desk;
@@ -21,7 +22,8 @@ returns g c =
       calls = ended.turns.0;
       called = ended.turns.1;
       last = last;
-      turns = subst (λ (h : HeardView). Turns c.args.table.now (record { heard = h; desk = desk }) ended.turns.0 last) room.heard
-          (subst (λ (p : Site). Turns p (record { heard = heard; desk = desk }) ended.turns.0 last) room.layout ended.turns.2);
+      turns = subst (λ (h : HeardView). Turns c.args.table.now (record { heard = h; orders = none_standing (length c.args.table.now.routes); desk = desk }) ended.turns.0 last) room.heard
+          (subst (λ (o : StandingView). Turns c.args.table.now (record { heard = heard; orders = o; desk = desk }) ended.turns.0 last) room.orders
+          (subst (λ (p : Site). Turns p (record { heard = heard; orders = orders; desk = desk }) ended.turns.0 last) room.table ended.turns.2));
       over = subst (λ (n : ℕ). n ≤ c.attend_node.new.outside.latest) c.unwrap_or.ensures ended.over;
     }

@@ -13,4 +13,8 @@ returns c site once station known is =
       section_words = c.names_are_words.ensures.sections site station;
       point_words = c.names_are_words.ensures.points site station;
       route_words = c.names_are_words.ensures.routes site station;
+      things = λ n word side says. (c.a_name_names_what_has_it.ensures site n word side once).1 says;
+      thing_words = c.names_are_words.ensures.things site station;
+      numbers = c.a_number_is_read_again.ensures.read;
+      number_words = c.a_number_is_read_again.ensures.word;
     }) known is

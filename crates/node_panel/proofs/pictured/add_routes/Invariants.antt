@@ -1,5 +1,6 @@
 use Rattle.std.proofs.Common.{◌≡◌, ◌++◌, drop}
-use Rattle.node_panel.specs.Heard.{each, route_line}
+use Rattle.node_panel.specs.ClosedHeard.{each}
+use Rattle.node_panel.specs.Heard.{route_line}
 use Rattle.node_panel.proofs.pictured.add_routes.Given as goal
 
 -- those so far, and after them those that are left

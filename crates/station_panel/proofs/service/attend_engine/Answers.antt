@@ -20,7 +20,7 @@ returns-clause-done g c =
     let is = λ (ended : Result Ending PanelFault). IfOk ended (IsAttended g.S.Station g.N.Datagrams g.S.Pictured c.args.limits (seen_engine c.args.engine) c.args.desk (read c.args.clock.now) (read c.attend.new.clock) (g.W.Write.contents c.into_recorder.result)) in
     elim c.match-attend.branch [
       | in-Ok-attend w ↦ subst is (sym w.ended-is) (attended_until g.S.Station g.N.Datagrams g.S.Pictured c.args.limits (seen_engine c.args.engine) c.args.desk c.read-first.result
-          (λ i. record { station = c.args.engine.station.station; net = disturbance c.args.engine.net; run = c.in-Ok.ensures.course i; desk = c.args.desk; faults = c.in-Ok.ensures.faults i; text = c.args.engine.text })
+          (λ i. record { station = c.args.engine.station.station; net = disturbance c.args.engine.net; run = c.in-Ok.ensures.course i; desk = c.args.desk; faults = c.in-Ok.ensures.faults i; orders = c.in-Ok.ensures.orders i; text = c.args.engine.text })
           (sym c.into_recorder.ensures) _ _ _ w.in-Ok-attend.ending c.read-first.ensures.told w.in-Ok-attend.ensures.done)
       | in-Err-attend w ↦ subst is (sym w.ended-is) tt
     ]
@@ -31,6 +31,6 @@ returns-clause-stopped g c =
     elim c.match-attend.branch [
       | in-Ok-attend w ↦ subst is (sym w.ended-is) tt
       | in-Err-attend w ↦ subst is (sym w.ended-is) (broken_after g.S.Station g.N.Datagrams g.S.Pictured c.args.limits (seen_engine c.args.engine) c.args.desk c.read-first.result
-          (λ i. record { station = c.args.engine.station.station; net = disturbance c.args.engine.net; run = c.in-Ok.ensures.course i; desk = c.args.desk; faults = c.in-Ok.ensures.faults i; text = c.args.engine.text })
+          (λ i. record { station = c.args.engine.station.station; net = disturbance c.args.engine.net; run = c.in-Ok.ensures.course i; desk = c.args.desk; faults = c.in-Ok.ensures.faults i; orders = c.in-Ok.ensures.orders i; text = c.args.engine.text })
           (sym c.into_recorder.ensures) _ w.in-Err-attend.ensures.stopped)
     ]

@@ -16,22 +16,28 @@ returns c =
       authorities = i.authorities.items;
       indications = i.indications.items;
       routes = i.routes.items;
+      released = i.released.items;
+      closed = i.closed;
+      counts = i.counts;
       first_lost = i.first_lost.items;
       second_lost = i.second_lost.items;
       asked = i.asked.items;
       numbers = i.numbers;
       questioned = i.questioned;
     } in
-    is_forgotten before _ _ _ _ _ _ _ _ _ _ _
+    is_forgotten before _ _ _ _ _ _ _ _ _ _ _ _ _ _
     (all_put c.self.inside.links _ _ false c.deref_mut.ensures.value c.put_all.ensures)
     (all_put c.self.inside.sections _ _ None c.deref_mut-2.ensures.value c.put_all-2.ensures)
     (all_put c.self.inside.points _ _ None c.deref_mut-3.ensures.value c.put_all-3.ensures)
     (all_put c.self.inside.authorities _ _ None c.deref_mut-4.ensures.value c.put_all-4.ensures)
     (all_put c.self.inside.indications _ _ None c.deref_mut-5.ensures.value c.put_all-5.ensures)
     (all_put c.self.inside.routes _ _ false c.deref_mut-6.ensures.value c.put_all-6.ensures)
-    (all_put c.self.inside.first_lost _ _ None c.deref_mut-7.ensures.value c.put_all-7.ensures)
-    (all_put c.self.inside.second_lost _ _ None c.deref_mut-8.ensures.value c.put_all-8.ensures)
-    c.clear.ensures.items
+    (all_put c.self.inside.released _ _ false c.deref_mut-7.ensures.value c.put_all-7.ensures)
     c.forget.ensures
+    c.none-self-inside.ensures
+    (all_put c.self.inside.first_lost _ _ None c.deref_mut-8.ensures.value c.put_all-8.ensures)
+    (all_put c.self.inside.second_lost _ _ None c.deref_mut-9.ensures.value c.put_all-9.ensures)
+    c.clear.ensures.items
+    c.forget-2.ensures
     refl
     ∙ ap forgotten c.self.view_is

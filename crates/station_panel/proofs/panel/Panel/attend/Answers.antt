@@ -1,4 +1,4 @@
-use Rattle.std.proofs.Common.{◌≡◌, ◌∙◌, [], ◌∷◌, ◌++◌, refl, ap, subst}
+use Rattle.std.proofs.Common.{◌∙◌, [], ◌∷◌, ◌++◌, refl, ap, subst}
 use Rattle.station_drive.specs.Rounds.{RunSoFar}
 use Rattle.station_panel.specs.Turns.{IsLived, IsLivedShort, Moment, at_once, begins, goes_on, in_a_turn}
 use Rattle.station_panel.proofs.Readings.{grows_none, grows_on}
@@ -12,7 +12,7 @@ pub returns-in_err-turn-clause-stopped : goal.returns-in_err-turn-clause-stopped
 returns-in_err-turn-clause-stopped g c =
     let before = c.loop.invariant in
     let reading = c.read-reading.result in
-    let short = subst (λ (m : Moment g.row.S.Denot g.row.N.Denot). IsLivedShort g.S.Station g.N.Datagrams reading m c.turn.new.self) c.answer.ensures.kept c.in_err-turn.ensures.stopped in
+    let short = subst (λ (m : Moment g.row.S.Denot g.row.N.Denot). IsLivedShort g.S.Station g.N.Datagrams g.S.Pictured reading m c.turn.new.self) c.answer.ensures.kept c.in_err-turn.ensures.stopped in
     stopped c.from_residual.result (record { readings = before.0; last = c.loop.self; turns = before.2; cut = in_a_turn reading c.answer.new.self.desk c.answer.ensures.served short })
 
 pub returns-in-Some-clause-done : goal.returns-in-Some-clause-done

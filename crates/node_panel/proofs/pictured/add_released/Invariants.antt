@@ -1,0 +1,8 @@
+use Rattle.std.proofs.Common.{◌≡◌, ◌++◌, drop}
+use Rattle.node_panel.specs.ClosedHeard.{each}
+use Rattle.node_panel.specs.Heard.{released_line}
+use Rattle.node_panel.proofs.pictured.add_released.Given as goal
+
+-- those so far, and after them those that are left
+abbrev pub invariant-loop-place : goal.invariant-loop-place
+invariant-loop-place l = l.lines.items ++ each released_line l.place (drop l.place l.released) ≡ l.initial.lines.items ++ each released_line 0 l.released
