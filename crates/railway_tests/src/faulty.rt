@@ -195,7 +195,10 @@ const RULES: &[Row] = &[
     },
     Row {
         railway: LINE,
-        layouts: &[&[DETECTORS, TRACK_WITH_EXIT, OUT, IN, OUT_AT_THE_LEFT], WHOLE],
+        layouts: &[
+            &[DETECTORS, TRACK_WITH_EXIT, OUT, IN, OUT_AT_THE_LEFT],
+            WHOLE,
+        ],
         told: "13 LockNotRight at line 1 first: route N-Z\n",
     },
     Row {
