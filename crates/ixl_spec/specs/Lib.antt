@@ -6,6 +6,7 @@ pub mod StepSoFar
 pub mod Rules
 pub mod Commands
 pub mod Step
+pub mod Quiet
 pub mod Due
 pub mod First
 pub mod EndDue
