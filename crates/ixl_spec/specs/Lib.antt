@@ -6,7 +6,6 @@ pub mod StepSoFar
 pub mod Rules
 pub mod Commands
 pub mod Step
-pub mod Quiet
 pub mod Due
 pub mod First
 pub mod EndDue

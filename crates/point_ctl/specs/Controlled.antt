@@ -16,7 +16,6 @@ point_behaviour = record {
   until = λ point. point.until;
   owed = owing;
   after_paid = paying;
-  closes_when_full = false;
   status = status_at;
   after_loss = losing;
   is_restrictive = λ now point. is_none (drives now point);

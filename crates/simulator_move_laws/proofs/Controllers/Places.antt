@@ -92,6 +92,27 @@ unfolding called_all called
 client_stays connection [] ends = refl
 client_stays connection (call ∷ others) ends = client_stays connection others (called role.Server (as_call connection call) ends)
 
+own_connection : (connection : ℕ) (made : List LinkCall) (ends : Ends) → AreOwn made → (called_all connection made ends).server.connection ≡ ends.server.connection
+unfolding called_all called outcome end_after
+own_connection connection [] ends own = refl
+own_connection connection (Ticks ∷ others) ends own = own_connection connection others (called role.Server (as_call connection Ticks) ends) own.1
+own_connection connection (Closes why ∷ others) ends own = own_connection connection others (called role.Server (as_call connection (Closes why)) ends) own.1
+own_connection connection (Sends item ∷ others) ends own = own_connection connection others (called role.Server (as_call connection (Sends item)) ends) own.1
+own_connection connection (Receives bytes ∷ others) ends own = absurd own.0
+
+received_connection : (connection : ℕ) (bytes : List ℕ) (others : List LinkCall) (ends : Ends) → AreOwn others →
+    (called_all connection (Receives bytes ∷ others) ends).server.connection ≡ newer (outcome (calls.Receives bytes connection) ends.moment ends.server).enters ends.server.connection
+unfolding called_all called outcome end_after
+received_connection connection bytes others ends own = own_connection connection others (called role.Server (as_call connection (Receives bytes)) ends) own
+
+pub connection_after : (connection : ℕ) (input : Input) (made : List LinkCall) (ends : Ends) → AreCallsFor input made →
+    (called_all connection made ends).server.connection ≡ newer (entering input connection ends) ends.server.connection
+connection_after connection inputs.Tick made ends own = own_connection connection made ends own
+connection_after connection (inputs.Datagram bytes) made ends first =
+    subst (λ cs. (called_all connection cs ends).server.connection ≡ newer (entering (inputs.Datagram bytes) connection ends) ends.server.connection) (sym first.1)
+    (received_connection connection bytes.now first.0 ends first.2)
+connection_after connection (inputs.Sense sense) made ends own = own_connection connection made ends own
+
 -- a server's moves begin no connection of the client
 pub server_opens_none : (old new : Server) → OpensNone (server_moves old new)
 server_opens_none Before Before = tt
