@@ -1,6 +1,6 @@
 //! What is told of the text of a railway and of the texts of its layouts.
 
-use railway::railway_layout::{Line, LineEnd, Railway, RailwayFault, Refused, read_text};
+use railway_layout::{Line, LineEnd, Railway, RailwayFault, Refused, read_text};
 use std::alloc::Global;
 
 /// Some pieces, one behind the other.
