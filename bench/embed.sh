@@ -1,6 +1,6 @@
 #!/usr/bin/env bash
 # Proves and builds the controllers, the interlocking and the codecs for C by both of the kit's compilers, as one static library, and tries
-# it from C: a stored record again, byte for byte; hostile datagrams, clocks and drivers, with canaries and sanitizers; a whole station in
+# it from C: stored records again, byte for byte; hostile datagrams, clocks and drivers, with canaries and sanitizers; a whole station in
 # one process; no C library; sizes, stack and memory against bounds; the header and the examples without a warning. It leaves the library
 # with its headers in crates/controllers_c/out/zendurai/. Needs gcc and clang.
 # usage: bench/embed.sh [STEPS [SEED]]
@@ -55,7 +55,7 @@ try_library() {
     local name=$1 library=$room/$1/libzendurai.a
     echo "-- built by $name"
     compile replay -O2 "$bench/embed_replay.c" "$examples/heap.c" "$library"
-    "$room/replay" signal "$bench/S1.record" 2 1 S1 IXL1 1
+    "$bench/records/replay.sh" "$room/replay"
     compile hostile -O2 "$bench/embed_hostile.c" "$library"
     "$room/hostile" "$record" "$steps" "$seed"
     compile station -O2 "$bench/embed_hostile_station.c" "$library"

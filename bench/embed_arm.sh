@@ -1,5 +1,5 @@
 #!/usr/bin/env bash
-# Builds the library for C for aarch64, tells how large it is, and runs what tries it on an emulator: a stored record again, byte for byte,
+# Builds the library for C for aarch64, tells how large it is, and runs what tries it on an emulator: the stored records again, byte for byte,
 # and hostile steps. Needs gcc-aarch64-linux-gnu and qemu-user.
 # usage: bench/embed_arm.sh [STEPS [SEED]]
 set -eu
@@ -20,6 +20,6 @@ for program in replay hostile hostile_station; do
     aarch64-linux-gnu-gcc -std=c11 -O2 -static -Wall -Wextra -Wpedantic -Werror -I"$crates/controllers_c" -I"$crates/interlocking_c" -I"$crates/codec" \
         -o "$room/$program" "$bench/embed_$program.c" $([ $program = replay ] && echo "$examples/heap.c") "$room/libzendurai.a"
 done
-qemu-aarch64 "$room/replay" signal "$bench/S1.record" 2 1 S1 IXL1 1
+"$bench/records/replay.sh" qemu-aarch64 "$room/replay"
 qemu-aarch64 "$room/hostile" "$crates/stored_runs/data/A.record" "${1:-200000}" "${2:-1}"
 qemu-aarch64 "$room/hostile_station" "$top/examples/small.toml" "${1:-200000}" "${2:-1}"

@@ -4,7 +4,7 @@ behind a relay that loses, delays and repeats datagrams. Nodes are killed and st
 judge that knows the layout alone looks at the lamps and the point after each change. It prints what was seen, and ends with status 1 where
 anything was unsafe, or no signal came to proceed.
 
-    python3 bench/embed_station.py STATION FOLDER records [--seconds N]     all nodes by `station node`, each with a record; embed_replay of
+    python3 bench/embed_station.py STATION FOLDER records [--keep FOLDER]    all nodes by `station node`, each with a record; embed_replay of
                                                                             FOLDER goes through each
     python3 bench/embed_station.py STATION FOLDER NODE[,NODE ..] [--seconds N]      these nodes in C, with losses and kills
 
@@ -17,6 +17,7 @@ import os
 import pathlib
 import random
 import selectors
+import shutil
 import socket
 import subprocess
 import sys
@@ -223,6 +224,7 @@ class Run:
     def __init__(self, options, in_c, room):
         self.station, self.folder, self.room = options.station.resolve(), options.folder.resolve(), pathlib.Path(room)
         self.records = options.what == "records"
+        self.keep = options.keep
         self.relay, self.judge = Relay(options.base), Judge()
         self.errors = open(self.room / "errors", "w")
         self.ready, self.waits, self.authority, self.heard = set(), threading.Event(), {}, collections.Counter()
@@ -346,6 +348,8 @@ def replays(run):
         ran = subprocess.run([run.folder / "embed_replay", kind, record, *words], capture_output=True, text=True)
         print(f"{name}: {ran.stdout.strip()}{ran.stderr.strip()}", flush=True)
         wrong |= ran.returncode
+        if run.keep:
+            shutil.copy(record, run.keep)
     return wrong
 
 
@@ -357,6 +361,7 @@ def main():
     options.add_argument("--seconds", type=float, default=600)
     options.add_argument("--base", type=int, default=17100, help="the first of some 160 ports")
     options.add_argument("--seed", type=int, default=1)
+    options.add_argument("--keep", type=pathlib.Path, help="a folder in which the records are left")
     options = options.parse_args()
     random.seed(options.seed)
     in_c = set() if options.what == "records" else set(options.what.split(","))

@@ -9,7 +9,7 @@ use sci_telegram::{Position, Side};
 
 /// To where a motor has to drive until a reading of the controller's clock, from which it doesn't drive.
 #[repr(C)]
-#[derive(Clone, Copy, Debug)]
+#[derive(Clone, Copy)]
 pub struct DriveOrder {
     /// 0 it doesn't drive, 1 left, 2 right.
     pub side: u32,

@@ -8,7 +8,7 @@ use signal_ctl::Signal;
 
 /// What a lamp has to show until a reading of the controller's clock, from which it shows stop.
 #[repr(C)]
-#[derive(Clone, Copy, Debug)]
+#[derive(Clone, Copy)]
 pub struct LampOrder {
     /// 0 stop, 1 proceed, 2 slow.
     pub aspect: u32,

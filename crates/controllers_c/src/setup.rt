@@ -10,7 +10,7 @@ use sci_telegram::Name;
 
 /// Who a controller and its partner are, and the key of their network.
 #[repr(C)]
-#[derive(Clone, Copy, Debug)]
+#[derive(Clone, Copy)]
 pub struct Setup {
     /// The identities of the controller and of its interlocking.
     pub own: u32,

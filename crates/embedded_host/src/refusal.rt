@@ -1,7 +1,7 @@
 //! Why a call was refused.
 
 /// Why a call was refused. A refused call changes nothing.
-#[derive(Clone, Copy, Debug, PartialEq, Eq)]
+#[derive(Clone, Copy, PartialEq, Eq)]
 pub enum Refusal {
     /// The reading is before one that an earlier call brought.
     ClockFell,

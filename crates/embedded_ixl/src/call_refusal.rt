@@ -1,7 +1,7 @@
 //! Why a call was refused.
 
 /// Why a call was refused by the rules of the loop. A refused call changes nothing.
-#[derive(Clone, Copy, Debug, PartialEq, Eq)]
+#[derive(Clone, Copy, PartialEq, Eq)]
 pub enum CallRefusal {
     /// The reading is before one that an earlier call brought.
     ClockFell,

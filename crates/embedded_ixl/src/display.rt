@@ -13,14 +13,14 @@ use ixl_state::ixl_table::Table;
 use ixl_state::{Aspect, Layout, Millis, Node, NodeId, Occupancy, RouteId, Side, SignalId, State};
 
 /// The route that has authority from a signal, and the aspect that goes with it.
-#[derive(Clone, Copy, Debug)]
+#[derive(Clone, Copy)]
 pub struct Authority {
     pub route: RouteId,
     pub aspect: Aspect,
 }
 
 /// Whether requests are taken.
-#[derive(Clone, Copy, Debug, PartialEq, Eq)]
+#[derive(Clone, Copy, PartialEq, Eq)]
 pub enum Readiness {
     /// Not in the first 6000 ms after its start.
     Holding,

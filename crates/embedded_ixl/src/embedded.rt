@@ -33,7 +33,7 @@ use std::alloc::Global;
 use std::marker::Model;
 
 /// A datagram, and the node to whose controller it goes.
-#[derive(Debug, Drop)]
+#[derive(Drop)]
 pub struct Addressed {
     pub to: NodeId,
     pub datagram: Datagram,

@@ -13,7 +13,7 @@ use ixl_state::{Layout, Name, NodeId};
 
 /// A kind of thing. The first of each kind in the layout's text has place 0. The node at place 0 is the interlocking itself, and those
 /// of the controllers follow: signals, points, detectors.
-#[derive(Clone, Copy, Debug)]
+#[derive(Clone, Copy)]
 pub enum Kind {
     Signal,
     Point,

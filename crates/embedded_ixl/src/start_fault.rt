@@ -7,7 +7,7 @@ use layout_text::LayoutFault;
 use std::alloc::AllocError;
 
 /// Why there is no interlocking of a text.
-#[derive(Clone, Copy, Debug)]
+#[derive(Clone, Copy)]
 pub enum StartFault {
     /// The text isn't a layout: its first fault.
     Layout(LayoutFault),

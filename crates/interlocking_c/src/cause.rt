@@ -9,7 +9,7 @@ use embedded_ixl::{Named, Refusal, Thing};
 
 /// Why the interlocking refuses a command.
 #[repr(C)]
-#[derive(Clone, Copy, Debug)]
+#[derive(Clone, Copy)]
 pub struct CauseTold {
     /// 1 to 14, as `refused` tells it, or 0 where the command is obeyed.
     pub number: u32,

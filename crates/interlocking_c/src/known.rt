@@ -7,7 +7,7 @@ use embedded_ixl::{Aspect, Authority, Occupancy, Readiness, Side};
 
 /// Whether a route has authority from a signal, and which.
 #[repr(C)]
-#[derive(Clone, Copy, Debug)]
+#[derive(Clone, Copy)]
 pub struct AuthorityTold {
     /// 1 where one has it.
     pub given: u32,

@@ -24,7 +24,7 @@ use std::random::RandomSource;
 use std::time::Clock as Timer;
 
 /// What a panel of a node is asked.
-#[derive(Clone, Copy, Debug)]
+#[derive(Clone, Copy)]
 pub struct NodePanelOptions<'a> {
     pub page: PageAsked<'a>,
     /// The path of a record. None is written: the node writes one.

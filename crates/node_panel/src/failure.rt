@@ -9,7 +9,7 @@ use std::io;
 use std::io::Write;
 
 /// Why a panel of a node isn't attended.
-#[derive(Clone, Copy, Debug, PartialEq, Eq)]
+#[derive(Clone, Copy, PartialEq, Eq)]
 pub(crate) enum NodePanelFailure {
     /// The address of the node isn't one.
     Address,

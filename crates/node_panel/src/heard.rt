@@ -22,7 +22,6 @@ const BETWEEN_QUESTIONS: u64 = 10_000;
 
 /// What an interlocking's node has told since its operator's connection began, of each thing the last, and the commands that it didn't
 /// answer yet.
-#[derive(Drop)]
 pub struct Heard {
     pub(crate) millis: u64,
     pub(crate) joined: bool,
@@ -43,6 +42,31 @@ pub struct Heard {
     pub(crate) numbers: NumbersTold,
     /// When it was asked for its numbers last.
     pub(crate) questioned: Option<u64>,
+}
+
+// Written by hand, so that it is proved and compiled here alone.
+impl Drop for Heard {
+    fn drop(self) {
+        let Self {
+            millis: _,
+            joined: _,
+            mode: _,
+            links: _,
+            sections: _,
+            points: _,
+            authorities: _,
+            indications: _,
+            routes: _,
+            released: _,
+            closed: _,
+            counts: _,
+            first_lost: _,
+            second_lost: _,
+            asked: _,
+            numbers: _,
+            questioned: _,
+        } = self;
+    }
 }
 
 impl Model for Heard {

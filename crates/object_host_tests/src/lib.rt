@@ -1,4 +1,4 @@
-//! Tests of the object controllers, each through a link that commands it.
+//! Tests of the object controllers, each through a link that commands it, and of one inside a program's own loop.
 #![tactic(auto)]
 
 #[cfg(test)]
@@ -9,5 +9,7 @@ mod detection;
 mod output;
 #[cfg(test)]
 mod point;
+#[cfg(test)]
+mod quiet_loop;
 #[cfg(test)]
 mod signal;

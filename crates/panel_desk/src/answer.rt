@@ -12,7 +12,7 @@ use http_server::Response;
 use std::alloc::AllocError;
 
 /// What an answer has.
-#[derive(Clone, Copy, Debug)]
+#[derive(Clone, Copy)]
 pub(crate) enum Kind {
     Html,
     Json,

@@ -15,7 +15,6 @@ const LOG: usize = 256;
 
 /// The lines that are shown, each at its place, and the last lines of a log. A number counts how often all of them were told
 /// anew: a page that says up to which number it knows them gets those that are newer.
-#[derive(Debug)]
 pub struct Board {
     number: u64,
     shown: Vec<Noted>,

@@ -30,7 +30,7 @@ const MOST: usize = 64;
 const TOO_MANY: &str = "too many commands wait";
 
 /// By what a desk knows who may ask, and who may command, as it keeps it (`Access`).
-#[derive(Debug, Drop)]
+#[derive(Drop)]
 pub struct OwnAccess {
     pub host: String,
     pub origin: String,

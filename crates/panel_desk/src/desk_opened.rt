@@ -17,7 +17,7 @@ use std::io;
 use std::random::RandomSource;
 
 /// What a panel's page is made of, and where it is.
-#[derive(Clone, Copy, Debug)]
+#[derive(Clone, Copy)]
 pub struct PageAsked<'a> {
     /// The text of the layout.
     pub layout: &'a str,

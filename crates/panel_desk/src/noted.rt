@@ -7,7 +7,7 @@ use std::alloc::{AllocError, Global};
 use std::marker::Model;
 
 /// A line, and the number at which it was told.
-#[derive(Debug, Drop)]
+#[derive(Drop)]
 pub struct Noted {
     text: String,
     since: u64,

@@ -8,7 +8,7 @@ use node_lines::{Event, Layout, NodeId, PointId};
 use std::fmt;
 
 /// What is done to the network or to a point, so that less comes than was sent or driven.
-#[derive(Clone, Copy, Debug, PartialEq, Eq)]
+#[derive(Clone, Copy, PartialEq, Eq)]
 pub enum Disturbance {
     /// What goes to a node or comes from it is lost.
     Cut(NodeId),
@@ -25,7 +25,6 @@ pub enum Disturbance {
 }
 
 /// What an operator asks for at a panel.
-#[derive(Debug)]
 pub enum PanelCommand {
     /// That an event happens: a command to the interlocking, an occupancy, or a restart.
     Event(Event),

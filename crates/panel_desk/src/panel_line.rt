@@ -14,7 +14,7 @@ use node_lines::{
 use std::fmt;
 
 /// What an interlocking takes.
-#[derive(Clone, Copy, Debug, PartialEq, Eq)]
+#[derive(Clone, Copy, PartialEq, Eq)]
 pub enum Mode {
     /// Every command.
     Ready,
@@ -25,7 +25,7 @@ pub enum Mode {
 }
 
 /// One of the two networks over which the nodes of a station send.
-#[derive(Clone, Copy, Debug, PartialEq, Eq)]
+#[derive(Clone, Copy, PartialEq, Eq)]
 pub enum PanelNetwork {
     A,
     B,

@@ -6,7 +6,7 @@ ghost use Rattle.panel_desk.specs.Asked.{refusal_text, status};
 use node_lines::Fault;
 
 /// Why a request is refused, in the order in which the reasons are looked for: the first one is told.
-#[derive(Clone, Copy, Debug, PartialEq, Eq)]
+#[derive(Clone, Copy, PartialEq, Eq)]
 pub enum Refusal {
     /// It was sent to another host than this panel: a page of another host may stand after it.
     ForeignHost,

@@ -16,7 +16,7 @@ use std::marker::Model;
 const LONGEST: usize = 512;
 
 /// By what a panel knows who may ask, and who may command.
-#[derive(Debug, Drop)]
+#[derive(Drop)]
 pub struct Access<'a> {
     /// Its address and port, as a browser writes them into `Host`.
     pub host: &'a [u8],
@@ -35,7 +35,7 @@ impl<'a> Model for Access<'a> {
 }
 
 /// What of a request is looked at.
-#[derive(Debug, Drop)]
+#[derive(Drop)]
 pub struct Sent<'a> {
     pub method: &'a str,
     /// The path, with what stands after a question mark.
@@ -56,7 +56,7 @@ impl<'a> Model for Sent<'a> {
 }
 
 /// What a request asks.
-#[derive(Debug, Drop)]
+#[derive(Drop)]
 pub enum Request {
     /// The page.
     Page,

@@ -5,7 +5,7 @@ use node_lines::{Layout, RouteId};
 use std::fmt;
 
 /// What an operator asks a panel to do by itself from now on.
-#[derive(Clone, Copy, Debug, PartialEq, Eq)]
+#[derive(Clone, Copy, PartialEq, Eq)]
 pub enum StandingOrder {
     /// A route is set again and again: it waits whenever it is free.
     Automatic(RouteId),

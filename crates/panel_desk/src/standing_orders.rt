@@ -18,7 +18,7 @@ use std::marker::Model;
 const BETWEEN_TRIES: u64 = 1000;
 
 /// A route that waits until it is set.
-#[derive(Clone, Copy, Debug)]
+#[derive(Clone, Copy)]
 pub struct Waiting {
     pub route: RouteId,
     /// When it was tried to set it last, in milliseconds, if that was tried.
@@ -26,7 +26,6 @@ pub struct Waiting {
 }
 
 /// What a panel does by itself: which routes are automatic, and which wait, the one that waits longest first.
-#[derive(Debug)]
 pub struct StandingOrders {
     automatic: Vec<bool>,
     waiting: Vec<Waiting>,

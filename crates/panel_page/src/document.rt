@@ -883,10 +883,13 @@ function addRow(time, kind, text) {
 function log(line) {
   const [, time, rest] = line.match(/^(\d+) (.*)$/) || [null, "", line];
   const [what, answer] = rest.split(" = ");
+  const at = time === "" ? "" : clock(+time);
+  // Of the file of closings its process tells losses alone, and nobody asked for them.
+  if (what === "told") return addRow(at, "loss", answer);
   const own = asked.get(what), isOwn = own && performance.now() - own.at < 5000;
   const isRefused = /^(refused|no|lost|not)\b/.test(answer || "");
   const kind = isRefused ? "refused" : /^(occupy|clear) /.test(what) ? "moved" : "asked";
-  addRow(time === "" ? "" : clock(+time), kind, answer ? worded(what) + ": " + answered(answer) : what);
+  addRow(at, kind, answer ? worded(what) + ": " + answered(answer) : what);
   if (answer && isOwn && !(own.isQuiet && answer === "ok")) tellAnswer(what, answer);
 }
 

@@ -1,5 +1,5 @@
 -- What the accessors of a TOML value give, beside the definitions.
-use Rattle.std.proofs.Common.{◌≡◌, List, [], ◌∷◌, map, Option, Some, None, Ok, Err, Global, Vec, Bor, option_map, refl, sym, ap, ◌∙◌}
+use Rattle.std.proofs.Common.{◌≡◌, List, [], ◌∷◌, map, Option, Some, None, is_some, Ok, Err, Global, Vec, Bor, option_map, refl, sym, ap, ◌∙◌}
 use Rattle.toml.specs.Data.{Data, Items}
 use Rattle.toml.specs.View.{view, items_of, array_view}
 use Rattle.toml.specs.declared.value.Value.{Value}
@@ -23,3 +23,8 @@ no_field found there place is same = ap (λ o. ok_or o (MissingKey place)) (sym 
 pub found_items : (found : Option (Bor (Vec Value Global))) (x : Bor (Vec Value Global)) (vs : List Value) (there : Option Items) (place : Place) → found ≡ Some x → vs ≡ x.now.items → option_map (λ v. array_view v.now) found ≡ there → items_or_fault place there ≡ Ok (map view vs)
 found_items found x vs there place is same seen =
     ap (items_or_fault place) (sym seen ∙ ap (option_map (λ v. array_view v.now)) is) ∙ ap Ok (item_list-items_of (map view x.now.items) ∙ ap (map view) (sym same))
+
+-- a value is found where it is there
+pub same_there : (found : Option (Bor Value)) (there : Option Data) → option_map (λ v. view v.now) found ≡ there → is_some found ≡ is_some there
+same_there None there same = ap is_some same
+same_there (Some x) there same = ap is_some same

@@ -1,5 +1,5 @@
 -- What the text of a railway writes: the tests for missing keys and wrong kinds, in reading order.
-use Rattle.std.specs.Prelude.{ℕ, ℤ, pos, ◌&&◌, nat_le, List, codes, Option, Some, None, Ok, Err, if◌then◌else◌}
+use Rattle.std.specs.Prelude.{ℕ, ℤ, pos, ◌&&◌, Bool, false, nat_le, List, codes, Option, Some, None, is_some, Ok, Err, if◌then◌else◌}
 use Rattle.std.specs.Option.{ok_or}
 use Rattle.toml.specs.Data.{Data, Items, Members, get_member, as_str, as_array, as_table, as_integer}
 use Rattle.toml.specs.Parse.{parse_document}
@@ -124,3 +124,14 @@ document_of (Some document) = Ok document
 -- what a text writes, or its first fault
 unfoldable pub railway_in : List ℕ → Read RailwayText
 railway_in text = document_of (parse_document text) >>= λ document. railway_of document
+
+-- ---- what is a railway's
+
+-- there is a document, and it has lines
+abbrev pub has_lines : Option Members → Bool
+has_lines None = false
+has_lines (Some document) = is_some (get_member (codes "line") document)
+
+-- a text is a railway's, sound or not: it is TOML and has the key `line`, which no layout has
+unfoldable pub is_railway : List ℕ → Bool
+is_railway text = has_lines (parse_document text)

@@ -24,7 +24,7 @@ pub use ids::StationId;
 pub use laws::each_line_is_locked;
 pub use line::{Line, LineEnd};
 pub use railway::{Railway, Refused};
-pub use text::read_text;
+pub use text::{is_railway, read_text};
 pub use written::{WrittenEnd, WrittenLine, WrittenRailway, WrittenStation};
 
 // What crates above need of the crates below.

@@ -1,17 +1,20 @@
 //! All that the text of a railway writes.
 
-ghost use Rattle.std.specs.Prelude.{map};
+ghost use Rattle.std.specs.Prelude.{◌≡◌, IfOk, map};
 ghost use Rattle.toml.specs.Parse.{parse_document};
 ghost use Rattle.toml.specs.View.{view, table_view};
 ghost use Rattle.railway_layout.specs.Reading.{Gives};
-ghost use Rattle.railway_layout.specs.Text.{document_of, end_at, end_field, items_at, line_at, lines_in, railway_in, railway_of, station_at, stations_in};
+ghost use Rattle.railway_layout.specs.Text.{document_of, end_at, end_field, is_railway, items_at, line_at, lines_in, railway_in, railway_of, station_at, stations_in};
 
 use crate::fault::{Place, TextFault};
 use crate::steps::{Step, each};
-use crate::values::{array, field, id_field, name_field, names_field, table, text_field};
+use crate::values::{array, field, has_key, id_field, name_field, names_field, table, text_field};
 use crate::written::{WrittenEnd, WrittenLine, WrittenRailway, WrittenStation};
-use std::alloc::Global;
+use std::alloc::{AllocError, Global};
 use toml::{Table, Value};
+
+/// The key of the lines, which no layout has.
+const LINES: &str = "line";
 
 /// A station.
 #[tactic(auto, unfolding(crate::specs::Text::station_at))]
@@ -129,7 +132,7 @@ fn stations(alloc: Global, document: &Table) -> Result<Vec<WrittenStation>, Text
 fn lines(alloc: Global, document: &Table) -> Result<Vec<WrittenLine>, TextFault>
     ensures { Gives (λ v. v.items) result (lines_in (table_view document.now)) }
 {
-    let items = items(document, "line", Place::Line(0))?;
+    let items = items(document, LINES, Place::Line(0))?;
     each(alloc, &ReadLine, items)
 }
 
@@ -162,4 +165,17 @@ pub fn read_text(alloc: Global, text: &str) -> Result<WrittenRailway, TextFault>
 {
     let document = document(alloc, text)?;
     written(alloc, &document)
+}
+
+/// Whether a text is a railway's, sound or not: it is TOML and has the key `line`, which no layout has. It fails only where memory was
+/// refused.
+#[tactic(auto, unfolding(crate::specs::Text::is_railway))]
+pub fn is_railway(alloc: Global, text: &str) -> Result<bool, AllocError>
+    ensures { IfOk result (λ is. is ≡ is_railway text.now) }
+{
+    match toml::table_from_str(alloc, text) {
+        Ok(document) => Ok(has_key(&document, LINES)),
+        Err(fault) if fault.is_memory() => Err(AllocError),
+        Err(_) => Ok(false),
+    }
 }

@@ -1,6 +1,7 @@
 //! The values of a railway's text, in the forms that it has.
 
-ghost use Rattle.std.specs.Prelude.{map};
+ghost use Rattle.std.specs.Prelude.{◌≡◌, is_some, map};
+ghost use Rattle.toml.specs.Data.{get_member};
 ghost use Rattle.toml.specs.View.{view, table_view};
 ghost use Rattle.railway_layout.specs.Reading.{Gives};
 ghost use Rattle.railway_layout.specs.Text.{field_at, text_at, array_at, table_at, name_of, name_at, id_at, names_at, name_field, text_field, id_field, names_field};
@@ -10,6 +11,13 @@ use crate::steps::{Step, each};
 use control_table::Name;
 use std::alloc::Global;
 use toml::{Table, Value};
+
+/// Whether a table has a key.
+pub(crate) fn has_key(table: &Table, key: &str) -> bool
+    ensures { result ≡ is_some (get_member key.now (table_view table.now)) }
+{
+    table.get(key).is_some()
+}
 
 /// The value of a field that has to be there.
 pub(crate) fn field<'a>(table: &'a Table, key: &str, place: Place) -> Result<&'a Value, TextFault>

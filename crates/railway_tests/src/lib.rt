@@ -1,8 +1,10 @@
-//! Tests of the text of a railway: what is read of one, and all that is told of faulty ones.
+//! Tests of the text of a railway: what is read of one, all that is told of faulty ones, and what a check says.
 //!
 //! There is nothing here but tests.
 #![tactic(auto)]
 
+#[cfg(test)]
+mod checked;
 #[cfg(test)]
 mod faulty;
 #[cfg(test)]

@@ -4,7 +4,7 @@ use crate::told::is_told;
 use std::process::Abort;
 
 /// Two stations of one shape, and the line between them.
-const RAILWAY: &str = r#"[[station]]
+pub(crate) const RAILWAY: &str = r#"[[station]]
 name = "A"
 layout = "a.toml"
 
@@ -19,7 +19,7 @@ second = { station = "B", border = "E", lock = "K", clear = "GL", part = ["GW", 
 "#;
 
 /// The layout of both.
-const STATION: &str = r#"section = ["G1", "G2", "GW", "GX", "GA", "GL"]
+pub(crate) const STATION: &str = r#"section = ["G1", "G2", "GW", "GX", "GA", "GL"]
 border = ["B1", "B2", "E"]
 joint = [
   ["B1.end", "T1.a"], ["T1.b", "W.left"],

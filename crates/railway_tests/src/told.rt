@@ -1,6 +1,6 @@
 //! What is told of the text of a railway and of the texts of its layouts.
 
-use railway_layout::{Line, LineEnd, Railway, RailwayFault, Refused, read_text};
+use railway_check::railway_layout::{Line, LineEnd, Railway, RailwayFault, Refused, read_text};
 use std::alloc::Global;
 
 /// Some pieces, one behind the other.
@@ -59,7 +59,7 @@ fn lines_told(alloc: Global, lines: &[Line]) -> Option<String> {
 }
 
 /// The texts of layouts, each given by its pieces.
-fn texts(alloc: Global, layouts: &[&[&str]]) -> Option<Vec<String>> {
+pub(crate) fn texts(alloc: Global, layouts: &[&[&str]]) -> Option<Vec<String>> {
     let mut texts = Vec::new(alloc);
     for pieces in layouts {
         texts.push(joined(alloc, pieces)?).ok()?;

@@ -40,7 +40,7 @@ fn driven(world: &World, point: PointId) -> Option<Side>
 }
 
 /// Notes at the end of a round which points are driven.
-pub fn note_drives(world: &World, drives: &mut [Option<FoundDriven>])
+pub(crate) fn note_drives(world: &World, drives: &mut [Option<FoundDriven>])
     ensures { drives.new ≡ next_drives (driven (played world.now)) 0 drives.old }
 {
     for place in 0..drives.len() {

@@ -13,7 +13,7 @@ use simulator::{
 use std::alloc::{AllocError, Global};
 
 /// The time of a round, at equal rates.
-pub fn round_of_time(alloc: Global, layout: &Layout) -> Result<Event, AllocError>
+pub(crate) fn round_of_time(alloc: Global, layout: &Layout) -> Result<Event, AllocError>
     ensures { IfOk result (λ event. event ≡ round_of_time layout.now) }
 {
     let steps = vec![in alloc; ROUND_MICROS; layout.nodes()]?;
@@ -24,7 +24,7 @@ pub fn round_of_time(alloc: Global, layout: &Layout) -> Result<Event, AllocError
 }
 
 /// Adds the delivery of the datagrams from one place up to another, in the order of sending.
-pub fn add_deliveries(
+pub(crate) fn add_deliveries(
     alloc: Global,
     world: &World,
     first: usize,
@@ -60,7 +60,7 @@ fn add_delivery(
 }
 
 /// Adds a tick of each of so many nodes.
-pub fn add_ticks(
+pub(crate) fn add_ticks(
     nodes: usize,
     passed: usize,
     due: &mut Vec<RoundEvent>,
@@ -75,7 +75,7 @@ pub fn add_ticks(
 }
 
 /// Adds that each point comes to lie that was found driven for long enough.
-pub fn add_reaches(
+pub(crate) fn add_reaches(
     drives: &[Option<FoundDriven>],
     passed: usize,
     due: &mut Vec<RoundEvent>,

@@ -13,8 +13,6 @@ mod run;
 mod session;
 mod sim;
 
-pub use drive::note_drives;
-pub use due::{add_deliveries, add_reaches, add_ticks, round_of_time};
 pub use laws::{played_worlds_are_safe, stations_lie_as_lines_say, worlds_are_safe};
 pub use replayed_world::{first_world, replay};
 pub use session::replay_text;

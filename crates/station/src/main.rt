@@ -1,4 +1,4 @@
-//! The program `station`. `station check FILE` tells whether the layout in FILE is sound, `station routes FILE` prints the
+//! The program `station`. `station check FILE` tells whether the layout or the railway in FILE is sound, `station routes FILE` prints the
 //! routes that its table lacks, `station plan FILE` draws its track plan, and `station table FILE` prints its control table; `station sim FILE EVENTS` applies lines of events to a
 //! station of it, `station run FILE --script S --record R --for MS` runs one over sockets, `station panel FILE` has one operated
 //! from a browser, `station draw FILE` has one drawn there, `station replay FILE RECORD` applies a recorded session, and `station chart FILE RECORD` draws it; `station decode --hex HEX` puts a datagram into
@@ -9,6 +9,7 @@
 
 mod draw_command;
 mod drawn_file;
+mod railway_command;
 mod text_judge;
 
 use draw_command::draw_file;
@@ -17,6 +18,8 @@ use node_record::{
     Cut as NodeCut, FoundEnds, NodeCaptureOptions, NodeRecord, capture_node_to_file,
     chart_node_text, decode_node_text, ends_text,
 };
+use railway_check::railway_layout::is_railway;
+use railway_command::check_railway;
 use station_command::{
     Approach, CaptureArguments, ChartArguments, CheckArguments, DatagramArguments, DrawArguments,
     Error, Failure, NodeArguments, PanelArguments, PlanArguments, Request, RoutesArguments,
@@ -95,23 +98,37 @@ fn carry_out<W: Write>(rt: &HostRuntime, request: Request<'_>, out: &mut W) -> R
     }
 }
 
-/// `check FILE [--explain] [--complete] [--digest]`.
+/// `check FILE [--explain] [--complete] [--digest]`. The file has a layout or a railway.
 fn check<W: Write>(
     rt: &HostRuntime,
     arguments: CheckArguments<'_>,
     out: &mut W,
 ) -> Result<u8, Failure> {
     let text = text_of(rt, arguments.layout)?;
+    match is_railway(rt.alloc(), text.as_str()) {
+        Ok(true) => check_railway(rt, arguments, text.as_str(), out),
+        Ok(false) => check_layout(rt, arguments, text.as_str(), out),
+        Err(_) => Err(Failure::OutOfMemory),
+    }
+}
+
+/// The same for the text of a layout.
+fn check_layout<W: Write>(
+    rt: &HostRuntime,
+    arguments: CheckArguments<'_>,
+    text: &str,
+    out: &mut W,
+) -> Result<u8, Failure> {
     let mut status = if arguments.explained {
-        explain_text(rt.alloc(), text.as_str(), out, &mut rt.stderr())
+        explain_text(rt.alloc(), text, out, &mut rt.stderr())
     } else {
-        check_text(rt.alloc(), text.as_str(), out, &mut rt.stderr())
+        check_text(rt.alloc(), text, out, &mut rt.stderr())
     };
     if status == 0 && arguments.complete {
-        status = tell_found(rt, review_text(rt.alloc(), text.as_str()), out);
+        status = tell_found(rt, review_text(rt.alloc(), text), out);
     }
     if status == 0 && arguments.digest {
-        return tell_digest(rt, text.as_str());
+        return tell_digest(rt, text);
     }
     Ok(status)
 }

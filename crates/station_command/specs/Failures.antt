@@ -8,6 +8,7 @@ abbrev pub status_of : Failure → ℕ
 status_of (failures.Word place) = 2
 status_of failures.SecondInput = 2
 status_of failures.NoRecord = 2
+status_of failures.Railway = 2
 status_of (failures.File name) = 1
 status_of (failures.StopFile name) = 1
 status_of (failures.PartThere name) = 1

@@ -162,7 +162,7 @@ pub(crate) const COMMANDS: &[Entry] = &[
         word: CHECK,
         help: CommandHelp::Check,
         arguments: &[
-            Argument(FILE, Kind::File("FILE"), NEEDED, Help::File),
+            Argument(FILE, Kind::File("FILE"), NEEDED, Help::FileChecked),
             Argument(EXPLAIN, Kind::Switch, OPTIONAL, Help::Explain),
             Argument(COMPLETE, Kind::Switch, OPTIONAL, Help::Complete),
             Argument(DIGEST, Kind::Switch, OPTIONAL, Help::Digest),

@@ -15,6 +15,8 @@ pub enum Failure {
     SecondInput,
     #[error("a size of the record's parts needs a record")]
     NoRecord,
+    #[error("--complete and --digest are for the layout of one station, and this is a railway")]
+    Railway,
     #[error("cannot read {0}")]
     File(String),
     #[error("the file {0}, which is to end the run, is there already")]
@@ -33,7 +35,7 @@ impl Failure {
         ensures { result ≡ status_of self.now }
     {
         match self {
-            Failure::Word(_) | Failure::SecondInput | Failure::NoRecord => 2,
+            Failure::Word(_) | Failure::SecondInput | Failure::NoRecord | Failure::Railway => 2,
             _ => 1,
         }
     }

@@ -6,7 +6,7 @@ ghost use Rattle.std.specs.Option.{unwrap_or};
 /// What a command line asks for.
 #[derive(Clone, Copy)]
 pub enum Request<'a> {
-    /// `check FILE [--explain] [--complete] [--digest]`: whether the layout in a file is sound.
+    /// `check FILE [--explain] [--complete] [--digest]`: whether the layout or the railway in a file is sound.
     Check(CheckArguments<'a>),
     /// `routes FILE [--from SIGNALS] [--approach RULE] [--write]`: the routes that the layout in a file lacks.
     Routes(RoutesArguments<'a>),

@@ -70,6 +70,7 @@ pub(crate) enum Help {
     FromSignals,
     Approach,
     Write,
+    FileChecked,
     FileDrawn,
     Route,
     Picture,
@@ -114,6 +115,7 @@ impl Help {
             Help::FromSignals => FROM_SIGNALS,
             Help::Approach => APPROACH,
             Help::Write => WRITE,
+            Help::FileChecked => FILE_CHECKED,
             Help::FileDrawn => FILE_DRAWN,
             Help::Route => ROUTE,
             Help::Picture => PICTURE,
@@ -166,6 +168,9 @@ const APPROACH: &str =
 
 const WRITE: &str = "Writes the routes into the file in place of printing them";
 
+const FILE_CHECKED: &str =
+    "The layout or the railway, a TOML file (- for a file that is read is standard input)";
+
 const FILE_DRAWN: &str = "The layout that is drawn, a TOML file, which may not be there yet";
 
 const ROUTE: &str = "The route that is drawn thick, with its flank points and approach";
@@ -209,7 +214,12 @@ borders no route begins or ends, and which sections the approach lists lack. Wit
 has a SHA-256 of the layout's text, which is the same on two machines where the text is.
 docs/INTERLOCKING.md has the keys of the file and all faults, examples/ has stations.
 
-Example: station check examples/junction.toml";
+FILE may be a railway: stations, each with the file of its layout, and the lines between them. Then each
+layout is checked, and after that what is wrong with the railway is told, or each line with its ends.
+--complete and --digest are for one layout. docs/LINES.md has the keys and faults of a railway.
+
+Examples: station check examples/junction.toml
+          station check examples/railway/railway.toml";
 
 const ROUTES: &str = "Prints the routes that the table of a layout lacks";
 

@@ -8,7 +8,7 @@ use std::alloc::AllocError;
 use std::io;
 
 /// Up to when a panel is attended.
-#[derive(Clone, Copy, Debug, PartialEq, Eq)]
+#[derive(Clone, Copy, PartialEq, Eq)]
 pub struct Limits {
     /// For how many milliseconds of the clock.
     pub for_ms: u64,
@@ -17,7 +17,7 @@ pub struct Limits {
 }
 
 /// Why a panel ended that wasn't broken off.
-#[derive(Clone, Copy, Debug, PartialEq, Eq)]
+#[derive(Clone, Copy, PartialEq, Eq)]
 pub enum Ending {
     /// Its time is over.
     TimeIsOver,
@@ -28,7 +28,7 @@ pub enum Ending {
 }
 
 /// Why a panel didn't begin, or was broken off.
-#[derive(Clone, Copy, Debug, PartialEq, Eq)]
+#[derive(Clone, Copy, PartialEq, Eq)]
 pub enum PanelFault {
     OutOfMemory,
     /// The record or the address of the page can't be written, or no token can be drawn for the page.

@@ -8,7 +8,7 @@ use std::alloc::{AllocError, Global};
 use std::marker::Model;
 
 /// What is disturbed now.
-#[derive(Debug, Drop)]
+#[derive(Drop)]
 pub(crate) struct Faults {
     /// Of each node, whether what goes to it or comes from it is lost.
     pub(crate) cut: Vec<bool>,

@@ -10,7 +10,7 @@ const BESIDE: u64 = 72;
 const GROWTH: u64 = 2;
 
 /// How much memory the datagrams take that were sent so far, at most.
-#[derive(Clone, Copy, Debug)]
+#[derive(Clone, Copy)]
 pub(crate) struct Memory {
     /// How many of them were counted.
     counted: usize,

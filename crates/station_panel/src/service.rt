@@ -25,7 +25,7 @@ use std::io::Write;
 use std::random::RandomSource;
 
 /// What `station panel` is asked: its page, and up to when it is attended.
-#[derive(Clone, Copy, Debug)]
+#[derive(Clone, Copy)]
 pub struct PanelOptions<'a> {
     pub page: PageAsked<'a>,
     pub limits: Limits,

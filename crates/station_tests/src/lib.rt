@@ -1,11 +1,13 @@
 //! Tests of what the program `station` does: reports, files, want of memory, runs over memory and sockets, captures, command
-//! lines, links that a client closes, and all nodes of a station in one process.
+//! lines, links that a client closes, texts of closings, and all nodes of a station in one process.
 #![tactic(auto)]
 
 #[cfg(test)]
 mod addresses;
 #[cfg(test)]
 mod captures;
+#[cfg(test)]
+mod closings_texts;
 #[cfg(test)]
 mod command_bench;
 #[cfg(test)]

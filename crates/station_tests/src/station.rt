@@ -46,13 +46,18 @@ borders no route begins or ends, and which sections the approach lists lack. Wit
 has a SHA-256 of the layout's text, which is the same on two machines where the text is.
 docs/INTERLOCKING.md has the keys of the file and all faults, examples/ has stations.
 
-Example: station check examples/junction.toml
+FILE may be a railway: stations, each with the file of its layout, and the lines between them. Then each
+layout is checked, and after that what is wrong with the railway is told, or each line with its ends.
+--complete and --digest are for one layout. docs/LINES.md has the keys and faults of a railway.
+
+Examples: station check examples/junction.toml
+          station check examples/railway/railway.toml
 
 Usage: station check [OPTIONS] <FILE>
 
 Arguments:
   <FILE>
-          The layout, a TOML file (- for a file that is read is standard input)
+          The layout or the railway, a TOML file (- for a file that is read is standard input)
 
 Options:
       --explain
@@ -73,7 +78,7 @@ const SHORT_CHECK_HELP: &str = "Checks the layout of a station and its table of 
 Usage: station check [OPTIONS] <FILE>
 
 Arguments:
-  <FILE>  The layout, a TOML file (- for a file that is read is standard input)
+  <FILE>  The layout or the railway, a TOML file (- for a file that is read is standard input)
 
 Options:
       --explain   Tells a fault in a second line, in words
