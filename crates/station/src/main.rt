@@ -3,25 +3,22 @@
 //! station of it, `station run FILE --script S --record R --for MS` runs one over sockets, `station panel FILE` has one operated
 //! from a browser, `station draw FILE` has one drawn there, `station replay FILE RECORD` applies a recorded session, and `station chart FILE RECORD` draws it; `station decode --hex HEX` puts a datagram into
 //! words, and `station decode FILE RECORD` those of a session, which `station capture FILE RECORD OUT` writes to a file for
-//! Wireshark; with `--node NAME` they do so with the record of a node. `station node FILE NAME --addresses ADDRESSES` runs a node of it as a process of its own; `station line begin RAILWAY LINE` writes the
-//! files with which a line between two stations begins. The status is 0 where this was done, 1 at a fault, 2 where the command line is wrong, and 3 where a session
+//! Wireshark; with `--node NAME` they do so with the record of a node. `station node FILE NAME --addresses ADDRESSES` runs a node of it as a process of its own. The status is 0 where this was done, 1 at a fault, 2 where the command line is wrong, and 3 where a session
 //! answers otherwise than it was recorded.
 #![tactic(auto)]
 
 mod draw_command;
 mod drawn_file;
-mod line_command;
 mod railway_command;
 mod text_judge;
 
 use draw_command::draw_file;
-use line_begin::is_railway;
-use line_command::begin_line;
 use node_panel::{NodePanelOptions, panel_of_node};
 use node_record::{
     Cut as NodeCut, FoundEnds, NodeCaptureOptions, NodeRecord, capture_node_to_file,
     chart_node_text, decode_node_text, ends_text,
 };
+use railway_check::railway_layout::is_railway;
 use railway_command::check_railway;
 use station_command::{
     Approach, CaptureArguments, ChartArguments, CheckArguments, DatagramArguments, DrawArguments,
@@ -98,7 +95,6 @@ fn carry_out<W: Write>(rt: &HostRuntime, request: Request<'_>, out: &mut W) -> R
         Request::DecodeSession(arguments) => decode_session(rt, arguments, out),
         Request::Capture(arguments) => capture(rt, arguments),
         Request::Node(arguments) => node(rt, arguments),
-        Request::BeginLine(arguments) => begin_line(rt, arguments, out),
     }
 }
 

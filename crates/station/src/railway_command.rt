@@ -5,9 +5,8 @@ ghost use Rattle.station_run.specs.station_record.replay.layout.Entries.{Site};
 ghost use Rattle.station_run.specs.station_record.replay.station_check.Report.{IsSound};
 
 use crate::INPUT;
-use line_begin::{
-    Verdict, WrittenRailway, WrittenStation, layout_file, railway_verdict, read_text, text_verdict,
-};
+use railway_check::railway_layout::{WrittenRailway, WrittenStation, read_text};
+use railway_check::{Verdict, layout_file, railway_verdict, text_verdict};
 use station_command::{CheckArguments, Failure, text_of};
 use station_layout::explain_text;
 use station_run::check_text;
@@ -32,7 +31,7 @@ pub(crate) fn check_railway<W: Write>(
 }
 
 /// What was made, where memory was there.
-pub(crate) fn made<T>(made: Result<T, AllocError>) -> Result<T, Failure> {
+fn made<T>(made: Result<T, AllocError>) -> Result<T, Failure> {
     match made {
         Ok(made) => Ok(made),
         Err(_) => Err(Failure::OutOfMemory),
@@ -71,7 +70,7 @@ fn layout_of(rt: &HostRuntime, railway: &str, layout: &str) -> Result<String, Fa
 }
 
 /// The texts of the layouts of these stations.
-pub(crate) fn layouts_of(
+fn layouts_of(
     rt: &HostRuntime,
     railway: &str,
     stations: &[WrittenStation],
@@ -111,7 +110,7 @@ fn verdict_on(alloc: Global, layout: &str, explained: bool) -> Result<Verdict, A
 }
 
 /// What the check of each of these layouts says.
-pub(crate) fn verdicts_on(
+fn verdicts_on(
     alloc: Global,
     layouts: &[String],
     explained: bool,
@@ -124,7 +123,7 @@ pub(crate) fn verdicts_on(
 }
 
 /// Writes a verdict, and answers its status.
-pub(crate) fn tell<W: Write>(rt: &HostRuntime, verdict: &Verdict, out: &mut W) -> u8 {
+fn tell<W: Write>(rt: &HostRuntime, verdict: &Verdict, out: &mut W) -> u8 {
     match out.write_all(&verdict.out).and_then(|()| out.flush()) {
         Ok(()) => (),
         Err(_) => return 1,

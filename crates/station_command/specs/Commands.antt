@@ -54,11 +54,6 @@ asks_for_routes (layout ∷ signals ∷ Worded None ∷ more) = true
 asks_for_routes (layout ∷ signals ∷ Worded (Some rule) ∷ more) = bytes_eq rule (codes "signal") || bytes_eq rule (codes "berth")
 asks_for_routes _ = false
 
--- `line` takes one word for what is done with a line
-abbrev pub asks_for_line : List Value → Bool
-asks_for_line (Worded (Some action) ∷ more) = bytes_eq action (codes "begin")
-asks_for_line _ = false
-
 -- the file of a layout, a second file, and the name or the address of a node
 abbrev pub layout : Argument
 layout = must File (codes "FILE")
@@ -101,5 +96,4 @@ commands =
     ∷ command (codes "node") (layout ∷ must File (codes "NAME") ∷ must Word (codes "addresses") ∷ may Word (codes "operator") ∷ may Word (codes "record") ∷ record_size
     ∷ may Word (codes "closings") ∷ may Switch (codes "keep-locks") ∷ may (Number 0 9000000000000) (codes "clock") ∷ may (Number 0 80) (codes "hold")
     ∷ may time (codes "for") ∷ stop_file ∷ [])
-    ∷ record (command (codes "line") (must File (codes "ACTION") ∷ layout ∷ must File (codes "NAME") ∷ may Switch (codes "again") ∷ [])) { asks = asks_for_line }
     ∷ []

@@ -52,4 +52,3 @@ says (requests.Node o) = (
       ∷ Counted o.record_size ∷ Worded (option_copied o.closings) ∷ Switched o.keep_locks ∷ Counted o.clock ∷ Counted o.hold ∷ Counted o.for_ms
       ∷ Worded (option_copied o.stop_file) ∷ [],
 )
-says (requests.BeginLine o) = (codes "line", one (codes "begin") ∷ one o.railway.now ∷ one o.line.now ∷ Switched o.again ∷ [])

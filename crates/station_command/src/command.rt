@@ -12,16 +12,16 @@ ghost use Rattle.station_command.specs.inside.Matches.{asked_of_rows, value_in};
 ghost use Rattle.clap.specs.declared.error.kind.ErrorKind.TheVariants as kind;
 
 use crate::command_table::{
-    ACTION, ADDRESSES, AGAIN, APPROACH, CAPTURE, CHART, CHECK, CLOCK, CLOSINGS, COMPLETE, CSV,
-    DECODE, DIGEST, DRAW, EXPLAIN, FILE, FOR, FORCE, FROM, HEX, HOLD, KEEP_LOCKS, LAYOUT, LINE,
-    NAME, NODE, OPERATOR, OUT, PANEL, PICTURE, PLAN, PORT, RECORD, RECORD_SIZE, REPLAY, ROUTE,
-    ROUTES, RUN, SCRIPT, SECOND, SIM, STOP_FILE, TABLE, TO, WRITE,
+    ADDRESSES, APPROACH, CAPTURE, CHART, CHECK, CLOCK, CLOSINGS, COMPLETE, CSV, DECODE, DIGEST,
+    DRAW, EXPLAIN, FILE, FOR, FORCE, FROM, HEX, HOLD, KEEP_LOCKS, LAYOUT, NAME, NODE, OPERATOR,
+    OUT, PANEL, PICTURE, PLAN, PORT, RECORD, RECORD_SIZE, REPLAY, ROUTE, ROUTES, RUN, SCRIPT,
+    SECOND, SIM, STOP_FILE, TABLE, TO, WRITE,
 };
 use crate::line::station;
 use crate::request::{
-    Approach, BeginLineArguments, CaptureArguments, ChartArguments, CheckArguments,
-    DatagramArguments, DrawArguments, NodeArguments, PanelArguments, PlanArguments, Request,
-    RoutesArguments, RunArguments, SessionArguments, SimArguments, TableArguments,
+    Approach, CaptureArguments, ChartArguments, CheckArguments, DatagramArguments, DrawArguments,
+    NodeArguments, PanelArguments, PlanArguments, Request, RoutesArguments, RunArguments,
+    SessionArguments, SimArguments, TableArguments,
 };
 use clap::error::ErrorKind;
 use clap::{ArgMatches, Command, Error};
@@ -34,15 +34,10 @@ const NOTHING_TO_DECODE: &str =
 
 const NO_RULE: &str = "routes takes --approach signal or --approach berth";
 
-const NO_ACTION: &str = "line takes begin RAILWAY LINE, with or without --again";
-
 /// The words of the two rules of approach.
 const SIGNAL: &str = "signal";
 
 const BERTH: &str = "berth";
-
-/// The word of what is done with a line.
-const BEGIN: &str = "begin";
 
 /// The value of a switch that is on.
 const ON: &str = "true";
@@ -279,20 +274,6 @@ fn node<'a>(matches: &ArgMatches<'a>) -> Option<Request<'a>>
     }))
 }
 
-/// The beginning of a line that is asked for.
-fn line<'a>(matches: &ArgMatches<'a>) -> Option<Request<'a>>
-    ensures { option_map says result ≡ asked_by (value_in matches.now) (codes "line") }
-{
-    match word(matches, ACTION)? {
-        BEGIN => Some(Request::BeginLine(BeginLineArguments {
-            railway: word(matches, FILE)?,
-            line: word(matches, NAME)?,
-            again: is_on(matches, AGAIN),
-        })),
-        _ => None,
-    }
-}
-
 /// What the command of a word asks for by its matches, if for anything.
 fn request_by<'a>(name: &str, matches: &ArgMatches<'a>) -> Option<Request<'a>>
     ensures { option_map says result ≡ asked_by (value_in matches.now) name.now }
@@ -311,7 +292,6 @@ fn request_by<'a>(name: &str, matches: &ArgMatches<'a>) -> Option<Request<'a>>
         DECODE => decode(matches),
         CAPTURE => capture(matches),
         NODE => node(matches),
-        LINE => line(matches),
         _ => None,
     }
 }
@@ -328,7 +308,6 @@ fn request_in<'a>(matches: &ArgMatches<'a>) -> Option<Request<'a>>
 fn told_of_nothing(matches: &ArgMatches<'_>) -> &'static str {
     match matches.subcommand() {
         Some((ROUTES, _)) => NO_RULE,
-        Some((LINE, _)) => NO_ACTION,
         _ => NOTHING_TO_DECODE,
     }
 }

@@ -31,8 +31,6 @@ pub(crate) const ROUTES: &str = "routes";
 
 pub(crate) const DRAW: &str = "draw";
 
-pub(crate) const LINE: &str = "line";
-
 /// The file of the layout, and the one that is applied to it.
 pub(crate) const FILE: &str = "FILE";
 
@@ -100,11 +98,6 @@ pub(crate) const KEEP_LOCKS: &str = "keep-locks";
 pub(crate) const CLOCK: &str = "clock";
 
 pub(crate) const HOLD: &str = "hold";
-
-/// What is done with a line, which has a name, and the switch by which it is done again.
-pub(crate) const ACTION: &str = "ACTION";
-
-pub(crate) const AGAIN: &str = "again";
 
 /// The port of a page, the lowest and the highest.
 pub(crate) const PORT: &str = "port";
@@ -370,17 +363,6 @@ pub(crate) const COMMANDS: &[Entry] = &[
                 Help::ForOfNode,
             ),
             Argument(STOP_FILE, Kind::Word("F"), OPTIONAL, Help::StopFile),
-        ],
-    },
-    // `line begin FILE NAME [--again]`
-    Entry {
-        word: LINE,
-        help: CommandHelp::Line,
-        arguments: &[
-            Argument(ACTION, Kind::File("begin"), NEEDED, Help::Begin),
-            Argument(FILE, Kind::File("RAILWAY"), NEEDED, Help::Railway),
-            Argument(NAME, Kind::File("LINE"), NEEDED, Help::NameOfLine),
-            Argument(AGAIN, Kind::Switch, OPTIONAL, Help::Again),
         ],
     },
 ];

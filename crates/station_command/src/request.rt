@@ -37,8 +37,6 @@ pub enum Request<'a> {
     /// `node FILE NAME --addresses ADDRESSES [--operator ADDRESS] [--record R] [--record-size N] [--closings FILE [--keep-locks]]
     /// [--clock MS] [--hold MS] [--for MS] [--stop-file F]`: one node of a station of the layout in a file, as a process of its own.
     Node(NodeArguments<'a>),
-    /// `line begin FILE NAME [--again]`: the files with which a line of the railway in a file begins.
-    BeginLine(BeginLineArguments<'a>),
 }
 
 /// The file of a layout, whether what is wrong is told in words, whether what its table lacks is told, and whether a digest of
@@ -179,14 +177,6 @@ pub struct NodeArguments<'a> {
     pub hold: Option<u64>,
     pub for_ms: Option<u64>,
     pub stop_file: Option<&'a str>,
-}
-
-/// The file of a railway, the name of a line of it, and whether the line begins again though its files are there.
-#[derive(Clone, Copy)]
-pub struct BeginLineArguments<'a> {
-    pub railway: &'a str,
-    pub line: &'a str,
-    pub again: bool,
 }
 
 /// How many milliseconds a datagram waits for those before it, where the words say nothing.

@@ -18,7 +18,6 @@ pub(crate) enum CommandHelp {
     Decode,
     Capture,
     Node,
-    Line,
 }
 
 impl CommandHelp {
@@ -38,7 +37,6 @@ impl CommandHelp {
             CommandHelp::Decode => DECODE,
             CommandHelp::Capture => CAPTURE,
             CommandHelp::Node => NODE,
-            CommandHelp::Line => LINE,
         }
     }
 
@@ -58,7 +56,6 @@ impl CommandHelp {
             CommandHelp::Decode => DECODE_DETAILS,
             CommandHelp::Capture => CAPTURE_DETAILS,
             CommandHelp::Node => NODE_DETAILS,
-            CommandHelp::Line => LINE_DETAILS,
         }
     }
 }
@@ -106,10 +103,6 @@ pub(crate) enum Help {
     Clock,
     Hold,
     ForOfNode,
-    Begin,
-    Railway,
-    NameOfLine,
-    Again,
 }
 
 impl Help {
@@ -155,10 +148,6 @@ impl Help {
             Help::Clock => CLOCK,
             Help::Hold => HOLD,
             Help::ForOfNode => FOR_OF_NODE,
-            Help::Begin => BEGIN,
-            Help::Railway => RAILWAY,
-            Help::NameOfLine => NAME_OF_LINE,
-            Help::Again => AGAIN,
         }
     }
 }
@@ -533,30 +522,3 @@ With --record-size its record stands in parts, as for run.
 docs/DEPLOYMENT.md tells how a station is put on machines.
 
 Example: station node examples/halden.toml A --addresses examples/machines/halden.addresses";
-
-const BEGIN: &str = "The word begin";
-
-const RAILWAY: &str = "The railway, a TOML file (- for a file that is read is standard input)";
-
-const NAME_OF_LINE: &str = "The name of the line, as the railway has it";
-
-const AGAIN: &str = "Begins a line anew whose files are there, after a text was typed";
-
-const LINE: &str = "Writes the files with which a line between two stations begins";
-
-const LINE_DETAILS: &str = "Writes the files with which a line between two stations begins.
-
-Each end of a line keeps in a file whether the line's one token is at it, and where its lock lies; without
-that file it doesn't start. A new line begins with its token at the first end, and with both locks at the
-left. For a line L between A and B these files are L.A.end and L.B.end, beside the file of the railway.
-
-Nothing is written where something is wrong with the railway, as check tells it, or where one of the files
-is there already. The file of the second end, which has no token, is written first: so wherever the command
-is cut off, not both files have one.
-
-Where a file was lost or is an older copy, the line begins again, with --again. Before that no route onto or
-from the line may be set, their lamps have to be dark, and both ends stopped. A line that says so is asked
-for on standard input, and nothing is written unless exactly that is typed.
-docs/LINES.md tells more of lines.
-
-Example: station line begin examples/railway/railway.toml L";

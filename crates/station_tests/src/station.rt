@@ -25,7 +25,6 @@ Commands:
   decode   Puts a datagram, or those of a session, into words
   capture  Writes the datagrams of a session as a capture
   node     Runs one node of a station as a process of its own
-  line     Writes the files with which a line between two stations begins
   help     Print this message or the help of the given subcommand(s)
 
 Options:
@@ -576,27 +575,6 @@ Options:
   -h, --help      Print help (see more with '--help')
 ";
 
-const SHORT_LINE_HELP: &str = "Writes the files with which a line between two stations begins
-
-Usage: station line [OPTIONS] <begin> <RAILWAY> <LINE>
-
-Arguments:
-  <begin>    The word begin
-  <RAILWAY>  The railway, a TOML file (- for a file that is read is standard input)
-  <LINE>     The name of the line, as the railway has it
-
-Options:
-      --again  Begins a line anew whose files are there, after a text was typed
-  -h, --help   Print help (see more with '--help')
-";
-
-const NOTHING_TO_BEGIN: &str = "error: line takes begin RAILWAY LINE, with or without --again
-
-Usage: station <COMMAND>
-
-For more information, try '--help'.
-";
-
 /// No command line here has more words.
 const MOST_WORDS: usize = 8;
 
@@ -621,7 +599,6 @@ const HELPED: &[Printed] = &[
     ("station decode -h", 0, SHORT_DECODE_HELP),
     ("station capture --help", 0, CAPTURE_HELP),
     ("station node -h", 0, SHORT_NODE_HELP),
-    ("station line -h", 0, SHORT_LINE_HELP),
     ("station --version", 0, "station 1.0.0\n"),
     ("station -V", 0, "station 1.0.0\n"),
 ];
@@ -652,7 +629,6 @@ const REFUSED: &[Printed] = &[
     ("station decode f", 2, NOTHING_TO_DECODE),
     ("station decode --hex - f r", 2, NOTHING_TO_DECODE),
     ("station decode --hex - --node S1", 2, NOTHING_TO_DECODE),
-    ("station line stop r L", 2, NOTHING_TO_BEGIN),
 ];
 
 /// The words of a command line, which spaces part.

@@ -1,4 +1,0 @@
-pub mod Untouched
-mod Apart
-mod FileNames
-mod Events
