@@ -1,5 +1,5 @@
 -- The file of a host, and its steps as moves of the line.
-use Rattle.std.proofs.Common.{◌≡◌, ℕ, Bool, true, false, cond, List, [], ◌∷◌, Option, Some, None, refl, sym, ap, ◌∙◌}
+use Rattle.std.proofs.Common.{◌≡◌, ◌⊎◌, ⊎_elim, inl, inr, ℕ, Bool, true, false, cond, List, [], ◌∷◌, Option, Some, None, refl, sym, ap, ◌∙◌}
 use Rattle.std.specs.Prelude.{map, Result}
 use Rattle.whole_file.specs.declared.call.NotKept.{NotKept}
 use Rattle.whole_file.specs.Calls.{Made, failed_call, recorded}
@@ -70,7 +70,7 @@ step_file : (now : ℕ) (input : Input) (seen : Seen) (host : HostState)
 unfolding host_step
 step_file now input seen host = left_file (gone_from now input seen (heard_by now input host))
 
-kept_step : (now : ℕ) (input : Input) (seen : Seen) (host : HostState) (file : File) → file ≡ file_of host.end.end
+pub kept_step : (now : ℕ) (input : Input) (seen : Seen) (host : HostState) (file : File) → file ≡ file_of host.end.end
     → kept_file (writes now input seen host) file ≡ file_of (host_step now input seen host).end.end
 kept_step now input seen host file is =
     let heard = heard_by now input host
@@ -233,3 +233,44 @@ file_done {T} now input seen old h0 h1 h2 items slice h3 out written answer resu
     ∙ (ap (λ (s : Side). recorded (file_calls old.line s written (failed_call answer)) before) side-is
     ∙ (ap (λ (f : Option File). recorded (file_calls old.line old.end.side f (failed_call answer)) before) file-is
     ∙ ap (λ (a : Result T NotKept). recorded (file_calls old.line old.end.side (writes now input seen (emptied old)) (failed_call a)) before) answer-is)))
+
+-- ---- a host that isn't over goes on
+
+left_over : (host : HostState) → (left host).over ≡ host.over
+left_over host = by_test (is_joined host.talk)
+  where
+    by_test : (joined : Bool) → (cond joined host (record host { end = record host.end { end = unlinked host.end.end } })).over ≡ host.over
+    by_test true = refl
+    by_test false = refl
+
+begun_over : (now : ℕ) (host : HostState) → (begun now host).over ≡ host.over
+unfolding begun
+begun_over now host = left_over (record host { talk = meeting now (record host.talk { link = settled now host.talk.link }) })
+
+given_over : (now : ℕ) (input : Input) (host : HostState) → (given now input host).host.over ≡ host.over
+unfolding given
+given_over now inputs.Tick host = refl
+given_over now (inputs.Datagram bytes) host = refl
+given_over now inputs.Look host = refl
+
+pub step_over : (now : ℕ) (input : Input) (seen : Seen) (host : HostState) → (host_step now input seen host).over ≡ host.over
+unfolding host_step
+step_over now input seen host = left_over (gone_from now input seen (heard_by now input host)) ∙ (given_over now input (begun now host) ∙ begun_over now host)
+
+pub writes_done : (now : ℕ) (input : Input) (seen : Seen) (old h0 h1 h2 : HostState) (items slice : List Item) (out : StepOutput) (written : Option File)
+    → h0 ≡ emptied old → h1 ≡ begun now h0 → record { host = h2; items = items } ≡ given now input h1 → slice ≡ items
+    → out ≡ to_do seen (record { host = h2; items = slice }) → written ≡ out.written → written ≡ writes now input seen (emptied old)
+writes_done now input seen old h0 h1 h2 items slice out written h0-is h1-is given-is slice-is out-is written-is =
+    written-is ∙ ap (λ (o : StepOutput). o.written) (out-is ∙ ap (to_do seen) (heard_so now input old h0 h1 h2 items slice h0-is h1-is given-is slice-is))
+
+-- the lock moves only where it is driven
+pub step_moves : ((side : Side) (up : Bool) (seen : Seen) (items : List Item) (end : End) → let new = (step side up seen items end).end
+    in (new.lock ≡ end.lock) ⊎ (seen.drive ≡ Some new.lock)) → (now : ℕ) (input : Input) (seen : Seen) (host : HostState)
+    → ((host_step now input seen host).end.end.lock ≡ host.end.end.lock) ⊎ (seen.drive ≡ Some (host_step now input seen host).end.end.lock)
+step_moves law now input seen host =
+    let heard = heard_by now input host
+    in let new : (host_step now input seen host).end.end.lock ≡ (step heard.host.end.side (is_joined heard.host.talk) seen heard.items heard.host.end.end).end.lock =
+    ap (λ (f : File). f.lock) (step_file now input seen host)
+    in let old : heard.host.end.end.lock ≡ host.end.end.lock = ap (λ (f : File). f.lock) (given_file now input (begun now host) ∙ begun_file now host)
+    in ⊎_elim (λ same. inl (new ∙ (same ∙ old))) (λ driven. inr (driven ∙ ap Some (sym new)))
+    (law heard.host.end.side (is_joined heard.host.talk) seen heard.items heard.host.end.end)

@@ -1,10 +1,12 @@
 //! The host of an end of a line.
 
-ghost use Rattle.std.specs.Prelude.{◌≡◌, ◌↔◌, ◌≤◌, ℕ, true, false, [], Some, None, Ok, IfOk, IfErr, IfSome, IsOk, IsErr, IsTrue, drop, length, slice_get};
+ghost use Rattle.std.specs.Prelude.{◌≡◌, ◌↔◌, ◌≤◌, ◌⊎◌, ℕ, true, false, [], Some, None, Ok, IfOk, IfErr, IfSome, IsOk, IsErr, IsTrue, drop, length, slice_get};
 ghost use Rattle.std.specs.Option.{option_map};
 ghost use Rattle.rasta_core.specs.Calls.{MayStep, created};
 ghost use Rattle.rasta_core.specs.Outbox.{HasRoomFor};
 ghost use Rattle.whole_file.specs.Calls.{failed_call, recorded};
+ghost use Rattle.line_laws.specs.End.{File, file_of};
+ghost use Rattle.line_host.specs.Sites.{kept_file};
 ghost use Rattle.line_host.specs.Talk.{Stays};
 ghost use Rattle.line_host.specs.Host.{begun, emptied, file_calls, given, host_step, identity_of, left, looked, new_host, reported, ticked, to_do, told, writes};
 
@@ -13,7 +15,7 @@ use crate::parties::Parties;
 use crate::report::Report;
 use crate::talk::{Taken, Talk};
 use arrayvec::ArrayVec;
-use line_end::{Kept, LineEnd, Output, Seen, Side};
+use line_end::{Kept, LineEnd, Output, Seen, Side, lock_moves_only_where_driven};
 use line_file::Name;
 use line_laws::Item;
 use line_telegram::Greeting;
@@ -194,6 +196,7 @@ impl LineHost {
         requires clock { self.old.talk.link.clock ≡ now }
         requires room { HasRoomFor 26 self.old.talk.outbox }
         ensures host { self.new ≡ record self.old { talk = ticked now input.now self.old.talk } }
+        ensures stays { Stays now 2 self.old.talk self.new.talk }
     {
         if matches!(input, Input::Tick) {
             self.talk.beat(now);
@@ -202,11 +205,13 @@ impl LineHost {
     }
 
     /// What the end said goes to its partner.
+    #[tactic(auto, using(crate::proofs::Staying::then_stays, crate::proofs::Staying::more_stays, crate::proofs::Staying::at_once))]
     fn tell(&mut self, now: Millis, input: &Input, items: &[Item])
         requires clock { self.old.talk.link.clock ≡ now }
         requires room { HasRoomFor 40 self.old.talk.outbox }
         requires few { length items.now ≤ 5 }
-        ensures { self.new ≡ told now input.now items.now self.old }
+        ensures told { self.new ≡ told now input.now items.now self.old }
+        ensures stays { Stays now 12 self.old.talk self.new.talk }
     {
         self.talk.give_all(now, items);
         self.tick(now, input);
@@ -243,6 +248,30 @@ impl LineHost {
                 Err(fault)
             }
         }
+    }
+
+    /// The same step of a host whose caller keeps the file. It answers what is to be kept, if the file is to change: nothing of
+    /// the step may leave before that is on disk.
+    pub fn step_kept_by_caller(&mut self, now: Millis, input: &Input, seen: &Seen) -> Option<Kept>
+        requires clock { MayStep now self.old.talk.link }
+        requires going { self.old.over ≡ false }
+        ensures host { self.new ≡ host_step now input.now seen.now (emptied self.old) }
+        ensures written { result ≡ writes now input.now seen.now (emptied self.old) }
+        // What the file has where it is kept is the token and the lock of the end, as before.
+        ensures kept { (file : File) → file ≡ file_of self.old.end.end → kept_file result file ≡ file_of self.new.end.end }
+        // The lock moves only where it is driven.
+        ensures lock { (self.new.end.end.lock ≡ self.old.end.end.lock) ⊎ (seen.now.drive ≡ Some self.new.end.end.lock) }
+        ensures clock { self.new.talk.link.clock ≡ now }
+        ensures going { self.new.over ≡ false }
+        ensures few { length self.new.talk.outbox.datagrams ≤ 44 }
+    {
+        lock_moves_only_where_driven();
+        self.clear();
+        self.begin(now);
+        let items = self.give(now, input);
+        let output = self.look(seen, items.as_slice());
+        self.tell(now, input, output.items());
+        output.written()
     }
 
     /// Takes the oldest datagram of the last step out. Of an end that is over none is left.

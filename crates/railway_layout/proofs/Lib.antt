@@ -8,3 +8,4 @@ pub mod Seen
 pub mod AllTold
 pub mod TracksAmong
 pub mod Locked
+pub mod Apart

@@ -1,6 +1,6 @@
 //! What the two ends of a link say and expect.
 
-ghost use Rattle.std.specs.Prelude.{◌≡◌, ◌+◌, ◌-◌, ◌≤◌, ℕ, suc, true, IsTrue, List, length, map, ◌++◌, Bool};
+ghost use Rattle.std.specs.Prelude.{◌≡◌, ◌+◌, ◌-◌, ◌≤◌, ℕ, suc, true, IsTrue, List, length, map, ◌++◌};
 ghost use Rattle.object_host_laws.specs.World.{Event as WorldEvent, MayRun, World, begun, happened, run};
 ghost use Rattle.ixl_table.specs.Table.{IsTableOf};
 ghost use Rattle.simulator_spec.specs.First.{Outset, world_at};
@@ -23,7 +23,7 @@ ghost use Rattle.simulator_spec.specs.layout.Station.{IsStation};
 ghost use Rattle.simulator_spec.specs.object_host.Host.{HostState, said};
 ghost use Rattle.simulator_spec.specs.object_host.Hosted.{new_host};
 ghost use Rattle.simulator_spec.specs.object_host.Made.{items_given};
-ghost use Rattle.simulator_spec.specs.object_host.Step.{acting as acting_host, found, host_step, initialising, is_in_version};
+ghost use Rattle.simulator_spec.specs.object_host.Step.{acting as acting_host, beginning, host_step, initialising, is_in_version};
 ghost use Rattle.simulator_spec.specs.object_host.Told.{initialisation, item_of as item_reported, item_of};
 ghost use Rattle.simulator_spec.specs.object_host.declared.input.Input.{Input};
 ghost use Rattle.simulator_spec.specs.object_host.declared.report.Report.{Report};
@@ -116,7 +116,7 @@ pub(crate) fn clients_expect_what_hosts_say<C: Controller>()
 /// The stage of a host tells how many items it has acted on in its connection: none before the check of the version, one after it,
 /// and at least two once the initialisation is completed. Each step in which its link stays open keeps that.
 pub(crate) fn hosts_count_what_they_act_on<C: Controller>()
-    ensures { (now : ℕ) (input : Input) (host : HostState C) (count : ℕ) → HostHasActedOn (found C.behaviour now host).host.stage count
+    ensures { (now : ℕ) (input : Input) (host : HostState C) (count : ℕ) → HostHasActedOn (beginning C.behaviour now host).stage count
         → is_open (host_step C.behaviour now input host).host.link.phase ≡ true
         → HostHasActedOn (host_step C.behaviour now input host).host.stage (count + length (host_step C.behaviour now input host).acted) }
 {}
@@ -184,8 +184,8 @@ pub(crate) fn controllers_tell_as_many()
 /// one, or at least so many. So a host has acted on each item that its link took, and has said all that belongs to its stage. A host
 /// that was just made stands by its counts (*made*), and each step keeps that (*kept*), whatever comes.
 pub(crate) fn hosts_stand_by_their_counts<C: Controller>()
-    ensures made { (identity : Identity) (own_name peer_name : List ℕ) (first now : ℕ) (object : C) (version objects : ℕ) (is_strict : Bool) → TellsAsMany C.behaviour → objects_told C.behaviour object ≡ objects
-        → HostStandsByCounts C.behaviour objects (new_host C.behaviour identity own_name peer_name first now object version is_strict) }
+    ensures made { (identity : Identity) (own_name peer_name : List ℕ) (first now : ℕ) (object : C) (version objects : ℕ) → TellsAsMany C.behaviour → objects_told C.behaviour object ≡ objects
+        → HostStandsByCounts C.behaviour objects (new_host C.behaviour identity own_name peer_name first now object version) }
     ensures kept { (now : ℕ) (input : Input) (host : HostState C) (objects : ℕ) → TellsAsMany C.behaviour → HostStandsByCounts C.behaviour objects host
         → HostStandsByCounts C.behaviour objects (host_step C.behaviour now input host).host }
 {}

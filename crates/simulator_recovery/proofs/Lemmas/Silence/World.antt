@@ -10,7 +10,7 @@ use Rattle.simulator_recovery.proofs.Lemmas.Silence.Network.{HearsBy, AreSilent,
 
 -- what a host is called for in a step
 abbrev pub CallsFor : {Object : Type 0} → Behaviour Object → Type 0
-CallsFor {Object} does = (now : ℕ) (input : Input) (host : HostState Object) → AreCallsFor now host.link input (host_step does now input host).calls
+CallsFor {Object} does = (now : ℕ) (input : Input) (host : HostState Object) → AreCallsFor input (host_step does now input host).calls
 
 -- the laws of deliveries that this stands on
 -- ---- the copy that is delivered

@@ -15,7 +15,7 @@ use Rattle.simulator_recovery.proofs.Lemmas.Ground.LinkCounts.{settled_open}
 
 pub record RunLaws {Object : Type 0} (does : Behaviour Object) : Type 0 where
   pub world : LawsOfHost does
-  pub first : (now : ℕ) (input : Input) (host : HostState Object) → AreCallsFor now host.link input (host_step does now input host).calls
+  pub first : (now : ℕ) (input : Input) (host : HostState Object) → AreCallsFor input (host_step does now input host).calls
   pub starts : (names : Names) (start : Start) → AreNames names → Timely names (started names start)
   pub time : (names : Names) (events : List links.Event) (ends : Ends) → AreNames names → Timely names ends → links.MayRun names events ends → Timely names (links.run events ends)
   pub settled_so : (names : Names) (ends : Ends) (who : Role) → Timely names ends → settled (reading_of (end_of who ends).clock) (end_of who ends).link ≡ (end_of who ends).link

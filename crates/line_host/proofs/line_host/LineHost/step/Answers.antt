@@ -19,7 +19,7 @@ tell-requires-clause-room g c =
 pub returns-in-Ok-clause-done : goal.returns-in-Ok-clause-done
 returns-in-Ok-clause-done g c = λ is. step_done c.args.now c.args.input.now c.args.seen.now c.args.self.now c.clear.new.self c.begin.new.self c.give-items.new.self
     c.give-items.result.items c.as_slice.result.now c.look-output.new.self c.look-output.result c.items.result.now c.tell.new.self
-    c.clear.ensures.host c.begin.ensures.host c.give-items.ensures.given c.as_slice.ensures.value c.look-output.ensures.host c.look-output.ensures.output c.items.ensures.items c.tell.ensures
+    c.clear.ensures.host c.begin.ensures.host c.give-items.ensures.given c.as_slice.ensures.value c.look-output.ensures.host c.look-output.ensures.output c.items.ensures.items c.tell.ensures.told
 
 pub returns-in-Ok-clause-file : goal.returns-in-Ok-clause-file
 returns-in-Ok-clause-file g c = file_done c.args.now c.args.input.now c.args.seen.now c.args.self.now c.clear.new.self c.begin.new.self c.give-items.new.self
