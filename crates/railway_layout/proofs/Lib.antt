@@ -8,4 +8,3 @@ pub mod Seen
 pub mod AllTold
 pub mod TracksAmong
 pub mod Locked
-pub mod Apart

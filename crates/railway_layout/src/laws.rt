@@ -1,8 +1,7 @@
 //! What holds of each line of a railway.
 
-ghost use Rattle.std.specs.Prelude.{◌≡◌, ◌≢◌, List, Some, slice_get, ℕ};
+ghost use Rattle.std.specs.Prelude.{List, ℕ};
 ghost use Rattle.std.specs.List.{Contains};
-ghost use Rattle.railway_layout.specs.Apart.{HaveTheirLocks, IsThereAt, JoinsTwo};
 ghost use Rattle.railway_layout.specs.Locked.{IsEndOf, IsLockedAt};
 ghost use Rattle.railway_layout.specs.Railway.{IsRailway};
 ghost use Rattle.railway_layout.specs.States.{EndState, LineState, RailwayState};
@@ -13,23 +12,4 @@ ghost use Rattle.railway_layout.specs.Written.{RailwayText};
 pub fn each_line_is_locked()
     ensures { (text : RailwayText) (layouts : List (List ℕ)) (railway : RailwayState) (line : LineState) (e : EndState)
         → IsRailway text layouts railway → Contains railway.lines line → IsEndOf e line → IsLockedAt railway e }
-{}
-
-/// What each end of each line names is there, at a station that is.
-pub fn each_end_names_what_is_there()
-    ensures { (text : RailwayText) (layouts : List (List ℕ)) (railway : RailwayState) (line : LineState) (e : EndState)
-        → IsRailway text layouts railway → Contains railway.lines line → IsEndOf e line → IsThereAt railway e }
-{}
-
-/// Each line joins two stations, and its ends have two identities.
-pub fn each_line_joins_two_stations()
-    ensures { (text : RailwayText) (layouts : List (List ℕ)) (railway : RailwayState) (line : LineState)
-        → IsRailway text layouts railway → Contains railway.lines line → JoinsTwo line }
-{}
-
-/// No two ends have one lock: from the right leg of a lock just one border is reached, and a border belongs to one line.
-pub fn no_two_ends_have_one_lock()
-    ensures { (text : RailwayText) (layouts : List (List ℕ)) (railway : RailwayState) (i j : ℕ) (line other : LineState)
-        → IsRailway text layouts railway → slice_get railway.lines i ≡ Some line → slice_get railway.lines j ≡ Some other → i ≢ j
-        → HaveTheirLocks line other }
 {}

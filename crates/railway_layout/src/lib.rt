@@ -21,10 +21,7 @@ mod written;
 pub use fault::{Place, RailwayFault, TextFault};
 pub use found::{Found, RailwayStation};
 pub use ids::StationId;
-pub use laws::{
-    each_end_names_what_is_there, each_line_is_locked, each_line_joins_two_stations,
-    no_two_ends_have_one_lock,
-};
+pub use laws::each_line_is_locked;
 pub use line::{Line, LineEnd};
 pub use railway::{Railway, Refused};
 pub use text::{is_railway, read_text};

@@ -70,7 +70,7 @@ fn layout_of(rt: &HostRuntime, railway: &str, layout: &str) -> Result<String, Fa
 }
 
 /// The texts of the layouts of these stations.
-fn layouts_of(
+pub(crate) fn layouts_of(
     rt: &HostRuntime,
     railway: &str,
     stations: &[WrittenStation],

@@ -1,6 +1,0 @@
-pub mod Names
-pub mod State
-pub mod Events
-pub mod Happens
-pub mod Promise
-pub mod inside

@@ -1,3 +1,0 @@
--- What only the contracts of private functions name.
-pub mod AtWork
-pub mod Laws
